@@ -6,5 +6,6 @@ pub mod Splitting
 pub mod SentBodies
 mod JoinedAnswers
 mod TakenBlocks
+pub mod Scheduled
 pub mod Observes
 pub mod Watching

@@ -8,7 +8,7 @@ use Rattle.coap_client.specs.declared.fetcher.FetchFault.{FetchFault}
 use Rattle.coap_client.specs.declared.part.Part.{Part}
 use Rattle.coap_client.specs.Requests.{IsPartOf, part_request}
 use Rattle.coap_client.specs.PeerCalls.{Adds, PeerCall, Sends, Waits, Receives, receives_in}
-use Rattle.coap_client.specs.Transmissions.{AreInVain, AreTransmissions, MakesCalls, IsAcknowledgedFirst, EndsAnswered, IsTransmitted, IsAskedAgain, EndsAwaited, IsLastSending, IsMeanwhile, IsOver, IsSending, IsTransmission}
+use Rattle.coap_client.specs.Transmissions.{ack_timeout, most_sendings, non_wait, separate_wait, AreInVain, AreTransmissions, MakesCalls, IsAcknowledgedFirst, EndsAnswered, IsTransmitted, IsAskedAgain, EndsAwaited, IsLastSending, IsMeanwhile, IsOver, IsSending, IsTransmission}
 
 abbrev Calls : Type 1
 Calls = List PeerCall → Type 0
@@ -87,72 +87,72 @@ sending request seconds before between after P adds one =
     (λ first heard is h. record { heard = heard; ends = h; is = ap (λ (x : List PeerCall). heard ++ x) is })
 
 -- once more in vain
-pub in_vain : (request : List ℕ) (n : ℕ) (before between after : Calls) → MakesCalls before between (AreInVain request n) → MakesCalls between after (IsSending request (2 ^ (n + 1)) IsOver)
+pub in_vain : (request : List ℕ) (n : ℕ) (before between after : Calls) → MakesCalls before between (AreInVain request n) → MakesCalls between after (IsSending request (ack_timeout n) IsOver)
     → MakesCalls before after (AreInVain request (n + 1))
 in_vain request n before between after one other = subst (λ (x : ℕ). MakesCalls before after (AreInVain request x)) (sym (add-one n))
     (
-    does_both before between after (AreInVain request n) (IsSending request (2 ^ (n + 1)) IsOver) (AreInVain request (suc n)) one other
+    does_both before between after (AreInVain request n) (IsSending request (ack_timeout n) IsOver) (AreInVain request (suc n)) one other
     (λ older last a b. record { older = older; before = a; last = last; in_vain = b; is = refl }))
 
 -- for the last time
-pub last_sending : (request : List ℕ) (n : ℕ) (before between after P : Calls) → n < 5 → MakesCalls before between (AreInVain request n)
-    → MakesCalls between after (IsSending request (2 ^ (n + 1)) P) → MakesCalls before after (IsLastSending request P)
+pub last_sending : (request : List ℕ) (n : ℕ) (before between after P : Calls) → n < most_sendings → MakesCalls before between (AreInVain request n)
+    → MakesCalls between after (IsSending request (ack_timeout n) P) → MakesCalls before after (IsLastSending request P)
 last_sending request n before between after P few one other =
-    does_both before between after (AreInVain request n) (IsSending request (2 ^ (n + 1)) P) (IsLastSending request P) one other
+    does_both before between after (AreInVain request n) (IsSending request (ack_timeout n) P) (IsLastSending request P) one other
     (λ older last a b. record { n = n; few = few; older = older; before = a; last = last; sending = b; is = refl })
 
 -- it is acknowledged, and its answer waited for
-pub acknowledged : (before between begun after P : Calls) → MakesCalls before between (All IsMeanwhile) → Adds between begun (Waits 93 ∷ []) → MakesCalls begun after P
+pub acknowledged : (before between begun after P : Calls) → MakesCalls before between (All IsMeanwhile) → Adds between begun (Waits separate_wait ∷ []) → MakesCalls begun after P
     → MakesCalls before after (IsAcknowledgedFirst P)
 acknowledged before between begun after P one adds other calls h =
     let a = one calls h in
-    let b = other (Waits 93 ∷ a.more ++ calls) (adds (a.more ++ calls) a.is) in
+    let b = other (Waits separate_wait ∷ a.more ++ calls) (adds (a.more ++ calls) a.is) in
     record {
-      more = b.more ++ Waits 93 ∷ a.more;
+      more = b.more ++ Waits separate_wait ∷ a.more;
       are = record { first = a.more; are = a.are; more = b.more; ends = b.are; is = refl };
-      is = subst after (sym (append_assoc b.more (Waits 93 ∷ a.more) calls)) b.is;
+      is = subst after (sym (append_assoc b.more (Waits separate_wait ∷ a.more) calls)) b.is;
     }
 
 -- it is sent again, by what listening to the answer comes to
-pub again : (request : List ℕ) (n seconds : ℕ) (between sent after P : Calls) → seconds ≡ 2 ^ (n + 1)
-    → Adds between sent (Waits seconds ∷ Sends request ∷ []) → MakesCalls sent after P → MakesCalls between after (IsSending request (2 ^ (n + 1)) P)
+pub again : (request : List ℕ) (n seconds : ℕ) (between sent after P : Calls) → seconds ≡ ack_timeout n
+    → Adds between sent (Waits seconds ∷ Sends request ∷ []) → MakesCalls sent after P → MakesCalls between after (IsSending request (ack_timeout n) P)
 again request n seconds between sent after P twice adds one =
-    sending request (2 ^ (n + 1)) between sent after P (subst (λ (s : ℕ). Adds between sent (Waits s ∷ Sends request ∷ [])) twice adds) one
+    sending request (ack_timeout n) between sent after P (subst (λ (s : ℕ). Adds between sent (Waits s ∷ Sends request ∷ [])) twice adds) one
 
 -- it is answered, after it was acknowledged or not
-pub answered : (request : List ℕ) (n count : ℕ) (before between after : Calls) → n < 5 → MakesCalls before between (AreInVain request n)
-    → MakesCalls between after (IsSending request (2 ^ (n + 1)) (All IsMeanwhile)) → MakesCalls before after (IsAskedAgain request (Some count))
+pub answered : (request : List ℕ) (n count : ℕ) (before between after : Calls) → n < most_sendings → MakesCalls before between (AreInVain request n)
+    → MakesCalls between after (IsSending request (ack_timeout n) (All IsMeanwhile)) → MakesCalls before after (IsAskedAgain request (Some count))
 answered request n count before between after few one other =
     last_sending request n before between after EndsAnswered few one
-    (does_of between after _ (IsSending request (2 ^ (n + 1)) EndsAnswered) other (λ calls s. record { heard = s.heard; ends = inl s.ends; is = s.is }))
+    (does_of between after _ (IsSending request (ack_timeout n) EndsAnswered) other (λ calls s. record { heard = s.heard; ends = inl s.ends; is = s.is }))
 
-pub answered_later : (request : List ℕ) (n : ℕ) (before between after : Calls) → n < 5 → MakesCalls before between (AreInVain request n)
-    → (r : Result (Option ℕ) FetchFault) → IfOk r (λ answer. MakesCalls between after (IsSending request (2 ^ (n + 1)) (IsAcknowledgedFirst (EndsAwaited answer))))
+pub answered_later : (request : List ℕ) (n : ℕ) (before between after : Calls) → n < most_sendings → MakesCalls before between (AreInVain request n)
+    → (r : Result (Option ℕ) FetchFault) → IfOk r (λ answer. MakesCalls between after (IsSending request (ack_timeout n) (IsAcknowledgedFirst (EndsAwaited answer))))
     → IfOk r (λ answer. MakesCalls before after (IsAskedAgain request answer))
 answered_later request n before between after few one (Ok None) other =
     does_of before after (IsLastSending request (IsAcknowledgedFirst IsOver)) (IsAskedAgain request None) (last_sending request n before between after (IsAcknowledgedFirst IsOver) few one other)
     (λ calls s. inr s)
 answered_later request n before between after few one (Ok (Some count)) other =
     last_sending request n before between after EndsAnswered few one
-    (does_of between after _ (IsSending request (2 ^ (n + 1)) EndsAnswered) other (λ calls s. record { heard = s.heard; ends = inr s.ends; is = s.is }))
+    (does_of between after _ (IsSending request (ack_timeout n) EndsAnswered) other (λ calls s. record { heard = s.heard; ends = inr s.ends; is = s.is }))
 answered_later request n before between after few one (Err fault) other = tt
 
-pub in_vain_five : (request : List ℕ) (n : ℕ) (before after : Calls) → n ≡ 5 → MakesCalls before after (AreInVain request n) → MakesCalls before after (IsAskedAgain request None)
-in_vain_five request n before after five one =
-    does_of before after (AreInVain request 5) (IsAskedAgain request None) (subst (λ (x : ℕ). MakesCalls before after (AreInVain request x)) five one) (λ calls s. inl s)
+pub in_vain_to_the_end : (request : List ℕ) (n : ℕ) (before after : Calls) → n ≡ most_sendings → MakesCalls before after (AreInVain request n) → MakesCalls before after (IsAskedAgain request None)
+in_vain_to_the_end request n before after five one =
+    does_of before after (AreInVain request most_sendings) (IsAskedAgain request None) (subst (λ (x : ℕ). MakesCalls before after (AreInVain request x)) five one) (λ calls s. inl s)
 
 -- it is acknowledged, and then awaited
-pub awaited : (request : List ℕ) (n seconds : ℕ) (between sent heard begun after : Calls) → seconds ≡ 2 ^ (n + 1) → Adds between sent (Waits seconds ∷ Sends request ∷ [])
-    → MakesCalls sent heard (All IsMeanwhile) → Adds heard begun (Waits 93 ∷ []) → (r : Result (Option ℕ) FetchFault) → IfOk r (λ answer. MakesCalls begun after (EndsAwaited answer))
-    → IfOk r (λ answer. MakesCalls between after (IsSending request (2 ^ (n + 1)) (IsAcknowledgedFirst (EndsAwaited answer))))
+pub awaited : (request : List ℕ) (n seconds : ℕ) (between sent heard begun after : Calls) → seconds ≡ ack_timeout n → Adds between sent (Waits seconds ∷ Sends request ∷ [])
+    → MakesCalls sent heard (All IsMeanwhile) → Adds heard begun (Waits separate_wait ∷ []) → (r : Result (Option ℕ) FetchFault) → IfOk r (λ answer. MakesCalls begun after (EndsAwaited answer))
+    → IfOk r (λ answer. MakesCalls between after (IsSending request (ack_timeout n) (IsAcknowledgedFirst (EndsAwaited answer))))
 awaited request n seconds between sent heard begun after twice adds one waits (Ok answer) other =
     again request n seconds between sent after (IsAcknowledgedFirst (EndsAwaited answer)) twice adds (acknowledged sent heard begun after (EndsAwaited answer) one waits other)
 awaited request n seconds between sent heard begun after twice adds one waits (Err fault) other = tt
 
 -- another is sent once, and its answer waited for
-pub once : (request : List ℕ) (before between after : Calls) → Adds before between (Waits 32 ∷ Sends request ∷ []) → (r : Result (Option ℕ) FetchFault)
-    → IfOk r (λ answer. MakesCalls between after (EndsAwaited answer)) → IfOk r (λ answer. MakesCalls before after (IsSending request 32 (EndsAwaited answer)))
-once request before between after adds (Ok answer) one = sending request 32 before between after (EndsAwaited answer) adds one
+pub once : (request : List ℕ) (before between after : Calls) → Adds before between (Waits non_wait ∷ Sends request ∷ []) → (r : Result (Option ℕ) FetchFault)
+    → IfOk r (λ answer. MakesCalls between after (EndsAwaited answer)) → IfOk r (λ answer. MakesCalls before after (IsSending request non_wait (EndsAwaited answer)))
+once request before between after adds (Ok answer) one = sending request non_wait before between after (EndsAwaited answer) adds one
 once request before between after adds (Err fault) one = tt
 
 -- the answer is acknowledged

@@ -10,3 +10,4 @@ pub mod Joined
 pub mod Notices
 pub mod Notes
 pub mod Transmissions
+pub mod Schedules

@@ -14,6 +14,22 @@ use Rattle.coap_client.specs.declared.part.Part.{Part}
 use Rattle.coap_client.specs.Notices.{observe_request}
 use Rattle.coap_client.specs.Requests.{IsPartOf, acknowledgement, part_request}
 
+-- how often a confirmable request is sent at most: once, and MAX_RETRANSMIT times again (RFC 7252, 4.8)
+abbrev pub most_sendings : ℕ
+most_sendings = 5
+
+-- how long the answer to a sending is waited for after so many others of its request, in seconds: ACK_TIMEOUT, and each time twice as long (RFC 7252, 4.2)
+abbrev pub ack_timeout : ℕ → ℕ
+ack_timeout sendings = 2 ^ (sendings + 1)
+
+-- how long a response in a message of its own is waited for: MAX_TRANSMIT_WAIT (RFC 7252, 4.8.2)
+abbrev pub separate_wait : ℕ
+separate_wait = 93
+
+-- how long the response to a non-confirmable request is waited for
+abbrev pub non_wait : ℕ
+non_wait = 32
+
 -- calls of this kind are added to these
 pub record HasAdded (after : List PeerCall → Type 0) (P : List PeerCall → Type 0) (calls : List PeerCall) : Type 0 where
   pub more : List PeerCall
@@ -63,49 +79,49 @@ pub record IsSending (request : List ℕ) (seconds : ℕ) (P : List PeerCall →
   pub ends : P heard
   pub is : calls ≡ heard ++ (Waits seconds ∷ Sends request ∷ [])
 
--- it was sent n times, and each wait was over: the first one of 2 seconds, each other one twice as long as the one before it
+-- it was sent n times, and each wait was over
 pub record IsSentAgain (Before : List PeerCall → Type 0) (request : List ℕ) (n : ℕ) (calls : List PeerCall) : Type 0 where
   pub older : List PeerCall
   pub before : Before older
   pub last : List PeerCall
-  pub in_vain : IsSending request (2 ^ (n + 1)) IsOver last
+  pub in_vain : IsSending request (ack_timeout n) IsOver last
   pub is : calls ≡ last ++ older
 
 abbrev pub AreInVain : List ℕ → ℕ → List PeerCall → Type 0
 AreInVain request zero calls = calls ≡ []
 AreInVain request (suc n) calls = IsSentAgain (AreInVain request n) request n calls
 
--- it was acknowledged, and its answer waited for 93 seconds more
+-- it was acknowledged, and its answer waited for longer
 pub record IsAcknowledgedFirst (P : List PeerCall → Type 0) (heard : List PeerCall) : Type 0 where
   pub first : List PeerCall
   pub are : All IsMeanwhile first
   pub more : List PeerCall
   pub ends : P more
-  pub is : heard ≡ more ++ Waits 93 ∷ first
+  pub is : heard ≡ more ++ Waits separate_wait ∷ first
 
--- after fewer than five sendings in vain it is sent once more
+-- after fewer sendings in vain than there are at most it is sent once more
 pub record IsLastSending (request : List ℕ) (P : List PeerCall → Type 0) (calls : List PeerCall) : Type 0 where
   pub n : ℕ
-  pub few : n < 5
+  pub few : n < most_sendings
   pub older : List PeerCall
   pub before : AreInVain request n older
   pub last : List PeerCall
-  pub sending : IsSending request (2 ^ (n + 1)) P last
+  pub sending : IsSending request (ack_timeout n) P last
   pub is : calls ≡ last ++ older
 
 -- the answer came, at once or after an acknowledgement
 abbrev pub EndsAnswered : List PeerCall → Type 0
 EndsAnswered heard = All IsMeanwhile heard ⊎ IsAcknowledgedFirst (All IsMeanwhile) heard
 
--- a confirmable request is answered; or it is sent five times in vain, or acknowledged and then not answered
+-- a confirmable request is answered; or it is sent in vain as often as it may be, or acknowledged and then not answered
 abbrev pub IsAskedAgain : List ℕ → Option ℕ → List PeerCall → Type 0
 IsAskedAgain request (Some count) calls = IsLastSending request EndsAnswered calls
-IsAskedAgain request None calls = AreInVain request 5 calls ⊎ IsLastSending request (IsAcknowledgedFirst IsOver) calls
+IsAskedAgain request None calls = AreInVain request most_sendings calls ⊎ IsLastSending request (IsAcknowledgedFirst IsOver) calls
 
 -- another is sent once
 abbrev pub IsTransmitted : Bool → List ℕ → Option ℕ → List PeerCall → Type 0
 IsTransmitted true request answer calls = IsAskedAgain request answer calls
-IsTransmitted false request answer calls = IsSending request 32 (EndsAwaited answer) calls
+IsTransmitted false request answer calls = IsSending request non_wait (EndsAwaited answer) calls
 
 -- a request is transmitted, and its answer acknowledged where that asks for it
 pub record IsTransmission (confirmable : Bool) (request : List ℕ) (answer : Option ℕ) (calls : List PeerCall) : Type 0 where

@@ -1,11 +1,16 @@
 //! Laws of what the definitions say: the function is a law, and its contract says it.
-ghost use Rattle.std.specs.Prelude.{◌≡◌, ◌+◌, ◌≤◌, ℕ, List, ◌∷◌, Some, None, false, length, true};
-ghost use Rattle.coap_msg.specs.Wire.{Message};
+ghost use Rattle.std.specs.Prelude.{◌≡◌, ◌+◌, ◌%◌, ◌≤◌, ◌⊎◌, ℕ, List, [], ◌∷◌, Option, Some, None, false, length, true};
+ghost use Rattle.coap_msg.specs.Wire.{Message, message_bytes};
 ghost use Rattle.coap_client.specs.declared.errand.Errand.{Errand};
 ghost use Rattle.coap_client.specs.declared.part.Part.{Part};
 ghost use Rattle.coap_client.specs.declared.part.Part.TheVariants.{Body};
 ghost use Rattle.coap_client.specs.declared.notice.Notice.TheVariants.{Last};
-ghost use Rattle.coap_client.specs.Notices.{can_be_shown, is_newer, notice_of};
+ghost use Rattle.coap_client.specs.declared.notice.Interest.TheVariants.{Deregister};
+ghost use Rattle.coap_client.specs.declared.observing.Observer.{Observer};
+ghost use Rattle.coap_client.specs.Notices.{can_be_shown, is_newer, notice_of, observe_request};
+ghost use Rattle.coap_client.specs.PeerCalls.{PeerCall, Sends, Waits};
+ghost use Rattle.coap_client.specs.Schedules.{AwaitsResponse, BeginsSchedule, full_schedule, schedule};
+ghost use Rattle.coap_client.specs.Transmissions.{IsDeregistration, IsTransmission};
 ghost use Rattle.coap_client.specs.Fetching.{Ended, Out, after_reply, state_after};
 ghost use Rattle.coap_client.specs.Joined.{IsOneAnswer, SaysTaken};
 ghost use Rattle.coap_client.specs.Replies.{first_or_none, is_success};
@@ -67,4 +72,23 @@ pub fn without_observe_it_is_the_last()
 pub fn by_a_long_observe_it_is_the_last()
     ensures { (m : Message) (value : List ℕ) → can_be_shown m ≡ true
         → first_or_none (values_in 6 m.options) ≡ Some value → length value ≡ 4 → notice_of m ≡ Last }
+{}
+
+/// A confirmable request that isn't answered is sent five times, and waited for 2, 4, 8, 16 and 32 seconds (ACK_TIMEOUT and MAX_RETRANSMIT, without a random
+/// part; RFC 7252, 4.2 and 4.8), so given up after 62; or it is acknowledged, is sent no more, and waited for 93 seconds more (MAX_TRANSMIT_WAIT; RFC 7252,
+/// 4.8.2). One that is answered was sent and waited for so far. A non-confirmable request is sent once, and waited for 32 seconds. Beside these nothing is sent but
+/// empty messages.
+pub fn requests_are_sent_by_the_schedule()
+    ensures unanswered { (m : Message) (calls : List PeerCall) → (m.code ≡ 0 → ⊥) → IsTransmission true (message_bytes m) None calls
+        → (schedule calls ≡ full_schedule (message_bytes m)) ⊎ AwaitsResponse (message_bytes m) (schedule calls) }
+    ensures answered { (m : Message) (count : ℕ) (calls : List PeerCall) → (m.code ≡ 0 → ⊥) → IsTransmission true (message_bytes m) (Some count) calls
+        → BeginsSchedule (message_bytes m) (schedule calls) ⊎ AwaitsResponse (message_bytes m) (schedule calls) }
+    ensures non_confirmable { (m : Message) (answer : Option ℕ) (calls : List PeerCall) → (m.code ≡ 0 → ⊥)
+        → IsTransmission false (message_bytes m) answer calls → schedule calls ≡ Waits 32 ∷ Sends (message_bytes m) ∷ [] }
+{}
+
+/// A deregistration that ends well is sent by the same schedule, until it is acknowledged.
+pub fn deregistrations_are_sent_by_the_schedule()
+    ensures { (o : Observer) (calls : List PeerCall) → IsDeregistration o calls
+        → BeginsSchedule (message_bytes (observe_request o.errand.now Deregister o.token ((o.id + 1) % 65536))) (schedule calls) }
 {}

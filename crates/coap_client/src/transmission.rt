@@ -1,5 +1,5 @@
 //! What comes from the server: a request goes out, and again until it is answered or acknowledged.
-ghost use Rattle.std.specs.Prelude.{◌≡◌, ◌+◌, ◌<◌, ◌≤◌, ◌^◌, [], ◌∷◌, IfOk, IfSome, OnOk, false, length, take, true};
+ghost use Rattle.std.specs.Prelude.{◌≡◌, ◌<◌, ◌≤◌, [], ◌∷◌, IfOk, IfSome, OnOk, false, length, take, true};
 ghost use Rattle.std.specs.List.{All};
 ghost use Rattle.coap_msg.specs.Wire.{message_bytes};
 ghost use Rattle.coap_msg.specs.Reading.{reading_of};
@@ -8,7 +8,7 @@ ghost use Rattle.coap_msg.specs.declared.types.MessageType.TheVariants.{Confirma
 ghost use Rattle.coap_client.specs.Heard.{AcknowledgesRepeat, Listens, HasTakenResponse, HasResponse, IsAwaitedAnswer, IsHeardAs, Tells};
 ghost use Rattle.coap_client.specs.PeerCalls.{Adds, Sends, Waits};
 ghost use Rattle.coap_client.specs.Replies.{is_taken};
-ghost use Rattle.coap_client.specs.Transmissions.{MakesCalls, IsTransmitted, IsAskedAgain, EndsAwaited, IsHeard, IsMeanwhile, IsSending, IsTransmission};
+ghost use Rattle.coap_client.specs.Transmissions.{ack_timeout, most_sendings, non_wait, MakesCalls, IsTransmitted, IsAskedAgain, EndsAwaited, IsHeard, IsMeanwhile, IsSending, IsTransmission};
 ghost use Rattle.coap_client.specs.Requests.{acknowledgement};
 
 use crate::fetcher::FetchFault;
@@ -70,8 +70,8 @@ pub enum Listened {
 /// Computes how long the answer to the sending that comes after so many others of its request is waited for, in seconds: each time twice
 /// as long (RFC 7252, 4.2, without the random part).
 pub(crate) fn ack_timeout(sendings: u32) -> u64
-    requires { sendings < 5 }
-    ensures { result ≡ 2 ^ (sendings + 1) }
+    requires { sendings < most_sendings }
+    ensures { result ≡ ack_timeout sendings }
 {
     ACK_TIMEOUT << sendings
 }
@@ -151,7 +151,7 @@ fn ask_once<P: Peer>(
     ensures response { IfOk result (λ r. IfSome r (λ count. (count ≤ length buffer.new)
         × HasResponse P.went P.came request.now (take count buffer.new))) }
     ensures called { IfOk result (λ r. MakesCalls (P.called peer.old) (P.called peer.new)
-        (IsSending request.now.datagram.now.items 32 (EndsAwaited r))) }
+        (IsSending request.now.datagram.now.items non_wait (EndsAwaited r))) }
 {
     send(peer, request.datagram, NON_WAIT)?;
     await_separate(peer, request, buffer)

@@ -1,6 +1,6 @@
 use Rattle.std.proofs.Common.{false, arith, subst}
 use Rattle.coap_client.specs.Transmissions.{MakesCalls, IsHeard}
-use Rattle.coap_client.proofs.Transmitting.{again, answered, answered_later, awaited, in_vain, in_vain_five}
+use Rattle.coap_client.proofs.Transmitting.{again, answered, answered_later, awaited, in_vain, in_vain_to_the_end}
 use Rattle.coap_client.proofs.transmission.ask_again.Goals as goal
 
 pub loop-sendings-preserved : goal.loop-sendings-preserved
@@ -33,5 +33,5 @@ returns-in-Acknowledged-clause-called g c =
 
 pub returns-clause-called : goal.returns-clause-called
 returns-clause-called g c =
-    in_vain_five c.args.request.now.datagram.now.items c.loop-sendings.sendings (g.P.Peer.called c.args.peer.now) (g.P.Peer.called c.loop-sendings.peer)
+    in_vain_to_the_end c.args.request.now.datagram.now.items c.loop-sendings.sendings (g.P.Peer.called c.args.peer.now) (g.P.Peer.called c.loop-sendings.peer)
     (let end = c.loop-sendings-test.false in let bound = c.loop-sendings.auto.sendings-end in omega (arith, end, bound)) c.loop-sendings.invariant
