@@ -1,13 +1,16 @@
 //! Laws of what the definitions say: the function is a law, and its contract says it.
-ghost use Rattle.std.specs.Prelude.{◌≡◌, ◌+◌, ◌%◌, ◌≤◌, ◌⊎◌, ℕ, List, [], ◌∷◌, Option, Some, None, false, length, true};
+ghost use Rattle.std.specs.Prelude.{◌≡◌, ◌+◌, ◌*◌, ◌%◌, ◌<◌, ◌≤◌, ◌⊎◌, ℕ, List, [], ◌∷◌, Option, Some, None, drop, false, length, take, true};
 ghost use Rattle.coap_msg.specs.Wire.{Message, message_bytes};
+ghost use Rattle.coap_opts.specs.Values.{block_bytes};
+ghost use Rattle.coap_opts.specs.declared.request.Method.TheVariants.{Put};
 ghost use Rattle.coap_client.specs.declared.errand.Errand.{Errand};
 ghost use Rattle.coap_client.specs.declared.part.Part.{Part};
-ghost use Rattle.coap_client.specs.declared.part.Part.TheVariants.{Body};
+ghost use Rattle.coap_client.specs.declared.part.Part.TheVariants.{Body, Whole};
 ghost use Rattle.coap_client.specs.declared.notice.Notice.TheVariants.{Last};
 ghost use Rattle.coap_client.specs.declared.notice.Interest.TheVariants.{Deregister};
 ghost use Rattle.coap_client.specs.declared.observing.Observer.{Observer};
 ghost use Rattle.coap_client.specs.Notices.{can_be_shown, is_newer, notice_of, observe_request};
+ghost use Rattle.coap_client.specs.Parts.{first_part, part_options, part_payload};
 ghost use Rattle.coap_client.specs.PeerCalls.{PeerCall, Sends, Waits};
 ghost use Rattle.coap_client.specs.Schedules.{AwaitsResponse, BeginsSchedule, full_schedule, schedule};
 ghost use Rattle.coap_client.specs.Transmissions.{IsDeregistration, IsTransmission};
@@ -72,6 +75,18 @@ pub fn without_observe_it_is_the_last()
 pub fn by_a_long_observe_it_is_the_last()
     ensures { (m : Message) (value : List ℕ) → can_be_shown m ≡ true
         → first_or_none (values_in 6 m.options) ≡ Some value → length value ≡ 4 → notice_of m ≡ Last }
+{}
+
+/// A PUT's body of more than 1,024 bytes goes in blocks of 1,024, from the first on (RFC 7959, 2.5): block n is that part of it, and is sent with the Block1
+/// option, 27, that says whether more are behind it. A body of up to 1,024 bytes goes whole.
+pub fn bodies_go_in_blocks()
+    ensures large { (count : ℕ) → 1024 < count → first_part Put count ≡ Body 0 6 }
+    ensures small { (count : ℕ) → count ≤ 1024 → first_part Put count ≡ Whole }
+    ensures block { (payload : List ℕ) (n : ℕ) → part_payload Put payload (Body n 6) ≡ take 1024 (drop (1024 * n) payload) }
+    ensures more { (n count : ℕ) → 1024 * (n + 1) < count
+        → part_options (Body n 6) count ≡ (27, block_bytes (record { number = n; more = true; szx = 6 })) ∷ [] }
+    ensures last { (n count : ℕ) → count ≤ 1024 * (n + 1)
+        → part_options (Body n 6) count ≡ (27, block_bytes (record { number = n; more = false; szx = 6 })) ∷ [] }
 {}
 
 /// A confirmable request that isn't answered is sent five times, and waited for 2, 4, 8, 16 and 32 seconds (ACK_TIMEOUT and MAX_RETRANSMIT, without a random
