@@ -1,7 +1,8 @@
 -- The first entry that passes a test, by its place.
 use Rattle.std.proofs.Common.{◌≡◌, ℕ, ◌+◌, ◌<◌, List, [], ◌∷◌, ◌++◌, length, get_or, set, suc, zero, take, drop, Bool, true, false, cond, Some, None, refl, sym, ap, ◌∙◌, subst, arith}
 use Rattle.std.specs.Prelude.{find, is_some, ◌||◌}
-use Rattle.std.specs.List.{list_any, position_from, remove}
+use Rattle.std.specs.List.{list_any, position, position_from, remove}
+use Rattle.std.proofs.lemmas.Iterator.Adapters.{position_from-zero}
 use Rattle.std.proofs.lemmas.List.{set_split}
 use Rattle.fc_observe.specs.declared.entry.Entry.{Entry}
 use Rattle.fc_observe.specs.declared.entry.Turn.{Turn}
@@ -28,9 +29,12 @@ none_by p o os k false e rest none = let r = rest none in record {
   change = λ g. ap (λ (b : Bool). cond b (g o ++ os) (o ∷ at_first p g os)) e ∙ ap (λ (l : List Entry). o ∷ l) (r.change g);
 }
 
-pub none_passes : (p : Entry → Bool) (os : List Entry) (k : ℕ) → position_from p k os ≡ None → PassesNone p os
-none_passes p [] k none = record { any = refl; found = refl; change = λ g. refl }
-none_passes p (o ∷ os) k none = none_by p o os k (p o) refl (none_passes p os (k + 1)) none
+none_from : (p : Entry → Bool) (os : List Entry) (k : ℕ) → position_from p k os ≡ None → PassesNone p os
+none_from p [] k none = record { any = refl; found = refl; change = λ g. refl }
+none_from p (o ∷ os) k none = none_by p o os k (p o) refl (none_from p os (k + 1)) none
+
+pub none_passes : (p : Entry → Bool) (os : List Entry) → position p os ≡ None → PassesNone p os
+none_passes p os none = none_from p os 0 (sym (position_from-zero p os) ∙ none)
 
 first_by : (p : Entry → Bool) (o : Entry) (os : List Entry) (k j : ℕ) (b : Bool) → p o ≡ b → (position_from p (k + 1) os ≡ Some j → (i : ℕ) × (j ≡ k + 1 + i) × IsFirst p os i) → cond b (Some k) (position_from p (k + 1) os) ≡ Some j → (i : ℕ) × (j ≡ k + i) × IsFirst p (o ∷ os) i
 first_by p o os k j true e rest some = let same : k ≡ j = cc in (
@@ -58,9 +62,9 @@ first_from : (p : Entry → Bool) (os : List Entry) (k j : ℕ) → position_fro
 first_from p [] k j some = absurd (cc some)
 first_from p (o ∷ os) k j some = first_by p o os k j (p o) refl (first_from p os (k + 1) j) some
 
-pub first_passes : (p : Entry → Bool) (os : List Entry) (j : ℕ) → position_from p 0 os ≡ Some j → IsFirst p os j
+pub first_passes : (p : Entry → Bool) (os : List Entry) (j : ℕ) → position p os ≡ Some j → IsFirst p os j
 first_passes p os j some =
-    let r = first_from p os 0 j some in
+    let r = first_from p os 0 j (sym (position_from-zero p os) ∙ some) in
     let same : r.0 ≡ j = omega (arith, r.1) in
     subst (λ (i : ℕ). IsFirst p os i) same r.2
 
@@ -92,9 +96,12 @@ some_by : (p : Entry → Bool) (k : ℕ) (os : List Entry) (b : Bool) → is_som
 some_by p k os true same = refl
 some_by p k os false same = same
 
-pub is_some-position : (p : Entry → Bool) (os : List Entry) (k : ℕ) → is_some (position_from p k os) ≡ list_any p os
-is_some-position p [] k = refl
-is_some-position p (o ∷ os) k = some_by p k os (p o) (is_some-position p os (k + 1))
+some_from : (p : Entry → Bool) (os : List Entry) (k : ℕ) → is_some (position_from p k os) ≡ list_any p os
+some_from p [] k = refl
+some_from p (o ∷ os) k = some_by p k os (p o) (some_from p os (k + 1))
+
+pub is_some-position : (p : Entry → Bool) (os : List Entry) → is_some (position p os) ≡ list_any p os
+is_some-position p os = ap (λ o. is_some o) (position_from-zero p os) ∙ some_from p os 0
 
 found_by : (p : Entry → Bool) (o : Entry) (os : List Entry) (b : Bool) → is_some (find p os) ≡ list_any p os → is_some (cond b (Some o) (find p os)) ≡ (b || list_any p os)
 found_by p o os true same = refl
@@ -115,27 +122,27 @@ is_some-next_turn noticed t = given_by t (gives_turn noticed t)
 
 module _ (turn : Turn) (v w : ObserverList) (same : v ≡ w) where
   -- it is found there
-  pub out_there : (i : ℕ) (x : Entry) → Some i ≡ position_from (is_out turn w) 0 w.held → x ≡ get_or v.held i x → entry_out turn w ≡ Some x
+  pub out_there : (i : ℕ) (x : Entry) → Some i ≡ position (is_out turn w) w.held → x ≡ get_or v.held i x → entry_out turn w ≡ Some x
   out_there i x at read =
       found_there (is_out turn w) w.held i x (first_passes (is_out turn w) w.held i (sym at)) (read ∙ ap (λ (l : ObserverList). get_or l.held i x) same)
 
   -- it is overwritten
-  pub out_changed : (g : ObserverList → Entry → List Entry) (i : ℕ) (x y : Entry) → Some i ≡ position_from (is_out turn w) 0 w.held → x ≡ get_or v.held i x → g v x ≡ y ∷ [] → with_held (set v.held i y) v ≡ with_held (at_first (is_out turn w) (g w) w.held) w
+  pub out_changed : (g : ObserverList → Entry → List Entry) (i : ℕ) (x y : Entry) → Some i ≡ position (is_out turn w) w.held → x ≡ get_or v.held i x → g v x ≡ y ∷ [] → with_held (set v.held i y) v ≡ with_held (at_first (is_out turn w) (g w) w.held) w
   out_changed g i x y at read made =
       (λ j. with_held (set (same j).held i y) (same j))
       ∙ ap (λ (h : List Entry). with_held h w)
       (changed_there (is_out turn w) (g w) w.held i x y (first_passes (is_out turn w) w.held i (sym at)) (read ∙ ap (λ (l : ObserverList). get_or l.held i x) same) (ap (λ (l : ObserverList). g l x) (sym same) ∙ made))
 
   -- it is removed
-  pub out_removed : (i : ℕ) (x : Entry) → Some i ≡ position_from (is_out turn w) 0 w.held → x ≡ get_or v.held i x → with_held (remove v.held i) v ≡ with_held (at_first (is_out turn w) (λ o. []) w.held) w
+  pub out_removed : (i : ℕ) (x : Entry) → Some i ≡ position (is_out turn w) w.held → x ≡ get_or v.held i x → with_held (remove v.held i) v ≡ with_held (at_first (is_out turn w) (λ o. []) w.held) w
   out_removed i x at read =
       (λ j. with_held (remove (same j).held i) (same j))
       ∙ ap (λ (h : List Entry). with_held h w)
       (removed_there (is_out turn w) (λ o. []) w.held i x (first_passes (is_out turn w) w.held i (sym at)) (read ∙ ap (λ (l : ObserverList). get_or l.held i x) same) refl)
 
 -- nobody has the turn out
-pub none_out : (turn : Turn) (w : ObserverList) → None ≡ position_from (is_out turn w) 0 w.held → entry_out turn w ≡ None
-none_out turn w none = (none_passes (is_out turn w) w.held 0 (sym none)).found
+pub none_out : (turn : Turn) (w : ObserverList) → None ≡ position (is_out turn w) w.held → entry_out turn w ≡ None
+none_out turn w none = (none_passes (is_out turn w) w.held (sym none)).found
 
-pub none_changed : (turn : Turn) (g : Entry → List Entry) (w : ObserverList) → None ≡ position_from (is_out turn w) 0 w.held → w ≡ with_held (at_first (is_out turn w) g w.held) w
-none_changed turn g w none = ap (λ (h : List Entry). with_held h w) (sym ((none_passes (is_out turn w) w.held 0 (sym none)).change g))
+pub none_changed : (turn : Turn) (g : Entry → List Entry) (w : ObserverList) → None ≡ position (is_out turn w) w.held → w ≡ with_held (at_first (is_out turn w) g w.held) w
+none_changed turn g w none = ap (λ (h : List Entry). with_held h w) (sym ((none_passes (is_out turn w) w.held (sym none)).change g))

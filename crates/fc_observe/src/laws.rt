@@ -10,7 +10,7 @@ ghost use Rattle.fc_observe.specs.Entries.{given_up, is_due, is_entry_of, is_lat
 ghost use Rattle.fc_observe.specs.Laws.{HandsInUpTo, IsAcknowledged, IsGivenUpNow, IsNewAt, IsOutstanding, IsRegistrationOf, IsSentAt, IsTurnOut, KeepsLast, KeepsSerial, RegistersNone, has_number, noticed_for, resent_entry};
 ghost use Rattle.fc_observe.specs.Observers.{ObserverList, after_ack, after_reset, at_moment, cancelled, entry_out, is_missing, is_out, next_turn, registered, ticked, turn_given};
 ghost use Rattle.fc_observe.specs.declared.entry.Entry.{Entry};
-ghost use Rattle.fc_observe.specs.declared.entry.Phase.TheVariants.{Outstanding, TurnOut};
+ghost use Rattle.fc_observe.specs.declared.entry.Phase.TheVariants.{TurnOut};
 ghost use Rattle.fc_observe.specs.declared.entry.Turn.{Turn};
 ghost use Rattle.fc_observe.specs.declared.observers.Ticked.TheVariants.{Resend};
 

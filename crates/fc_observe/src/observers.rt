@@ -1,6 +1,6 @@
 //! The list of observers of a slot.
-ghost use Rattle.std.specs.Prelude.{◌≡◌, ◌<◌, ◌≤◌, ◌↔◌, [], ◌∷◌, find, length, max, true, ◌&&◌, is_none, is_some, IfOk, IfSome, IsTrue, vec_capacity};
-ghost use Rattle.std.specs.List.{All, list_any, position_from};
+ghost use Rattle.std.specs.Prelude.{◌≡◌, ◌<◌, ◌≤◌, ◌↔◌, [], length, max, true, ◌&&◌, is_none, is_some, IfOk, IfSome, IsTrue, vec_capacity};
+ghost use Rattle.std.specs.List.{All, list_any, position};
 ghost use Rattle.std.specs.Option.{option_map};
 ghost use Rattle.fc_observe.specs.Entries.{acknowledged, has_last_id, has_turn, is_due, is_entry_of, is_late};
 ghost use Rattle.fc_observe.specs.Observers.{after_ack, after_reset, after_tick, at_each, at_moment, cancelled, entry_out, is_missing, is_out, late_entry, must_confirm_turn, next_turn, no_observers, registered, registration, ticked, turn_ended, turn_given, turn_given_up, turn_missed, turn_notified, without_those};
@@ -189,7 +189,7 @@ impl Observers {
 
     // The place of the entry whose turn this is, where it is out.
     fn at(&self, turn: Turn) -> Option<usize>
-        ensures place { result ≡ position_from (is_out turn self.now) 0 self.now.held }
+        ensures place { result ≡ position (is_out turn self.now) self.now.held }
         ensures within { IfSome result (λ i. i < length self.now.held) }
     {
         first_out(&self.held, self.slot, self.moment, turn)
@@ -377,53 +377,34 @@ impl Observers {
 
 // The first observer that is due.
 fn first_due(held: &[Entry], now: u64, noticed: u64) -> Option<usize>
-    ensures place { result ≡ position_from (is_due now noticed) 0 held.now }
+    ensures place { result ≡ position (is_due now noticed) held.now }
     ensures within { IfSome result (λ i. i < length held.now) }
 {
-    for (place, entry) in held.iter().enumerate() {
-        if entry.is_due(now, noticed) {
-            return Some(place);
-        }
-    }
-    None
+    held.iter().position(|entry| entry.is_due(now, noticed))
 }
 
 // The first entry whose turn this is, where it is out.
 fn first_out(held: &[Entry], slot: u8, now: u64, turn: Turn) -> Option<usize>
-    ensures place { result ≡ position_from (has_turn slot now turn) 0 held.now }
+    ensures place { result ≡ position (has_turn slot now turn) held.now }
     ensures within { IfSome result (λ i. i < length held.now) }
 {
-    for (place, entry) in held.iter().enumerate() {
-        if entry.has_turn(slot, now, turn) {
-            return Some(place);
-        }
-    }
-    None
+    held.iter()
+        .position(|entry| entry.has_turn(slot, now, turn))
 }
 
 // The first entry whose notification is late.
 fn first_late(held: &[Entry], now: u64) -> Option<usize>
-    ensures place { result ≡ position_from (is_late now) 0 held.now }
+    ensures place { result ≡ position (is_late now) held.now }
     ensures within { IfSome result (λ i. i < length held.now) }
 {
-    for (place, entry) in held.iter().enumerate() {
-        if entry.is_late(now) {
-            return Some(place);
-        }
-    }
-    None
+    held.iter().position(|entry| entry.is_late(now))
 }
 
 // Whether there is an entry of this endpoint and token.
 fn is_known(held: &[Entry], endpoint: Endpoint, token: &Token) -> bool
     ensures { result ≡ list_any (is_entry_of endpoint token.now.items) held.now }
 {
-    for entry in held {
-        if entry.is_entry_of(endpoint, token) {
-            return true;
-        }
-    }
-    false
+    held.iter().any(|entry| entry.is_entry_of(endpoint, token))
 }
 
 // Removes the entry of this endpoint and token.
@@ -451,12 +432,7 @@ fn remove_reset(held: &mut Vec<Entry>, endpoint: Endpoint, id: u16)
 fn is_last_sent(held: &[Entry], endpoint: Endpoint, id: u16) -> bool
     ensures { result ≡ list_any (has_last_id endpoint id) held.now }
 {
-    for entry in held {
-        if entry.has_last_id(endpoint, id) {
-            return true;
-        }
-    }
-    false
+    held.iter().any(|entry| entry.has_last_id(endpoint, id))
 }
 
 // Ends the wait of each entry whose last notification went to this endpoint with this message id.

@@ -1,5 +1,5 @@
 use Rattle.std.proofs.Common.{◌≡◌, Bool, true, Option, sym, ap, ◌∙◌, arith}
-use Rattle.std.specs.List.{position_from}
+use Rattle.std.specs.List.{position}
 use Rattle.std.specs.Prelude.{◌&&◌, is_some, max, nat_lt}
 use Rattle.std.specs.List.{list_any}
 use Rattle.std.proofs.lemmas.Bool.{lt-ltb}
@@ -13,10 +13,10 @@ use Rattle.fc_observe.proofs.observers.Observers.is_due.Goals as goal
 pub returns-then-self : goal.returns-then-self
 returns-then-self c =
     let due = is_due (max c.self.inside.moment c.args.now) c.args.noticed in
-    let some : c.is_some.result ≡ is_some (position_from due 0 c.self.inside.held.items) = cc in
+    let some : c.is_some.result ≡ is_some (position due c.self.inside.held.items) = cc in
     let few : nat_lt c.self.inside.turns 18446744073709551615 ≡ true = lt-ltb c.self.inside.turns 18446744073709551615 (omega arith) in
     let l : ObserverList = record { slot = c.self.inside.slot; moment = c.self.inside.moment; turns = c.self.inside.turns; held = c.self.inside.held.items } in
-    (some ∙ is_some-position due c.self.inside.held.items 0)
+    (some ∙ is_some-position due c.self.inside.held.items)
     ∙ (ap (λ (b : Bool). b && list_any due c.self.inside.held.items) (sym few)
     ∙ (sym (is_some-next_turn c.args.noticed (at_moment c.args.now l))
     ∙ ap (λ l. is_some (next_turn c.args.noticed (at_moment c.args.now l))) c.self.view_is))

@@ -1,5 +1,5 @@
 use Rattle.std.proofs.Common.{◌≡◌, true, Option, sym, ap, ◌∙◌}
-use Rattle.std.specs.List.{position_from}
+use Rattle.std.specs.List.{position}
 use Rattle.std.specs.Prelude.{is_some, max, not}
 use Rattle.fc_observe.specs.declared.entry.Entry.{Entry}
 use Rattle.fc_observe.specs.Entries.{is_late}
@@ -11,8 +11,8 @@ use Rattle.fc_observe.proofs.observers.Observers.is_late.Goals as goal
 pub returns-then-not-is_at_rest : goal.returns-then-not-is_at_rest
 returns-then-not-is_at_rest c =
     let late = is_late (max c.self.inside.moment c.args.now) in
-    let some : c.is_some.result ≡ is_some (position_from late 0 c.self.inside.held.items) = cc in
-    (some ∙ is_some-position late c.self.inside.held.items 0) ∙ (sym (is_some-find late c.self.inside.held.items)
+    let some : c.is_some.result ≡ is_some (position late c.self.inside.held.items) = cc in
+    (some ∙ is_some-position late c.self.inside.held.items) ∙ (sym (is_some-find late c.self.inside.held.items)
     ∙ ap (λ l. is_some (late_entry (at_moment c.args.now l))) c.self.view_is)
 
 pub returns-else-not-is_at_rest : goal.returns-else-not-is_at_rest

@@ -1,5 +1,5 @@
 use Rattle.std.proofs.Common.{◌≡◌, ◌+◌, [], ◌∷◌, List, Bool, true, false, Some, None, sym, ap, ◌∙◌, arith}
-use Rattle.std.specs.List.{position_from}
+use Rattle.std.specs.List.{position}
 use Rattle.fc_observe.specs.declared.entry.Entry.{Entry}
 use Rattle.std.specs.Prelude.{◌&&◌, nat_lt}
 use Rattle.std.specs.List.{list_any}
@@ -13,9 +13,9 @@ pub returns-in_err-place-clause-turn : goal.returns-in_err-place-clause-turn
 returns-in_err-place-clause-turn c =
     let s = c.self.inside in
     let p = is_due s.moment c.args.noticed in
-    let at : position_from p 0 s.held.items ≡ None = sym (ap (λ (l : List Entry). position_from p 0 l) c.deref.ensures.value)
+    let at : position p s.held.items ≡ None = sym (ap (λ (l : List Entry). position p l) c.deref.ensures.value)
     ∙ (sym c.first_due.ensures.place ∙ c.in_err-place.was) in
-    let none = none_passes p s.held.items 0 at in
+    let none = none_passes p s.held.items at in
     let l : ObserverList = record { slot = s.slot; moment = s.moment; turns = s.turns; held = s.held.items } in
     let quiet : gives_turn c.args.noticed l ≡ false = and_right (nat_lt s.turns 18446744073709551615) (list_any p s.held.items) none.any in
     c.from_residual.ensures ∙ (ap (λ (b : Bool). next_turn_by b l) (sym quiet) ∙ ap (λ l. next_turn c.args.noticed l) (c.self.view_is ∙ c.advance.ensures))
@@ -24,9 +24,9 @@ pub returns-in_err-place-clause-after : goal.returns-in_err-place-clause-after
 returns-in_err-place-clause-after c =
     let s = c.self.inside in
     let p = is_due s.moment c.args.noticed in
-    let at : position_from p 0 s.held.items ≡ None = sym (ap (λ (l : List Entry). position_from p 0 l) c.deref.ensures.value)
+    let at : position p s.held.items ≡ None = sym (ap (λ (l : List Entry). position p l) c.deref.ensures.value)
     ∙ (sym c.first_due.ensures.place ∙ c.in_err-place.was) in
-    let none = none_passes p s.held.items 0 at in
+    let none = none_passes p s.held.items at in
     let l : ObserverList = record { slot = s.slot; moment = s.moment; turns = s.turns; held = s.held.items } in
     let quiet : gives_turn c.args.noticed l ≡ false = and_right (nat_lt s.turns 18446744073709551615) (list_any p s.held.items) none.any in
     sym c.self.view_is ∙ (ap (λ (b : Bool). turn_given_by b c.args.noticed l) (sym quiet) ∙ ap (λ l. turn_given c.args.noticed l) (c.self.view_is
@@ -36,7 +36,7 @@ pub returns-clause-turn : goal.returns-clause-turn
 returns-clause-turn c =
     let s = c.self.inside in
     let p = is_due s.moment c.args.noticed in
-    let at : position_from p 0 s.held.items ≡ Some c.in_ok-place.place = sym (ap (λ (l : List Entry). position_from p 0 l) c.deref.ensures.value)
+    let at : position p s.held.items ≡ Some c.in_ok-place.place = sym (ap (λ (l : List Entry). position p l) c.deref.ensures.value)
     ∙ (sym c.first_due.ensures.place ∙ c.in_ok-place.was) in
     let first = first_passes p s.held.items c.in_ok-place.place at in
     let l : ObserverList = record { slot = s.slot; moment = s.moment; turns = s.turns; held = s.held.items } in
@@ -48,7 +48,7 @@ pub returns-clause-after : goal.returns-clause-after
 returns-clause-after c =
     let s = c.self.inside in
     let p = is_due s.moment c.args.noticed in
-    let at : position_from p 0 s.held.items ≡ Some c.in_ok-place.place = sym (ap (λ (l : List Entry). position_from p 0 l) c.deref.ensures.value)
+    let at : position p s.held.items ≡ Some c.in_ok-place.place = sym (ap (λ (l : List Entry). position p l) c.deref.ensures.value)
     ∙ (sym c.first_due.ensures.place ∙ c.in_ok-place.was) in
     let first = first_passes p s.held.items c.in_ok-place.place at in
     let l : ObserverList = record { slot = s.slot; moment = s.moment; turns = s.turns; held = s.held.items } in

@@ -1,5 +1,5 @@
 use Rattle.std.proofs.Common.{◌≡◌, [], ◌∷◌, List, Option, Some, None, sym, ap, ◌∙◌}
-use Rattle.std.specs.List.{position_from}
+use Rattle.std.specs.List.{position}
 use Rattle.fc_observe.specs.declared.entry.Entry.{Entry}
 use Rattle.std.specs.Prelude.{is_some}
 use Rattle.coap_msg.specs.declared.types.Emission.{Emission}
@@ -12,18 +12,18 @@ pub returns-in_default-clause-answer : goal.returns-in_default-clause-answer
 returns-in_default-clause-answer c =
     let s = c.self.inside in
     let p = is_late s.moment in
-    let at : position_from p 0 s.held.items ≡ None = sym (ap (λ (l : List Entry). position_from p 0 l) c.deref.ensures.value)
+    let at : position p s.held.items ≡ None = sym (ap (λ (l : List Entry). position p l) c.deref.ensures.value)
     ∙ (sym c.first_late.ensures.place ∙ c.in_default.is) in
-    let none = none_passes p s.held.items 0 at in
+    let none = none_passes p s.held.items at in
     sym (ap (λ o. ticked_at o) none.found) ∙ ap (λ l. ticked l) (c.self.view_is ∙ c.advance.ensures)
 
 pub returns-in_default-clause-after : goal.returns-in_default-clause-after
 returns-in_default-clause-after c =
     let s = c.self.inside in
     let p = is_late s.moment in
-    let at : position_from p 0 s.held.items ≡ None = sym (ap (λ (l : List Entry). position_from p 0 l) c.deref.ensures.value)
+    let at : position p s.held.items ≡ None = sym (ap (λ (l : List Entry). position p l) c.deref.ensures.value)
     ∙ (sym c.first_late.ensures.place ∙ c.in_default.is) in
-    let none = none_passes p s.held.items 0 at in
+    let none = none_passes p s.held.items at in
     let list = λ (h : List Entry). let l : ObserverList = record { slot = s.slot; moment = s.moment; turns = s.turns; held = h } in l in
     sym c.self.view_is ∙ (ap list (sym (none.change (λ o. timed_out s.moment o))) ∙ ap (λ l. after_tick l) (c.self.view_is ∙ c.advance.ensures))
 
@@ -31,7 +31,7 @@ pub returns-in-Some-retransmit-clause-answer : goal.returns-in-Some-retransmit-c
 returns-in-Some-retransmit-clause-answer c =
     let s = c.self.inside in
     let p = is_late s.moment in
-    let at : position_from p 0 s.held.items ≡ Some c.in-Some.place = sym (ap (λ (l : List Entry). position_from p 0 l) c.deref.ensures.value)
+    let at : position p s.held.items ≡ Some c.in-Some.place = sym (ap (λ (l : List Entry). position p l) c.deref.ensures.value)
     ∙ (sym c.first_late.ensures.place ∙ c.in-Some.is) in
     let first = first_passes p s.held.items c.in-Some.place at in
     let x = c.index_mut.result.now in
@@ -43,7 +43,7 @@ pub returns-in-Some-retransmit-clause-after : goal.returns-in-Some-retransmit-cl
 returns-in-Some-retransmit-clause-after c =
     let s = c.self.inside in
     let p = is_late s.moment in
-    let at : position_from p 0 s.held.items ≡ Some c.in-Some.place = sym (ap (λ (l : List Entry). position_from p 0 l) c.deref.ensures.value)
+    let at : position p s.held.items ≡ Some c.in-Some.place = sym (ap (λ (l : List Entry). position p l) c.deref.ensures.value)
     ∙ (sym c.first_late.ensures.place ∙ c.in-Some.is) in
     let first = first_passes p s.held.items c.in-Some.place at in
     let x = c.index_mut.result.now in
@@ -60,7 +60,7 @@ pub returns-in-None-clause-answer : goal.returns-in-None-clause-answer
 returns-in-None-clause-answer c =
     let s = c.self.inside in
     let p = is_late s.moment in
-    let at : position_from p 0 s.held.items ≡ Some c.in-Some.place = sym (ap (λ (l : List Entry). position_from p 0 l) c.deref.ensures.value)
+    let at : position p s.held.items ≡ Some c.in-Some.place = sym (ap (λ (l : List Entry). position p l) c.deref.ensures.value)
     ∙ (sym c.first_late.ensures.place ∙ c.in-Some.is) in
     let first = first_passes p s.held.items c.in-Some.place at in
     let x = c.index_mut.result.now in
@@ -72,7 +72,7 @@ pub returns-in-None-clause-after : goal.returns-in-None-clause-after
 returns-in-None-clause-after c =
     let s = c.self.inside in
     let p = is_late s.moment in
-    let at : position_from p 0 s.held.items ≡ Some c.in-Some.place = sym (ap (λ (l : List Entry). position_from p 0 l) c.deref.ensures.value)
+    let at : position p s.held.items ≡ Some c.in-Some.place = sym (ap (λ (l : List Entry). position p l) c.deref.ensures.value)
     ∙ (sym c.first_late.ensures.place ∙ c.in-Some.is) in
     let first = first_passes p s.held.items c.in-Some.place at in
     let x = c.index_mut.result.now in
