@@ -1,10 +1,12 @@
 -- The rules of the control flow say of counted loops what typings, paths and runs rest on.
 use Rattle.std.proofs.Common.{◌≡◌, ◌≢◌, ◌⊎◌, ℕ, zero, suc, ◌+◌, ◌-◌, ◌==◌, ◌||◌, ◌&&◌, ◌<◌, ◌≤◌, not, nat_lt, min, max, Bool, true, false, ℤ, pos, Option, Some, None, List, [], ◌∷◌, length, take, drop, refl, sym, ap, ◌∙◌, subst, inl, inr, arith}
 use Rattle.std.specs.Prelude.{slice_get}
+use Rattle.std.specs.List.{list_any}
 use Rattle.std.proofs.lemmas.Int.{ints}
 use Rattle.std.proofs.lemmas.Bool.Decides.{nat_tests}
 use Rattle.std.proofs.lemmas.Bool.{cases_eq}
-use Rattle.std.proofs.lemmas.Option.{slice_get_within}
+use Rattle.std.proofs.lemmas.Option.{get_or_from_slice_get, slice_get-get_or, slice_get_within}
+use Rattle.std.proofs.lemmas.List.Folds.{Any-from_list_any, list_any-from_Any}
 use Rattle.fc_isa.specs.declared.insn.Width.TheVariants.{W64}
 use Rattle.fc_isa.specs.declared.insn.AluOp.TheVariants.{Add}
 use Rattle.fc_isa.specs.declared.insn.Operand.TheVariants.{Imm}
@@ -19,7 +21,7 @@ use Rattle.fc_image.specs.Flow.{flow_of, flow_at}
 use Rattle.fc_image.specs.Functions.{with_offset, calls, is_called, is_start, starts_within, slots_taken, may_end, is_open_end}
 use Rattle.fc_image.specs.Laws.{frames_at}
 use Rattle.fc_image.specs.declared.loops.Loop.{Loop}
-use Rattle.fc_image.specs.Loops.{is_in, is_exit, crosses, spoils, is_undisturbed, loop_if, loops_of, ends, some_insn, body, is_written, has_call}
+use Rattle.fc_image.specs.Loops.{is_in, is_exit, crosses, spoils, is_undisturbed, loop_if, loops_of, ends, body, is_written, has_call}
 use Rattle.fc_image.specs.LoopLaws.{FlowsTo, Calls, JumpsBack, IsLoop, IsBack, IsOnward, AreLoops, AreBodies, IsCounter, AreCounters, ShapedLoopsAreLoops, IsLater, IsForward}
 use Rattle.fc_image.specs.ShapeRules.{is_instruction, is_place, is_later, leaves, leads_back, IsShapedBy}
 use Rattle.fc_isa.specs.declared.version.ImageVersion.{ImageVersion}
@@ -334,31 +336,20 @@ take_past [] (suc n) i insn e = absurd (cc e)
 take_past (x ∷ code) (suc n) zero insn e = omega arith
 take_past (x ∷ code) (suc n) (suc i) insn e = let r = take_past code n i insn e in omega (arith, r)
 
-some_in : (test : Insn → Bool) (xs : List Insn) (i : ℕ) (insn : Insn) → slice_get xs i ≡ Some insn → test insn ≡ true → some_insn test xs ≡ true
-some_in test [] i insn e t = absurd (cc e)
-some_in test (x ∷ xs) zero insn e t = let same : x ≡ insn = cc e in ap (λ b. b || some_insn test xs) (ap test same ∙ t)
-some_in test (x ∷ xs) (suc i) insn e t = either (test x) (some_in test xs i insn e t)
-  where
-    either : (b : Bool) → some_insn test xs ≡ true → (b || some_insn test xs) ≡ true
-    either true h = refl
-    either false h = h
+some_in : (test : Insn → Bool) (xs : List Insn) (i : ℕ) (insn : Insn) → slice_get xs i ≡ Some insn → test insn ≡ true → list_any test xs ≡ true
+some_in test xs i insn e t = list_any-from_Any test xs (i, insn, slice_get_within xs i insn e, get_or_from_slice_get xs i insn insn e, t)
 
-in_some : (test : Insn → Bool) (xs : List Insn) → some_insn test xs ≡ true → (i : ℕ) × (insn : Insn) × (slice_get xs i ≡ Some insn) × (test insn ≡ true)
-in_some test [] e = absurd (cc e)
-in_some test (x ∷ xs) e = go (test x) refl e (in_some test xs)
-  where
-    go : (b : Bool) → test x ≡ b → (b || some_insn test xs) ≡ true → (some_insn test xs ≡ true → (i : ℕ) × (insn : Insn) × (slice_get xs i ≡ Some insn) × (test insn ≡ true)) → (i : ℕ) × (insn : Insn) × (slice_get (x ∷ xs) i ≡ Some insn) × (test insn ≡ true)
-    go true f g ih = (0, x, refl, f)
-    go false f g ih = let r = ih g in (suc r.0, r.1, r.2, r.3)
+in_some : (test : Insn → Bool) (xs : List Insn) → list_any test xs ≡ true → (i : ℕ) × (insn : Insn) × (slice_get xs i ≡ Some insn) × (test insn ≡ true)
+in_some test xs e = let a = Any-from_list_any test xs e in (a.0, a.1, slice_get-get_or xs a.0 a.1 a.2 ∙ ap Some a.3, a.4)
 
-pub in_body : (test : Insn → Bool) (code : List Insn) (l : Loop) (slot : ℕ) (insn : Insn) → l.head ≤ slot → slot ≤ l.last → slice_get code slot ≡ Some insn → test insn ≡ true → some_insn test (body code l) ≡ true
+pub in_body : (test : Insn → Bool) (code : List Insn) (l : Loop) (slot : ℕ) (insn : Insn) → l.head ≤ slot → slot ≤ l.last → slice_get code slot ≡ Some insn → test insn ≡ true → list_any test (body code l) ≡ true
 in_body test code l slot insn a b e t =
     let at : l.head + (slot - l.head) ≡ slot = omega (arith, a) in
     some_in test (body code l) (slot - l.head) insn
     (get_take (drop l.head code) (suc l.last - l.head) (slot - l.head) (omega (arith, a, b)) ∙ get_drop code l.head (slot - l.head) ∙ ap (slice_get code) at ∙ e) t
 
 -- what an inner body has the outer has
-body_in : (test : Insn → Bool) (code : List Insn) (l m : Loop) → l.head ≤ m.head → m.head ≤ m.last → m.last ≤ l.last → some_insn test (body code m) ≡ true → some_insn test (body code l) ≡ true
+body_in : (test : Insn → Bool) (code : List Insn) (l m : Loop) → l.head ≤ m.head → m.head ≤ m.last → m.last ≤ l.last → list_any test (body code m) ≡ true → list_any test (body code l) ≡ true
 body_in test code l m from order upto e =
     let r = in_some test (body code m) e in
     let few = take_past (drop m.head code) (suc m.last - m.head) r.0 r.1 r.2 in

@@ -1,5 +1,6 @@
 -- Counted loops: `add64 r, c`, and right after it `jlt r, n` back to the head of the loop.
 use Rattle.std.specs.Prelude.{ℕ, suc, ◌-◌, ◌==◌, ◌||◌, ◌&&◌, not, nat_lt, nat_le, Bool, true, false, if◌then◌else◌, pos, List, [], ◌∷◌, take, drop, Option, Some, None, slice_get}
+use Rattle.std.specs.List.{list_any}
 use Rattle.fc_isa.specs.declared.insn.Width.{Width}
 use Rattle.fc_isa.specs.declared.insn.Width.TheVariants.{W64}
 use Rattle.fc_isa.specs.declared.insn.AluOp.TheVariants.{Add}
@@ -103,15 +104,11 @@ ends (l ∷ loops) slot = if l.last == slot then Some l else ends loops slot
 
 -- ---- what a body writes, by the text, whether it is reached or not
 
-abbrev pub some_insn : (Insn → Bool) → List Insn → Bool
-some_insn test [] = false
-some_insn test (insn ∷ code) = test insn || some_insn test code
-
 abbrev pub body : List Insn → Loop → List Insn
 body code l = take (suc l.last - l.head) (drop l.head code)
 
 unfoldable pub is_written : List Insn → Loop → ℕ → Bool
-is_written code l r = some_insn (λ insn. writes insn r) (body code l)
+is_written code l r = list_any (λ insn. writes insn r) (body code l)
 
 unfoldable pub has_call : List Insn → Loop → Bool
-has_call code l = some_insn is_call (body code l)
+has_call code l = list_any is_call (body code l)

@@ -1,7 +1,10 @@
 -- What a head's kinds are, and what a body keeps of them.
 use Rattle.std.proofs.Common.{◌≡◌, ◌≢◌, ◌⊎◌, ℕ, zero, suc, ◌+◌, ◌-◌, ◌==◌, ◌&&◌, ◌||◌, ◌<◌, ◌≤◌, nat_lt, nat_le, max, min, Bool, true, false, if◌then◌else◌, ℤ, pos, Option, Some, None, List, [], ◌∷◌, length, take, drop, refl, sym, ap, ◌∙◌, subst, inl, inr, arith, get_or-set_same, get_or-set_other}
 use Rattle.std.specs.Prelude.{slice_get, slice_set}
+use Rattle.std.specs.List.{list_any}
 use Rattle.std.proofs.lemmas.List.{get_or_past}
+use Rattle.std.proofs.lemmas.List.Folds.{list_any-from_Any}
+use Rattle.std.proofs.lemmas.Option.{get_or_from_slice_get, slice_get_within}
 use Rattle.std.proofs.lemmas.Bool.Decides.{nat_tests}
 use Rattle.std.proofs.lemmas.Bool.{cases_eq, cases_lt}
 use Rattle.fc_isa.specs.declared.insn.Width.TheVariants.{W64}
@@ -23,7 +26,7 @@ use Rattle.fc_kinds.specs.Transfer.{num, is_number, put_kind, where_met, after_c
 use Rattle.fc_kinds.specs.Refinement.{both_numbers, when}
 use Rattle.fc_kinds.proofs.KindLaws.{kind_within_same, within_then}
 use Rattle.fc_image.specs.declared.loops.Loop.{Loop}
-use Rattle.fc_image.specs.Loops.{some_insn, body, is_written, has_call}
+use Rattle.fc_image.specs.Loops.{body, is_written, has_call}
 use Rattle.fc_isa.specs.Writes.{computes, is_call, is_that, writes}
 use Rattle.fc_verify.specs.Heads.{IsAnyNumber, IsHeadState, any_number, formed_kind, formed, enters, settled, gives_number}
 use Rattle.fc_verify.proofs.Rules.{IsUnder, Settles, SettlesIn, IsSound}
@@ -220,16 +223,10 @@ get_take [] (suc n) i lt = refl
 get_take (x ∷ code) (suc n) zero lt = refl
 get_take (x ∷ code) (suc n) (suc i) lt = get_take code n i (omega (arith, lt))
 
-some_in : (test : Insn → Bool) (xs : List Insn) (i : ℕ) (insn : Insn) → slice_get xs i ≡ Some insn → test insn ≡ true → some_insn test xs ≡ true
-some_in test [] i insn e t = absurd (cc e)
-some_in test (x ∷ xs) zero insn e t = let same : x ≡ insn = cc e in ap (λ b. b || some_insn test xs) (ap test same ∙ t)
-some_in test (x ∷ xs) (suc i) insn e t = either (test x) (some_in test xs i insn e t)
-  where
-    either : (b : Bool) → some_insn test xs ≡ true → (b || some_insn test xs) ≡ true
-    either true h = refl
-    either false h = h
+some_in : (test : Insn → Bool) (xs : List Insn) (i : ℕ) (insn : Insn) → slice_get xs i ≡ Some insn → test insn ≡ true → list_any test xs ≡ true
+some_in test xs i insn e t = list_any-from_Any test xs (i, insn, slice_get_within xs i insn e, get_or_from_slice_get xs i insn insn e, t)
 
-in_body : (test : Insn → Bool) (code : List Insn) (l : Loop) (slot : ℕ) (insn : Insn) → l.head ≤ slot → slot ≤ l.last → slice_get code slot ≡ Some insn → test insn ≡ true → some_insn test (body code l) ≡ true
+in_body : (test : Insn → Bool) (code : List Insn) (l : Loop) (slot : ℕ) (insn : Insn) → l.head ≤ slot → slot ≤ l.last → slice_get code slot ≡ Some insn → test insn ≡ true → list_any test (body code l) ≡ true
 in_body test code l slot insn a b e t =
     let at : l.head + (slot - l.head) ≡ slot = omega (arith, a) in
     some_in test (body code l) (slot - l.head) insn

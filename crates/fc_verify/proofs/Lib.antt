@@ -3,7 +3,6 @@ pub mod Rules
 pub mod HandedOn
 pub mod Heads
 pub mod Narrow
-pub mod Bodies
 pub mod PassLaws
 pub mod Passing
 pub mod Levels

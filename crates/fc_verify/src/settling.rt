@@ -1,7 +1,7 @@
 //! The kinds at the heads of counted loops.
-ghost use Rattle.std.specs.Prelude.{None, Some, drop, false, length, take, true, ◌+◌, ◌-◌, ◌<◌, ◌≡◌, ◌≤◌, suc, ℕ};
-ghost use Rattle.fc_isa.specs.Writes.{computes, is_call, is_that, writes};
-ghost use Rattle.fc_image.specs.Loops.{body, has_call, is_written, some_insn};
+ghost use Rattle.std.specs.Prelude.{Some, ◌<◌, ◌≡◌};
+ghost use Rattle.fc_isa.specs.Writes.{computes};
+ghost use Rattle.fc_image.specs.Loops.{body, has_call, is_written};
 ghost use Rattle.fc_verify.specs.Heads.{IsLoopOf, any_number, enters, formed, formed_kind, gives_number, settled};
 ghost use Rattle.fc_verify.specs.Stages.{IsUnnumbered};
 ghost use Rattle.fc_kinds.specs.Kinds.{kind_at};
@@ -93,7 +93,9 @@ fn is_written(code: &[Insn], counted: &Loop, register: usize) -> bool
     requires { IsLoopOf code.now (Some counted.now) }
     ensures { result ≡ is_written code.now counted.now register }
 {
-    some_writes(&code[counted.head..counted.last + 1], register)
+    code[counted.head..counted.last + 1]
+        .iter()
+        .any(|insn| writes(insn, register))
 }
 
 /// Whether an instruction of the body is a call.
@@ -102,29 +104,7 @@ fn has_call(code: &[Insn], counted: &Loop) -> bool
     requires { IsLoopOf code.now (Some counted.now) }
     ensures { result ≡ has_call code.now counted.now }
 {
-    some_calls(&code[counted.head..counted.last + 1])
-}
-
-fn some_writes(code: &[Insn], register: usize) -> bool
-    ensures { result ≡ some_insn (λ insn. writes insn register) code.now }
-{
-    for slot in 0..code.len() {
-        if writes(&code[slot], register) {
-            return true;
-        }
-    }
-    false
-}
-
-fn some_calls(code: &[Insn]) -> bool
-    ensures { result ≡ some_insn is_call code.now }
-{
-    for slot in 0..code.len() {
-        if is_call(&code[slot]) {
-            return true;
-        }
-    }
-    false
+    code[counted.head..counted.last + 1].iter().any(is_call)
 }
 
 /// Whether the register that an instruction computes, where it computes one, is given a number.
