@@ -1,6 +1,7 @@
 -- The first broken rule with its least slot, as a relation and as a function.
-use Rattle.std.proofs.Common.{◌≡◌, ◌++◌, ◌==◌, ◌&&◌, ℕ, zero, suc, ◌+◌, ◌<◌, ◌≤◌, Bool, true, false, if◌then◌else◌, List, [], ◌∷◌, drop, Option, Some, None, refl, sym, ap, ◌∙◌, subst, arith}
-use Rattle.std.specs.Prelude.{slice_get, nat_lt, length}
+use Rattle.std.proofs.Common.{◌≡◌, ◌++◌, ◌==◌, ◌&&◌, ℕ, zero, suc, ◌+◌, ◌<◌, ◌≤◌, Bool, true, false, if◌then◌else◌, List, [], ◌∷◌, Option, Some, None, refl, sym, ap, ◌∙◌, subst, arith}
+use Rattle.std.specs.Prelude.{slice_get, nat_lt, length, get_or, MatchOption}
+use Rattle.std.proofs.lemmas.Option.{get_or_from_slice_get, slice_get-get_or, slice_get_within}
 use Rattle.std.proofs.lemmas.Bool.Decides.{nat_tests}
 use Rattle.fc_isa.specs.declared.insn.Insn.{Insn}
 use Rattle.fc_isa.specs.declared.rule.Rule.{Rule}
@@ -12,15 +13,8 @@ use Rattle.fc_image.specs.Head.{Head, frames_allowed, loops_allowed}
 use Rattle.fc_image.specs.Paths.{longest}
 use Rattle.fc_image.specs.ShapeRules.{breaks_flow, breaks_shape, IsShapeFault, KeepsRule, least, or_next, first_broken, flow_rules, shape_fault}
 use Rattle.fc_image.specs.Laws.{KeepsLimits}
-use Rattle.fc_image.proofs.CostTable.{drop_at}
 
 -- ---- the least slot
-
-pub least_more : (test : ℕ → Insn → Bool) (code : List Insn) (slot : ℕ) (insn : Insn) → slice_get code slot ≡ Some insn
-    → least test slot (drop slot code) ≡ (if test slot insn then Some slot else least test (slot + 1) (drop (slot + 1) code))
-least_more test code slot insn e =
-    let n : suc slot ≡ slot + 1 = omega arith in
-    ap (least test slot) (drop_at code slot insn e) ∙ ap (λ k. if test slot insn then Some slot else least test (slot + 1) (drop k code)) n
 
 -- nothing passes the test from a slot on, up to another
 record NonePasses (test : ℕ → Insn → Bool) (from : ℕ) (code : List Insn) : Type 0 where
@@ -95,6 +89,26 @@ least_is test from (i ∷ code) (suc index) slot insn e g t b =
     let f : test from i ≡ false = ap (λ k. test k i) (sym n) ∙ b 0 i (omega arith) refl in
     ap (λ (b : Bool). if b then Some from else least test (from + 1) code) f
     ∙ least_is test (from + 1) code index slot insn (omega (arith, e)) g t (λ k j lt h. let m : from + 1 + k ≡ from + suc k = omega arith in ap (λ x. test x j) m ∙ b (suc k) j (omega arith) h)
+
+-- what a search of the slots found
+abbrev pub Tests : (ℕ → Insn → Bool) → Bool → List Insn → ℕ → Type 0
+Tests test b code k = (insn : Insn) × (insn ≡ get_or code k insn) × (test k insn ≡ b)
+
+failed : (test : ℕ → Insn → Bool) (code : List Insn) (k : ℕ) (i : Insn) → Tests test false code k → slice_get code k ≡ Some i → test (0 + k) i ≡ false
+failed test code k i t g =
+    let n : 0 + k ≡ k = omega arith in
+    ap (λ x. test x i) n ∙ ap (test k) (sym (t.1 ∙ get_or_from_slice_get code k i t.0 g)) ∙ t.2
+
+pub least_found : (test : ℕ → Insn → Bool) (code : List Insn) (o : Option ℕ)
+    → MatchOption o ((k : ℕ) → 0 ≤ k → k < length code → Tests test false code k) (λ slot. (0 ≤ slot) × (slot < length code) × Tests test true code slot × ((k : ℕ) → 0 ≤ k → k < slot → Tests test false code k))
+    → o ≡ least test 0 code
+least_found test code None none =
+    sym (none_least test 0 code (record { each = λ k i g. failed test code k i (none k (omega arith) (slice_get_within code k i g)) g }))
+least_found test code (Some slot) some =
+    let t = some.2 in
+    let n : slot ≡ 0 + slot = omega arith in
+    let stands : slice_get code slot ≡ Some t.0 = slice_get-get_or code slot t.0 some.1 ∙ ap Some (sym t.1) in
+    sym (least_is test 0 code slot slot t.0 n stands t.2 (λ k i lt g. failed test code k i (some.3 k (omega arith) lt) g))
 
 -- the slot breaks the rule, and no slot before it does
 record Breaks (head : Head) (code : List Insn) (rule : Rule) (slot : ℕ) : Type 0 where

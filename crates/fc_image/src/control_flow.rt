@@ -1,7 +1,6 @@
 //! The shape of a program: the rules of its control flow, in their order.
-ghost use Rattle.std.specs.Prelude.{IfErr, IfOk, List, MatchOption, None, Some, drop, false, length, not, slice_get, true, ℕ, ◌+◌, ◌-◌, ◌<◌, ◌||◌, ◌≡◌, ◌≤◌};
-ghost use Rattle.fc_isa.specs.declared.insn.Insn.{Insn as Instruction};
-ghost use Rattle.fc_isa.specs.Flow.{call_offset, jump_offset, target};
+ghost use Rattle.std.specs.Prelude.{IfErr, IfOk, None, Some, length, not, true, ◌<◌, ◌≡◌, ◌≤◌};
+ghost use Rattle.fc_isa.specs.Flow.{target};
 ghost use Rattle.fc_isa.specs.Program.{is_program};
 ghost use Rattle.fc_image.specs.Functions.{with_offset};
 ghost use Rattle.fc_image.specs.Judged.{AreTables, IsCostOf, IsSame};
@@ -72,12 +71,7 @@ fn least(code: &[Insn], tables: &Tables, head: &Head, rule: Rule) -> Option<usiz
     requires count { length code.now ≤ 1024 }
     ensures { result ≡ least (λ slot insn. breaks_shape head.now code.now slot insn rule) 0 code.now }
 {
-    for (slot, insn) in code.iter().enumerate() {
-        if breaks(code, tables, head, slot, insn, rule) {
-            return Some(slot);
-        }
-    }
-    None
+    (0..code.len()).find(|slot| breaks(code, tables, head, *slot, &code[*slot], rule))
 }
 
 /// Whether a slot breaks a rule.
