@@ -1,7 +1,7 @@
 //! Shards of slots.
-ghost use Rattle.std.specs.Prelude.{◌≡◌, if◌then◌else◌, ℕ, ◌+◌, ◌/◌, ◌<◌, ◌≤◌, ◌↔◌, ◌∷◌, true, false, length, map, replicate, IfOk, IfSome};
+ghost use Rattle.std.specs.Prelude.{◌≡◌, if◌then◌else◌, ℕ, ◌/◌, ◌<◌, ◌≤◌, false, length, map, IfOk, IfSome};
 ghost use Rattle.fc_registry.specs.Shards.{empty_shard};
-ghost use Rattle.fc_registry.specs.Slots.{IsOwned, slot_in, with_slot, new_slot, last_serial, version_in, vars_in};
+ghost use Rattle.fc_registry.specs.Slots.{IsOwned, slot_in, with_slot, last_serial, version_in, vars_in};
 ghost use Rattle.fc_registry.specs.Changes.{after_changes};
 ghost use Rattle.fc_registry.specs.Calls.{TakesAt, CommitsTo, install_in, receipt_at, remove_from, after_taking};
 ghost use Rattle.fc_registry.specs.Views.{HasSize, as_seen, taken_with};
@@ -10,7 +10,7 @@ ghost use Rattle.fc_observe.specs.Calls.{observers_after};
 ghost use Rattle.fc_observe.specs.Quiet.{AreQuietUntil};
 ghost use Rattle.fc_registry.specs.Notes.{IsKeptUnlessSent, NotesTo, noted_as};
 ghost use Rattle.fc_registry.specs.Turns.{due_job, written_if};
-ghost use Rattle.fc_registry.specs.Watches.{AreWatched, IsSentUpTo, StaysQuietUntil, after_due, after_given_up, shard_after_tick, due_place, at_time, has_due, is_quiet, is_quiet_at, late_place, new_watches, noticed_at, signal_call, signalled, ticked_in, watch_at};
+ghost use Rattle.fc_registry.specs.Watches.{AreWatched, IsSentUpTo, StaysQuietUntil, after_due, after_given_up, shard_after_tick, due_place, at_time, has_due, has_late, is_quiet, is_quiet_at, late_place, new_watches, noticed_at, signal_call, signalled, ticked_in, watch_at};
 
 use crate::commit::Committed;
 use crate::job::Job;
@@ -452,17 +452,20 @@ impl Shard {
         self.watches[place].is_due(now, self.noticed_at(place))
     }
 
+    // Whether a notification at a place is late at a moment.
+    fn is_late_at(&self, now: u64, place: usize) -> bool
+        requires { place < 8 }
+        ensures { result ≡ has_late (record self.entry.now { now = now }) place }
+    {
+        self.watches[place].is_late(now)
+    }
+
     // The first place with an observer that is due at a moment.
     fn due_place(&self, now: u64) -> Option<usize>
         ensures place { result ≡ due_place (record self.entry.now { now = now }) }
         ensures within { IfSome result (λ k. k < 8) }
     {
-        for place in 0..PLACES {
-            if self.is_due_at(now, place) {
-                return Some(place);
-            }
-        }
-        None
+        (0..PLACES).find(|place| self.is_due_at(now, *place))
     }
 
     // The first place with a notification that is late at a moment.
@@ -470,12 +473,7 @@ impl Shard {
         ensures place { result ≡ late_place (record self.entry.now { now = now }) }
         ensures within { IfSome result (λ k. k < 8) }
     {
-        for place in 0..PLACES {
-            if self.watches[place].is_late(now) {
-                return Some(place);
-            }
-        }
-        None
+        (0..PLACES).find(|place| self.is_late_at(now, *place))
     }
 
     /// The ring of each slot is a chain: whatever was called, in whatever order, its entries are the commits of the present
@@ -511,12 +509,7 @@ fn make_watches(alloc: Global, index: u8) -> Result<Vec<Observers>, AllocError>
 fn have_observers(watches: &[Observers]) -> bool
     ensures { AreWatched result watches.now }
 {
-    for watch in watches {
-        if !watch.is_empty() {
-            return true;
-        }
-    }
-    false
+    watches.iter().any(|watch| !watch.is_empty())
 }
 
 // Hands a signal to the observers of each slot.

@@ -1,13 +1,11 @@
-use Rattle.std.proofs.Common.{sym, ◌∙◌, arith}
-use Rattle.fc_registry.specs.Watches.{has_due, due_place}
-use Rattle.fc_registry.proofs.Places.{place_passed, place_found, no_place}
+use Rattle.std.proofs.Common.{refl, sym, ◌∙◌, rules, tests}
+use Rattle.std.proofs.lemmas.Iterator.{YieldsList-from_range}
+use Rattle.std.proofs.lemmas.Iterator.Adapters.{option_map_id}
+use Rattle.std.proofs.lemmas.Iterator.Search.{find_from_yields_List}
+use Rattle.fc_registry.specs.Watches.{has_due}
 use Rattle.fc_registry.proofs.shard.Shard.due_place.Goals as goal
 
-pub returns-then-is_due_at-clause-place : goal.returns-then-is_due_at-clause-place
-returns-then-is_due_at-clause-place c = sym (place_found (has_due (record c.args.self.now { now = c.args.now })) (due_place (record c.args.self.now { now = c.args.now })) c.loop-place.place c.loop-place-test.true (sym c.is_due_at.ensures ∙ c.if-is_due_at.true) c.loop-place.invariant)
-
-pub loop-place-preserved : goal.loop-place-preserved
-loop-place-preserved c = place_passed (has_due (record c.args.self.now { now = c.args.now })) (due_place (record c.args.self.now { now = c.args.now })) c.loop-place.place c.loop-place-test.true (sym c.is_due_at.ensures ∙ c.if-is_due_at.false) c.loop-place.invariant
-
 pub returns-clause-place : goal.returns-clause-place
-returns-clause-place c = sym (no_place (has_due (record c.args.self.now { now = c.args.now })) (due_place (record c.args.self.now { now = c.args.now })) c.loop-place.place (omega (arith, c.loop-place-test.false)) c.loop-place.invariant)
+returns-clause-place c =
+    sym (option_map_id c.find.result)
+    ∙ find_from_yields_List (has_due (record c.args.self.now { now = c.args.now })) _ _ _ c.find.ensures.ran (YieldsList-from_range 0 8 8 refl refl) (λ x b q k. search (rules, tests))
