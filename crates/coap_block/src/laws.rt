@@ -1,6 +1,5 @@
 //! Laws of what the definitions say: each function is a law, and its contract says it.
 ghost use Rattle.std.specs.Prelude.{◌≡◌, ◌≢◌, ◌↔◌, ℕ, ◌+◌, ◌*◌, ◌<◌, ◌≤◌, false, true, List, None, Option, Some, filter, find, length, take};
-ghost use Rattle.coap_opts.specs.Values.{block_value};
 ghost use Rattle.coap_msg.specs.declared.types.Endpoint.{Endpoint};
 ghost use Rattle.coap_block.specs.declared.transfer.Transfer.{Transfer};
 ghost use Rattle.coap_opts.specs.Values.{Place, block_size};

@@ -1,6 +1,5 @@
 -- What the index tells: where a key is in order, and whose it is.
 use Rattle.std.proofs.Common.{◌≡◌, ℕ, zero, suc, ◌+◌, ◌%◌, ◌<◌, ◌≤◌, List, [], ◌∷◌, ◌++◌, length, length-append, length-drop, map, drop, Bool, true, false, cond, T, Option, Some, None, refl, sym, ap, subst, ◌∙◌, ⊎_elim, arith}
-use Rattle.std.proofs.Math.ListN.{get_or}
 use Rattle.std.specs.Prelude.{◌&&◌, find, slice_get, slice_index_or, option_map, is_some}
 use Rattle.std.specs.List.{insert, position_or_len, remove}
 use Rattle.std.specs.declared.cmp.Ordering.{Ordering}

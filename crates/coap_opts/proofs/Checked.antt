@@ -1,5 +1,5 @@
 -- The checks of a request, by what it has.
-use Rattle.std.proofs.Common.{◌≡◌, ◌≢◌, ℕ, zero, suc, ◌<◌, ◌≤◌, ◌==◌, ◌&&◌, ◌||◌, not, Bool, true, false, if◌then◌else◌, nat_lt, length, List, [], ◌∷◌, Option, Some, None, refl, sym, ap, ◌∙◌, subst, ◌⊎◌, inl, inr, arith}
+use Rattle.std.proofs.Common.{◌≡◌, ◌≢◌, ℕ, ◌<◌, ◌≤◌, ◌==◌, ◌||◌, Bool, true, false, if◌then◌else◌, nat_lt, length, List, [], ◌∷◌, Option, Some, None, refl, ap, ◌∙◌, ◌⊎◌, inl, inr, arith}
 use Rattle.std.proofs.lemmas.Bool.{and_from, and_right, cases_lt, eq-eqb, le-ltb, lt-ltb, ne_eqb}
 use Rattle.std.proofs.lemmas.Bool.Decides.{nat_tests}
 use Rattle.coap_msg.specs.Wire.{Message}
@@ -12,7 +12,7 @@ use Rattle.coap_opts.specs.Classified.{IsKnown, IsServedAt}
 use Rattle.coap_opts.specs.Recognition.{has_unknown_critical}
 use Rattle.coap_opts.specs.Served.{action_of}
 use Rattle.coap_opts.specs.Values.{Place}
-use Rattle.coap_opts.specs.Verdict.{Asked, IsAsked, IsIgnored, IsRefused, IsReset, IsSignal, IsSilent, Verdict, accepted, action, asked, block_in, first_of, has, has_bad_value, is_request, is_reserved, names_proxy, query, refusal_code, refusal_verdict, request_verdict, resource, values, verdict, verdict_by, verdict_by_check}
+use Rattle.coap_opts.specs.Verdict.{Asked, IsAsked, IsIgnored, IsRefused, IsReset, IsSignal, IsSilent, accepted, action, block_in, first_of, has, has_bad_value, is_request, is_reserved, names_proxy, query, refusal_code, refusal_verdict, request_verdict, resource, values, verdict, verdict_by, verdict_by_check}
 use Rattle.coap_opts.specs.declared.request.Action.{Action}
 use Rattle.coap_opts.specs.declared.request.Method.{Method}
 use Rattle.coap_opts.specs.declared.request.Method.TheVariants.{Get, Post, Put, Delete}

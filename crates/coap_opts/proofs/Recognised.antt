@@ -1,12 +1,11 @@
 -- Which options are recognised, by their limits.
-use Rattle.std.proofs.Common.{◌≡◌, ◌≢◌, ℕ, ◌≤◌, ◌==◌, ◌&&◌, ◌||◌, not, Bool, true, false, cond, nat_le, length, List, [], ◌∷◌, Option, Some, None, refl, sym, ap, ◌∙◌, arith}
-use Rattle.std.specs.Prelude.{◌↔◌}
+use Rattle.std.proofs.Common.{◌≡◌, ◌≢◌, ℕ, ◌≤◌, ◌==◌, ◌&&◌, ◌||◌, not, Bool, true, false, cond, nat_le, Option, Some, None, refl, sym, ap, arith}
 use Rattle.std.proofs.lemmas.Bool.{and_from, and_parts, eq-eqb, eqb-true, leb-true, ne_eqb}
 use Rattle.std.proofs.lemmas.Bool.Decides.{nat_tests}
 use Rattle.coap_msg.specs.declared.code.Code.{Code}
 use Rattle.coap_opts.specs.declared.served.Row.{Row}
 use Rattle.coap_opts.specs.Checks.{IsUnnamed}
-use Rattle.coap_opts.specs.Recognition.{fits, fits_row, is_defined_for, is_recognised, is_repeat, row_of}
+use Rattle.coap_opts.specs.Recognition.{fits, is_defined_for, is_repeat, row_of}
 use Rattle.coap_opts.specs.Served.{once, repeatable, rows}
 
 -- what an option of a row is recognised by

@@ -5,7 +5,7 @@ use Rattle.coap_msg.specs.declared.types.MessageType.TheVariants.{Confirmable, N
 use Rattle.coap_opts.specs.Recognition.{has_unknown_critical}
 use Rattle.coap_opts.specs.Values.{Place}
 use Rattle.coap_opts.specs.Verdict.{block_in, query, values}
-use Rattle.std.specs.Prelude.{List, []}
+use Rattle.std.specs.Prelude.{[]}
 
 -- no option that has a name here has this number
 pub record IsUnnamed (number : ℕ) : Type 0 where

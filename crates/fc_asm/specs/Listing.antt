@@ -1,5 +1,5 @@
 -- The listing of a program: a line for each instruction, the mnemonic, a space, and the operands parted by `, `.
-use Rattle.std.specs.Prelude.{ℕ, ℤ, pos, List, [], ◌∷◌, ◌++◌, Option, Some, None, codes}
+use Rattle.std.specs.Prelude.{ℕ, pos, List, [], ◌∷◌, ◌++◌, Option, Some, None, codes}
 use Rattle.std.specs.Fmt.{decimal, signed_decimal}
 use Rattle.std.specs.List.{flat_map}
 use Rattle.fc_isa.specs.declared.insn.Insn.{Insn}

@@ -11,7 +11,7 @@ use Rattle.fc_isa.specs.declared.insn.SignExtension.TheVariants.{Byte, HalfWord,
 use Rattle.fc_isa.specs.declared.insn.Width.{Width}
 use Rattle.fc_isa.specs.declared.insn.Width.TheVariants.{W32, W64}
 use Rattle.fc_asm.specs.declared.error.Mistake.{Mistake}
-use Rattle.fc_asm.specs.declared.error.Mistake.TheVariants.{UnknownWord, OutOfRange}
+use Rattle.fc_asm.specs.declared.error.Mistake.TheVariants.{OutOfRange}
 use Rattle.fc_asm.specs.declared.error.Mistake.TheVariants as mistake
 use Rattle.fc_asm.specs.Names.{Text}
 

@@ -1,5 +1,5 @@
 //! From instructions to text.
-ghost use Rattle.std.specs.Prelude.{IfOk, IsTrue, ◌≡◌, ◌≢◌, string_bytes, Some, None, pos};
+ghost use Rattle.std.specs.Prelude.{IfOk, IsTrue, ◌≡◌, string_bytes, Some, pos};
 ghost use Rattle.fc_isa.specs.Program.{is_program};
 ghost use Rattle.fc_isa.specs.Encoding.{extended_bits};
 ghost use Rattle.fc_asm.specs.Listing.{listing, mnemonic_of, operands_of};

@@ -1,5 +1,5 @@
 //! From a line to the instruction that it names.
-ghost use Rattle.std.specs.Prelude.{IfOk, List, OnOk, map, ◌++◌, ◌≡◌};
+ghost use Rattle.std.specs.Prelude.{IfOk, OnOk, map, ◌++◌, ◌≡◌};
 ghost use Rattle.fc_asm.specs.Operands.{if_ok, imm_from, map_ok, offset_from, target_from};
 ghost use Rattle.fc_asm.specs.Syntax.{split_commas, insn_from, meaning, one_of, split_words, three_of, two_of, words_of};
 

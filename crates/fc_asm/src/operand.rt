@@ -1,5 +1,5 @@
 //! From words to operands.
-ghost use Rattle.std.specs.Prelude.{◌≡◌, length};
+ghost use Rattle.std.specs.Prelude.{◌≡◌};
 ghost use Rattle.fc_asm.specs.Operands.{both_of, graver, imm_from, is_digits, writes_number, offset_from, operand_from, register_from, target_from, wide_from, extension_from};
 
 use crate::error::Mistake;

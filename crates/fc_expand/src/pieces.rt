@@ -1,5 +1,5 @@
 //! Numbers as a program's text writes them: characters, texts, and hexadecimal digits.
-ghost use Rattle.std.specs.Prelude.{IfOk, length, ◌+◌, ◌≡◌, ◌≤◌};
+ghost use Rattle.std.specs.Prelude.{IfOk, length, ◌+◌, ◌≤◌};
 
 use crate::form::Form;
 use crate::words::{is_ended, is_space, word_size};

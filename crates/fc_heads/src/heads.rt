@@ -1,5 +1,5 @@
 //! The words, and seats at them.
-ghost use Rattle.std.specs.Prelude.{◌≡◌, ℕ, ◌<◌, ◌≤◌, IfOk};
+ghost use Rattle.std.specs.Prelude.{◌≡◌, ◌<◌, ◌≤◌, IfOk};
 ghost use Rattle.fc_heads.specs.Heads.{IsRaised, fresh, peeked, met, word_of};
 
 use crate::steps::{self, Words};

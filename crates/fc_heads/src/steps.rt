@@ -1,5 +1,5 @@
 //! The atomic steps of a seat at the words: a load, or a raise to the greater of two numbers.
-ghost use Rattle.std.specs.Prelude.{◌≡◌, ℕ, ◌<◌, ◌≤◌, []};
+ghost use Rattle.std.specs.Prelude.{◌≡◌, ◌<◌, ◌≤◌, []};
 ghost use Rattle.fc_heads.specs.Heads.{IsWhole, fresh, peeked, raised_to, met, word_of};
 
 use crate::view::{Greatest, Peeks, Raises, Sits, Tells, View};

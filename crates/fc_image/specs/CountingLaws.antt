@@ -1,5 +1,5 @@
 -- What a counted loop is by the text: its jump back and the addition before it, and what leaves it as it is.
-use Rattle.std.specs.Prelude.{◌≡◌, ◌≢◌, ◌⊎◌, ℕ, suc, ◌-◌, ◌<◌, ◌≤◌, false, ℤ, pos, List, Option, Some, slice_get}
+use Rattle.std.specs.Prelude.{◌≡◌, ◌≢◌, ◌⊎◌, ℕ, suc, ◌-◌, ◌<◌, ◌≤◌, false, ℤ, pos, List, Some, slice_get}
 use Rattle.fc_isa.specs.declared.insn.Width.TheVariants.{W64}
 use Rattle.fc_isa.specs.declared.insn.AluOp.TheVariants.{Add}
 use Rattle.fc_isa.specs.declared.insn.Relation.TheVariants.{Lt}

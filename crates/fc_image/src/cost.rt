@@ -1,5 +1,5 @@
 //! The steps of a program's longest path.
-ghost use Rattle.std.specs.Prelude.{ℕ, List, Some, None, drop, false, length, min, slice_index, ◌+◌, ◌≡◌, ◌≤◌, ◌<◌};
+ghost use Rattle.std.specs.Prelude.{ℕ, drop, length, min, slice_index, ◌+◌, ◌≡◌, ◌≤◌, ◌<◌};
 ghost use Rattle.fc_isa.specs.Flow.{flow, landing};
 ghost use Rattle.fc_image.specs.Loops.{loops_of};
 ghost use Rattle.fc_image.specs.Paths.{along, cost_in, cost_at, looped, own_cost, turns};

@@ -1,6 +1,5 @@
 //! Where jumps and calls lead.
-ghost use Rattle.std.specs.Prelude.{ℤ, Some, None, ◌≡◌, ◌<◌, ◌≤◌};
-ghost use Rattle.std.specs.Option.{option_map_or};
+ghost use Rattle.std.specs.Prelude.{◌≡◌, ◌<◌};
 ghost use Rattle.fc_isa.specs.Flow.{call_offset, jump_offset, target};
 
 use fc_isa::Insn;

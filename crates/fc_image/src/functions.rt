@@ -1,6 +1,6 @@
 //! The functions of a program, and the stack frames that their calls need.
-ghost use Rattle.std.specs.Prelude.{Bool, List, None, Some, drop, false, if◌then◌else◌, length, max, min, slice_index, slice_index_or, true, ℕ, ◌+◌, ◌-◌, ◌<◌, ◌||◌, ◌≡◌, ◌≤◌};
-ghost use Rattle.fc_image.specs.Functions.{at_offset, calls, frames, frames_called, is_called, is_open_end, is_start, may_end, slots_taken, starts_within};
+ghost use Rattle.std.specs.Prelude.{drop, false, length, min, slice_index, slice_index_or, ℕ, ◌+◌, ◌-◌, ◌<◌, ◌≡◌, ◌≤◌};
+ghost use Rattle.fc_image.specs.Functions.{at_offset, frames, frames_called, is_open_end, may_end, slots_taken, starts_within};
 ghost use Rattle.fc_image.specs.Tables.{AreCounts, AreStarts, IsMarked, frames_from};
 
 use crate::flow::{call_offset, target};

@@ -1,5 +1,5 @@
 //! The loops of a program, by the slots where they begin.
-ghost use Rattle.std.specs.Prelude.{None, length, ◌<◌, ◌≡◌, ◌≤◌};
+ghost use Rattle.std.specs.Prelude.{length, ◌<◌, ◌≡◌, ◌≤◌};
 ghost use Rattle.fc_image.specs.Loops.{loop_if, loops_in};
 ghost use Rattle.fc_image.specs.Tables.{AreHeads, AreLow, headed};
 

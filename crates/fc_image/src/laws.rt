@@ -1,5 +1,5 @@
 //! What headers and the shape of a program say, for the crates above: each function is a law, and its contract says it.
-ghost use Rattle.std.specs.Prelude.{List, None, Option, Some, [], drop, false, length, map, suc, true, ℕ, ◌*◌, ◌++◌, ◌<◌, ◌≡◌, ◌≢◌, ◌↔◌, ◌∷◌};
+ghost use Rattle.std.specs.Prelude.{List, None, Some, [], drop, false, length, map, suc, true, ℕ, ◌*◌, ◌++◌, ◌<◌, ◌≡◌, ◌≢◌, ◌↔◌, ◌∷◌};
 ghost use Rattle.fc_isa.specs.Rules.{number_of};
 ghost use Rattle.fc_isa.specs.declared.insn.Insn.{Insn};
 ghost use Rattle.fc_isa.specs.declared.insn.Insn.TheVariants.{Exit, JumpIf};

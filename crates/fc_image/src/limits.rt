@@ -61,7 +61,7 @@ impl Model for Head {
 }
 
 impl Head {
-    ghost use Rattle.std.specs.Prelude.{IfErr, IfOk, None, Some, ◌%◌, ◌≡◌, ◌≤◌};
+    ghost use Rattle.std.specs.Prelude.{IfErr, IfOk, Some, ◌%◌, ◌≡◌, ◌≤◌};
     ghost use Rattle.fc_image.specs.Head.{frames_allowed, slots_allowed};
     ghost use Rattle.fc_image.specs.Written.{IsHead, IsWithinLimits, head_bytes, head_of, limit_fault};
 

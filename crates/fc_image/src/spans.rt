@@ -1,5 +1,5 @@
 //! Where the jumps come from that lead to a slot.
-ghost use Rattle.std.specs.Prelude.{None, length, ◌<◌, ◌≡◌, ◌≤◌};
+ghost use Rattle.std.specs.Prelude.{length, ◌<◌, ◌≡◌, ◌≤◌};
 ghost use Rattle.fc_image.specs.Spans.{AreSpans, jumps_to, widened, span_with};
 
 use crate::flow::{jump_offset, target};

@@ -1,5 +1,5 @@
 //! What a program's control flow is judged by.
-ghost use Rattle.std.specs.Prelude.{length, ◌≡◌, ◌≤◌};
+ghost use Rattle.std.specs.Prelude.{length, ◌≤◌};
 ghost use Rattle.fc_image.specs.Judged.{AreTables};
 
 use crate::cost::longest_cost;

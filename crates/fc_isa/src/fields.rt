@@ -1,8 +1,8 @@
 //! The fields of a slot: read from its bytes and written to them, with the first rule that they break.
-ghost use Rattle.std.specs.Prelude.{◌≡◌, ◌<◌, ◌+◌, ◌*◌, ◌/◌, ◌%◌, ◌^◌, ℕ, List, [], ◌∷◌, None, true, length};
+ghost use Rattle.std.specs.Prelude.{◌≡◌, ◌<◌, ◌+◌, ◌*◌, ◌/◌, ◌%◌, ◌^◌, None, true, length};
 ghost use Rattle.std.specs.Int.{w16, w32, cast_signed, cast_unsigned};
 ghost use Rattle.fc_isa.specs.Encoding.{bytes_of_fields, fields, fields_of, insn_of, insn_with, read_fields, second_half, slot_fault, unused_are_zero, values_allowed, is_second_half, alu_values_allowed, arithmetic, move_insn, operand_of, called, sign_offset, signed_by, extended_bits, extended_width, swap_width, swap_bits, source_of, src_of, imm_of};
-ghost use Rattle.fc_isa.specs.Shapes.{shape_of, writes_dst};
+ghost use Rattle.fc_isa.specs.Shapes.{writes_dst};
 
 use crate::insn::{
     AluOp, ByteOrder, Insn, Jump, LoadType, Operand, Reg, Relation, SignExtension, Size, SwapWidth,

@@ -1,6 +1,6 @@
 //! What programs and their bytes are to one another, and what the table of forms says, for the crates above: each function
 //! is a law, and its contract says it.
-ghost use Rattle.std.specs.Prelude.{All, List, None, Option, Some, [], count_by, false, length, map, slice_index_or, true, ℕ, ◌*◌, ◌/◌, ◌<◌, ◌≡◌, ◌∷◌};
+ghost use Rattle.std.specs.Prelude.{All, List, None, Some, [], count_by, false, length, map, slice_index_or, true, ℕ, ◌*◌, ◌/◌, ◌<◌, ◌≡◌, ◌∷◌};
 ghost use Rattle.fc_isa.specs.Encoding.{BreaksOpcodeFirst, IsFirstFault, Spells, encoded, fault_at, first_fault, decoded_program, slot_rules};
 ghost use Rattle.fc_isa.specs.Program.{IsInsn, is_program};
 ghost use Rattle.fc_isa.specs.Rules.{number_of};

@@ -1,7 +1,6 @@
 //! The kinds that arithmetic leaves.
 ghost use Rattle.std.specs.Prelude.{IfErr, IfOk, None, Some, ◌≡◌, ◌≤◌};
 ghost use Rattle.fc_isa.specs.Rules.{number_of};
-ghost use Rattle.fc_isa.specs.declared.insn.AluOp.{AluOp as Operation};
 ghost use Rattle.fc_kinds.specs.Containing.{AreKinds, IsKind};
 ghost use Rattle.fc_kinds.specs.Transfer.{kind_added, alu_kind, moved, numbers, operand_kind, ordered_interval, kind_subtracted};
 

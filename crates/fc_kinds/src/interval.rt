@@ -1,6 +1,6 @@
 //! Ranges of numbers.
-ghost use Rattle.std.specs.Prelude.{◌≡◌, ◌≤◌, ◌-◌, ◌^◌, ◌%◌, max};
-ghost use Rattle.fc_kinds.specs.Intervals.{above, above_equal, added, all, alu_interval, bits_needed, clipped, divided, equal, exchanged, masked, merged, moded, multiplied, refined, shifted_left, shifted_right, shifted_signed, extended_values, interval_of, subtracted, unequal, without};
+ghost use Rattle.std.specs.Prelude.{◌≡◌, ◌≤◌, ◌-◌, ◌^◌, ◌%◌};
+ghost use Rattle.fc_kinds.specs.Intervals.{above, above_equal, added, all, alu_interval, clipped, divided, equal, exchanged, masked, merged, moded, multiplied, refined, shifted_left, shifted_right, shifted_signed, extended_values, interval_of, subtracted, unequal, without};
 ghost use Rattle.fc_kinds.specs.Containing.{IsInterval};
 ghost use Rattle.fc_alu.specs.Words.{bits_of};
 

@@ -1,7 +1,7 @@
 //! Loads and stores.
 ghost use Rattle.std.specs.Prelude.{IfErr, IfOk, None, Some, ℤ, ◌≡◌, ◌≤◌};
 ghost use Rattle.fc_isa.specs.Rules.{number_of};
-ghost use Rattle.fc_kinds.specs.Containing.{AreKinds, IsKind};
+ghost use Rattle.fc_kinds.specs.Containing.{AreKinds};
 ghost use Rattle.fc_kinds.specs.Transfer.{loaded_interval, transfer};
 
 use crate::interval::{Interval, all};

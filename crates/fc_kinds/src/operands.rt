@@ -1,5 +1,5 @@
 //! What an instruction reads.
-ghost use Rattle.std.specs.Prelude.{IfErr, IfOk, None, Some, false, pos, slice_set, true, ◌&&◌, ◌≡◌, ◌≤◌};
+ghost use Rattle.std.specs.Prelude.{IfErr, IfOk, false, slice_set, ◌≡◌, ◌≤◌};
 ghost use Rattle.fc_isa.specs.Rules.{number_of};
 ghost use Rattle.fc_kinds.specs.Containing.{AreKinds, IsKind};
 ghost use Rattle.fc_kinds.specs.Transfer.{immediate, is_number, num, operand_kind};

@@ -1,9 +1,8 @@
 //! What the ways of a conditional jump say of its operands.
-ghost use Rattle.std.specs.Prelude.{IfSome, None, Some, ◌≡◌, ◌≤◌};
-ghost use Rattle.fc_kinds.specs.Intervals.{opposite};
+ghost use Rattle.std.specs.Prelude.{◌≡◌};
 ghost use Rattle.fc_kinds.specs.Containing.{AreKinds};
-ghost use Rattle.fc_kinds.specs.Refinement.{both_numbers, is_same, put_both, put_right, refines, relation_of, when};
-ghost use Rattle.fc_kinds.specs.Transfer.{num, operand_kind, where_met};
+ghost use Rattle.fc_kinds.specs.Refinement.{put_both, refines, relation_of, when};
+ghost use Rattle.fc_kinds.specs.Transfer.{where_met};
 
 use crate::interval::{Interval, refined};
 use crate::kind::{Kind, Regs};

@@ -2,7 +2,7 @@
 ghost use Rattle.std.specs.Prelude.{IfErr, IfOk, None, Some, true, ◌≡◌, ◌≤◌};
 ghost use Rattle.fc_isa.specs.Rules.{number_of};
 ghost use Rattle.fc_kinds.specs.Containing.{AreKinds};
-ghost use Rattle.fc_kinds.specs.Transfer.{alu_kind, is_access, operand_kind, returned, transfer};
+ghost use Rattle.fc_kinds.specs.Transfer.{is_access, transfer};
 ghost use Rattle.fc_kinds.specs.declared.kind.Kind.TheVariants.{Num};
 
 use crate::arithmetic::{alu_after, ordered_interval};

@@ -3,7 +3,7 @@ ghost use Rattle.std.specs.Prelude.{◌≡◌, ◌↔◌, ℕ, IsTrue, None, Som
 ghost use Rattle.fc_observe.specs.Calls.{after_calls, observers_after};
 ghost use Rattle.fc_observe.specs.Views.{interest};
 ghost use Rattle.fc_registry.specs.Calls.{run_of};
-ghost use Rattle.fc_registry.specs.Notes.{IsKeptUnlessSent, IsNoted, IsNotedIn, IsRunOfTurn, IsSentOrStale, keeps_observer, note_calls, note_envelope, note_in, note_kind, note_response, note_to, noted_as, sent_of, ticket_told, told_call, told_calls};
+ghost use Rattle.fc_registry.specs.Notes.{IsKeptUnlessSent, IsNoted, IsRunOfTurn, IsSentOrStale, keeps_observer, note_calls, note_envelope, note_in, note_kind, note_to, noted_as, sent_of, ticket_told, told_call, told_calls};
 
 use crate::ticket::{Ticket, is_run_of};
 use coap_msg::{Code, Datagram, Emission, MessageType};

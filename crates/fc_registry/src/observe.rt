@@ -1,5 +1,5 @@
 //! Registration of a GET's client as an observer, and its end (RFC 7641).
-ghost use Rattle.std.specs.Prelude.{◌≡◌, false};
+ghost use Rattle.std.specs.Prelude.{◌≡◌};
 ghost use Rattle.fc_observe.specs.Calls.{Register, after_calls, observers_after};
 ghost use Rattle.fc_observe.specs.Observers.{registration};
 ghost use Rattle.fc_registry.specs.Calls.{has_observe, is_entered, is_first_block, is_observed, observe_calls, is_registration, run_of, szx_of};

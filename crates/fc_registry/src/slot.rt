@@ -1,5 +1,5 @@
 //! Slots: what the jobs of a slot find in it, and what they change there.
-ghost use Rattle.std.specs.Prelude.{◌≡◌, if◌then◌else◌, ◌+◌, ◌/◌, ◌<◌, ◌≤◌, ◌↔◌, [], ◌∷◌, true, false, length, IfOk, IsTrue};
+ghost use Rattle.std.specs.Prelude.{◌≡◌, ◌+◌, ◌<◌, ◌↔◌, [], ◌∷◌, true, false, length, IfOk, IsTrue};
 ghost use Rattle.fc_machine.specs.Ran.{meaning_of};
 ghost use Rattle.fc_registry.specs.Slots.{new_slot, last_serial, version_in, vars_in};
 ghost use Rattle.fc_registry.specs.Changes.{Committed as Wrote, after_changes};

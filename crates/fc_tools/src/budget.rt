@@ -1,5 +1,4 @@
 //! The budget of an image, as it is asked for.
-ghost use Rattle.std.specs.Prelude.{◌≡◌};
 
 use std::str::FromStr;
 use thiserror::Error;

@@ -1,5 +1,5 @@
 //! What a program is asked in a run, by hex digits.
-ghost use Rattle.std.specs.Prelude.{IfOk, None, length, option_copied, ◌≡◌, ◌≤◌};
+ghost use Rattle.std.specs.Prelude.{IfOk, length, option_copied, ◌≡◌, ◌≤◌};
 ghost use Rattle.hex.specs.Hex.{decode_of};
 ghost use Rattle.fc_help.specs.Region.{no_readings, padded};
 ghost use Rattle.fc_tools.specs.Runs.{AreHex, IsAskedBy, SpellReadings};

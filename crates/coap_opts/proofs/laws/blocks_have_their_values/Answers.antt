@@ -1,5 +1,5 @@
-use Rattle.std.proofs.Common.{◌≡◌, ℕ, ◌+◌, ◌*◌, ◌<◌, ◌/◌, ◌%◌, ◌==◌, ◌^◌, Bool, true, false, if◌then◌else◌, refl, sym, ap, ◌∙◌, arith}
-use Rattle.coap_opts.specs.Values.{Place, block_bytes, block_value, place_at, place_in, uint_bytes, uint_value}
+use Rattle.std.proofs.Common.{◌≡◌, ℕ, ◌+◌, ◌*◌, ◌<◌, ◌/◌, ◌%◌, ◌==◌, ◌^◌, Bool, true, false, if◌then◌else◌, refl, ap, ◌∙◌, arith}
+use Rattle.coap_opts.specs.Values.{Place, block_value, place_at}
 use Rattle.coap_opts.proofs.Spellings.{uint_again}
 use Rattle.coap_opts.proofs.laws.blocks_have_their_values.Goals as goal
 

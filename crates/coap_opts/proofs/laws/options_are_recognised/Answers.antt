@@ -1,8 +1,8 @@
-use Rattle.std.proofs.Common.{◌≡◌, ℕ, Option, Some, None, refl, sym, ap, ◌∙◌, arith}
+use Rattle.std.proofs.Common.{Some, None, refl, sym, ap, arith}
 use Rattle.std.proofs.lemmas.Bool.{eq-eqb, eqb-true}
 use Rattle.coap_msg.specs.declared.code.TheConstants.Code.{GET, PUT}
 use Rattle.coap_opts.specs.Recognition.{fits_row, is_recognised, row_of}
-use Rattle.coap_opts.specs.Served.{once, repeatable, rows}
+use Rattle.coap_opts.specs.Served.{repeatable, rows}
 use Rattle.coap_opts.proofs.Recognised.{fits_of, of_fits, once_fits, once_fits_with, unnamed_row}
 use Rattle.coap_opts.proofs.laws.options_are_recognised.Goals as goal
 

@@ -1,4 +1,4 @@
-use Rattle.std.proofs.Common.{◌≡◌, ◌<◌, refl, arith}
+use Rattle.std.proofs.Common.{refl, arith}
 use Rattle.fc_heads.specs.Heads.{fresh}
 use Rattle.fc_heads.proofs.Moves.{arrives}
 use Rattle.fc_heads.proofs.steps.arrive.Goals as goal
