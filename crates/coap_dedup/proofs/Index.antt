@@ -19,7 +19,7 @@ use Rattle.circular_buffer.specs.Buffer.{Buffer, buffer, keep_last}
 use Rattle.coap_dedup.specs.declared.exchange.Opened.{Opened}
 use Rattle.coap_dedup.specs.declared.key.Key.{Key}
 use Rattle.coap_dedup.specs.Keys.{key_cmp}
-use Rattle.coap_dedup.specs.Requests.{AreRequests, IsGap, IsIndex, by_key, has_key}
+use Rattle.coap_dedup.specs.Requests.{AreRequests, IsFirst, IsGap, IsIndex, by_key, has_key}
 use Rattle.coap_dedup.specs.Views.{Arrives, InOrder}
 use Rattle.coap_dedup.proofs.Arrival.{next_in_order}
 use Rattle.coap_dedup.proofs.Places.{keeps_all}
@@ -193,11 +193,13 @@ pub record IsThere (os : List Opened) (i after : ℕ) : Type 0 where
   pub found : find (has_key request.key) os ≡ Some request
   pub there : slice_get os after ≡ Some request
 
-pub at_place : (ring : Buffer Opened) (index : Vec ℕ) (i place after : ℕ) (oldest : Opened) → AreRequests ring index → i < length ring.items → place ≡ slice_index_or index.items i place → slice_get ring.items 0 ≡ Some oldest
-    → ((number : ℕ) → oldest.number ≤ number → number < oldest.number + 1024 → number % 1024 ≡ place → oldest.number + after ≡ number) → IsThere ring.items i after
-at_place ring index i place after oldest are lt is front counts =
+pub at_place : (ring : Buffer Opened) (index : Vec ℕ) (i place after first : ℕ) → AreRequests ring index → i < length ring.items → place ≡ slice_index_or index.items i place → IsFirst ring.items first
+    → ((number : ℕ) → first ≤ number → number < first + 1024 → number % 1024 ≡ place → first + after ≡ number) → IsThere ring.items i after
+at_place ring index i place after first are lt is oldest counts =
     let a = subst (λ (p : ℕ). IsAt ring.items p i) (sym is) (at_index ring.items index.items i place are.is_index lt) in
-    record { request = a.request; entry = a.entry; found = a.found; there = found_after ring.items place i after oldest are.order are.few front a counts }
+    let o = there_is ring.items 0 (omega (arith, lt)) in
+    let from : (number : ℕ) → o.0.number ≤ number → number < o.0.number + 1024 → number % 1024 ≡ place → o.0.number + after ≡ number = subst (λ (n : ℕ). (number : ℕ) → n ≤ number → number < n + 1024 → number % 1024 ≡ place → n + after ≡ number) (oldest o.0 o.1) counts in
+    record { request = a.request; entry = a.entry; found = a.found; there = found_after ring.items place i after o.0 are.order are.few o.1 a from }
 
 pub keys_length : (os : List Opened) (places : List ℕ) → IsIndex os places → length (keys (by_key os)) ≡ length os
 keys_length os places is = length-map (entries (by_key os)) (λ (e : Entry). e.0) ∙ (sym (len-entries (by_key os)) ∙ is.distinct)

@@ -1,13 +1,14 @@
 -- How a request that is held is found: by its key.
-use Rattle.std.specs.Prelude.{◌≡◌, ℕ, zero, suc, ◌/◌, ◌<◌, ◌≤◌, ◌%◌, Bool, List, length, map, slice_get, Some}
+use Rattle.std.specs.Prelude.{◌≡◌, ℕ, zero, suc, ◌/◌, ◌<◌, ◌≤◌, ◌%◌, Bool, List, length, map, slice_get, Option, Some, IfSome}
 use Rattle.std.specs.Ordering.{eq_by_cmp}
 use Rattle.std.specs.declared.cmp.Ordering.TheVariants.{Less, Greater}
-use Rattle.std.specs.FinMap.{FinMap, from_entries, len, values}
+use Rattle.std.specs.FinMap.{FinMap, from_entries, keys, len, values}
 use Rattle.std.specs.Global.{Vec}
 use Rattle.std.specs.Vec.{vec_capacity}
 use Rattle.circular_buffer.specs.Buffer.{Buffer}
 use Rattle.coap_dedup.specs.declared.exchange.Opened.{Opened}
 use Rattle.coap_dedup.specs.declared.key.Key.{Key}
+use Rattle.coap_dedup.specs.declared.requests.Gap.{Gap}
 use Rattle.coap_dedup.specs.Keys.{key_cmp}
 use Rattle.coap_dedup.specs.Views.{InOrder}
 
@@ -50,3 +51,11 @@ pub record IsGap (ks : List Key) (k : Key) (i : ℕ) : Type 0 where
   pub within : i ≤ length ks
   pub below : AreBelow ks k i
   pub above : AreAbove ks k i
+
+-- the key that is kept with a gap would be there, where one is kept
+abbrev pub HasGap : List Opened → Option Gap → Type 0
+HasGap os gap = IfSome gap (λ g. IsGap (keys (by_key os)) g.key g.index)
+
+-- the oldest has this number, where there is one
+abbrev pub IsFirst : List Opened → ℕ → Type 0
+IsFirst os number = (o : Opened) → slice_get os 0 ≡ Some o → number ≡ o.number

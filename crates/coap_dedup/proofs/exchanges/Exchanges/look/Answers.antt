@@ -25,6 +25,6 @@ returns-clause-looked c =
           (let o = w.in-Some.opened in
           ap look_of w.result-is ∙ (w.repeat.ensures ∙ (ap (λ (k : Kept). repeated_by o.confirmable (answer_if k.answered k.bytes)) w.answer_of.ensures ∙ ap (λ (x : Option Opened). found_look kept x room) (sym w.in-Some.is))))
       | in-None w ↦
-          ap look_of w.result-is ∙ (w.new_in.ensures ∙ (ap (λ (n : ℕ). (if (has_room n c.self.inside.opened) then IsNew else IsFull)) (w.len.ensures.len ∙ sym (length-map os (as_exchange kept))) ∙ ap (λ (x : Option Opened). found_look kept x room) (sym w.in-None.is)))
+          ap look_of w.result-is ∙ (w.new_in.ensures ∙ (ap (λ (n : ℕ). (if (has_room n c.self.inside.opened) then IsNew else IsFull)) (w.len.ensures.len ∙ (ap length c.find.ensures.same ∙ sym (length-map os (as_exchange kept)))) ∙ ap (λ (x : Option Opened). found_look kept x room) (sym w.in-None.is)))
     ] in
     tells ∙ looks

@@ -2,33 +2,35 @@ use Rattle.std.proofs.Common.{◌≡◌, ◌∙◌, ◌<◌, length, List, None,
 use Rattle.std.specs.Prelude.{find, slice_get}
 use Rattle.std.specs.FinMap.{entries}
 use Rattle.coap_dedup.specs.declared.exchange.Opened.{Opened}
-use Rattle.coap_dedup.specs.Requests.{by_key, has_key}
+use Rattle.coap_dedup.specs.Requests.{IsFirst, by_key, has_key}
 use Rattle.coap_dedup.proofs.Index.{IsThere, at_place, index_length}
 use Rattle.coap_dedup.proofs.requests.Requests.at.Goals as goal
 
+-- the request, and where it is
+there : (c : goal.In-Some) → IsThere c.self.inside.ring.items c.args.index c.after.result
+there c =
+    let lt : c.args.index < length c.self.inside.ring.items = subst (λ (os : List Opened). c.args.index < length os) (sym c.self.view_is) c.requires.index in
+    let first : IsFirst c.self.inside.ring.items c.args.first = subst (λ (os : List Opened). IsFirst os c.args.first) (sym c.self.view_is) c.requires.first in
+    at_place c.self.inside.ring c.self.inside.index c.args.index c.index.result.now c.after.result c.args.first c.self.invariant.0 lt c.index.ensures first c.after.ensures
+
+same : (c : goal.In-Some) → (there c).request ≡ c.in-Some.request.now
+same c =
+    let is : slice_get c.self.inside.ring.items c.after.result ≡ Some c.in-Some.request.now = search c.in-Some.ensures in
+    cc ((there c).there, is)
+
 pub index-requires : goal.index-requires
 index-requires c =
-    let long = index_length c.self.inside.ring.items c.self.inside.index.items c.self.invariant.is_index in
-    let lt : c.args.index < length c.self.inside.ring.items = subst (λ (os : List Opened). c.args.index < length os) (sym c.self.view_is) c.requires in
+    let long = index_length c.self.inside.ring.items c.self.inside.index.items c.self.invariant.0.is_index in
+    let lt : c.args.index < length c.self.inside.ring.items = subst (λ (os : List Opened). c.args.index < length os) (sym c.self.view_is) c.requires.index in
     omega (arith, long, lt)
 
-pub unreachable-requires-in_default-get : goal.unreachable-requires-in_default-get
-unreachable-requires-in_default-get c =
-    let lt : c.args.index < length c.self.inside.ring.items = subst (λ (os : List Opened). c.args.index < length os) (sym c.self.view_is) c.requires in
-    let r = at_place c.self.inside.ring c.self.inside.index c.args.index c.index.result.now c.after.result c.in-Some.oldest.now c.self.invariant lt c.index.ensures (search c.in-Some.ensures) c.after.ensures in
-    let none : slice_get c.self.inside.ring.items c.after.result ≡ None = search c.in_default-get.ensures in
+pub unreachable-requires : goal.unreachable-requires
+unreachable-requires c =
+    let lt : c.args.index < length c.self.inside.ring.items = subst (λ (os : List Opened). c.args.index < length os) (sym c.self.view_is) c.requires.index in
+    let first : IsFirst c.self.inside.ring.items c.args.first = subst (λ (os : List Opened). IsFirst os c.args.first) (sym c.self.view_is) c.requires.first in
+    let r = at_place c.self.inside.ring c.self.inside.index c.args.index c.index.result.now c.after.result c.args.first c.self.invariant.0 lt c.index.ensures first c.after.ensures in
+    let none : slice_get c.self.inside.ring.items c.after.result ≡ None = search c.in_default.ensures in
     cc (none, r.there)
-
--- the request, and where it is
-there : (c : goal.In-Some-get) → IsThere c.self.inside.ring.items c.args.index c.after.result
-there c =
-    let lt : c.args.index < length c.self.inside.ring.items = subst (λ (os : List Opened). c.args.index < length os) (sym c.self.view_is) c.requires in
-    at_place c.self.inside.ring c.self.inside.index c.args.index c.index.result.now c.after.result c.in-Some.oldest.now c.self.invariant lt c.index.ensures (search c.in-Some.ensures) c.after.ensures
-
-same : (c : goal.In-Some-get) → (there c).request ≡ c.in-Some-get.request.now
-same c =
-    let is : slice_get c.self.inside.ring.items c.after.result ≡ Some c.in-Some-get.request.now = search c.in-Some-get.ensures in
-    cc ((there c).there, is)
 
 pub returns-clause-entry : goal.returns-clause-entry
 returns-clause-entry c =
@@ -36,4 +38,4 @@ returns-clause-entry c =
 
 pub returns-clause-found : goal.returns-clause-found
 returns-clause-found c =
-    ap (λ (os : List Opened). find (has_key c.in-Some-get.request.now.key) os) (sym c.self.view_is) ∙ (ap (λ (o : Opened). find (has_key o.key) c.self.inside.ring.items) (sym (same c)) ∙ ((there c).found ∙ ap (λ (o : Opened). Some o) (same c)))
+    ap (λ (os : List Opened). find (has_key c.in-Some.request.now.key) os) (sym c.self.view_is) ∙ (ap (λ (o : Opened). find (has_key o.key) c.self.inside.ring.items) (sym (same c)) ∙ ((there c).found ∙ ap (λ (o : Opened). Some o) (same c)))

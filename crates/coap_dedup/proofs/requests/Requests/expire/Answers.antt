@@ -9,7 +9,7 @@ pub returns-then-is_live : goal.returns-then-is_live
 returns-then-is_live c =
     let os = c.self.inside.ring.items in
     let front : slice_get os 0 ≡ Some c.in-Some.oldest.now = search c.in-Some.ensures in
-    let kept = live_front c.args.now os c.in-Some.oldest.now c.self.invariant.order front (sym c.is_live.ensures ∙ c.if-is_live.true) in
+    let kept = live_front c.args.now os c.in-Some.oldest.now c.self.invariant.0.order front (sym c.is_live.ensures ∙ c.if-is_live.true) in
     sym c.self.view_is ∙ (sym kept ∙ (ap (filter (request_is_live c.args.now)) c.self.view_is ∙ c.oldest.invariant))
 
 pub oldest-preserved : goal.oldest-preserved

@@ -11,19 +11,19 @@ use Rattle.coap_dedup.proofs.requests.Requests.search.Goals as goal
 pub halves-init : goal.halves-init
 halves-init c =
     let os = c.self.inside.ring.items in
-    let long = keys_length os c.self.inside.index.items c.self.invariant.is_index in
-    let same = index_length os c.self.inside.index.items c.self.invariant.is_index in
+    let long = keys_length os c.self.inside.index.items c.self.invariant.0.is_index in
+    let same = index_length os c.self.inside.index.items c.self.invariant.0.is_index in
     let counted = c.len-high.ensures in
     let full : length (keys (by_key os)) ≡ c.len-high.result = omega (arith, long, same, counted) in
-    let few = c.self.invariant.few in
+    let few = c.self.invariant.0.few in
     let b : IsBetween (keys (by_key os)) c.args.key.now 0 c.len-high.result 0 = subst (λ (n : ℕ). IsBetween (keys (by_key os)) c.args.key.now 0 n 0) full (start (keys (by_key os)) c.args.key.now (omega (arith, few, long))) in
     subst (λ (n : ℕ). IsBetween (keys (by_key c.args.self.now)) c.args.key.now 0 c.len-high.result n) (sym c.requires) (subst (λ (xs : List Opened). IsBetween (keys (by_key xs)) c.args.key.now 0 c.len-high.result 0) c.self.view_is b)
 
-pub at-requires : goal.at-requires
-at-requires c =
+pub at-requires-clause-index : goal.at-requires-clause-index
+at-requires-clause-index c =
     let lt = c.halves-test.true in
     let within = c.halves.invariant.within in
-    let long : length (keys (by_key c.args.self.now)) ≡ length c.args.self.now = subst (λ (xs : List Opened). length (keys (by_key xs)) ≡ length xs) c.self.view_is (keys_length c.self.inside.ring.items c.self.inside.index.items c.self.invariant.is_index) in
+    let long : length (keys (by_key c.args.self.now)) ≡ length c.args.self.now = subst (λ (xs : List Opened). length (keys (by_key xs)) ≡ length xs) c.self.view_is (keys_length c.self.inside.ring.items c.self.inside.index.items c.self.invariant.0.is_index) in
     omega (arith, lt, within, long)
 
 pub order-requires : goal.order-requires
