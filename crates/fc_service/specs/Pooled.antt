@@ -8,7 +8,7 @@ use Rattle.fc_observe.specs.declared.observers.Ticked.{Ticked}
 use Rattle.fc_server.specs.Notified.{Notified, is_given, notification_in}
 use Rattle.fc_workers.specs.Answers.{IsSomeQuiet, IsSomeTick}
 use Rattle.fc_workers.specs.Asked.{IsLoggedCall, IsServerCall}
-use Rattle.fc_workers.specs.Called.{AdvancesFront, AdvancesIfQuiet, AdvancesShard, BenchCall, LoggedCall, LooksAhead, Shop, WireCall, shop}
+use Rattle.fc_workers.specs.Called.{AdvancesFront, AdvancesQuiet, AdvancesShard, BenchCall, LoggedCall, LooksAhead, Shop, WireCall, shop}
 use Rattle.fc_workers.specs.Counts.{Tallies}
 use Rattle.fc_workers.specs.Dispatch.{HasCalled, IsTakenIn, IsTurnAsked}
 use Rattle.fc_workers.specs.declared.call_log.CallLog.{CallLog}
@@ -27,14 +27,16 @@ module _ {T : Type 0} (s : Shop T) where
   HearsPooled now from bytes old new heard reply = IsTakenIn s old.handover now from bytes.now heard reply old.done new.done × (new.handover ≡ old.handover)
 
   abbrev pub PassesPooled : ℕ → Dispatching T → Dispatching T → Type 0
-  PassesPooled now old new = s.bench (AdvancesFront now) × (new ≡ old)
+  PassesPooled now old new =
+      s.logged (AdvancesFront now) old.done.share.log new.done.share.log × HasCalled old.done new.done × (new.handover ≡ old.handover)
 
   abbrev pub ResendsPooled : ℕ → ℕ → Dispatching T → Dispatching T → Ticked → Type 0
   ResendsPooled shard now old new ticked =
       IsSomeTick now ticked × s.logged (AdvancesShard shard now ticked) old.done.share.log new.done.share.log × HasCalled old.done new.done × (new.handover ≡ old.handover)
 
   abbrev pub PassesOverPooled : ℕ → ℕ → Dispatching T → Dispatching T → Type 0
-  PassesOverPooled shard now old new = IsSomeQuiet now true × s.bench (AdvancesIfQuiet shard now true) × (new ≡ old)
+  PassesOverPooled shard now old new =
+      IsSomeQuiet now true × s.logged (AdvancesQuiet shard now) old.done.share.log new.done.share.log × HasCalled old.done new.done × (new.handover ≡ old.handover)
 
   abbrev pub NotifiesPooled : ℕ → ℕ → Dispatching T → Dispatching T → Notified → Type 0
   NotifiesPooled shard now old new told =

@@ -1,11 +1,11 @@
 -- What is known of calls of a server behind locks: what each did, to the shard of which index, or to the front. In which state it found that isn't said, since
 -- others change it between two calls.
-use Rattle.std.specs.Prelude.{◌≡◌, ℕ, ◌%◌, ◌<◌, List}
+use Rattle.std.specs.Prelude.{◌≡◌, ℕ, ◌%◌, ◌<◌, true, false, List}
 use Rattle.fc_core.specs.Exchanges.{FrontState}
 use Rattle.fc_registry.specs.Slots.{Shard}
-use Rattle.fc_workers.specs.Called.{BenchCall, GivesReadings, LooksAt, TellsReceipt, AdvancesFront, HandsSignal, AdvancesIfQuiet, LooksAhead}
+use Rattle.fc_workers.specs.Called.{BenchCall, GivesReadings, LooksAt, TellsReceipt, LeavesUnquiet, LooksAhead}
 use Rattle.fc_workers.specs.Called.{LoggedCall, HearsDatagram, DrawsId, AnswersRequest, TakesForJob, CommitsRun, InstallsProgram, RemovesProgram}
-use Rattle.fc_workers.specs.Called.{AdvancesShard, GivesTurn, NotesTurn, GivesUpTurn, RaisesWord}
+use Rattle.fc_workers.specs.Called.{AdvancesFront, HandsSignal, AdvancesQuiet, AdvancesShard, GivesTurn, NotesTurn, GivesUpTurn, RaisesWord}
 use Rattle.fc_workers.specs.Doings.{AdvancesTo, AnswersAt, CommitsAt, DescribesTo, DrawsAt, GivesTurnAt, GivesUpAt, HandsOn, HearsAt, InstallsTo, NotesAt, PassesIfQuiet, RemovesFrom, TakesTo, TellsQuietUntil, TicksAt}
 
 -- a call that does this to a shard was asked of the shard of an index, 0 to 7
@@ -27,20 +27,21 @@ abbrev pub IsServerCall : (List ℕ → Type 0) → BenchCall → Type 0
 IsServerCall AreReadings (GivesReadings readings) = AreReadings readings
 IsServerCall AreReadings (LooksAt slot word) = Unit {0}
 IsServerCall AreReadings (TellsReceipt job receipt) = IsAsked (job.origin.slot % 8) (λ before after. DescribesTo job before receipt after)
-IsServerCall AreReadings (AdvancesFront now) = IsFrontAsked (AdvancesTo now)
-IsServerCall AreReadings (HandsSignal shard from id reset) = IsAsked shard (λ before after. HandsOn reset from id before after)
-IsServerCall AreReadings (AdvancesIfQuiet shard now quiet) = IsAsked shard (λ before after. PassesIfQuiet now before quiet after)
+IsServerCall AreReadings (LeavesUnquiet shard now) = IsAsked shard (λ before after. PassesIfQuiet now before false after)
 IsServerCall AreReadings (LooksAhead shard until) = IsAsked shard (λ before after. TellsQuietUntil before until after)
 
 -- and so does each that a worker's log has. What a raise does is said of the worker's seat
 abbrev pub IsLoggedCall : LoggedCall → Type 0
 IsLoggedCall (HearsDatagram now from bytes brings) = IsFrontAsked (HearsAt now from bytes brings)
+IsLoggedCall (AdvancesFront now) = IsFrontAsked (AdvancesTo now)
 IsLoggedCall (DrawsId now id) = IsFrontAsked (DrawsAt now id)
 IsLoggedCall (AnswersRequest now job content sent) = IsFrontAsked (AnswersAt now job content sent)
 IsLoggedCall (TakesForJob job readings taken) = IsAsked (job.origin.slot % 8) (λ before after. TakesTo job readings before taken after)
 IsLoggedCall (CommitsRun now ran ticket committed) = IsAsked (ticket.origin.slot % 8) (λ before after. CommitsAt now ran ticket before committed after)
 IsLoggedCall (InstallsProgram job program made) = IsAsked (job.origin.slot % 8) (λ before after. InstallsTo job program before made after)
 IsLoggedCall (RemovesProgram job removal) = IsAsked (job.origin.slot % 8) (λ before after. RemovesFrom job before removal after)
+IsLoggedCall (HandsSignal shard from id reset) = IsAsked shard (λ before after. HandsOn reset from id before after)
+IsLoggedCall (AdvancesQuiet shard now) = IsAsked shard (λ before after. PassesIfQuiet now before true after)
 IsLoggedCall (AdvancesShard shard now ticked) = IsAsked shard (λ before after. TicksAt now before ticked after)
 IsLoggedCall (GivesTurn shard now turn) = IsAsked shard (λ before after. GivesTurnAt now before turn after)
 IsLoggedCall (NotesTurn turn id now random told noted) = IsAsked (turn.slot % 8) (λ before after. NotesAt turn id now random told before noted after)

@@ -19,7 +19,7 @@ use Rattle.fc_registry.specs.Taken.{Taken}
 use Rattle.fc_registry.specs.Slots.{Ticket}
 use Rattle.fc_workers.specs.declared.call_log.CallLog.{CallLog}
 
--- a call of a bench that is in no log: that it was made is known, and not how often or when
+-- a call of a bench that changes nothing, and is in no log: that it was made is known, and not how often or when
 pub data BenchCall : Type 0 where
   -- the readings of the device
   GivesReadings : (readings : List ℕ) → BenchCall
@@ -27,19 +27,17 @@ pub data BenchCall : Type 0 where
   LooksAt : (slot word : ℕ) → BenchCall
   -- what the program in the slot of a job is
   TellsReceipt : (job : Job) (receipt : Option Receipt) → BenchCall
-  -- the front is advanced to a moment
-  AdvancesFront : (now : ℕ) → BenchCall
-  -- a shard is handed a Reset message or an Acknowledgement, by its endpoint and message id
-  HandsSignal : (shard : ℕ) (from : Endpoint) (id : ℕ) (reset : Bool) → BenchCall
-  -- a shard is advanced to a moment if it is quiet then
-  AdvancesIfQuiet : (shard now : ℕ) (quiet : Bool) → BenchCall
+  -- a shard that isn't quiet at a moment is left as it is
+  LeavesUnquiet : (shard now : ℕ) → BenchCall
   -- until when a shard is quiet
   LooksAhead : (shard until : ℕ) → BenchCall
 
--- a call of a bench that a worker's log has: so it is known how often it is made, and when
+-- a call of a bench that may change something, and that a worker's log has: so it is known how often it is made, and when
 pub data LoggedCall : Type 0 where
   -- a datagram is taken in at a moment: what it brings
   HearsDatagram : (now : ℕ) (from : Endpoint) (bytes : List ℕ) (brings : Delivered) → LoggedCall
+  -- the front is advanced to a moment
+  AdvancesFront : (now : ℕ) → LoggedCall
   -- a message id is drawn at a moment, or none is free
   DrawsId : (now : ℕ) (id : Option ℕ) → LoggedCall
   -- a job is answered at a moment: what is to be sent
@@ -52,6 +50,10 @@ pub data LoggedCall : Type 0 where
   InstallsProgram : (job : Job) (program : Program) (made : Made) → LoggedCall
   -- the program of the slot of a job is removed
   RemovesProgram : (job : Job) (removal : Removal) → LoggedCall
+  -- a shard is handed a Reset message or an Acknowledgement, by its endpoint and message id
+  HandsSignal : (shard : ℕ) (from : Endpoint) (id : ℕ) (reset : Bool) → LoggedCall
+  -- a shard that is quiet at a moment is advanced to it
+  AdvancesQuiet : (shard now : ℕ) → LoggedCall
   -- a shard is advanced to a moment: what it sends again
   AdvancesShard : (shard now : ℕ) (ticked : Ticked) → LoggedCall
   -- a shard is asked at a moment who is due

@@ -1,5 +1,5 @@
 -- What becomes of the jobs that come to a dispatcher: each goes to a worker, or is worked off where it came.
-use Rattle.std.specs.Prelude.{◌≡◌, ◌⊎◌, ◌+◌, ◌<◌, ◌≤◌, ℕ, Bool, true, false, List, Option, Some, None}
+use Rattle.std.specs.Prelude.{◌≡◌, ◌⊎◌, ◌+◌, ◌<◌, ◌≤◌, ℕ, zero, suc, Bool, true, false, List, Option, Some, None}
 use Rattle.coap_msg.specs.declared.types.Emission.{Emission}
 use Rattle.coap_msg.specs.declared.types.Endpoint.{Endpoint}
 use Rattle.fc_core.specs.declared.front.Delivered.{Delivered}
@@ -65,14 +65,15 @@ module _ {T : Type 0} (s : Shop T) where
   abbrev pub IsDispatched : Handover → Job → Dispatched T → Dispatched T → Type 0
   IsDispatched handover job before after = (MayGo handover job × IsHandedOver job before after) ⊎ IsWorkedHere job before after
 
-  -- a Reset message or an Acknowledgement was handed to each shard
-  abbrev pub AreSignalled : Endpoint → ℕ → Bool → Type 0
-  AreSignalled from id reset = (shard : ℕ) → shard < 8 → s.bench (HandsSignal shard from id reset)
+  -- a Reset message or an Acknowledgement was handed once to each of the first n shards, in order
+  unfoldable pub AreSignalled : ℕ → Endpoint → ℕ → Bool → CallLog → CallLog → Type 0
+  AreSignalled zero from id reset before after = after ≡ before
+  AreSignalled (suc n) from id reset before after = (log : CallLog) × AreSignalled n from id reset before log × s.logged (HandsSignal n from id reset) log after
 
   -- the job that a delivery brings is dispatched, and what signals observers reaches all of them; else nothing is done
   abbrev pub IsDone : Handover → Endpoint → Delivered → Dispatched T → Dispatched T → Type 0
   IsDone handover from (Brings job) before after = IsDispatched handover job before after
-  IsDone handover from (Signal id reset) before after = AreSignalled from id reset × (after ≡ before)
+  IsDone handover from (Signal id reset) before after = AreSignalled 8 from id reset before.share.log after.share.log × HasCalled before after
   IsDone handover from other before after = after ≡ before
 
   -- a delivery at a moment to some front brought this, and it is done

@@ -1,5 +1,5 @@
 //! What workers work at.
-ghost use Rattle.std.specs.Prelude.{◌≡◌, ℕ, ◌+◌, ◌<◌, ◌≤◌, ⊤};
+ghost use Rattle.std.specs.Prelude.{◌≡◌, ℕ, ◌+◌, ◌<◌, ◌≤◌, ⊤, MatchBool};
 ghost use Rattle.atomic_table.specs.Seated.{TableId};
 ghost use Rattle.fc_core.specs.Contents.{IsOf};
 ghost use Rattle.fc_core.specs.Receiving.{emission_if, heard};
@@ -7,7 +7,8 @@ ghost use Rattle.fc_registry.specs.Notes.{noted_as};
 ghost use Rattle.fc_registry.specs.Turns.{written_if};
 ghost use Rattle.fc_registry.specs.Views.{HasSize, taken_with};
 ghost use Rattle.fc_heads.specs.Heads.{IsRaised, fresh, peeked, word_of};
-ghost use Rattle.fc_workers.specs.Called.{AdvancesFront, AdvancesIfQuiet, BenchCall, GivesReadings, HandsSignal, LooksAhead, LooksAt, TellsReceipt};
+ghost use Rattle.fc_workers.specs.Called.{BenchCall, GivesReadings, LeavesUnquiet, LooksAhead, LooksAt, TellsReceipt};
+ghost use Rattle.fc_workers.specs.Called.{AdvancesFront, AdvancesQuiet, HandsSignal};
 ghost use Rattle.fc_workers.specs.Called.{AdvancesShard, AnswersRequest, CommitsRun, DrawsId, GivesTurn, GivesUpTurn, HearsDatagram};
 ghost use Rattle.fc_workers.specs.Called.{InstallsProgram};
 ghost use Rattle.fc_workers.specs.Called.{LoggedCall, NotesTurn, RaisesWord, RemovesProgram, TakesForJob};
@@ -35,7 +36,7 @@ use std::sync::{Arc, Wait};
 /// next's: what others change in between is not said here. What a call does is said by who implements this.
 ///
 /// Each worker hands in tallies of its own. They count the changes of each shard that its calls answered, and the jobs
-/// that it ended. It hands in its log with each call that takes one: so a clause says which of
+/// that it ended. It hands in its log with each call that may change something: so a clause says which of
 /// these it made, and in which order.
 pub trait Bench {
     /// What one worker changed, and how many jobs it ended.
@@ -50,7 +51,7 @@ pub trait Bench {
     // Which head words it has.
     ghost heads: { Self → TableId };
 
-    // Which calls were made, of those that no log has. It says of a call that it was made, with what it was handed and what it answered.
+    // Which calls were made, of those that change nothing and that no log has. It says of a call that it was made, with what it was handed and what it answered.
     ghost called: { BenchCall → Type 0 } = { λ _. ⊤ };
 
     // Which of the others were made, each from one state of the caller's log to the next, with what it was handed and what it answered.
@@ -72,8 +73,8 @@ pub trait Bench {
         ensures logged { logged (HearsDatagram now endpoint bytes.now (heard result job.new reply.new)) log.old log.new };
 
     /// Advances the front to a moment in milliseconds, as [`Front::tick`](fc_core::Front::tick) does.
-    fn tick<R: Wait>(&self, rt: &R, now: u64)
-        ensures { called (AdvancesFront now) };
+    fn tick<R: Wait>(&self, rt: &R, now: u64, log: &mut CallLog)
+        ensures { logged (AdvancesFront now) log.old log.new };
 
     /// A message id of the server's own, at a moment in milliseconds, as [`Front::fresh_id`](fc_core::Front::fresh_id) gives it.
     fn fresh_id<R: Wait>(&self, rt: &R, now: u64, log: &mut CallLog) -> Option<u16>
@@ -148,8 +149,16 @@ pub trait Bench {
         ensures ended { ended tallies.new ≡ ended tallies.old };
 
     /// Hands a signal to a shard, 0 to 7, as [`Shard::signal`](fc_registry::Shard::signal) does.
-    fn signal<R: Wait>(&self, rt: &R, shard: u8, endpoint: Endpoint, id: u16, reset: bool)
-        ensures { called (HandsSignal shard endpoint id reset) };
+    fn signal<R: Wait>(
+        &self,
+        rt: &R,
+        shard: u8,
+        endpoint: Endpoint,
+        id: u16,
+        reset: bool,
+        log: &mut CallLog,
+    )
+        ensures { logged (HandsSignal shard endpoint id reset) log.old log.new };
 
     /// Advances a shard, 0 to 7, to a moment in milliseconds, as [`Shard::tick`](fc_registry::Shard::tick) does.
     fn tick_shard<R: Wait>(&self, rt: &R, shard: u8, now: u64, log: &mut CallLog) -> Ticked
@@ -157,10 +166,12 @@ pub trait Bench {
         ensures logged { logged (AdvancesShard shard now result) log.old log.new };
 
     /// Advances a shard, 0 to 7, to a moment in milliseconds where nothing is late and nobody is due, as
-    /// [`Shard::advance_if_quiet`](fc_registry::Shard::advance_if_quiet) does. Tells whether it did.
-    fn advance_if_quiet<R: Wait>(&self, rt: &R, shard: u8, now: u64) -> bool
+    /// [`Shard::advance_if_quiet`](fc_registry::Shard::advance_if_quiet) does. Tells whether it did. Where it didn't, nothing changes, and the
+    /// log doesn't have the call.
+    fn advance_if_quiet<R: Wait>(&self, rt: &R, shard: u8, now: u64, log: &mut CallLog) -> bool
         ensures quiet { IsSomeQuiet now result }
-        ensures called { called (AdvancesIfQuiet shard now result) };
+        ensures logged { MatchBool result (logged (AdvancesQuiet shard now) log.old log.new)
+            (called (LeavesUnquiet shard now) × (log.new ≡ log.old)) };
 
     /// Returns a moment before which no notification of a shard, 0 to 7, is late, and no observer due, unless the shard is called, as
     /// [`Shard::quiet_until`](fc_registry::Shard::quiet_until) does.

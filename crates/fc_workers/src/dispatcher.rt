@@ -2,11 +2,12 @@
 ghost use Rattle.std.specs.Prelude.{◌≡◌, ◌<◌, ◌≤◌, ℕ, true, MatchBool};
 ghost use Rattle.fc_jobs.specs.Ends.{with_sent};
 ghost use Rattle.fc_workers.specs.Answers.{IsSomeQuiet, IsSomeTick};
-ghost use Rattle.fc_workers.specs.Called.{AdvancesFront, AdvancesIfQuiet, AdvancesShard, LooksAhead, shop};
+ghost use Rattle.fc_workers.specs.Called.{AdvancesFront, AdvancesQuiet, AdvancesShard, LeavesUnquiet, LooksAhead, shop};
 ghost use Rattle.fc_workers.specs.Dispatch.{AreSignalled, HasCalled, IsDear, IsDispatched, IsTakenIn, IsTurnAsked, IsWorkedHere, MayGo};
 ghost use Rattle.fc_workers.specs.Shares.{new_share};
 
 use crate::bench::Bench;
+use crate::call_log::CallLog;
 use crate::seat::Seat;
 use crate::share::Share;
 use crate::tools::Tools;
@@ -123,10 +124,13 @@ impl<'a, B: Bench, G: Gate, W: Wire, M: Moments> Dispatcher<'a, B, G, W, M> {
     }
 
     /// Advances the front to a moment in milliseconds.
-    pub fn tick<R: Wait>(&self, rt: &R, now: u64)
-        ensures { B.called (AdvancesFront now) }
+    pub fn tick<R: Wait>(&mut self, rt: &R, now: u64)
+        ensures logged { B.logged (AdvancesFront now) self.old.done.share.log self.new.done.share.log }
+        ensures kept { HasCalled self.old.done self.new.done }
+        ensures handover { self.new.handover ≡ self.old.handover }
     {
-        self.workshop.bench.tick(rt, now);
+        let log = &mut self.done.share.log;
+        self.workshop.bench.tick(rt, now, log);
     }
 
     /// Advances a shard, 0 to 7, to a moment in milliseconds: what it sends again, if anything.
@@ -140,12 +144,16 @@ impl<'a, B: Bench, G: Gate, W: Wire, M: Moments> Dispatcher<'a, B, G, W, M> {
         self.workshop.bench.tick_shard(rt, shard, now, log)
     }
 
-    /// Advances a shard, 0 to 7, to a moment in milliseconds where nothing is late and nobody is due. Tells whether it did.
-    pub fn advance_if_quiet<R: Wait>(&self, rt: &R, shard: u8, now: u64) -> bool
+    /// Advances a shard, 0 to 7, to a moment in milliseconds where nothing is late and nobody is due. Tells whether it did; where it didn't, nothing changes.
+    pub fn advance_if_quiet<R: Wait>(&mut self, rt: &R, shard: u8, now: u64) -> bool
         ensures quiet { IsSomeQuiet now result }
-        ensures called { B.called (AdvancesIfQuiet shard now result) }
+        ensures passed { MatchBool result
+            (B.logged (AdvancesQuiet shard now) self.old.done.share.log self.new.done.share.log × HasCalled self.old.done self.new.done)
+            (B.called (LeavesUnquiet shard now) × (self.new.done ≡ self.old.done)) }
+        ensures handover { self.new.handover ≡ self.old.handover }
     {
-        self.workshop.bench.advance_if_quiet(rt, shard, now)
+        let log = &mut self.done.share.log;
+        self.workshop.bench.advance_if_quiet(rt, shard, now, log)
     }
 
     /// Returns a moment before which no notification of a shard, 0 to 7, is late, and no observer due, unless the shard is called.
@@ -275,11 +283,25 @@ impl<'a, B: Bench, G: Gate, W: Wire, M: Moments> Dispatcher<'a, B, G, W, M> {
     }
 
     // Hands a signal to each shard.
-    fn signal<R: Wait>(&self, rt: &R, from: Endpoint, id: u16, reset: bool)
-        ensures { AreSignalled (shop B.changes B.ended B.called B.logged M.is_moment M.is_random G.passed W.called) from id reset }
+    fn signal<R: Wait>(&mut self, rt: &R, from: Endpoint, id: u16, reset: bool)
+        ensures signalled { AreSignalled (shop B.changes B.ended B.called B.logged M.is_moment M.is_random G.passed W.called)
+            8 from id reset self.old.done.share.log self.new.done.share.log }
+        ensures kept { HasCalled self.old.done self.new.done }
+        ensures handover { self.new.handover ≡ self.old.handover }
+    {
+        let log = &mut self.done.share.log;
+        self.workshop.signal(rt, from, id, reset, log);
+    }
+}
+
+impl<'a, B: Bench, G: Gate, W: Wire, M: Moments> Workshop<'a, B, G, W, M> {
+    // Hands a signal to each shard, once.
+    fn signal<R: Wait>(&self, rt: &R, from: Endpoint, id: u16, reset: bool, log: &mut CallLog)
+        ensures { AreSignalled (shop B.changes B.ended B.called B.logged M.is_moment M.is_random G.passed W.called)
+            8 from id reset log.old log.new }
     {
         'shards: for shard in 0..SHARDS {
-            self.workshop.bench.signal(rt, shard, from, id, reset);
+            self.bench.signal(rt, shard, from, id, reset, log);
         }
     }
 }

@@ -289,7 +289,8 @@ impl<'a, B: Books, D: Device> Bench for Locked<'a, B, D> {
         front.hear(now, endpoint, bytes, job, reply)
     }
 
-    fn tick<R: Wait>(&self, rt: &R, now: u64) {
+    fn tick<R: Wait>(&self, rt: &R, now: u64, log: &mut CallLog) {
+        let _ = log;
         let mut front = self.front.lock(rt);
         advance(&mut front, now);
     }
@@ -319,7 +320,16 @@ impl<'a, B: Books, D: Device> Bench for Locked<'a, B, D> {
         taken
     }
 
-    fn signal<R: Wait>(&self, rt: &R, shard: u8, endpoint: Endpoint, id: u16, reset: bool) {
+    fn signal<R: Wait>(
+        &self,
+        rt: &R,
+        shard: u8,
+        endpoint: Endpoint,
+        id: u16,
+        reset: bool,
+        log: &mut CallLog,
+    ) {
+        let _ = log;
         let signal = Signal {
             endpoint,
             id,
@@ -333,7 +343,8 @@ impl<'a, B: Books, D: Device> Bench for Locked<'a, B, D> {
         self.ask(rt, shard, Tick { now }, &mut ())
     }
 
-    fn advance_if_quiet<R: Wait>(&self, rt: &R, shard: u8, now: u64) -> bool {
+    fn advance_if_quiet<R: Wait>(&self, rt: &R, shard: u8, now: u64, log: &mut CallLog) -> bool {
+        let _ = log;
         self.ask(rt, shard, AdvanceIfQuiet { now }, &mut ())
     }
 

@@ -138,11 +138,12 @@ fn shows_signals<B: Bench, R: Wait>(
     bench: &B,
     teller: &mut Teller<'_, B>,
 ) -> Result<bool, AllocError> {
+    let mut log = CallLog::new();
     let is_first = teller.notify(rt, 0, 10);
-    bench.signal(rt, 0, PEER, 0, false);
+    bench.signal(rt, 0, PEER, 0, false, &mut log);
     ask(rt, alloc, teller, 20, Request::Post, 2)?;
     let is_second = teller.notify(rt, 0, 30);
-    bench.signal(rt, 0, PEER, 1, true);
+    bench.signal(rt, 0, PEER, 1, true, &mut log);
     ask(rt, alloc, teller, 40, Request::Post, 3)?;
     Ok(is_first && is_second && !teller.notify(rt, 0, 50))
 }
