@@ -24,10 +24,11 @@ use Rattle.fc_server.specs.declared.server.Begin.{Begin}
 use Rattle.fc_lines.specs.declared.line.Line.{Line}
 use Rattle.fc_lines.specs.declared.line.Line.TheVariants as lines
 use Rattle.fc_lines.specs.Emissions.{peer_endpoint, printed}
+use Rattle.fc_host.specs.Sockets.{Incoming}
 use Rattle.fc_service.proofs.Settled.{printed_of}
 use Rattle.fc_service.specs.Alone.{HandsAlone, HearsAlone, PassesAlone, ReadiesAlone, alone_calls}
 use Rattle.fc_service.specs.Histories.{IsOneHistory, datagram_in, delivered_by, received_in_lines, sent_in_lines}
-use Rattle.fc_service.specs.Intakes.{Incoming, IsHeardBy, is_reply}
+use Rattle.fc_service.specs.Intakes.{IsHeardBy, is_reply}
 use Rattle.fc_service.specs.Playing.{ArePlayedBy, IsCarriedOutBy, IsHandedBy, IsPlayedBy, IsPlayedOut, PlayedLine, moment_of, output_by, printed_lines}
 use Rattle.fc_service.specs.Rounds.{AreRoundsBy, HasServed, IsReceivedBy, IsRoundBy, Round, received_in, sendings_in}
 use Rattle.fc_service.specs.Settling.{AreStepsBy, Asked, IsStepBy, Passed, Resent, SettlingStep, printed_steps, sent_in_step, sent_in_steps}

@@ -4,12 +4,13 @@ use Rattle.std.specs.Prelude.{min}
 use Rattle.std.proofs.lemmas.List.{length-append}
 use Rattle.std.specs.Option.{option_to_list}
 use Rattle.coap_msg.specs.declared.types.Emission.{Emission}
+use Rattle.fc_host.specs.Sockets.{Comes, Incoming}
 use Rattle.fc_service.proofs.Traffic.{more_came, more_replies, more_sent, none_came, none_sent}
 use Rattle.fc_service.specs.Counting.{no_replies}
-use Rattle.fc_service.specs.Intakes.{Incoming, IntakeCalls, IsHeardBy}
+use Rattle.fc_service.specs.Intakes.{IntakeCalls, IsHeardBy}
 use Rattle.fc_service.specs.Rounds.{HasRounds, IsReceivedBy, Round, received_in, sendings_in}
 use Rattle.fc_service.specs.Settling.{AreSettled, AreStepsBy, SettlingStep, sent_in_steps}
-use Rattle.fc_service.specs.Traffic.{Comes, Sends, counted_each}
+use Rattle.fc_service.specs.Traffic.{Sends, counted_each}
 use Rattle.fc_service.specs.declared.replies.Replies.{Replies}
 
 module _ {S : Type 0} (IsMoment : ℕ → Type 0) (Readies : ℕ → S → S → Type 0) (calls : IntakeCalls S)

@@ -6,9 +6,9 @@ use Rattle.std.proofs.lemmas.List.Elements.{All-append, All-cons, All-nil}
 use Rattle.std.proofs.lemmas.List.Sums.{sum_by-append, sum_by-cons}
 use Rattle.coap_msg.specs.declared.types.Emission.{Emission}
 use Rattle.fc_workers.specs.Answers.{saturated}
+use Rattle.fc_host.specs.Sockets.{Comes, Incoming}
 use Rattle.fc_service.specs.Counting.{counted}
-use Rattle.fc_service.specs.Intakes.{Incoming}
-use Rattle.fc_service.specs.Traffic.{Comes, Sending, Sends, counted_each, replies_to}
+use Rattle.fc_service.specs.Traffic.{Sending, Sends, counted_each, replies_to}
 use Rattle.fc_service.specs.declared.replies.Replies.{Replies}
 
 -- ---- what came

@@ -12,7 +12,7 @@ use Rattle.fc_observe.specs.declared.observers.Ticked.{Ticked}
 use Rattle.fc_server.specs.Notified.{Notified, Starved, is_given, notification_in}
 use Rattle.fc_server.specs.Serving.{AsksForTurn, Hears, Passes, TicksShard}
 use Rattle.fc_server.specs.Steps.{shard_told}
-use Rattle.fc_service.specs.Clocks.{device_readings}
+use Rattle.fc_host.specs.Clocks.{device_readings}
 use Rattle.fc_service.specs.Intakes.{IntakeCalls, is_reply}
 use Rattle.fc_service.specs.declared.alone.Alone.{Alone}
 use Rattle.fc_registry.specs.Shards.{shard_at}

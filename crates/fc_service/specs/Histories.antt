@@ -12,7 +12,7 @@ use Rattle.fc_server.specs.States.{ServerState}
 use Rattle.fc_lines.specs.declared.line.Line.{Line}
 use Rattle.fc_lines.specs.declared.line.Line.TheVariants as lines
 use Rattle.fc_lines.specs.Emissions.{peer_endpoint}
-use Rattle.fc_service.specs.Intakes.{Incoming}
+use Rattle.fc_host.specs.Sockets.{Incoming}
 use Rattle.fc_service.specs.Playing.{PlayedLine}
 use Rattle.fc_service.specs.Settling.{sent_in_steps}
 

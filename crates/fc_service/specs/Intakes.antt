@@ -1,5 +1,5 @@
 -- What is taken in.
-use Rattle.std.specs.Prelude.{◌≡◌, ◌⊎◌, ℕ, List, [], ◌∷◌, take, Bool, true, false, Option, Some, None}
+use Rattle.std.specs.Prelude.{◌≡◌, ◌⊎◌, ℕ, List, Bool, true, false, Option}
 use Rattle.std.specs.Borrow.{Bor}
 use Rattle.coap_msg.specs.declared.types.Emission.{Emission}
 use Rattle.coap_msg.specs.declared.types.Endpoint.{Endpoint}
@@ -8,16 +8,7 @@ use Rattle.fc_core.specs.declared.front.Heard.{Heard}
 use Rattle.fc_core.specs.declared.front.Heard.TheVariants.{Job, Reply}
 use Rattle.fc_observe.specs.declared.observers.Ticked.{Ticked}
 use Rattle.fc_server.specs.Notified.{Notified}
-
--- a datagram that was received: who sent it, and its bytes
-pub record Incoming : Type 0 where
-  pub from : Endpoint
-  pub bytes : List ℕ
-
--- the datagram that was received into a buffer, where one was: so many bytes at its start, and who sent them
-abbrev pub incoming_in : List ℕ → Option (ℕ × Endpoint) → List Incoming
-incoming_in buffer None = []
-incoming_in buffer (Some r) = record { from = r.1; bytes = take r.0 buffer } ∷ []
+use Rattle.fc_host.specs.Sockets.{Incoming}
 
 -- what was written is to be sent
 abbrev pub is_reply : Heard → Bool

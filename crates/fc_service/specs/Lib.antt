@@ -1,7 +1,6 @@
 pub mod Intakes
 pub mod Alone
 pub mod Pooled
-pub mod Clocks
 pub mod Counting
 pub mod Traffic
 pub mod Settling

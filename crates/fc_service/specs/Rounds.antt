@@ -6,13 +6,14 @@ use Rattle.fc_core.specs.History.{Begins}
 use Rattle.fc_workers.specs.Counts.{Tallies}
 use Rattle.fc_server.specs.Serving.{Serves}
 use Rattle.fc_server.specs.declared.server.Begin.{Begin}
+use Rattle.fc_host.specs.Sockets.{Comes, Incoming, IsHanded}
 use Rattle.fc_service.specs.Alone.{ReadiesAlone, alone_calls}
-use Rattle.fc_service.specs.Clocks.{AreReadAt}
+use Rattle.fc_host.specs.Clocks.{AreReadAt}
 use Rattle.fc_service.specs.Counting.{both_replies}
-use Rattle.fc_service.specs.Intakes.{Incoming, IntakeCalls, IsHeardBy}
+use Rattle.fc_service.specs.Intakes.{IntakeCalls, IsHeardBy}
 use Rattle.fc_service.specs.Pooled.{Dispatching, locked_shop, pooled_calls}
 use Rattle.fc_service.specs.Settling.{AreSettled, AreStepsBy, SettlingStep, sent_in_steps}
-use Rattle.fc_service.specs.Traffic.{AreSent, Comes, IsHanded, Sending, replies_to}
+use Rattle.fc_service.specs.Traffic.{AreSent, Sending, replies_to}
 use Rattle.fc_service.specs.declared.alone.Alone.{Alone}
 use Rattle.fc_service.specs.declared.serve.Extent.{Extent}
 use Rattle.fc_service.specs.declared.replies.Replies.{Replies}

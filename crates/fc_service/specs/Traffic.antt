@@ -1,15 +1,9 @@
--- What comes from a source and what goes to a sink; and how what goes is counted.
-use Rattle.std.specs.Prelude.{◌≡◌, Bool, not, List, [], ◌∷◌, ◌++◌, All, count_by, map, Option, Some, IfSome}
+-- What goes to a sink, and how it is counted.
+use Rattle.std.specs.Prelude.{◌≡◌, Bool, not, List, [], ◌∷◌, All, count_by, map, Some}
 use Rattle.coap_msg.specs.declared.types.Emission.{Emission}
 use Rattle.fc_workers.specs.Answers.{saturated}
-use Rattle.fc_workers.specs.Called.{WireCall, SendsReply, EndsJob}
 use Rattle.fc_service.specs.Counting.{counted}
-use Rattle.fc_service.specs.Intakes.{Incoming}
 use Rattle.fc_service.specs.declared.replies.Replies.{Replies}
-
--- these came next, where it is known what had come
-abbrev pub Comes : Option (List Incoming) → Option (List Incoming) → List Incoming → Type 0
-Comes before after more = IfSome before (λ known. after ≡ Some (known ++ more))
 
 -- an emission that was handed to a sink, and whether it went out
 pub record Sending : Type 0 where
@@ -19,11 +13,6 @@ pub record Sending : Type 0 where
 -- each of these emissions was handed to a sink
 abbrev pub AreSent : (Emission → Bool → Type 0) → List Emission → List Sending → Type 0
 AreSent Went emissions sendings = All (λ s. Went s.emission s.out) sendings × (map (λ s. s.emission) sendings ≡ emissions)
-
--- a reply that a wire sends is handed to a sink
-abbrev pub IsHanded : (Emission → Bool → Type 0) → WireCall → Type 0
-IsHanded Went (SendsReply number reply out) = Went reply out
-IsHanded Went (EndsJob number) = Unit {0}
 
 -- the replies with each of these counted, one after the other
 abbrev pub counted_each : List Sending → Replies → Replies

@@ -6,14 +6,14 @@ ghost use Rattle.fc_registry.specs.Slots.{last_serial};
 ghost use Rattle.fc_server.specs.Serving.{Serves};
 ghost use Rattle.fc_service.specs.Alone.{HandsAlone, ReadiesAlone, alone_calls};
 
-use crate::clock::device_readings;
 use crate::lines::LineIntake;
 use crate::pool::Intake;
 use crate::rounds::Preparation;
-use crate::sensors::Sensors;
 use coap_msg::{Emission, Endpoint};
 use fc_core::Heard;
 use fc_help::{NO_READINGS, Readings};
+use fc_host::clock::device_readings;
+use fc_host::sensors::Sensors;
 use fc_observe::Ticked;
 use fc_registry::SHARDS;
 use fc_server::Engine;

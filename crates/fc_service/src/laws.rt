@@ -1,6 +1,5 @@
 //! What the definitions of the service come to, in plainer words: each function is a law, and its contract says it.
-ghost use Rattle.std.specs.Prelude.{◌≡◌, ◌+◌, ◌*◌, ◌%◌, ◌<◌, ◌≤◌, ◌↔◌, ℕ, ◌∷◌, Bool, List, None, Option, false, flat_map, length, map, true};
-ghost use Rattle.coap_msg.specs.Wire.{Message, SpellsMessage};
+ghost use Rattle.std.specs.Prelude.{◌≡◌, ◌+◌, ◌*◌, ◌%◌, ◌≤◌, ◌↔◌, ℕ, Bool, List, None, Option, false, flat_map, map, true};
 ghost use Rattle.fc_core.specs.declared.front.Heard.TheVariants.{Job, Nothing, Reply, Signal};
 ghost use Rattle.fc_observe.specs.declared.observers.Ticked.{Ticked};
 ghost use Rattle.fc_observe.specs.declared.observers.Ticked.TheVariants.{Quiet};
@@ -9,10 +8,10 @@ ghost use Rattle.fc_registry.specs.Watches.{at_time, late_place};
 ghost use Rattle.fc_server.specs.Notified.{Nobody, Notified};
 ghost use Rattle.fc_server.specs.Steps.{shard_turn};
 ghost use Rattle.fc_server.specs.declared.server.Begin.{Begin};
+ghost use Rattle.fc_host.specs.Sockets.{Incoming};
 ghost use Rattle.fc_service.specs.Alone.{NotifiesAlone, ResendsAlone};
-ghost use Rattle.fc_service.specs.Clocks.{device_readings, no_sensors};
 ghost use Rattle.fc_service.specs.Histories.{IsOneHistory, received_in_lines, sent_in_lines};
-ghost use Rattle.fc_service.specs.Intakes.{Incoming, is_reply};
+ghost use Rattle.fc_service.specs.Intakes.{is_reply};
 ghost use Rattle.fc_lines.specs.Emissions.{printed};
 ghost use Rattle.fc_service.specs.Playing.{IsPlayedOut, PlayedLine, printed_lines};
 ghost use Rattle.fc_service.specs.Rounds.{HasServed, received_in, sendings_in};
@@ -20,21 +19,14 @@ ghost use Rattle.fc_service.specs.Settling.{most_steps};
 ghost use Rattle.fc_service.specs.declared.alone.Alone.{Alone};
 ghost use Rattle.fc_service.specs.declared.replies.Replies.{Replies};
 
-use crate::sensors::Sensors;
-use crate::socket::{BUFFER, Sink};
+use fc_host::sensors::Sensors;
+use fc_host::socket::Sink;
 use fc_workers::Moments;
 
 /// Settling takes more steps at one moment than there are: each of the 32 observers of 64 slots is sent one notification again at most, and notified once,
 /// and each of 8 shards tells once that nothing is late and once that nobody is due.
 pub fn settling_has_steps_for_all()
     ensures { 64 * (32 + 32) + 8 * 2 ≤ most_steps }
-{}
-
-/// The readings of a device have 64 bytes: the moment in milliseconds in eight bytes, the least first, and the 56 that its sensors say, zeros where it has none.
-pub fn readings_are_the_clock_and_the_sensors()
-    ensures clock { (sensed : List ℕ) → device_readings 258 sensed ≡ 2 ∷ 1 ∷ 0 ∷ 0 ∷ 0 ∷ 0 ∷ 0 ∷ 0 ∷ sensed }
-    ensures sensors { (now : ℕ) (sensed : List ℕ) → length sensed ≡ 56 → length (device_readings now sensed) ≡ 64 }
-    ensures none { length no_sensors ≡ 56 }
 {}
 
 /// What is answered at once is sent by who heard it; a job's reply, a signal and what is ignored are not.
@@ -68,11 +60,4 @@ pub fn played_lines_are_one_history()
     ensures history { (serial id : ℕ) (had before after : Option (List ℕ)) (w : IsPlayedOut serial id had before after)
         → IsOneHistory serial id (received_in_lines w.played.lines) (sent_in_lines w.played.lines) w.last.engine }
     ensures printed { (lines : List PlayedLine) → printed_lines lines ≡ flat_map printed (sent_in_lines lines) }
-{}
-
-/// A datagram is received into a buffer of 1,281 bytes, one more than the longest message has. So bytes that fill it spell no message: of a longer datagram the
-/// first 1,281 bytes are received, and these are never taken for a message.
-pub fn cut_datagrams_spell_no_message()
-    ensures buffer { BUFFER ≡ 1281 }
-    ensures filled { (bytes : List ℕ) (m : Message) → SpellsMessage bytes m → length bytes < BUFFER }
 {}

@@ -1,4 +1,4 @@
-//! What the server's program does: its command line, lines that are played, a socket that is served, its clock, its sensors and its log.
+//! What the server's program does: its command line, lines that are played, a socket that is served, and its log.
 //!
 //! ```rust
 //! use fc_cli::Status;
@@ -36,7 +36,7 @@
 //!   at work when it asks.
 //! - **A server on a socket is that loop**, by one worker or more, where it gives its source back: then a limit was set, and as many
 //!   datagrams were received (`serve_at`, by `IsServed`). At which moments, and of one that gives no source or doesn't end, no clause says
-//!   anything. What a datagram is received into has 1,281 bytes, one more than it may have (`laws`).
+//!   anything.
 //! - **By one worker** these are lists of events of one server, which begins at the serial and the message id that it is given: each round
 //!   is the list of its datagram, or of its moment, and of what its shards are asked. What a shard tells is so: that nothing is late, that an
 //!   observer was removed, that nobody is due (`laws`). Its readings are each round's moment and what its sensors said. No clause says that with
@@ -50,18 +50,14 @@
 //!   bench (`fc_workers`).
 //! - **A pool** gives at its end eight shards, the serials that each began with, and changes; the serials of each shard have risen by just
 //!   these, which are told up to 2^64 - 1. That its workers worked at these shards is no clause.
-//! - **Readings** are some moment in eight bytes, the least first, and what the sensors said: zeros where there are none. What is read of a
-//!   file is what one call of its reader gave, 56 bytes at most, and zeros behind.
 //! - **Replies** of a server on a socket are counted and added exactly, up to 2^64 - 1, and written as `sent S failed F`. That by more
 //!   workers what is added for their jobs is their own count, and that it is told to the log, is no clause.
 //!
 //! By the contracts of `play::play`, `lines::play_lines`, `rounds::run_rounds`, `serve::serve_at`, `serve::serve_alone`, `pool::run_pool`,
-//! `clock::SensingDevice`, `sensors::read_sensed`, `Replies`, `laws`.
+//! `Replies`, `laws`.
 #![tactic(auto)]
 
 mod alone;
-mod board;
-pub mod clock;
 pub mod command;
 pub mod laws;
 mod lines;
@@ -69,8 +65,7 @@ pub mod play;
 pub mod pool;
 pub mod replies;
 mod rounds;
-pub mod sensors;
 pub mod serve;
 mod settle;
-pub mod socket;
+mod waiting;
 pub mod workers;

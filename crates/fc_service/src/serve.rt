@@ -6,13 +6,13 @@ ghost use Rattle.fc_service.specs.declared.replies.Replies.{Replies as Counts};
 ghost use Rattle.fc_cli.specs.declared.status.Status.TheVariants.{Done, Failed};
 
 use crate::alone::{Alone, Sensed};
-use crate::clock::{Elapsed, SensingDevice};
 use crate::pool::{Feeder, Intake, Pool, run_pool};
 use crate::replies::Replies;
 use crate::rounds::{Unprepared, run_rounds};
-use crate::sensors::Sensors;
-use crate::socket::{Receiving, Replying, Sink, Source, open};
 use fc_cli::status::{Status, tell};
+use fc_host::clock::{Elapsed, SensingDevice};
+use fc_host::sensors::Sensors;
+use fc_host::socket::{Receiving, Replying, Sink, Source, open};
 use fc_server::Begin;
 use fc_workers::{Handover, Moments};
 use log::{Log, info};

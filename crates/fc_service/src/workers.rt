@@ -2,11 +2,12 @@
 ghost use Rattle.std.specs.Prelude.{◌≤◌};
 ghost use Rattle.fc_registry.specs.Slots.{last_serial};
 
-use crate::board::{Board, Waiting};
 use crate::lines::play_lines;
 use crate::pool::{Feeder, Intake, Pool, run_pool};
+use crate::waiting::Waiting;
 use fc_cli::status::{Status, tell};
 use fc_cli::stop::Stop;
+use fc_host::board::Board;
 use fc_server::Begin;
 use fc_workers::Handover;
 use std::alloc::Global;

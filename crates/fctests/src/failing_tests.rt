@@ -3,9 +3,9 @@ ghost use Rattle.std.specs.Prelude.{◌≤◌, IfSome, length};
 
 use crate::socket_tests::{check_logged, put_datagram};
 use coap_msg::{Emission, Endpoint};
-use fc_service::sensors::NoSensors;
+use fc_host::sensors::NoSensors;
+use fc_host::socket::{Buffer, Sink, Source};
 use fc_service::serve::{Extent, serve_at};
-use fc_service::socket::{Buffer, Sink, Source};
 use log::sink::Memory;
 use log::{LevelFilter, Logged};
 use std::process::Abort;

@@ -1,6 +1,6 @@
 // A server whose programs read a file: over a socket, while the file changes.
 use crate::socket_tests::{at_port, client_of, install_reader, readings_of, serve_while};
-use fc_service::sensors::{FileSensors, Sensors};
+use fc_host::sensors::{FileSensors, Sensors};
 use fc_service::serve::Extent;
 use std::net::{Net, SocketAddrV4, UdpSocket};
 use std::process::Abort;

@@ -1,8 +1,7 @@
 use Rattle.std.proofs.Common.{ℕ, Option, subst, arith, rules, ◌∙◌}
 use Rattle.coap_msg.specs.declared.types.Endpoint.{Endpoint}
+use Rattle.fc_host.specs.Sockets.{Comes, incoming_in}
 use Rattle.fc_service.proofs.Runs.{heard_round, passed_round}
-use Rattle.fc_service.specs.Intakes.{incoming_in}
-use Rattle.fc_service.specs.Traffic.{Comes}
 use Rattle.fc_service.proofs.rounds.run_rounds.Goals as goal
 use Rattle.fc_service.proofs.rounds.run_rounds.Goals.{in-Some-came, in-None-came}
 

@@ -1,7 +1,7 @@
 -- The readings of a clock at a worked moment.
 use Rattle.std.proofs.Common.{◌≡◌, ◌∷◌, refl}
 use Rattle.std.specs.Prelude.{replicate}
-use Rattle.fc_service.specs.Clocks.{clock_readings}
+use Rattle.fc_host.specs.Clocks.{clock_readings}
 
 -- 258 ms are 2 and, in the second byte, 1
 the_least_byte_is_first : clock_readings 258 ≡ 2 ∷ 1 ∷ replicate 62 0

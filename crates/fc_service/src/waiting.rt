@@ -1,4 +1,4 @@
-//! Where who plays lines waits for the worker that has a line's job.
+//! Who plays lines by workers, and waits for the one that has a line's job.
 ghost use Rattle.std.specs.Prelude.{◌≡◌, ◌⊎◌};
 ghost use Rattle.fc_server.specs.Notified.{Notified, Unsent};
 ghost use Rattle.fc_service.specs.Intakes.{IsWaitedFor};
@@ -7,111 +7,11 @@ use crate::lines::LineIntake;
 use crate::pool::Intake;
 use coap_msg::{Emission, Endpoint};
 use fc_core::Heard;
-use fc_core::front::blank_emission;
-use fc_help::{NO_READINGS, Readings};
+use fc_help::Readings;
+use fc_host::board::Board;
 use fc_observe::Ticked;
 use fc_server::engine::NotifyOutcome;
-use fc_workers::{CallLog, Device, Moments, Wire};
-use std::sync::atomic::{AtomicU64, Ordering};
-use std::sync::{Condvar, Mutex, Wait};
-
-// Whether a worker is at a line's job, what it has sent, and the readings that takings are handed.
-#[derive(Drop)]
-struct Work {
-    busy: bool,
-    reply: Option<Emission>,
-    readings: Readings,
-}
-
-// Where the player waits for the worker that has a line's job. The moment is that of the line.
-#[derive(Drop)]
-pub(crate) struct Board {
-    work: Mutex<Work>,
-    done: Condvar,
-    now: AtomicU64,
-}
-
-impl Board {
-    pub(crate) fn new() -> Board {
-        let work = Work {
-            busy: false,
-            reply: None,
-            readings: NO_READINGS,
-        };
-        Board {
-            work: Mutex::new(work),
-            done: Condvar::new(),
-            now: AtomicU64::new(0),
-        }
-    }
-
-    // Has the takings from now on handed these readings.
-    fn set<R: Wait>(&self, rt: &R, readings: Readings) {
-        let mut work = self.work.lock(rt);
-        work.readings = readings;
-    }
-
-    // Says that a job of this moment is about to be sent.
-    fn begin<R: Wait>(&self, rt: &R, now: u64) {
-        self.now.store(now, Ordering::SeqCst);
-        let mut work = self.work.lock(rt);
-        work.busy = true;
-        work.reply = None;
-    }
-
-    // Waits until the job was worked off: what was sent for it.
-    fn wait<R: Wait>(&self, rt: &R) -> Option<Emission> {
-        let mut work = self
-            .done
-            .wait_while(rt, self.work.lock(rt), |work| work.busy);
-        work.reply.take()
-    }
-}
-
-impl Wire for Board {
-    fn send<R: Wait>(&self, rt: &R, number: u64, emission: &Emission, log: &mut CallLog) -> bool {
-        let _ = number;
-        let _ = log;
-        let mut work = self.work.lock(rt);
-        work.reply = Some(copy(emission));
-        true
-    }
-
-    fn ended<R: Wait>(&self, rt: &R, number: u64, log: &mut CallLog) {
-        let _ = number;
-        let _ = log;
-        let mut work = self.work.lock(rt);
-        work.busy = false;
-        self.done.notify_all();
-    }
-}
-
-impl Moments for Board {
-    fn now<R: Wait>(&self, rt: &R) -> u64 {
-        let _ = rt;
-        self.now.load(Ordering::SeqCst)
-    }
-
-    // What is printed is to be the same each time.
-    fn random<R: Wait>(&self, rt: &R) -> u16 {
-        let _ = rt;
-        0
-    }
-}
-
-impl Device for Board {
-    fn readings<R: Wait>(&self, rt: &R) -> Readings {
-        let work = self.work.lock(rt);
-        work.readings
-    }
-}
-
-fn copy(emission: &Emission) -> Emission {
-    let mut copy = blank_emission();
-    copy.to = emission.to;
-    let _fits = copy.bytes.try_extend_from_slice(emission.bytes.as_slice());
-    copy
-}
+use std::sync::Wait;
 
 // Who waits at a board for each job that is taken in, and for each turn, until it was worked off.
 #[derive(Drop)]

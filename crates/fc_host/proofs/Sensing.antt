@@ -3,7 +3,7 @@ use Rattle.std.proofs.Common.{◌≡◌, ℕ, ◌≤◌, List, ◌++◌, length,
 use Rattle.std.specs.Prelude.{replicate}
 use Rattle.std.specs.Io.KnownBytes.{Consumes}
 use Rattle.std.proofs.lemmas.List.{drop-replicate, length-take}
-use Rattle.fc_service.specs.Clocks.{AreSensed}
+use Rattle.fc_host.specs.Clocks.{AreSensed}
 
 pub given_first : (had left : Option (List ℕ)) (count : ℕ) (buffer first : List ℕ) → count ≤ length buffer → length buffer ≡ 56 → first ≡ take count buffer →
     Consumes had left (take count buffer) → AreSensed had left count (first ++ drop count (replicate 56 0))

@@ -1,5 +1,5 @@
-use Rattle.fc_service.proofs.Sensing.{given_first}
-use Rattle.fc_service.proofs.sensors.read_sensed.Goals as goal
+use Rattle.fc_host.proofs.Sensing.{given_first}
+use Rattle.fc_host.proofs.sensors.read_sensed.Goals as goal
 
 pub returns-clause-given : goal.returns-clause-given
 returns-clause-given g c =

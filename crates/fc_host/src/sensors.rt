@@ -1,6 +1,6 @@
 //! Sensors: what a device reads behind its clock. A file has what they say, which a driver or a script keeps; or there are none.
 ghost use Rattle.std.specs.Prelude.{◌≡◌, ⊤, ℕ, List, IfOk, OnErr};
-ghost use Rattle.fc_service.specs.Clocks.{AreSensed, no_sensors};
+ghost use Rattle.fc_host.specs.Clocks.{AreSensed, no_sensors};
 
 use std::io::{Eprint, Read};
 use std::os::unix::fs::FileTypeExt;

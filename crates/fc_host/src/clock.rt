@@ -1,6 +1,6 @@
 //! The monotonic clock: moments since a start, and the readings of a device that has a clock.
 ghost use Rattle.std.specs.Prelude.{◌≡◌};
-ghost use Rattle.fc_service.specs.Clocks.{AreReadAt, device_readings};
+ghost use Rattle.fc_host.specs.Clocks.{AreReadAt, device_readings};
 
 use crate::sensors::{Sensed, Sensors};
 use fc_help::{NO_READINGS, Readings};
@@ -12,16 +12,19 @@ use std::time::{Clock, Instant};
 /// The bytes of the readings that are the clock's.
 const CLOCK: usize = 8;
 
-// Milliseconds since a start, by the monotonic clock. It is 0 where the clock can't be read.
+/// Milliseconds since a start, by the monotonic clock. It is 0 where the clock can't be read.
 #[derive(Drop)]
-pub(crate) struct Elapsed<'a, R: Clock> {
+pub struct Elapsed<'a, R: Clock> {
     clock: &'a R,
     start: Instant,
 }
 
 impl<'a, R: Clock> Elapsed<'a, R> {
-    // Starts now.
-    pub(crate) fn start(clock: &'a R) -> io::Result<Elapsed<'a, R>> {
+    /// Starts now.
+    ///
+    /// # Errors
+    /// The clock couldn't be read.
+    pub fn start(clock: &'a R) -> io::Result<Elapsed<'a, R>> {
         let start = Instant::now(clock)?;
         Ok(Elapsed { clock, start })
     }
@@ -42,11 +45,11 @@ impl<'a, C: Clock> Moments for Elapsed<'a, C> {
     }
 }
 
-// A device that has a clock, and sensors or none.
+/// A device that has a clock, and sensors or none.
 #[derive(Drop)]
-pub(crate) struct SensingDevice<'a, M: Moments, Z: Sensors> {
-    pub(crate) moments: &'a M,
-    pub(crate) sensors: &'a Z,
+pub struct SensingDevice<'a, M: Moments, Z: Sensors> {
+    pub moments: &'a M,
+    pub sensors: &'a Z,
 }
 
 impl<'a, M: Moments, Z: Sensors> Device for SensingDevice<'a, M, Z> {
@@ -58,8 +61,8 @@ impl<'a, M: Moments, Z: Sensors> Device for SensingDevice<'a, M, Z> {
     }
 }
 
-// The readings at a moment in milliseconds: the moment, and what the sensors say.
-pub(crate) fn device_readings(now: u64, sensed: &Sensed) -> Readings
+/// Returns the readings at a moment in milliseconds: the moment in eight bytes, the least first, and what the sensors say.
+pub fn device_readings(now: u64, sensed: &Sensed) -> Readings
     ensures { result ≡ device_readings now sensed.now }
 {
     let mut readings = NO_READINGS;

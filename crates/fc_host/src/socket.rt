@@ -1,8 +1,7 @@
 //! Where a server's datagrams come from and go: a socket, or what a test puts in its place.
 ghost use Rattle.std.specs.Prelude.{◌≤◌, ⊤, Bool, IfSome, List, None, Option, length};
 ghost use Rattle.coap_msg.specs.declared.types.Emission.{Emission};
-ghost use Rattle.fc_service.specs.Intakes.{Incoming, incoming_in};
-ghost use Rattle.fc_service.specs.Traffic.{Comes, IsHanded};
+ghost use Rattle.fc_host.specs.Sockets.{Comes, Incoming, IsHanded, incoming_in};
 
 use coap_msg::types::DATAGRAM;
 use coap_msg::{Emission, Endpoint};
@@ -112,10 +111,10 @@ fn address_of(endpoint: Endpoint) -> SocketAddrV4 {
     SocketAddrV4::new(Ipv4Addr::new(a, b, c, d), endpoint.port)
 }
 
-// Where the workers' replies go. Nobody waits for a job.
+/// Where the workers' replies go: to a sink. Nobody waits for a job.
 #[derive(Drop)]
-pub(crate) struct Replying<'a, K: Sink> {
-    pub(crate) sink: &'a K,
+pub struct Replying<'a, K: Sink> {
+    pub sink: &'a K,
 }
 
 impl<'a, K: Sink> Wire for Replying<'a, K> {

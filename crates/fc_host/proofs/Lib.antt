@@ -1,0 +1,2 @@
+mod Clocks
+pub mod Sensing

@@ -1,0 +1,24 @@
+-- What comes from a source, and what is handed to a sink.
+use Rattle.std.specs.Prelude.{◌≡◌, ℕ, Bool, List, [], ◌∷◌, ◌++◌, take, Option, Some, None, IfSome}
+use Rattle.coap_msg.specs.declared.types.Emission.{Emission}
+use Rattle.coap_msg.specs.declared.types.Endpoint.{Endpoint}
+use Rattle.fc_workers.specs.Called.{WireCall, SendsReply, EndsJob}
+
+-- a datagram that was received: who sent it, and its bytes
+pub record Incoming : Type 0 where
+  pub from : Endpoint
+  pub bytes : List ℕ
+
+-- the datagram that was received into a buffer, where one was: so many bytes at its start, and who sent them
+abbrev pub incoming_in : List ℕ → Option (ℕ × Endpoint) → List Incoming
+incoming_in buffer None = []
+incoming_in buffer (Some r) = record { from = r.1; bytes = take r.0 buffer } ∷ []
+
+-- these came next, where it is known what had come
+abbrev pub Comes : Option (List Incoming) → Option (List Incoming) → List Incoming → Type 0
+Comes before after more = IfSome before (λ known. after ≡ Some (known ++ more))
+
+-- a reply that a wire sends is handed to a sink
+abbrev pub IsHanded : (Emission → Bool → Type 0) → WireCall → Type 0
+IsHanded Went (SendsReply number reply out) = Went reply out
+IsHanded Went (EndsJob number) = Unit {0}

@@ -1,0 +1,37 @@
+//! What a server has of its host: the clock, a file of what its sensors say, and sockets; and the board that stands for these where lines are played.
+//!
+//! ```rust
+//! use coap_msg::Endpoint;
+//! use fc_host::socket::{BUFFER, Receiving, SHORTEST_WAIT, Source, open};
+//! use std::io;
+//! use std::net::{Net, SocketAddrV4};
+//!
+//! /// Whom a datagram comes from that is received at an address of this host within 100 ms, if one is.
+//! fn first_sender<R: Net>(rt: &R, address: SocketAddrV4) -> io::Result<Option<Endpoint>> {
+//!     let socket = open(rt, address)?;
+//!     let mut buffer = [0; BUFFER];
+//!     match Receiving::new(&socket).receive(Some(SHORTEST_WAIT), &mut buffer) {
+//!         Some((_count, from)) => Ok(Some(from)),
+//!         None => Ok(None),
+//!     }
+//! }
+//! ```
+//!
+//! # What is proved
+//!
+//! - **Readings** are some moment in eight bytes, the least first, and what the sensors said: zeros where there are none. What is read of a
+//!   file is what one call of its reader gave, 56 bytes at most, and zeros behind.
+//! - **A datagram** that is received lies at the start of its buffer, which has 1,281 bytes, one more than it may have (`laws`). A source whose
+//!   datagrams are known says of each that it comes next; of a socket of the system, what came isn't known.
+//! - **A reply** that a wire of workers sends is handed to its sink, which tells whether it went out.
+//! - Not claimed: that a moment is the clock's and a random word its low bits, that a file is read anew, what a socket sends and how long it waits, and that a
+//!   board gives the reply that was sent and the readings that were set.
+//!
+//! By the contracts of `clock::SensingDevice`, `sensors::NoSensors`, `read_sensed`, `socket::Source`, `Replying`, `laws`.
+#![tactic(auto)]
+
+pub mod board;
+pub mod clock;
+pub mod laws;
+pub mod sensors;
+pub mod socket;
