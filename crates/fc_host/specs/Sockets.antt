@@ -1,4 +1,4 @@
--- What comes from a source, and what is handed to a sink.
+-- What a source is asked for and gives, and what is handed to a sink.
 use Rattle.std.specs.Prelude.{◌≡◌, ℕ, Bool, List, [], ◌∷◌, ◌++◌, take, Option, Some, None, IfSome}
 use Rattle.coap_msg.specs.declared.types.Emission.{Emission}
 use Rattle.coap_msg.specs.declared.types.Endpoint.{Endpoint}
@@ -10,12 +10,17 @@ pub record Incoming : Type 0 where
   pub bytes : List ℕ
 
 -- the datagram that was received into a buffer, where one was: so many bytes at its start, and who sent them
-abbrev pub incoming_in : List ℕ → Option (ℕ × Endpoint) → List Incoming
-incoming_in buffer None = []
-incoming_in buffer (Some r) = record { from = r.1; bytes = take r.0 buffer } ∷ []
+abbrev pub incoming_in : List ℕ → Option (ℕ × Endpoint) → Option Incoming
+incoming_in buffer None = None
+incoming_in buffer (Some r) = Some (record { from = r.1; bytes = take r.0 buffer })
 
--- these came next, where it is known what had come
-abbrev pub Comes : Option (List Incoming) → Option (List Incoming) → List Incoming → Type 0
+-- a receive: for how many milliseconds it was to wait, or without end, and the datagram that came meanwhile, if one did
+pub record Receive : Type 0 where
+  pub wait : Option ℕ
+  pub came : Option Incoming
+
+-- these were a source's next receives, where it is known which it had had
+abbrev pub Comes : Option (List Receive) → Option (List Receive) → List Receive → Type 0
 Comes before after more = IfSome before (λ known. after ≡ Some (known ++ more))
 
 -- a reply that a wire sends is handed to a sink

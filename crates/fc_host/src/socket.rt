@@ -1,7 +1,7 @@
 //! Where a server's datagrams come from and go: a socket, or what a test puts in its place.
-ghost use Rattle.std.specs.Prelude.{◌≤◌, ⊤, Bool, IfSome, List, None, Option, length};
+ghost use Rattle.std.specs.Prelude.{◌≤◌, ⊤, [], ◌∷◌, Bool, IfSome, List, None, Option, length};
 ghost use Rattle.coap_msg.specs.declared.types.Emission.{Emission};
-ghost use Rattle.fc_host.specs.Sockets.{Comes, Incoming, IsHanded, incoming_in};
+ghost use Rattle.fc_host.specs.Sockets.{Comes, IsHanded, Receive, incoming_in};
 
 use coap_msg::types::DATAGRAM;
 use coap_msg::{Emission, Endpoint};
@@ -22,14 +22,14 @@ pub type Buffer = [u8; BUFFER];
 
 /// Where datagrams come from.
 pub trait Source {
-    // The datagrams that it has given so far, where they are known: of each what fitted the buffer.
-    ghost came: { Self → Option (List Incoming) } = { λ _. None };
+    // Its receives so far, where they are known: how long each was to wait, and of the datagram that came what fitted the buffer.
+    ghost came: { Self → Option (List Receive) } = { λ _. None };
 
     /// Waits for a datagram, so many milliseconds or, for `None`, without end: how many bytes at the start of the buffer it is, and who sent it. What doesn't fit the
     /// buffer is lost. `None` where nothing came in time, or it couldn't be received.
     fn receive(&mut self, wait: Option<u64>, buffer: &mut Buffer) -> Option<(usize, Endpoint)>
         ensures fits { IfSome result (λ r. r.0 ≤ length buffer.new) }
-        ensures given { Comes (came self.old) (came self.new) (incoming_in buffer.new result) };
+        ensures given { Comes (came self.old) (came self.new) (record { wait = wait; came = incoming_in buffer.new result } ∷ []) };
 }
 
 /// Where datagrams go.

@@ -24,7 +24,7 @@ use Rattle.fc_server.specs.declared.server.Begin.{Begin}
 use Rattle.fc_lines.specs.declared.line.Line.{Line}
 use Rattle.fc_lines.specs.declared.line.Line.TheVariants as lines
 use Rattle.fc_lines.specs.Emissions.{peer_endpoint, printed}
-use Rattle.fc_host.specs.Sockets.{Incoming}
+use Rattle.fc_host.specs.Sockets.{Incoming, Receive}
 use Rattle.fc_service.proofs.Settled.{printed_of}
 use Rattle.fc_service.specs.Alone.{HandsAlone, HearsAlone, PassesAlone, ReadiesAlone, alone_calls}
 use Rattle.fc_service.specs.Histories.{IsOneHistory, datagram_in, delivered_by, received_in_lines, sent_in_lines}
@@ -249,7 +249,7 @@ module _ (sensors : List ℕ → Type 0) (moments : ℕ → Type 0) (went : Emis
   rounds_go_on (r ∷ rounds) old new h tasks w v =
       let before = rounds_go_on rounds old w.0 h tasks w.1 v in
       let all = both_go_on h (received_in rounds) (option_to_list r.received) (map (λ s. s.emission) (sendings_in rounds)) (map (λ s. s.emission) r.sendings) w.0.engine new.engine before
-      (round_goes_on r w.0 new before.later before.tasks w.2 before.serves) in
+      (round_goes_on r w.0 new before.later before.tasks w.3 before.serves) in
       goes_on_as _ _ _ (map (λ s. s.emission) (sendings_in rounds ++ r.sendings)) refl (sym (map-append (λ (s : Sending). s.emission) (sendings_in rounds) r.sendings)) all
 
 -- it is one history
@@ -262,7 +262,7 @@ one_history serial id ds es s w = record {
   emits = w.follows.emits_are;
 }
 
-pub rounds_are_one_history : (sensors : List ℕ → Type 0) (moments : ℕ → Type 0) (went : Emission → Bool → Type 0) (limit : ℕ) (begin : Begin) (before after : Option (List Incoming)) (replies : Replies)
+pub rounds_are_one_history : (sensors : List ℕ → Type 0) (moments : ℕ → Type 0) (went : Emission → Bool → Type 0) (limit : ℕ) (begin : Begin) (before after : Option (List Receive)) (replies : Replies)
     (w : HasServed sensors moments went limit begin before after replies)
     → IsOneHistory begin.serial begin.id (received_in w.run.rounds) (map (λ s. s.emission) (sendings_in w.run.rounds)) w.last.engine
 rounds_are_one_history sensors moments went limit begin before after replies w =

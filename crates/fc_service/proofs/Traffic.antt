@@ -6,22 +6,22 @@ use Rattle.std.proofs.lemmas.List.Elements.{All-append, All-cons, All-nil}
 use Rattle.std.proofs.lemmas.List.Sums.{sum_by-append, sum_by-cons}
 use Rattle.coap_msg.specs.declared.types.Emission.{Emission}
 use Rattle.fc_workers.specs.Answers.{saturated}
-use Rattle.fc_host.specs.Sockets.{Comes, Incoming}
+use Rattle.fc_host.specs.Sockets.{Comes, Receive}
 use Rattle.fc_service.specs.Counting.{counted}
 use Rattle.fc_service.specs.Traffic.{Sending, Sends, counted_each, replies_to}
 use Rattle.fc_service.specs.declared.replies.Replies.{Replies}
 
 -- ---- what came
 
-pub none_came : (a : Option (List Incoming)) → Comes a a []
+pub none_came : (a : Option (List Receive)) → Comes a a []
 none_came None = tt
-none_came (Some known) = ap (λ (l : List Incoming). Some l) (sym (append-nil known))
+none_came (Some known) = ap (λ (l : List Receive). Some l) (sym (append-nil known))
 
-pub more_came : (a b c : Option (List Incoming)) (xs ys : List Incoming) → Comes a b xs → Comes b c ys → Comes a c (xs ++ ys)
+pub more_came : (a b c : Option (List Receive)) (xs ys : List Receive) → Comes a b xs → Comes b c ys → Comes a c (xs ++ ys)
 more_came None b c xs ys v w = tt
 more_came (Some known) b c xs ys v w =
-    let next : c ≡ Some ((known ++ xs) ++ ys) = subst (λ (o : Option (List Incoming)). IfSome o (λ (l : List Incoming). c ≡ Some (l ++ ys))) v w in
-    next ∙ ap (λ (l : List Incoming). Some l) (append_assoc known xs ys)
+    let next : c ≡ Some ((known ++ xs) ++ ys) = subst (λ (o : Option (List Receive)). IfSome o (λ (l : List Receive). c ≡ Some (l ++ ys))) v w in
+    next ∙ ap (λ (l : List Receive). Some l) (append_assoc known xs ys)
 
 -- ---- what was handed to a sink
 

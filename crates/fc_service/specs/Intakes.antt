@@ -7,7 +7,7 @@ use Rattle.fc_core.specs.Receiving.{emission_if}
 use Rattle.fc_core.specs.declared.front.Heard.{Heard}
 use Rattle.fc_core.specs.declared.front.Heard.TheVariants.{Job, Reply}
 use Rattle.fc_observe.specs.declared.observers.Ticked.{Ticked}
-use Rattle.fc_server.specs.Notified.{Notified}
+use Rattle.fc_server.specs.Notified.{Notified, Sent, Starved, Unsent}
 use Rattle.fc_host.specs.Sockets.{Incoming}
 
 -- what was written is to be sent
@@ -28,6 +28,17 @@ pub record IsHeardBy {S : Type 0} (Hears : ℕ → Endpoint → Bor (List ℕ) �
 abbrev pub IsWaitedFor : {S : Type 0} → (ℕ → Endpoint → Bor (List ℕ) → S → S → Heard → Emission → Type 0) → ℕ → Endpoint → Bor (List ℕ) → S → S → Heard → Emission → Type 0
 IsWaitedFor Hears now from bytes old new heard reply =
     (told : Heard) × (written : Emission) × Hears now from bytes old new told written × ((told ≡ Job) ⊎ ((heard ≡ told) × (reply ≡ written)))
+
+-- a turn has come to its end: a notification is sent, or none is for want of a message id or of memory
+abbrev pub has_ended : Notified → Bool
+has_ended (Sent emission) = true
+has_ended Starved = true
+has_ended other = false
+
+-- who waits for workers tells of a turn what who is waited for told, or, where nothing was sent so far, how it ended
+abbrev pub IsTurnWaitedFor : Notified → Notified → Type 0
+IsTurnWaitedFor Unsent told = has_ended told ≡ true
+IsTurnWaitedFor asked told = told ≡ asked
 
 -- what each call of an intake does to it, or is told by it
 pub record IntakeCalls (S : Type 0) : Type 1 where

@@ -6,7 +6,7 @@ use Rattle.fc_core.specs.History.{Begins}
 use Rattle.fc_workers.specs.Counts.{Tallies}
 use Rattle.fc_server.specs.Serving.{Serves}
 use Rattle.fc_server.specs.declared.server.Begin.{Begin}
-use Rattle.fc_host.specs.Sockets.{Comes, Incoming, IsHanded}
+use Rattle.fc_host.specs.Sockets.{Comes, Incoming, IsHanded, Receive}
 use Rattle.fc_service.specs.Alone.{ReadiesAlone, alone_calls}
 use Rattle.fc_host.specs.Clocks.{AreReadAt}
 use Rattle.fc_service.specs.Counting.{both_replies}
@@ -18,15 +18,20 @@ use Rattle.fc_service.specs.declared.alone.Alone.{Alone}
 use Rattle.fc_service.specs.declared.serve.Extent.{Extent}
 use Rattle.fc_service.specs.declared.replies.Replies.{Replies}
 
--- a round: what was received, if anything was in time, and at which moment; what it was answered at once, and the steps that followed; and what was handed to the sink
+-- a round: how long a datagram was waited for, what was received, if anything was in time, and at which moment; what it was answered at once, and the steps that followed; and what was handed to the sink
 pub record Round : Type 0 where
+  pub wait : Option ℕ
   pub received : Option Incoming
   pub now : ℕ
   pub sent : Option Emission
   pub steps : List SettlingStep
   pub sendings : List Sending
 
--- what was received in rounds, and what was handed to the sink, the oldest first, where the newest round is first
+-- the receives of rounds, what was received in them, and what was handed to the sink, the oldest first, where the newest round is first
+abbrev pub receives_in : List Round → List Receive
+receives_in [] = []
+receives_in (r ∷ rs) = receives_in rs ++ record { wait = r.wait; came = r.received } ∷ []
+
 abbrev pub received_in : List Round → List Incoming
 received_in [] = []
 received_in (r ∷ rs) = received_in rs ++ option_to_list r.received
@@ -34,6 +39,22 @@ received_in (r ∷ rs) = received_in rs ++ option_to_list r.received
 abbrev pub sendings_in : List Round → List Sending
 sendings_in [] = []
 sendings_in (r ∷ rs) = sendings_in rs ++ r.sendings
+
+-- ---- how long a datagram is waited for, by until when each shard is quiet
+
+-- before this moment nothing is late at any shard, and nobody due
+abbrev pub AllStayQuiet : (ℕ → ℕ → Type 0) → ℕ → Type 0
+AllStayQuiet StaysQuiet moment = (shard : ℕ) → shard < 8 → (until : ℕ) × StaysQuiet shard until × (moment ≤ until)
+
+-- a wait that begins at a moment lasts 100 ms, or ends before there may be something to do; without end, where there is nothing at any moment
+abbrev pub EndsInTime : (ℕ → ℕ → Type 0) → ℕ → Option ℕ → Type 0
+EndsInTime StaysQuiet now (Some wait) = (wait ≡ 100) ⊎ AllStayQuiet StaysQuiet (now + wait)
+EndsInTime StaysQuiet now None = AllStayQuiet StaysQuiet 18446744073709551615
+
+-- how long a datagram is waited for first, and after rounds that left a server so
+abbrev pub WaitsAfter : {S : Type 0} → IntakeCalls S → List Round → S → Option ℕ → Type 0
+WaitsAfter calls [] left wait = wait ≡ Some 100
+WaitsAfter calls (r ∷ rs) left wait = EndsInTime (λ shard until. calls.stays_quiet shard left until) r.now wait
 
 -- ---- of a server, by which moments there are, by what each call does to it, and by what a sink tells
 module _ {S : Type 0} (IsMoment : ℕ → Type 0) (Readies : ℕ → S → S → Type 0) (calls : IntakeCalls S)
@@ -58,41 +79,30 @@ module _ {S : Type 0} (IsMoment : ℕ → Type 0) (Readies : ℕ → S → S →
   -- rounds one after the other, the newest first
   abbrev pub AreRoundsBy : List Round → S → S → Type 0
   AreRoundsBy [] old new = new ≡ old
-  AreRoundsBy (r ∷ rs) old new = (mid : S) × AreRoundsBy rs old mid × IsRoundBy r mid new
+  AreRoundsBy (r ∷ rs) old new = (mid : S) × AreRoundsBy rs old mid × WaitsAfter calls rs mid r.wait × IsRoundBy r mid new
 
-  -- each datagram that a source gave was received in one of these rounds, in order; and the replies are those of the rounds, as the sink told
-  pub record HasRounds (rounds : List Round) (before after : Option (List Incoming)) (old new : S) (replies : Replies) : Type 0 where
+  -- a source's receives were those of these rounds, in order; and the replies are those of the rounds, as the sink told
+  pub record HasRounds (rounds : List Round) (before after : Option (List Receive)) (old new : S) (replies : Replies) : Type 0 where
     pub are_rounds : AreRoundsBy rounds old new
-    pub came : Comes before after (received_in rounds)
+    pub came : Comes before after (receives_in rounds)
     pub counted : replies ≡ replies_to (sendings_in rounds)
 
   -- it ended when so many datagrams were received, and where there is a limit at all
-  pub record HasRun (limit : ℕ) (before after : Option (List Incoming)) (old new : S) (replies : Replies) : Type 0 where
+  pub record HasRun (limit : ℕ) (before after : Option (List Receive)) (old new : S) (replies : Replies) : Type 0 where
     pub rounds : List Round
     pub has : HasRounds rounds before after old new replies
     pub limited : 0 < limit
     pub received : length (received_in rounds) ≡ limit
 
--- ---- how long a datagram is waited for, by until when each shard is quiet
-
--- before this moment nothing is late at any shard, and nobody due
-abbrev pub AllStayQuiet : (ℕ → ℕ → Type 0) → ℕ → Type 0
-AllStayQuiet StaysQuiet moment = (shard : ℕ) → shard < 8 → (until : ℕ) × StaysQuiet shard until × (moment ≤ until)
-
--- a wait that begins at a moment lasts 100 ms, or ends before there may be something to do; without end, where there is nothing at any moment
-abbrev pub EndsInTime : (ℕ → ℕ → Type 0) → ℕ → Option ℕ → Type 0
-EndsInTime StaysQuiet now (Some wait) = (wait ≡ 100) ⊎ AllStayQuiet StaysQuiet (now + wait)
-EndsInTime StaysQuiet now None = AllStayQuiet StaysQuiet 18446744073709551615
-
 -- a receiver, which makes nothing ready before a round, has run
-abbrev pub HasReceived : {S : Type 0} → IntakeCalls S → (ℕ → Type 0) → (Emission → Bool → Type 0) → ℕ → Option (List Incoming) → Option (List Incoming) → S → S → Replies → Type 0
+abbrev pub HasReceived : {S : Type 0} → IntakeCalls S → (ℕ → Type 0) → (Emission → Bool → Type 0) → ℕ → Option (List Receive) → Option (List Receive) → S → S → Replies → Type 0
 HasReceived c moments went limit before after first last replies =
     HasRun moments (λ now old new. new ≡ old) c went limit before after first last replies
 
 -- ---- a server on one thread
 
 -- a server that began at this serial and message id has run on one thread, with these sensors, until so many datagrams were received
-pub record HasServed (sensors : List ℕ → Type 0) (moments : ℕ → Type 0) (went : Emission → Bool → Type 0) (limit : ℕ) (begin : Begin) (before after : Option (List Incoming)) (replies : Replies) : Type 0 where
+pub record HasServed (sensors : List ℕ → Type 0) (moments : ℕ → Type 0) (went : Emission → Bool → Type 0) (limit : ℕ) (begin : Begin) (before after : Option (List Receive)) (replies : Replies) : Type 0 where
   pub first : Alone
   pub last : Alone
   pub begins : Serves (Begins begin.serial begin.id) first.engine []
@@ -101,7 +111,7 @@ pub record HasServed (sensors : List ℕ → Type 0) (moments : ℕ → Type 0) 
 -- ---- a server with workers
 
 -- each datagram that was given to a feeder of a server with workers went through one round of its dispatcher; the replies are those of the rounds, and what jobs were answered besides
-pub record HasServedPooled (sensors : List ℕ → Type 0) (moments : ℕ → Type 0) (went : Emission → Bool → Type 0) (limit : ℕ) (before after : Option (List Incoming)) (replies : Replies) : Type 0 where
+pub record HasServedPooled (sensors : List ℕ → Type 0) (moments : ℕ → Type 0) (went : Emission → Bool → Type 0) (limit : ℕ) (before after : Option (List Receive)) (replies : Replies) : Type 0 where
   pub first : Dispatching Tallies
   pub last : Dispatching Tallies
   pub at_once : Replies
@@ -111,7 +121,7 @@ pub record HasServedPooled (sensors : List ℕ → Type 0) (moments : ℕ → Ty
 
 -- ---- a server by so many workers: one is the thread that receives. Its slots begin at serial 0
 
-abbrev pub IsServed : (List ℕ → Type 0) → (Emission → Bool → Type 0) → Extent → Option (List Incoming) → Option (List Incoming) → Replies → Type 0
+abbrev pub IsServed : (List ℕ → Type 0) → (Emission → Bool → Type 0) → Extent → Option (List Receive) → Option (List Receive) → Replies → Type 0
 IsServed sensors went extent before after replies =
     ((extent.workers ≡ 1) × HasServed sensors (λ now. ⊤) went extent.limit (record { serial = 0; id = extent.first_id }) before after replies)
     ⊎ ((extent.workers ≡ 1 → ⊥) × HasServedPooled sensors (λ now. ⊤) went extent.limit before after replies)

@@ -8,7 +8,7 @@ ghost use Rattle.fc_registry.specs.Watches.{at_time, late_place};
 ghost use Rattle.fc_server.specs.Notified.{Nobody, Notified};
 ghost use Rattle.fc_server.specs.Steps.{shard_turn};
 ghost use Rattle.fc_server.specs.declared.server.Begin.{Begin};
-ghost use Rattle.fc_host.specs.Sockets.{Incoming};
+ghost use Rattle.fc_host.specs.Sockets.{Receive};
 ghost use Rattle.fc_service.specs.Alone.{NotifiesAlone, ResendsAlone};
 ghost use Rattle.fc_service.specs.Histories.{IsOneHistory, received_in_lines, sent_in_lines};
 ghost use Rattle.fc_service.specs.Intakes.{is_reply};
@@ -50,7 +50,7 @@ pub fn shards_tell_what_is_so()
 /// emitted what it may: just the datagrams that were received are delivered, in order, and what its events emitted, in that order, is what the rounds handed to the sink. That
 /// the sink was handed nothing besides isn't said.
 pub fn served_rounds_are_one_history<Z: Sensors, M: Moments, K: Sink>()
-    ensures { (limit : ℕ) (begin : Begin) (before after : Option (List Incoming)) (replies : Replies)
+    ensures { (limit : ℕ) (begin : Begin) (before after : Option (List Receive)) (replies : Replies)
         (w : HasServed Z.are_sensed M.is_moment K.went limit begin before after replies)
         → IsOneHistory begin.serial begin.id (received_in w.run.rounds) (map (λ s. s.emission) (sendings_in w.run.rounds)) w.last.engine }
 {}

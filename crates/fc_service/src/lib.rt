@@ -28,14 +28,14 @@
 //!   is heard, once, whole and from its endpoint, or time passes where nothing came; then the shards are asked one after the other, 0 to 7,
 //!   each until it has told that nothing is late, and then until it has told that nobody is due; the last is shard 7, or one that has told
 //!   that no message id is free, or 8,192 steps were taken. Each emission of this, the reply first, was handed to the sink, and is counted
-//!   once, as the sink told. What was received in the rounds, in order, is what the source gave, where that is known: of a socket of the
-//!   system it isn't. That each is handed over anew, where the same was before, that nothing else goes to the sink, and in which order, no
+//!   once, as the sink told. The rounds' receives, in order, how long each waited and what it received, are the source's, where these are
+//!   known: of a socket of the system they aren't. That each is handed over anew, where the same was before, that nothing else goes to the sink, and in which order, no
 //!   clause says (`Source::came`, `Sink::went`).
-//! - **It sleeps no longer than it may**: after a round it waits 100 ms, or up to a moment before which no shard has told that something may be late or
-//!   somebody due, or, where each told of no moment, without end (`next_wait`, by `EndsInTime`). Of a server with workers it is tested that no job is
-//!   at work when it asks.
-//! - **A server on a socket is that loop**, by one worker or more, where it gives its source back: then a limit was set, and as many
-//!   datagrams were received (`serve_at`, by `IsServed`). At which moments, and of one that gives no source or doesn't end, no clause says
+//! - **It sleeps no longer than it may**: the first receive is to wait 100 ms, and each other one 100 ms, or up to a moment before which no shard has told that
+//!   something may be late or somebody due, or, where each told of no moment, without end (`run_rounds`, by `WaitsAfter`). Of a server with workers it is tested
+//!   that no job is at work when it asks.
+//! - **A server on a socket is that loop**, by one worker or more, where it gives its source back, or `serve` tells that it is done: then a limit was set, and as
+//!   many datagrams were received (`serve_at`, by `IsServed`). At which moments, and of one that gives no source or doesn't end, no clause says
 //!   anything.
 //! - **By one worker** these are lists of events of one server, which begins at the serial and the message id that it is given: each round
 //!   is the list of its datagram, or of its moment, and of what its shards are asked. What a shard tells is so: that nothing is late, that an

@@ -1,5 +1,5 @@
 //! A server on a socket: datagrams are received on one thread, and their jobs are worked off by others, or by the same.
-ghost use Rattle.std.specs.Prelude.{◌≡◌, ◌≤◌, ◌⊎◌, ⊤, IfOk, IfSome};
+ghost use Rattle.std.specs.Prelude.{◌≡◌, ◌≤◌, ◌⊎◌, ⊤, IfOk, IfSome, None};
 ghost use Rattle.fc_registry.specs.Slots.{last_serial};
 ghost use Rattle.fc_service.specs.Rounds.{HasReceived, HasServed, IsServed};
 ghost use Rattle.fc_service.specs.declared.replies.Replies.{Replies as Counts};
@@ -69,7 +69,8 @@ pub fn serve<R: Threads + Wait + Clock + Net + Sync, L: Log, E: Write, Z: Sensor
     listening: Listening,
     extent: Extent,
 ) -> Status
-    ensures { (result ≡ Done) ⊎ (result ≡ Failed) }
+    ensures status { (result ≡ Done) ⊎ (result ≡ Failed) }
+    ensures served { result ≡ Done → (replies : Counts) × IsServed Z.are_sensed (λ emission out. ⊤) extent None None replies }
 {
     let address = listening.address;
     match open(rt, address) {

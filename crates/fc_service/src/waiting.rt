@@ -1,7 +1,6 @@
 //! Who plays lines by workers, and waits for the one that has a line's job.
-ghost use Rattle.std.specs.Prelude.{◌≡◌, ◌⊎◌};
-ghost use Rattle.fc_server.specs.Notified.{Notified, Unsent};
-ghost use Rattle.fc_service.specs.Intakes.{IsWaitedFor};
+ghost use Rattle.fc_server.specs.Notified.{Notified};
+ghost use Rattle.fc_service.specs.Intakes.{IsTurnWaitedFor, IsWaitedFor};
 
 use crate::lines::LineIntake;
 use crate::pool::Intake;
@@ -27,7 +26,7 @@ impl<'a, 'b, R: Wait, N: Intake> Intake for Waiting<'a, 'b, R, N> {
       passes = λ now old new. N.calls.passes now old.intake.now new.intake.now;
       resends = λ shard now old new ticked. N.calls.resends shard now old.intake.now new.intake.now ticked;
       passes_over = λ shard now old new. N.calls.passes_over shard now old.intake.now new.intake.now;
-      notifies = λ shard now old new told. (asked : Notified) × N.calls.notifies shard now old.intake.now new.intake.now asked × (asked ≡ told ⊎ asked ≡ Unsent);
+      notifies = λ shard now old new told. (asked : Notified) × N.calls.notifies shard now old.intake.now new.intake.now asked × IsTurnWaitedFor asked told;
       stays_quiet = λ shard now until. N.calls.stays_quiet shard now.intake.now until;
     } };
 
