@@ -19,7 +19,7 @@ use Rattle.circular_buffer.specs.Buffer.{Buffer, buffer, keep_last}
 use Rattle.coap_dedup.specs.declared.exchange.Opened.{Opened}
 use Rattle.coap_dedup.specs.declared.key.Key.{Key}
 use Rattle.coap_dedup.specs.Keys.{key_cmp}
-use Rattle.coap_dedup.specs.Requests.{AreRequests, IsFirst, IsGap, IsIndex, by_key, has_key}
+use Rattle.coap_dedup.specs.Requests.{AreRequests, IsOldest, IsGap, IsIndex, by_key, has_key}
 use Rattle.coap_dedup.specs.Views.{Arrives, InOrder}
 use Rattle.coap_dedup.proofs.Arrival.{next_in_order}
 use Rattle.coap_dedup.proofs.Places.{keeps_all}
@@ -193,7 +193,7 @@ pub record IsThere (os : List Opened) (i after : ℕ) : Type 0 where
   pub found : find (has_key request.key) os ≡ Some request
   pub there : slice_get os after ≡ Some request
 
-pub at_place : (ring : Buffer Opened) (index : Vec ℕ) (i place after first : ℕ) → AreRequests ring index → i < length ring.items → place ≡ slice_index_or index.items i place → IsFirst ring.items first
+pub at_place : (ring : Buffer Opened) (index : Vec ℕ) (i place after first : ℕ) → AreRequests ring index → i < length ring.items → place ≡ slice_index_or index.items i place → IsOldest ring.items first
     → ((number : ℕ) → first ≤ number → number < first + 1024 → number % 1024 ≡ place → first + after ≡ number) → IsThere ring.items i after
 at_place ring index i place after first are lt is oldest counts =
     let a = subst (λ (p : ℕ). IsAt ring.items p i) (sym is) (at_index ring.items index.items i place are.is_index lt) in

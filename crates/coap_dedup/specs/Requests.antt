@@ -57,5 +57,5 @@ abbrev pub HasGap : List Opened → Option Gap → Type 0
 HasGap os gap = IfSome gap (λ g. IsGap (keys (by_key os)) g.key g.index)
 
 -- the oldest has this number, where there is one
-abbrev pub IsFirst : List Opened → ℕ → Type 0
-IsFirst os number = (o : Opened) → slice_get os 0 ≡ Some o → number ≡ o.number
+abbrev pub IsOldest : List Opened → ℕ → Type 0
+IsOldest os number = (o : Opened) → slice_get os 0 ≡ Some o → number ≡ o.number

@@ -1,7 +1,7 @@
 //! The requests of the exchanges that are held.
 ghost use Rattle.std.specs.Prelude.{◌≡◌, ◌+◌, ◌%◌, ◌<◌, ◌≤◌, [], ◌∷◌, ◌++◌, ℕ, None, Some, drop, filter, find, length, option_map, slice_get, IfOk, IfErr, IfSome};
 ghost use Rattle.std.specs.FinMap.{entries, keys};
-ghost use Rattle.coap_dedup.specs.Requests.{IsFirst, IsGap, by_key, has_key};
+ghost use Rattle.coap_dedup.specs.Requests.{IsOldest, IsGap, by_key, has_key};
 ghost use Rattle.coap_dedup.specs.Views.{InOrder, request_is_live};
 
 use crate::exchange::{EXCHANGES, Opened, is_live, place};
@@ -168,7 +168,7 @@ impl Requests {
 
     // The number of the oldest; 0 where none is held.
     fn first(&self) -> u64
-        ensures { IsFirst self.now result }
+        ensures { IsOldest self.now result }
     {
         match self.ring.front() {
             Some(oldest) => oldest.number,
@@ -178,7 +178,7 @@ impl Requests {
 
     // The request at this index, in the order of keys, where the oldest has this number.
     fn at(&self, first: u64, index: usize) -> &Opened
-        requires first { IsFirst self.now first }
+        requires first { IsOldest self.now first }
         requires index { index < length self.now }
         ensures entry { slice_get (entries (by_key self.now)) index ≡ Some (result.now.key, result.now.number) }
         ensures found { find (has_key result.now.key) self.now ≡ Some result.now }

@@ -8,7 +8,7 @@ use Rattle.fc_host.specs.Sockets.{Comes, Incoming, Receive}
 use Rattle.fc_service.proofs.Traffic.{more_came, more_replies, more_sent, none_came, none_sent}
 use Rattle.fc_service.specs.Counting.{no_replies}
 use Rattle.fc_service.specs.Intakes.{IntakeCalls, IsHeardBy}
-use Rattle.fc_service.specs.Rounds.{EndsInTime, HasRounds, IsReceivedBy, Round, WaitsAfter, received_in, receives_in, sendings_in}
+use Rattle.fc_service.specs.Rounds.{EndsInTime, HasRounds, IsReceivedBy, Round, WaitsAfter, received_in, round_receives, sendings_in}
 use Rattle.fc_service.specs.Settling.{AreSettled, AreStepsBy, SettlingStep, sent_in_steps}
 use Rattle.fc_service.specs.Traffic.{Sends, counted_each}
 use Rattle.fc_service.specs.declared.replies.Replies.{Replies}
@@ -39,7 +39,7 @@ module _ {S : Type 0} (IsMoment : ℕ → Type 0) (Readies : ℕ → S → S →
         record { wait = wait; received = received; now = now; sent = x.0; steps = y.0; sendings = z.0 } ∷ rounds,
         record {
           are_rounds = (last, h.are_rounds, w.3, record { moment = moment; ready = ready; readied = readied; answered = answered; carried_out = x.1; steps = y.1; settled = y.2; sent = z.1 });
-          came = more_came before mid after (receives_in rounds) (record { wait = wait; came = received } ∷ []) h.came came;
+          came = more_came before mid after (round_receives rounds) (record { wait = wait; came = received } ∷ []) h.came came;
           counted = z.2 ∙ (ap (counted_each z.0) h.counted ∙ more_replies (sendings_in rounds) z.0);
         },
         λ some.

@@ -28,9 +28,9 @@ pub record Round : Type 0 where
   pub sendings : List Sending
 
 -- the receives of rounds, what was received in them, and what was handed to the sink, the oldest first, where the newest round is first
-abbrev pub receives_in : List Round → List Receive
-receives_in [] = []
-receives_in (r ∷ rs) = receives_in rs ++ record { wait = r.wait; came = r.received } ∷ []
+abbrev pub round_receives : List Round → List Receive
+round_receives [] = []
+round_receives (r ∷ rs) = round_receives rs ++ record { wait = r.wait; came = r.received } ∷ []
 
 abbrev pub received_in : List Round → List Incoming
 received_in [] = []
@@ -84,7 +84,7 @@ module _ {S : Type 0} (IsMoment : ℕ → Type 0) (Readies : ℕ → S → S →
   -- a source's receives were those of these rounds, in order; and the replies are those of the rounds, as the sink told
   pub record HasRounds (rounds : List Round) (before after : Option (List Receive)) (old new : S) (replies : Replies) : Type 0 where
     pub are_rounds : AreRoundsBy rounds old new
-    pub came : Comes before after (receives_in rounds)
+    pub came : Comes before after (round_receives rounds)
     pub counted : replies ≡ replies_to (sendings_in rounds)
 
   -- it ended when so many datagrams were received, and where there is a limit at all

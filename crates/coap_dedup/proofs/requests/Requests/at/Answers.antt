@@ -2,7 +2,7 @@ use Rattle.std.proofs.Common.{◌≡◌, ◌∙◌, ◌<◌, length, List, None,
 use Rattle.std.specs.Prelude.{find, slice_get}
 use Rattle.std.specs.FinMap.{entries}
 use Rattle.coap_dedup.specs.declared.exchange.Opened.{Opened}
-use Rattle.coap_dedup.specs.Requests.{IsFirst, by_key, has_key}
+use Rattle.coap_dedup.specs.Requests.{IsOldest, by_key, has_key}
 use Rattle.coap_dedup.proofs.Index.{IsThere, at_place, index_length}
 use Rattle.coap_dedup.proofs.requests.Requests.at.Goals as goal
 
@@ -10,7 +10,7 @@ use Rattle.coap_dedup.proofs.requests.Requests.at.Goals as goal
 there : (c : goal.In-Some) → IsThere c.self.inside.ring.items c.args.index c.after.result
 there c =
     let lt : c.args.index < length c.self.inside.ring.items = subst (λ (os : List Opened). c.args.index < length os) (sym c.self.view_is) c.requires.index in
-    let first : IsFirst c.self.inside.ring.items c.args.first = subst (λ (os : List Opened). IsFirst os c.args.first) (sym c.self.view_is) c.requires.first in
+    let first : IsOldest c.self.inside.ring.items c.args.first = subst (λ (os : List Opened). IsOldest os c.args.first) (sym c.self.view_is) c.requires.first in
     at_place c.self.inside.ring c.self.inside.index c.args.index c.index.result.now c.after.result c.args.first c.self.invariant.0 lt c.index.ensures first c.after.ensures
 
 same : (c : goal.In-Some) → (there c).request ≡ c.in-Some.request.now
@@ -27,7 +27,7 @@ index-requires c =
 pub unreachable-requires : goal.unreachable-requires
 unreachable-requires c =
     let lt : c.args.index < length c.self.inside.ring.items = subst (λ (os : List Opened). c.args.index < length os) (sym c.self.view_is) c.requires.index in
-    let first : IsFirst c.self.inside.ring.items c.args.first = subst (λ (os : List Opened). IsFirst os c.args.first) (sym c.self.view_is) c.requires.first in
+    let first : IsOldest c.self.inside.ring.items c.args.first = subst (λ (os : List Opened). IsOldest os c.args.first) (sym c.self.view_is) c.requires.first in
     let r = at_place c.self.inside.ring c.self.inside.index c.args.index c.index.result.now c.after.result c.args.first c.self.invariant.0 lt c.index.ensures first c.after.ensures in
     let none : slice_get c.self.inside.ring.items c.after.result ≡ None = search c.in_default.ensures in
     cc (none, r.there)
