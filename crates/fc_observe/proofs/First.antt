@@ -23,7 +23,7 @@ or_true : (a : Bool) → (a || true) ≡ true
 or_true true = refl
 or_true false = refl
 
-some_passes : (p : Entry → Bool) (before : List Entry) (o : Entry) (after : List Entry) → p o ≡ true → list_any p (before ++ o ∷ after) ≡ true
+pub some_passes : (p : Entry → Bool) (before : List Entry) (o : Entry) (after : List Entry) → p o ≡ true → list_any p (before ++ o ∷ after) ≡ true
 some_passes p [] o after is = ap (λ (b : Bool). b || list_any p after) is
 some_passes p (x ∷ xs) o after is = ap (λ (b : Bool). p x || b) (some_passes p xs o after is) ∙ or_true (p x)
 

@@ -1,5 +1,5 @@
 -- What the calls on the observers of a slot keep.
-use Rattle.std.specs.Prelude.{◌≡◌, ℕ, ◌+◌, ◌<◌, ◌≤◌, ◌==◌, ◌&&◌, ◌⊎◌, max, nat_le, Bool, true, false, if◌then◌else◌, List, [], ◌∷◌, Option, Some, None}
+use Rattle.std.specs.Prelude.{◌≡◌, ℕ, ◌+◌, ◌++◌, ◌<◌, ◌≤◌, ◌==◌, ◌&&◌, ◌⊎◌, max, nat_le, Bool, true, false, if◌then◌else◌, List, [], ◌∷◌, Option, Some, None}
 use Rattle.arrayvec.specs.ArrayVec.{ArrayVec}
 use Rattle.coap_msg.specs.Windows.{window}
 use Rattle.coap_msg.specs.declared.types.Endpoint.{Endpoint}
@@ -111,3 +111,7 @@ IsAcknowledged to id before o = (IsAwaited to id before → o ≡ record before 
 abbrev pub IsRegistrationOf : Endpoint → ArrayVec ℕ → Request → Option ℕ → ℕ → Entry → Type 0
 IsRegistrationOf to token request szx serial o =
     (interest_of o ≡ record { endpoint = to; token = token; request = request; szx = szx }) × (o.serial ≡ serial) × (o.phase ≡ Idle)
+
+-- after a list of others it stands last
+abbrev pub StandsLast : List Entry → (Entry → Type 0) → List Entry → Type 0
+StandsLast others P held = (o : Entry) × P o × (held ≡ others ++ o ∷ [])

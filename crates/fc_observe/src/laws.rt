@@ -7,7 +7,7 @@ ghost use Rattle.coap_msg.specs.declared.types.Endpoint.{Endpoint};
 ghost use Rattle.fc_help.specs.Request.{Request};
 ghost use Rattle.fc_observe.specs.Calls.{ComesFrom, IsRegisteredBy, ObserverCall, NextDue, Notify, Miss, End, GiveUp, after_calls, observers, observers_after};
 ghost use Rattle.fc_observe.specs.Entries.{given_up, is_due, is_entry_of, is_late, must_confirm, notified, retransmission, timed_out, with_turn};
-ghost use Rattle.fc_observe.specs.Laws.{HandsInUpTo, IsAcknowledged, IsGivenUpNow, IsNewAt, IsOutstanding, IsRegistrationOf, IsSentAt, IsTurnOut, KeepsLast, KeepsSerial, RegistersNone, has_number, noticed_for, resent_entry};
+ghost use Rattle.fc_observe.specs.Laws.{HandsInUpTo, IsAcknowledged, IsGivenUpNow, IsNewAt, IsOutstanding, IsRegistrationOf, IsSentAt, IsTurnOut, KeepsLast, KeepsSerial, RegistersNone, StandsLast, has_number, noticed_for, resent_entry};
 ghost use Rattle.fc_observe.specs.Observers.{ObserverList, after_ack, after_reset, at_moment, cancelled, entry_out, is_missing, is_out, next_turn, registered, ticked, turn_given};
 ghost use Rattle.fc_observe.specs.declared.entry.Entry.{Entry};
 ghost use Rattle.fc_observe.specs.declared.entry.Phase.TheVariants.{TurnOut};
@@ -176,6 +176,18 @@ pub fn registrations_are_entered()
     ensures full { (to : Endpoint) (token : ArrayVec ℕ) (request : Request) (szx : Option ℕ) (serial : ℕ) (t : ObserverList) →
         32 ≤ length t.held → list_any (is_entry_of to token.items) t.held ≡ false →
         registered to token request szx serial t ≡ t }
+{}
+
+/// A registration stands last. A new one comes behind all entries; one that is renewed leaves its place and comes behind all others, which
+/// stay as they are, in order.
+pub fn registrations_stand_last()
+    ensures new { (to : Endpoint) (token : ArrayVec ℕ) (request : Request) (szx : Option ℕ) (serial : ℕ) (t : ObserverList) →
+        length t.held < 32 → list_any (is_entry_of to token.items) t.held ≡ false →
+        StandsLast t.held (IsRegistrationOf to token request szx serial) (registered to token request szx serial t).held }
+    ensures renewed { (to : Endpoint) (token : ArrayVec ℕ) (request : Request) (szx : Option ℕ) (serial : ℕ) (t : ObserverList)
+        (before after : List Entry) (old : Entry) → t.held ≡ before ++ old ∷ after → is_entry_of to token.items old ≡ true →
+        list_any (is_entry_of to token.items) before ≡ false → list_any (is_entry_of to token.items) after ≡ false →
+        StandsLast (before ++ after) (IsRegistrationOf to token request szx serial) (registered to token request szx serial t).held }
 {}
 
 /// A tick sends the first notification of the list that is late, the same bytes to the same endpoint, where it was sent again less than
