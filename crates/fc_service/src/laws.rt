@@ -1,5 +1,5 @@
 //! What the definitions of the service come to, in plainer words: each function is a law, and its contract says it.
-ghost use Rattle.std.specs.Prelude.{◌≡◌, ◌+◌, ◌*◌, ◌%◌, ◌≤◌, ◌↔◌, ℕ, Bool, List, None, Option, false, flat_map, map, true};
+ghost use Rattle.std.specs.Prelude.{◌≡◌, ◌+◌, ◌*◌, ◌%◌, ◌<◌, ◌≤◌, ◌↔◌, ◌⊎◌, ℕ, Bool, List, None, Option, Some, false, flat_map, map, true};
 ghost use Rattle.fc_core.specs.declared.front.Heard.TheVariants.{Job, Nothing, Reply, Signal};
 ghost use Rattle.fc_observe.specs.declared.observers.Ticked.{Ticked};
 ghost use Rattle.fc_observe.specs.declared.observers.Ticked.TheVariants.{Quiet};
@@ -14,7 +14,7 @@ ghost use Rattle.fc_service.specs.Histories.{IsOneHistory, received_in_lines, se
 ghost use Rattle.fc_service.specs.Intakes.{is_reply};
 ghost use Rattle.fc_lines.specs.Emissions.{printed};
 ghost use Rattle.fc_service.specs.Playing.{IsPlayedOut, PlayedLine, printed_lines};
-ghost use Rattle.fc_service.specs.Rounds.{HasServed, received_in, sendings_in};
+ghost use Rattle.fc_service.specs.Rounds.{EndsInTime, HasServed, received_in, sendings_in};
 ghost use Rattle.fc_service.specs.Settling.{most_steps};
 ghost use Rattle.fc_service.specs.declared.alone.Alone.{Alone};
 ghost use Rattle.fc_service.specs.declared.replies.Replies.{Replies};
@@ -44,6 +44,17 @@ pub fn shards_tell_what_is_so()
         → ((ticked ≡ Quiet) ↔ (late_place (at_time (shard_at old.engine.shards (shard % 8)) now) ≡ None)) }
     ensures due { (shard now : ℕ) (old new : Alone) (told : Notified) → NotifiesAlone shard now old new told
         → ((told ≡ Nobody) ↔ (shard_turn now (shard_at old.engine.shards (shard % 8)) ≡ None)) }
+{}
+
+/// A datagram is waited for 100 ms where a shard has told of no moment until which it is quiet. Else it is waited for 100 ms, or up to such a moment of each shard and
+/// no longer; without end only where none of these is before 2^64 - 1 ms.
+pub fn waits_end_in_time()
+    ensures untold { (told : ℕ → Option ℕ) (now shard : ℕ) (wait : Option ℕ) → shard < 8 → told shard ≡ None
+        → EndsInTime (λ i until. told i ≡ Some until) now wait → wait ≡ Some 100 }
+    ensures told { (told : ℕ → Option ℕ) (now shard until wait : ℕ) → shard < 8 → told shard ≡ Some until
+        → EndsInTime (λ i at. told i ≡ Some at) now (Some wait) → (wait ≡ 100) ⊎ (now + wait ≤ until) }
+    ensures endless { (told : ℕ → Option ℕ) (now shard until : ℕ) → shard < 8 → told shard ≡ Some until
+        → EndsInTime (λ i at. told i ≡ Some at) now None → 18446744073709551615 ≤ until }
 {}
 
 /// What a server on one thread does in all of its rounds is one history of events, from the serial and the message id that it begins with on, in which each event
