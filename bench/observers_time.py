@@ -16,7 +16,9 @@ import statistics
 import subprocess
 import sys
 
+from one_endpoint import numbered
 from ping import wait_for
+from processor_time import processor_time
 
 FCD = "crates/fcd/out/fcd"
 OBSERVERS = 32
@@ -32,17 +34,8 @@ COUNT = bytes.fromhex(
 )
 
 
-def processor_time(pid):
-    """User and system time of a process so far, in nanoseconds, of all its threads."""
-    total = 0
-    for thread in os.listdir(f"/proc/{pid}/task"):
-        with open(f"/proc/{pid}/task/{thread}/schedstat", encoding="ascii") as file:
-            total += int(file.read().split()[0])
-    return total
-
-
 def asked(client, request, number):
-    client.sendto(request[:2] + number.to_bytes(2, "big") + request[4:], SERVER)
+    client.sendto(numbered(request, number), SERVER)
     return client.recv(2048)
 
 

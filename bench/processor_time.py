@@ -19,6 +19,7 @@ import subprocess
 import sys
 import tempfile
 
+from one_endpoint import numbered
 from ping import wait_for
 
 FCD = "crates/fcd/out/fcd"
@@ -55,10 +56,6 @@ def processor_time(pid):
         with open(f"/proc/{pid}/task/{thread}/schedstat", encoding="ascii") as file:
             total += int(file.read().split()[0])
     return total
-
-
-def numbered(request, number):
-    return request[:2] + number.to_bytes(2, "big") + request[4:]
 
 
 def ask(clients, request, code):

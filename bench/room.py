@@ -10,13 +10,11 @@ SIGSTOP and sent pings; /proc/net/udp tells how many the kernel dropped.
 """
 import os
 import signal
-import socket
 import subprocess
 import sys
-import time
 from pathlib import Path
 
-from one_endpoint import BLOCK1, CONFIRMABLE, FCASM, FCD, GET, LONG, NON_CONFIRMABLE, OBSERVE, PUT, Server, request
+from one_endpoint import BLOCK1, CONFIRMABLE, FCASM, FCD, GET, LONG, NON_CONFIRMABLE, OBSERVE, PUT, Server, numbered, request
 
 SLOTS, MOST, OBSERVERS, PLACES, WINDOW = 64, 1024, 32, 1024, 247_000
 SENT = 5000
@@ -33,8 +31,7 @@ class Played:
     def ask(self, message):
         """Returns the code of what is answered."""
         self.number = self.number % 65535 + 1
-        message = message[:2] + self.number.to_bytes(2, "big") + message[4:]
-        print(self.now, 1, message.hex(), file=self.child.stdin, flush=True)
+        print(self.now, 1, numbered(message, self.number).hex(), file=self.child.stdin, flush=True)
         return int(self.child.stdout.readline().split()[1][2:4], 16)
 
     def wait(self):

@@ -156,7 +156,7 @@ class Flow:
 
     def thread(self):
         """Has what leads to a block without instructions lead to what follows it; and drops conditions that lead to one block either way."""
-        for name, block in self.blocks.items():
+        for block in self.blocks.values():
             passed = {}
             for to in block.after:
                 at, seen = to, set()

@@ -214,7 +214,7 @@ def main(words):
             client = Client(port)
             count = 0
             for slot, (_, _, image) in enumerate(slots):
-                code, receipt = client.ask("PUT", f"p/{slot}", "", image)
+                code, _ = client.ask("PUT", f"p/{slot}", "", image)
                 wrong += code != "2.01"
                 count += 1
             for slot in range(0, len(slots), 2):
