@@ -8,7 +8,7 @@ use Rattle.fc_registry.specs.declared.job.Job.{Job}
 use Rattle.fc_registry.specs.Shards.{shard_at}
 use Rattle.fc_registry.specs.Slots.{Shard}
 use Rattle.fc_registry.specs.Turns.{due_job}
-use Rattle.fc_registry.specs.Watches.{after_due, shard_after_tick, due_place, at_time as shard_handed, late_place, signal_call, signalled, ticked_in}
+use Rattle.fc_registry.specs.Watches.{after_due, shard_after_tick, due_place, at_time, late_place, signal_call, signalled, ticked_in}
 use Rattle.fc_core.specs.declared.event.Event.{Event}
 use Rattle.fc_core.specs.declared.stage.Task.{Task}
 use Rattle.fc_core.specs.Exchanges.{FrontState, advanced}
@@ -67,20 +67,20 @@ shard_changed false i f shards = shards
 
 -- a shard after a tick, what the tick tells, and what it sends again
 abbrev pub shard_ticked : ℕ → Shard → Shard
-shard_ticked now shard = shard_after_tick (late_place (shard_handed shard now)) (shard_handed shard now)
+shard_ticked now shard = shard_after_tick (late_place (at_time shard now)) (at_time shard now)
 
 abbrev pub shard_told : ℕ → Shard → Ticked
-shard_told now shard = ticked_in (late_place (shard_handed shard now)) (shard_handed shard now)
+shard_told now shard = ticked_in (late_place (at_time shard now)) (at_time shard now)
 
 abbrev pub shard_resent : ℕ → Shard → Option Emission
 shard_resent now shard = resent (shard_told now shard)
 
 -- a shard that was asked for a turn, and the job of the turn
 abbrev pub shard_asked : ℕ → Shard → Shard
-shard_asked now shard = after_due (due_place (shard_handed shard now)) (shard_handed shard now)
+shard_asked now shard = after_due (due_place (at_time shard now)) (at_time shard now)
 
 abbrev pub shard_turn : ℕ → Shard → Option Job
-shard_turn now shard = due_job (due_place (shard_handed shard now)) (shard_handed shard now)
+shard_turn now shard = due_job (due_place (at_time shard now)) (at_time shard now)
 
 abbrev pub turn_if : Bool → Option Job → Option Job
 turn_if true job = job

@@ -168,7 +168,7 @@ impl Engine {
 pub enum NotifyOutcome {
     /// An observer is notified by what was written.
     Sent,
-    /// There was a turn, of which nothing is sent: it was given up, since there was no memory for its taking.
+    /// There was a turn, of which nothing is written: a worker has it, or has sent what it came to; or it was given up, since there was no memory for its taking.
     Unsent,
     /// There was a turn, which was given up, since no message id was free.
     Starved,

@@ -16,7 +16,7 @@ use Rattle.fc_host.specs.Clocks.{device_readings}
 use Rattle.fc_service.specs.Intakes.{IntakeCalls, is_reply}
 use Rattle.fc_service.specs.declared.alone.Alone.{Alone}
 use Rattle.fc_registry.specs.Shards.{shard_at}
-use Rattle.fc_registry.specs.Watches.{StaysQuietUntil, at_time as handed_moment, is_quiet}
+use Rattle.fc_registry.specs.Watches.{StaysQuietUntil, at_time, is_quiet}
 
 -- these readings are handed from now on, and zero for the random word
 abbrev pub HandsAlone : List ℕ → Alone → Alone → Type 0
@@ -39,7 +39,7 @@ ResendsAlone shard now old new ticked =
 
 abbrev pub PassesOverAlone : ℕ → ℕ → Alone → Alone → Type 0
 PassesOverAlone shard now old new =
-    (is_quiet (handed_moment (shard_at old.engine.shards (shard % 8)) now) ≡ true) × TicksShard (shard % 8) now old.engine new.engine None × (new.handed ≡ old.handed)
+    (is_quiet (at_time (shard_at old.engine.shards (shard % 8)) now) ≡ true) × TicksShard (shard % 8) now old.engine new.engine None × (new.handed ≡ old.handed)
 
 -- a turn is starved only where no message id is free
 abbrev pub NotifiesAlone : ℕ → ℕ → Alone → Alone → Notified → Type 0
