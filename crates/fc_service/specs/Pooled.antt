@@ -70,5 +70,5 @@ open_shop changes ended bench logged moment random wire = shop changes ended ben
 
 -- that of a server behind locks: with what its device says, its moments and random words, and the calls of its wire
 abbrev pub locked_shop : (List ℕ → Type 0) → (IsMoment IsRandom : ℕ → Type 0) → (WireCall → CallLog → CallLog → Type 0) → Shop Tallies
-locked_shop AreReadings IsMoment IsRandom Wired = open_shop (λ t. slice_index t.changes) (λ t. t.ended) (IsServerCall AreReadings)
-    (λ call before after. IsLoggedCall call) IsMoment IsRandom Wired
+locked_shop AreReadings IsMoment IsRandom Wired = open_shop (λ t. slice_index t.changes) (λ t. t.ended) IsServerCall
+    (λ call before after. IsLoggedCall AreReadings call) IsMoment IsRandom Wired

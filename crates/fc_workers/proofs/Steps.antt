@@ -169,7 +169,7 @@ module _ {T : Type 0} (shop : Shop T) (number : ℕ) (job : Job) where
   from_stage {old} {at} {next} {before} {after} e s = subst (λ (x : Stage). IsStep shop number job x next before after) (sym e) s
 
   pub took_step : (n : ℕ) (x : Taken) (p : Share T) (tallies : T) (log : CallLog) {next : Stage} {after : Share T} → n < takings
-      → IsTakingWith shop.bench shop.logged job x p.log log
+      → IsTakingWith shop.logged job x p.log log
       → ((shard : ℕ) → shard < 8 → shop.changes tallies shard ≡ shop.changes p.tallies shard) → next ≡ took n x
       → after ≡ record p { tallies = tallies; log = log; refusals = saturated (p.refusals + taking_refusals x) }
       → IsStep shop number job (ToTake n) next p after

@@ -33,7 +33,7 @@ use Rattle.fc_registry.specs.declared.shard.Removal.{Removal}
 use Rattle.fc_registry.specs.declared.shard.Removal.TheVariants.{Removed}
 use Rattle.fc_registry.specs.Calls.{IsTaking, IsCommit, install_in, receipt_at, remove_from}
 use Rattle.fc_workers.specs.declared.call_log.CallLog.{CallLog}
-use Rattle.fc_workers.specs.Called.{BenchCall, GivesReadings, LoggedCall, TakesForJob}
+use Rattle.fc_workers.specs.Called.{GivesReadings, LoggedCall, TakesForJob}
 
 -- a delivery at a moment to some front brings this
 pub record IsSomeDelivery (now : ℕ) (to : Endpoint) (bytes : List ℕ) (brings : Delivered) : Type 0 where
@@ -59,12 +59,12 @@ pub record IsSomeTaking (job : Job) (readings : List ℕ) (taken : Taken) : Type
   pub watch : ObserverList
   pub taking : IsTaking job readings slot now watch taken
 
--- the job took with readings that the bench gave, and this was answered
-pub record IsTakingWith (Called : BenchCall → Type 0) (Logged : LoggedCall → CallLog → CallLog → Type 0) (job : Job) (taken : Taken) (before after : CallLog)
-    : Type 0 where
+-- the bench gave readings, and right after that the job took with them, and this was answered
+pub record IsTakingWith (Logged : LoggedCall → CallLog → CallLog → Type 0) (job : Job) (taken : Taken) (before after : CallLog) : Type 0 where
   pub readings : List ℕ
-  pub given : Called (GivesReadings readings)
-  pub takes : Logged (TakesForJob job readings taken) before after
+  pub log : CallLog
+  pub given : Logged (GivesReadings readings) before log
+  pub takes : Logged (TakesForJob job readings taken) log after
   pub is : IsSomeTaking job readings taken
 
 -- some shard gives this turn at a moment, or none

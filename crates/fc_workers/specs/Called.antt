@@ -21,8 +21,6 @@ use Rattle.fc_workers.specs.declared.call_log.CallLog.{CallLog}
 
 -- a call of a bench that changes nothing, and is in no log: that it was made is known, and not how often or when
 pub data BenchCall : Type 0 where
-  -- the readings of the device
-  GivesReadings : (readings : List ℕ) → BenchCall
   -- a look at the head word of a slot
   LooksAt : (slot word : ℕ) → BenchCall
   -- what the program in the slot of a job is
@@ -32,7 +30,7 @@ pub data BenchCall : Type 0 where
   -- until when a shard is quiet
   LooksAhead : (shard until : ℕ) → BenchCall
 
--- a call of a bench that may change something, and that a worker's log has: so it is known how often it is made, and when
+-- a call of a bench that may change something, or whose answer is soon out of date: a worker's log has it, so it is known how often it is made, and when
 pub data LoggedCall : Type 0 where
   -- a datagram is taken in at a moment: what it brings
   HearsDatagram : (now : ℕ) (from : Endpoint) (bytes : List ℕ) (brings : Delivered) → LoggedCall
@@ -42,6 +40,8 @@ pub data LoggedCall : Type 0 where
   DrawsId : (now : ℕ) (id : Option ℕ) → LoggedCall
   -- a job is answered at a moment: what is to be sent
   AnswersRequest : (now : ℕ) (job : Job) (content : Content) (sent : Option Emission) → LoggedCall
+  -- the readings of the device
+  GivesReadings : (readings : List ℕ) → LoggedCall
   -- a job takes what it finds in its slot, with these readings
   TakesForJob : (job : Job) (readings : List ℕ) (taken : Taken) → LoggedCall
   -- a run is committed at a moment, by its ticket

@@ -76,7 +76,7 @@ module _ {T : Type 0} (s : Shop T) where
   abbrev pub IsCallOf : ℕ → Job → Call → CallLog → CallLog → Type 0
   IsCallOf number job (Matches serials word) before after = (serials ≡ job.etags.items) × s.bench (LooksAt job.origin.slot word) × (after ≡ before)
   IsCallOf number job (Lists seen word) before after = s.bench (LooksAt (length seen.items) word) × (after ≡ before)
-  IsCallOf number job (Takes count taken) before after = IsTakingWith s.bench s.logged job taken before after
+  IsCallOf number job (Takes count taken) before after = IsTakingWith s.logged job taken before after
   IsCallOf number job (Commits count t committed) before after = IsCommitted number t committed before after
   IsCallOf number job (Installs p answer) before after =
       (judged (image_of job.ask) ≡ Accepts p) × s.logged (InstallsProgram job p answer) before after × IsSomeInstall p answer
@@ -140,7 +140,7 @@ module _ {T : Type 0} (s : Shop T) where
   pub record IsTurnWorked (job : Job) (turn : Turn) (before after : Share T) (reply : Option Emission) : Type 0 where
     pub taken : Taken
     pub log : CallLog
-    pub taking : IsTakingWith s.bench s.logged job taken before.log log
+    pub taking : IsTakingWith s.logged job taken before.log log
     pub told : IsTurnReply s turn taken reply log after.log
     pub kept : HasSameTallies before after
 

@@ -7,8 +7,8 @@ ghost use Rattle.fc_registry.specs.Notes.{noted_as};
 ghost use Rattle.fc_registry.specs.Turns.{written_if};
 ghost use Rattle.fc_registry.specs.Views.{HasSize, taken_with};
 ghost use Rattle.fc_heads.specs.Heads.{IsRaised, fresh, peeked, word_of};
-ghost use Rattle.fc_workers.specs.Called.{BenchCall, GivesReadings, LeavesUnquiet, LooksAhead, LooksAt, TellsReceipt};
-ghost use Rattle.fc_workers.specs.Called.{AdvancesFront, AdvancesQuiet, HandsSignal};
+ghost use Rattle.fc_workers.specs.Called.{BenchCall, LeavesUnquiet, LooksAhead, LooksAt, TellsReceipt};
+ghost use Rattle.fc_workers.specs.Called.{AdvancesFront, AdvancesQuiet, GivesReadings, HandsSignal};
 ghost use Rattle.fc_workers.specs.Called.{AdvancesShard, AnswersRequest, CommitsRun, DrawsId, GivesTurn, GivesUpTurn, HearsDatagram};
 ghost use Rattle.fc_workers.specs.Called.{InstallsProgram};
 ghost use Rattle.fc_workers.specs.Called.{LoggedCall, NotesTurn, RaisesWord, RemovesProgram, TakesForJob};
@@ -36,7 +36,7 @@ use std::sync::{Arc, Wait};
 /// next's: what others change in between is not said here. What a call does is said by who implements this.
 ///
 /// Each worker hands in tallies of its own. They count the changes of each shard that its calls answered, and the jobs
-/// that it ended. It hands in its log with each call that may change something: so a clause says which of
+/// that it ended. It hands in its log with each call that may change something, and for readings, which are soon out of date: so a clause says which of
 /// these it made, and in which order.
 pub trait Bench {
     /// What one worker changed, and how many jobs it ended.
@@ -82,8 +82,8 @@ pub trait Bench {
         ensures logged { logged (DrawsId now result) log.old log.new };
 
     /// The readings of the device.
-    fn readings<R: Wait>(&self, rt: &R) -> Readings
-        ensures { called (GivesReadings result) };
+    fn readings<R: Wait>(&self, rt: &R, log: &mut CallLog) -> Readings
+        ensures { logged (GivesReadings result) log.old log.new };
 
     /// Takes what a job finds in its slot, with these readings, as [`Shard::write_taking`](fc_registry::Shard::write_taking) does: it is
     /// written over what another taking found. A turn that is stale ends by that.

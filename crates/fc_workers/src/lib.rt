@@ -6,8 +6,8 @@
 //! [`Bench`] says of each call what the shard answers at some slot, and the next stage is told by that answer alone
 //! (`fc_core`'s `Stage`). `specs/Work.antt` says which calls a job's answer ends, and `specs/Shares.antt` what a worker's
 //! [`Share`] says of its jobs: it has worked off and ended just those that its `Got` gained, and its tallies have risen by
-//! the changes that their calls answered. Each call that may change something is handed the worker's [`CallLog`]: so it is said
-//! that these were made in this order, and no others with this log.
+//! the changes that their calls answered. Each call that may change something is handed the worker's [`CallLog`], and so is that for
+//! readings, which are soon out of date: so it is said that these were made in this order, and no others with this log.
 //!
 //! What a call is answered by isn't said: that a bench takes from the job's own slot is its implementation's. Nor is it said that
 //! a call returns, or when.
@@ -43,13 +43,13 @@
 //!
 //! - **A worker's calls**: each of those that its log has leads the log on from where the one before it left it. So none was made twice,
 //!   out of order, or besides, with this log. That a worker hands its calls no other log is read: one is made in `Share::new` alone. What
-//!   isn't in the log changes nothing: looks at head words, receipts, readings, moments and random words, until when a shard is quiet, and
-//!   that it is not quiet now.
+//!   isn't in the log changes nothing: looks at head words, receipts, moments and random words, until when a shard is quiet, and that it is
+//!   not quiet now. Of these an earlier call that was answered the same does for a later one; but a receipt is told of one job.
 //! - **A request's job** comes to what it is to be answered by a list of calls from its first stage: each is the call that its stage needs,
 //!   answered as the shard does at some slot, and eight take at most. A look is at the head word of the job's slot, or, for a list, of each
 //!   slot in order, and the word of the job's slot is raised to the one that its change told.
-//! - Each taking is handed readings that some call of the bench gave: a worker that takes with zeros of its own has no proof. That it asks
-//!   anew before each taking is no clause.
+//! - Right before each taking the bench is asked for readings, once, and the taking is handed these: a worker that takes with zeros of its
+//!   own, or with those of an earlier taking, has no proof.
 //! - Each run is committed at a moment that was asked for, after the gate had let the job go on, once for each. Then some front answers the
 //!   job so, once, at a moment that was asked for, by a datagram or by none.
 //! - **A turn's job** takes once and changes no slot. Some shard tells its observer what was found, once, by a message id that some front

@@ -262,9 +262,9 @@ impl<'a, B: Books, D: Device> Locked<'a, B, D> {
 }
 
 impl<'a, B: Books, D: Device> Bench for Locked<'a, B, D> {
-    ghost called = { IsServerCall D.are_readings };
+    ghost called = { IsServerCall };
 
-    ghost logged = { λ call before after. IsLoggedCall call };
+    ghost logged = { λ call before after. IsLoggedCall D.are_readings call };
 
     type Tallies = Tallies<B>;
 
@@ -301,7 +301,8 @@ impl<'a, B: Books, D: Device> Bench for Locked<'a, B, D> {
         front.fresh_id(now)
     }
 
-    fn readings<R: Wait>(&self, rt: &R) -> Readings {
+    fn readings<R: Wait>(&self, rt: &R, log: &mut CallLog) -> Readings {
+        let _ = log;
         self.device.readings(rt)
     }
 

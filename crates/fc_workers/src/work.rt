@@ -118,8 +118,8 @@ impl<'a, B: Bench, G: Gate, W: Wire, M: Moments> Workshop<'a, B, G, W, M> {
         let Step::ToTake(count) = stage.step else {
             unreachable!()
         };
-        let readings = self.bench.readings(rt);
         let Share { tallies, log, .. } = share;
+        let readings = self.bench.readings(rt, log);
         let taken = self
             .bench
             .take(rt, job, &readings, &mut stage.found, tallies, log);
