@@ -42,17 +42,8 @@ use Rattle.fc_workers.specs.declared.share.Share.{Share}
 use Rattle.fc_workers.specs.Answers.{AreTallied, commit_changes, commit_overtakings, ended_by, install_changes, removal_changes, saturated, taking_refusals, IsTakingWith, IsSomeInstall, IsSomeReceipt, IsSomeRemoval, IsSomeTaking}
 use Rattle.fc_workers.specs.declared.call_log.CallLog.{CallLog}
 use Rattle.fc_workers.specs.Called.{BenchCall, InstallsProgram, LooksAt, RaisesWord, RemovesProgram, Shop, TellsReceipt}
-use Rattle.fc_workers.specs.Steps.{AreSeen, Follows, IsReady, IsStep, ListsOn, taken_at}
+use Rattle.fc_workers.specs.Steps.{AreSeen, AsksRun, Follows, IsReady, IsStep, IsUntaken, ListsOn, Walked, taken_at}
 use Rattle.fc_workers.specs.Work.{AreCalls, IsCallAt, IsCommitted, IsWorkedOff, HasCounted, stage_after, change_by, overtaking_by, refusal_by, takings_made, total}
-
--- the calls so far, and where they led the job
-pub record Walked {T : Type 0} (shop : Shop T) (number : ℕ) (job : Job) (stage : Stage) (before now : Share T) : Type 0 where
-  pub calls : List Call
-  pub are : AreCalls shop number job calls before.log now.log
-  pub stands : stage ≡ stage_after job calls
-  pub ready : IsReady job stage
-  pub few : total takings_made calls ≤ taken_at stage
-  pub counted : HasCounted shop job.origin.slot calls before now
 
 -- ---- a step in its room
 
@@ -411,6 +402,33 @@ walks_on shop number job {stage} {at} {next} {before} {now} {after} e w s =
       few = omega (arith, subst (λ (x : Stage). total takings_made w.calls ≤ taken_at x) e w.few, s.follows.few);
       counted = counts_on shop job.origin.slot w.calls s.call before now after w.counted s.counted;
     }
+
+-- ---- a job that was begun
+
+-- a run that its slot's head word may answer
+asks_first : (ask : Ask) (serials : List ℕ) → first_by ask serials ≡ ToMatch → AsksRun ask
+asks_first (Run request) serials is = tt
+asks_first Discover serials is = absurd (let n = is in cc)
+asks_first other serials is = absurd (let n = is in cc)
+
+first_untaken : (job : Job) (ask : Ask) (serials : List ℕ) → job.ask ≡ ask → IsUntaken job (first_by ask serials)
+first_untaken job (Run request) [] is = (refl, subst AsksRun (sym is) tt)
+first_untaken job (Run request) (x ∷ xs) is = tt
+first_untaken job Discover serials is = tt
+first_untaken job other serials is = tt
+
+match_untaken : (job : Job) (b : Bool) (word : ℕ) → AsksRun job.ask → IsUntaken job (matched_by b word)
+match_untaken job true word asks = tt
+match_untaken job false word asks = (refl, asks)
+
+-- no call was made yet
+pub asked_untaken : (job : Job) {stage : Stage} → stage ≡ asked_stage job → IsUntaken job stage
+asked_untaken job is = subst (IsUntaken job) (sym is) (first_untaken job job.ask job.etags.items refl)
+
+-- it looked at the head word of its slot
+pub matched_untaken : (job : Job) (word : ℕ) {stage : Stage} → asked_stage job ≡ ToMatch → stage ≡ matched word job.etags.items → IsUntaken job stage
+matched_untaken job word first is = subst (IsUntaken job) (sym is)
+    (match_untaken job (is_match word job.etags.items) word (asks_first job.ask job.etags.items first))
 
 pub arrives : {T : Type 0} (shop : Shop T) (number : ℕ) (job : Job) (stage : Stage) (content : Content) (before now : Share T) → stage ≡ ToAnswer content
     → Walked shop number job stage before now → IsWorkedOff shop number job content before now

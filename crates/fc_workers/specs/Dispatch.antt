@@ -1,5 +1,5 @@
 -- What becomes of the jobs that come to a dispatcher: each goes to a worker, or is worked off where it came.
-use Rattle.std.specs.Prelude.{◌≡◌, ◌⊎◌, ◌+◌, ◌<◌, ◌≤◌, ℕ, zero, suc, Bool, true, false, List, Option, Some, None}
+use Rattle.std.specs.Prelude.{◌≡◌, ◌⊎◌, ◌+◌, ◌≤◌, ℕ, zero, suc, Bool, true, false, List, Option, Some, None}
 use Rattle.coap_msg.specs.declared.types.Emission.{Emission}
 use Rattle.coap_msg.specs.declared.types.Endpoint.{Endpoint}
 use Rattle.fc_core.specs.declared.front.Delivered.{Delivered}
@@ -7,22 +7,24 @@ use Rattle.fc_core.specs.declared.front.Delivered.TheVariants.{Job as Brings, Si
 use Rattle.fc_core.specs.declared.front.Heard.{Heard}
 use Rattle.fc_core.specs.Receiving.{heard}
 use Rattle.fc_jobs.specs.Ends.{with_sent}
-use Rattle.fc_registry.specs.declared.job.Ask.{Ask}
-use Rattle.fc_registry.specs.declared.job.Ask.TheVariants.{Run}
 use Rattle.fc_registry.specs.declared.job.Job.{Job}
 use Rattle.fc_registry.specs.declared.receipt.Receipt.{Receipt}
+use Rattle.fc_core.specs.Stage.{Stage}
+use Rattle.fc_core.specs.Stage.{ToCommit, ToTake}
 use Rattle.fc_workers.specs.declared.dispatcher.Dispatched.{Dispatched}
 use Rattle.fc_workers.specs.declared.dispatcher.Handover.{Handover}
 use Rattle.fc_workers.specs.declared.dispatcher.Handover.TheVariants.{Every, Dear, Never}
 use Rattle.fc_workers.specs.declared.call_log.CallLog.{CallLog}
 use Rattle.fc_workers.specs.Answers.{IsSomeDelivery, IsSomeTurn, saturated}
 use Rattle.fc_workers.specs.Called.{GivesTurn, HandsSignal, HearsDatagram, Shop, TellsReceipt}
+use Rattle.fc_workers.specs.Steps.{AsksRun, IsStep}
 use Rattle.fc_workers.specs.Work.{IsReplied}
+use Rattle.fc_workers.specs.declared.share.Share.{Share}
 
--- it asks for a run
-abbrev pub AsksRun : Ask → Type 0
-AsksRun (Run request) = Unit {0}
-AsksRun other = ⊥
+-- it stands at the commit of a ticket whose program runs for so many instructions at most, or more
+abbrev pub IsDearAt : ℕ → Stage → Type 0
+IsDearAt least (ToCommit count t) = least ≤ t.found.program.cost
+IsDearAt least other = ⊥
 
 -- the number of a job that isn't sent to the workers
 abbrev pub unsent : ℕ
@@ -44,16 +46,25 @@ module _ {T : Type 0} (s : Shop T) where
     pub told : s.bench (TellsReceipt job (Some receipt))
     pub cost : least ≤ receipt.cost
 
-  -- the jobs that may go to workers
-  abbrev pub MayGo : Handover → Job → Type 0
-  MayGo Every job = Unit {0}
-  MayGo (Dear least) job = 0 < least → IsDear least job
-  MayGo Never job = ⊥
+  -- a request's job of a run took here once, and what it found costs so many instructions or more. The log has no other call
+  pub record IsFoundDear (least : ℕ) (job : Job) (before after : Share T) : Type 0 where
+    pub asks : AsksRun job.ask
+    pub request : job.turn ≡ None
+    pub stage : Stage
+    pub took : IsStep s unsent job (ToTake 0) stage before after
+    pub dear : IsDearAt least stage
+    pub ended : s.ended after.tallies ≡ s.ended before.tallies
 
-  -- a job was sent to the workers, under the next number
-  pub record IsHandedOver (job : Job) (before after : Dispatched T) : Type 0 where
+  -- it may go to workers, by what was done for it here: nothing, or it took
+  abbrev pub MayGo : Handover → Job → Share T → Share T → Type 0
+  MayGo Every job before after = after ≡ before
+  MayGo (Dear least) job before after = (IsDear least job × (after ≡ before)) ⊎ IsFoundDear least job before after
+  MayGo Never job before after = ⊥
+
+  -- a job that may was sent to the workers, under the next number
+  pub record IsHandedOver (handover : Handover) (job : Job) (before after : Dispatched T) : Type 0 where
     pub sent : after.sent ≡ with_sent before.sent job
-    pub share : after.share ≡ before.share
+    pub may_go : MayGo handover job before.share after.share
 
   -- a job was worked off here, and ended; its reply is sent and counted
   pub record IsWorkedHere (job : Job) (before after : Dispatched T) : Type 0 where
@@ -63,7 +74,7 @@ module _ {T : Type 0} (s : Shop T) where
 
   -- it went to the workers, where it may, or was worked off here
   abbrev pub IsDispatched : Handover → Job → Dispatched T → Dispatched T → Type 0
-  IsDispatched handover job before after = (MayGo handover job × IsHandedOver job before after) ⊎ IsWorkedHere job before after
+  IsDispatched handover job before after = IsHandedOver handover job before after ⊎ IsWorkedHere job before after
 
   -- a Reset message or an Acknowledgement was handed once to each of the first n shards, in order
   unfoldable pub AreSignalled : ℕ → Endpoint → ℕ → Bool → CallLog → CallLog → Type 0

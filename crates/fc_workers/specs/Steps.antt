@@ -1,5 +1,7 @@
 -- One step of a job's work, as the worker's loop keeps it.
 use Rattle.std.specs.Prelude.{◌≡◌, ℕ, ◌+◌, ◌*◌, ◌-◌, ◌<◌, ◌≤◌, List, [], ◌∷◌, ◌++◌, length}
+use Rattle.fc_registry.specs.declared.job.Ask.{Ask}
+use Rattle.fc_registry.specs.declared.job.Ask.TheVariants.{Run}
 use Rattle.fc_registry.specs.declared.job.Job.{Job}
 use Rattle.fc_core.specs.Stage.{Stage}
 use Rattle.fc_core.specs.Stage.{ToMatch, ToTake, ToCommit, ToInstall, ToRemove, ToDescribe, ToList, ToRaise, ToAnswer, ToTell, Gone}
@@ -8,7 +10,12 @@ use Rattle.fc_core.specs.Stages.{takings}
 use Rattle.fc_core.specs.Steps.{Call, next_stage}
 use Rattle.fc_workers.specs.declared.share.Share.{Share}
 use Rattle.fc_workers.specs.Called.{BenchCall, LooksAt, Shop}
-use Rattle.fc_workers.specs.Work.{IsCallAt, takings_made, HasCounted}
+use Rattle.fc_workers.specs.Work.{AreCalls, HasCounted, IsCallAt, stage_after, takings_made, total}
+
+-- it asks for a run
+abbrev pub AsksRun : Ask → Type 0
+AsksRun (Run request) = Unit {0}
+AsksRun other = ⊥
 
 -- a job that is to take may take once more; a ticket is its job's, and so is an answer; a job that lists head words has yet one
 -- to read
@@ -58,6 +65,15 @@ pub record IsStep {T : Type 0} (s : Shop T) (number : ℕ) (job : Job) (old new 
   pub follows : Follows job old (takings_made call) new
   pub counted : HasCounted s job.origin.slot (call ∷ []) before after
 
+-- the calls so far, and where they led the job
+pub record Walked {T : Type 0} (s : Shop T) (number : ℕ) (job : Job) (stage : Stage) (before now : Share T) : Type 0 where
+  pub calls : List Call
+  pub are : AreCalls s number job calls before.log now.log
+  pub stands : stage ≡ stage_after job calls
+  pub ready : IsReady job stage
+  pub few : total takings_made calls ≤ taken_at stage
+  pub counted : HasCounted s job.origin.slot calls before now
+
 -- it stands at a taking
 abbrev pub IsToTake : Stage → Type 0
 IsToTake (ToTake n) = Unit {0}
@@ -67,6 +83,17 @@ IsToTake other = ⊥
 abbrev pub IsToCommit : Stage → Type 0
 IsToCommit (ToCommit n t) = Unit {0}
 IsToCommit other = ⊥
+
+-- it stands at an answer of its own
+abbrev pub IsToAnswer : Job → Stage → Type 0
+IsToAnswer job (ToAnswer content) = IsOf job content
+IsToAnswer job other = ⊥
+
+-- where a job stands that has not taken yet: at its first taking only where it asks for a run, and at no commit
+abbrev pub IsUntaken : Job → Stage → Type 0
+IsUntaken job (ToTake n) = (n ≡ 0) × AsksRun job.ask
+IsUntaken job (ToCommit n t) = ⊥
+IsUntaken job other = Unit {0}
 
 -- each of these words was seen at the head word of its slot, from slot n on
 abbrev pub AreSeen : (BenchCall → Type 0) → ℕ → List ℕ → Type 0

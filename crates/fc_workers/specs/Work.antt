@@ -152,12 +152,15 @@ module _ {T : Type 0} (s : Shop T) where
   abbrev pub IsWorked : ℕ → Job → Share T → Share T → Option Emission → Type 0
   IsWorked number job before after reply = IsWorkedAs job.turn number job before after reply
 
-  -- it was worked off, then its reply, if it has one, was sent once and counted, and last who waits for the job was told once that it has ended.
-  -- The log has no other call
+  -- the reply, if there is one, was sent once and counted, and last who waits for the job was told once that it has ended
+  pub record IsFinished (number : ℕ) (reply : Option Emission) (before after : Share T) : Type 0 where
+    pub log : CallLog
+    pub sent : IsSent s number reply before (record after { log = log })
+    pub over : s.wire (EndsJob number) log after.log
+
+  -- it was worked off, and then finished by its reply, if it has one. The log has no other call
   pub record IsReplied (number : ℕ) (job : Job) (before after : Share T) : Type 0 where
     pub reply : Option Emission
     pub share : Share T
-    pub log : CallLog
     pub worked : IsWorked number job before share reply
-    pub sent : IsSent s number reply share (record after { log = log })
-    pub over : s.wire (EndsJob number) log after.log
+    pub finished : IsFinished number reply share after

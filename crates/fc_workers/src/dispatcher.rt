@@ -1,9 +1,10 @@
 //! Who has jobs, and hands them to workers or works them off.
-ghost use Rattle.std.specs.Prelude.{◌≡◌, ◌<◌, ◌≤◌, ℕ, true, MatchBool};
+ghost use Rattle.std.specs.Prelude.{◌≡◌, ◌<◌, true, MatchBool, None};
 ghost use Rattle.fc_jobs.specs.Ends.{with_sent};
 ghost use Rattle.fc_workers.specs.Answers.{IsSomeQuiet, IsSomeTick};
 ghost use Rattle.fc_workers.specs.Called.{AdvancesFront, AdvancesQuiet, AdvancesShard, LeavesUnquiet, LooksAhead, shop};
-ghost use Rattle.fc_workers.specs.Dispatch.{AreSignalled, HasCalled, IsDear, IsDispatched, IsTakenIn, IsTurnAsked, IsWorkedHere, MayGo};
+ghost use Rattle.fc_workers.specs.Dispatch.{AreSignalled, HasCalled, IsDear, IsDearAt, IsDispatched, IsTakenIn, IsTurnAsked, IsWorkedHere, MayGo};
+ghost use Rattle.fc_workers.specs.declared.dispatcher.Handover.TheVariants.{Dear};
 ghost use Rattle.fc_workers.specs.Shares.{new_share};
 
 use crate::bench::Bench;
@@ -180,31 +181,66 @@ impl<'a, B: Bench, G: Gate, W: Wire, M: Moments> Dispatcher<'a, B, G, W, M> {
         given
     }
 
-    // Sends its job to the workers, or works it off.
+    // Sends its job to the workers, where it may go, or works it off. Where that goes by what a run costs, a request is begun first.
     fn dispatch<R: Wait>(&mut self, rt: &R)
         ensures dispatched { IsDispatched (shop B.changes B.ended B.called B.logged M.is_moment M.is_random G.passed W.called)
             self.old.handover self.old.job self.old.done self.new.done }
         ensures handover { self.new.handover ≡ self.old.handover }
     {
-        let handed = self.hand_over(rt);
-        if !handed {
+        match self.handover {
+            Handover::Dear(least) if self.job.turn.is_none() => self.dispatch_request(rt, least),
+            _ => self.dispatch_whole(rt),
+        }
+    }
+
+    // Sends its job to the workers, where it may go, or works it off.
+    fn dispatch_whole<R: Wait>(&mut self, rt: &R)
+        ensures dispatched { IsDispatched (shop B.changes B.ended B.called B.logged M.is_moment M.is_random G.passed W.called)
+            self.old.handover self.old.job self.old.done self.new.done }
+        ensures handover { self.new.handover ≡ self.old.handover }
+    {
+        let goes = self.may_go(rt);
+        let sent = self.send_if(rt, goes);
+        if !sent {
             self.work(rt);
         }
     }
 
-    // Sends its job to the workers, where it may go. Tells whether it was sent.
-    fn hand_over<R: Wait>(&mut self, rt: &R) -> bool
-        ensures sent { MatchBool result
-            (MayGo (shop B.changes B.ended B.called B.logged M.is_moment M.is_random G.passed W.called) self.old.handover self.old.job
-            × (self.new.done ≡ record self.old.done { sent = with_sent self.old.done.sent self.old.job }))
-            ((self.new.done ≡ self.old.done) × (self.new.job ≡ self.old.job)) }
+    // Begins a request's job, and sends it to the workers, who begin it anew, where what it found is dear. Else it is worked on from there.
+    fn dispatch_request<R: Wait>(&mut self, rt: &R, least: u32)
+        requires { self.old.job.turn ≡ None }
+        ensures dispatched { IsDispatched (shop B.changes B.ended B.called B.logged M.is_moment M.is_random G.passed W.called)
+            (Dear least) self.old.job self.old.done self.new.done }
         ensures handover { self.new.handover ≡ self.old.handover }
     {
-        if self.may_go(rt) {
-            self.send(rt)
+        self.workshop
+            .begin(rt, &mut self.tools, &self.job, &mut self.done.share);
+        let goes = self.stands_dear(least);
+        let sent = self.send_if(rt, goes);
+        if sent {
+            self.forget();
         } else {
-            false
+            self.workshop.work_begun(rt, &mut self.tools, UNSENT, &self.job, &mut self.done.share);
         }
+    }
+
+    // Lets go of the program that its job found.
+    fn forget(&mut self)
+        ensures done { self.new.done ≡ self.old.done }
+        ensures handover { self.new.handover ≡ self.old.handover }
+    {
+        self.tools.stage.step = Step::Gone;
+    }
+
+    // Sends its job to the workers, if it goes there. Tells whether it was sent.
+    fn send_if<R: Wait>(&mut self, rt: &R, goes: bool) -> bool
+        ensures sent { MatchBool result
+            ((goes ≡ true) × (self.new.done ≡ record self.old.done { sent = with_sent self.old.done.sent self.old.job }))
+            ((self.new.done ≡ self.old.done) × (self.new.job ≡ self.old.job)) }
+        ensures tools { self.new.tools ≡ self.old.tools }
+        ensures handover { self.new.handover ≡ self.old.handover }
+    {
+        if goes { self.send(rt) } else { false }
     }
 
     // Sends its job to the workers. Tells whether it was sent.
@@ -212,6 +248,7 @@ impl<'a, B: Bench, G: Gate, W: Wire, M: Moments> Dispatcher<'a, B, G, W, M> {
         ensures sent { MatchBool result
             (self.new.done ≡ record self.old.done { sent = with_sent self.old.done.sent self.old.job })
             ((self.new.done ≡ self.old.done) × (self.new.job ≡ self.old.job)) }
+        ensures tools { self.new.tools ≡ self.old.tools }
         ensures handover { self.new.handover ≡ self.old.handover }
     {
         let job = mem::replace(&mut self.job, blank_job());
@@ -235,50 +272,39 @@ impl<'a, B: Bench, G: Gate, W: Wire, M: Moments> Dispatcher<'a, B, G, W, M> {
             .work(rt, &mut self.tools, UNSENT, &self.job, &mut done.share);
     }
 
-    // Whether its job may go to the workers. Before one of them has asked for a job, none does: where all are to go, that is waited for.
-    fn may_go<R: Wait>(&mut self, rt: &R) -> bool
+    // Whether its job may go to the workers as it came. Before one of them has asked for a job, none does: where all are to go, that is waited for.
+    fn may_go<R: Wait>(&self, rt: &R) -> bool
         ensures may { result ≡ true → MayGo (shop B.changes B.ended B.called B.logged M.is_moment M.is_random G.passed W.called)
-            self.old.handover self.old.job }
-        ensures done { self.new.done ≡ self.old.done }
-        ensures job { self.new.job ≡ self.old.job }
-        ensures handover { self.new.handover ≡ self.old.handover }
+            self.now.handover self.now.job self.now.done.share self.now.done.share }
     {
         match self.handover {
             Handover::Every => self.jobs.await_worker(rt),
-            Handover::Dear(least) => {
-                self.jobs.is_served() && self.is_to_take() && self.cost(rt) >= least
-            }
+            Handover::Dear(least) => self.jobs.is_served() && self.is_dear(rt, least),
             Handover::Never => false,
         }
     }
 
-    // Whether its job takes first: it asks for a run, and its slot's head word doesn't answer it by one of its entity tags. No lock is taken.
-    fn is_to_take(&mut self) -> bool
-        ensures done { self.new.done ≡ self.old.done }
-        ensures job { self.new.job ≡ self.old.job }
-        ensures handover { self.new.handover ≡ self.old.handover }
+    // Whether its job stands at a run of so many instructions or more, and a worker has asked for a job.
+    fn stands_dear(&self, least: u32) -> bool
+        ensures { result ≡ true → IsDearAt least self.now.tools.stage }
     {
-        let stage = &mut self.tools.stage;
-        stage.ask(&self.job);
-        if let Step::ToMatch = &stage.step {
-            let slot = self.job.origin.slot;
-            let word = self.workshop.bench.peek(slot, &mut self.tools.heads);
-            stage.matched(&self.job, word);
+        match &self.tools.stage.step {
+            Step::ToCommit(_, program) => program.cost() >= least && self.jobs.is_served(),
+            _ => false,
         }
-        matches!(stage.step, Step::ToTake(_))
     }
 
-    // How many instructions its job's run takes at most, by the program that its slot has now; 0 where it asks for none.
-    fn cost<R: Wait>(&self, rt: &R) -> u32
-        ensures { (least : ℕ) → 0 < least → least ≤ result → IsDear
-            (shop B.changes B.ended B.called B.logged M.is_moment M.is_random G.passed W.called) least self.now.job }
+    // Whether its job asks for a run of so many instructions or more, by the program that its slot has now.
+    fn is_dear<R: Wait>(&self, rt: &R, least: u32) -> bool
+        ensures { result ≡ true → IsDear (shop B.changes B.ended B.called B.logged M.is_moment M.is_random G.passed W.called)
+            least self.now.job }
     {
         match &self.job.ask {
             Ask::Run(_) => match self.workshop.bench.receipt(rt, &self.job) {
-                Some(receipt) => receipt.cost,
-                None => 0,
+                Some(receipt) => receipt.cost >= least,
+                None => false,
             },
-            _ => 0,
+            _ => false,
         }
     }
 

@@ -61,9 +61,11 @@
 //! - **A worker's share** has ended as many jobs as it got, up to 2^64 - 1, and its tallies have risen by the changes that their calls
 //!   answered. Each seat of a pool comes back as its share.
 //! - **A dispatcher** has each datagram heard once. It sends the job that a delivery or a turn brings to the workers, under the next number,
-//!   where its handover lets it go (a dear one is a run of whose slot a receipt was told, of such a cost), or works it off and ends it, and does
+//!   where its handover lets it go, or works it off and ends it, and does
 //!   neither where there is none. It hands a signal to each of eight shards, once, as it was heard, asks the shard that it is told to, once, and
-//!   advances the front to the moment that it is handed, once. Its calls are in its share's log, as a worker's are.
+//!   advances the front to the moment that it is handed, once. Its calls are in its share's log, as a worker's are. A dear job is a run: a
+//!   request's, which took here once and found a program of such a cost, and of which the log has no other call; or one of whose slot a receipt
+//!   was told, of such a cost. A request that took here and stays is worked off from there, by eight takings at most in all.
 //! - **A server behind nine locks** answers a taking, an install, a removal and a receipt as a shard of the index of the job's slot does in
 //!   some state, and a notification as one of that of the turn's does: of the turn, the message id, the moment and what is told that it is
 //!   handed. It answers a delivery, a draw of a message id, a turn, a tick, a notification and a job at the moment that it is handed or a

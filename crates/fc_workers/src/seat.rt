@@ -1,15 +1,19 @@
 //! Workers, each at a seat of its own.
-ghost use Rattle.std.specs.Prelude.{◌≡◌, ◌+◌, None, IfOk};
+ghost use Rattle.std.specs.Prelude.{◌≡◌, ◌+◌, ℕ, true, None, IfOk};
 ghost use Rattle.fc_core.specs.Receiving.{emission_if};
 ghost use Rattle.fc_workers.specs.Answers.{saturated};
 ghost use Rattle.fc_workers.specs.Called.{shop};
 ghost use Rattle.fc_workers.specs.Shares.{IsShareOf};
-ghost use Rattle.fc_workers.specs.Work.{IsReplied, IsRequestWorked, IsWorked};
+ghost use Rattle.fc_workers.specs.Outgoing.{GoesOut};
+ghost use Rattle.fc_workers.specs.Steps.{IsReady, IsToAnswer, Walked};
+ghost use Rattle.fc_workers.specs.Work.{IsFinished, IsReplied, IsRequestWorked, IsWorked, IsWorkedTo};
+ghost use Rattle.fc_workers.specs.declared.share.Share.{Share as Done};
 
 use crate::bench::Bench;
 use crate::share::Share;
 use crate::tools::Tools;
 use crate::workshop::{Gate, Moments, Wire, Workshop};
+use coap_msg::Emission;
 use fc_jobs::{Got, Jobs};
 use fc_machine::Frame;
 use fc_observe::Turn;
@@ -89,11 +93,33 @@ impl<'a, B: Bench, G: Gate, W: Wire, M: Moments> Workshop<'a, B, G, W, M> {
         ensures got { share.new.got ≡ share.old.got }
     {
         let replies = self.reply(rt, tools, number, job, share);
-        if replies {
-            let out = self.wire.send(rt, number, &tools.reply, &mut share.log);
-            share.count_reply(out);
-        }
-        self.wire.ended(rt, number, &mut share.log);
+        self.finish(rt, number, replies, &tools.reply, share);
+    }
+
+    /// Works a request's job off from the stage that it stands at, and answers, sends and ends it as `work` does. Where calls led there from its
+    /// first stage, it is worked off by these and more.
+    pub(crate) fn work_begun<R: Wait>(
+        &self,
+        rt: &R,
+        tools: &mut Tools,
+        number: u64,
+        job: &Job,
+        share: &mut Share<B::Tallies>,
+    )
+        requires asked { job.now.turn ≡ None }
+        requires ready { IsReady job.now tools.old.stage }
+        requires heads { tools.old.heads.table ≡ B.heads self.now.bench.now }
+        ensures heads { tools.new.heads.table ≡ tools.old.heads.table }
+        ensures worked { (before : Done B.Tallies)
+            → Walked (shop B.changes B.ended B.called B.logged M.is_moment M.is_random G.passed W.called)
+            number job.now tools.old.stage before share.old
+            → IsReplied (shop B.changes B.ended B.called B.logged M.is_moment M.is_random G.passed W.called)
+            number job.now before share.new }
+        ensures ended { B.ended share.new.tallies ≡ saturated (B.ended share.old.tallies + 1) }
+    {
+        self.work_on(rt, tools, number, job, share);
+        let replies = self.respond(rt, tools, job, share);
+        self.finish(rt, number, replies, &tools.reply, share);
     }
 
     // Works a job off, and writes what is to be sent. Tells whether anything is.
@@ -140,6 +166,28 @@ impl<'a, B: Bench, G: Gate, W: Wire, M: Moments> Workshop<'a, B, G, W, M> {
         ensures got { share.new.got ≡ share.old.got }
     {
         self.work_off(rt, tools, number, job, share);
+        self.respond(rt, tools, job, share)
+    }
+
+    // Answers a request's job that was worked off, and writes what is to be sent. Tells whether anything is.
+    fn respond<R: Wait>(
+        &self,
+        rt: &R,
+        tools: &mut Tools,
+        job: &Job,
+        share: &mut Share<B::Tallies>,
+    ) -> bool
+        requires { IsToAnswer job.now tools.old.stage }
+        ensures heads { tools.new.heads ≡ tools.old.heads }
+        ensures worked { (number : ℕ) (before : Done B.Tallies)
+            → IsWorkedTo (shop B.changes B.ended B.called B.logged M.is_moment M.is_random G.passed W.called)
+            number job.now tools.old.stage before share.old
+            → IsRequestWorked (shop B.changes B.ended B.called B.logged M.is_moment M.is_random G.passed W.called)
+            number job.now before share.new (emission_if result tools.new.reply) }
+        ensures goes_out { result ≡ true → GoesOut tools.new.reply }
+        ensures ended { B.ended share.new.tallies ≡ saturated (B.ended share.old.tallies + 1) }
+        ensures got { share.new.got ≡ share.old.got }
+    {
         let now = self.moments.now(rt);
         let Some(answer) = tools.stage.content() else {
             unreachable!()
@@ -147,5 +195,27 @@ impl<'a, B: Bench, G: Gate, W: Wire, M: Moments> Workshop<'a, B, G, W, M> {
         let Share { tallies, log, .. } = share;
         self.bench
             .respond(rt, now, job, answer, &mut tools.reply, tallies, log)
+    }
+
+    // Sends the reply of a job, if it has one, and counts it. Last, the wire is told that the job has ended.
+    fn finish<R: Wait>(
+        &self,
+        rt: &R,
+        number: u64,
+        replies: bool,
+        reply: &Emission,
+        share: &mut Share<B::Tallies>,
+    )
+        requires { replies ≡ true → GoesOut reply.now }
+        ensures finished { IsFinished (shop B.changes B.ended B.called B.logged M.is_moment M.is_random G.passed W.called)
+            number (emission_if replies reply.now) share.old share.new }
+        ensures tallies { share.new.tallies ≡ share.old.tallies }
+        ensures got { share.new.got ≡ share.old.got }
+    {
+        if replies {
+            let out = self.wire.send(rt, number, reply, &mut share.log);
+            share.count_reply(out);
+        }
+        self.wire.ended(rt, number, &mut share.log);
     }
 }

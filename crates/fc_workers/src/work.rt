@@ -3,10 +3,11 @@ ghost use Rattle.std.specs.Prelude.{◌≡◌, ◌<◌, ℕ, None, length};
 ghost use Rattle.fc_verify.specs.Judged.{judged};
 ghost use Rattle.fc_verify.specs.Accepted.{Accepts, IsAccepted};
 ghost use Rattle.fc_core.specs.Stages.{image_of};
-ghost use Rattle.fc_core.specs.Stage.{ToInstall, ToRemove};
+ghost use Rattle.fc_core.specs.Stage.{ToInstall, ToRemove, ToTake};
 ghost use Rattle.fc_workers.specs.Called.{shop};
 ghost use Rattle.fc_workers.specs.Work.{IsWorkedTo};
-ghost use Rattle.fc_workers.specs.Steps.{IsReady, IsStep, IsToCommit, IsToTake, ListsOn};
+ghost use Rattle.fc_workers.specs.Steps.{AsksRun, IsReady, IsStep, IsToAnswer, IsToCommit, IsToTake, IsUntaken, ListsOn, Walked};
+ghost use Rattle.fc_workers.specs.declared.share.Share.{Share as Done};
 
 use crate::bench::Bench;
 use crate::share::Share;
@@ -46,6 +47,31 @@ impl<'a, B: Bench, G: Gate, W: Wire, M: Moments> Workshop<'a, B, G, W, M> {
         ensures ended { B.ended share.new.tallies ≡ B.ended share.old.tallies }
     {
         tools.stage.ask(job);
+        self.work_on(rt, tools, number, job, share);
+    }
+
+    /// Works a request's job off as `work_off` does, from the stage that it stands at. Where calls led there from its first stage, it is worked off
+    /// by these and more.
+    pub(crate) fn work_on<R: Wait>(
+        &self,
+        rt: &R,
+        tools: &mut Tools,
+        number: u64,
+        job: &Job,
+        share: &mut Share<B::Tallies>,
+    )
+        requires asked { job.now.turn ≡ None }
+        requires ready { IsReady job.now tools.old.stage }
+        requires heads { tools.old.heads.table ≡ B.heads self.now.bench.now }
+        ensures heads { tools.new.heads.table ≡ tools.old.heads.table }
+        ensures answers { IsToAnswer job.now tools.new.stage }
+        ensures worked { (before : Done B.Tallies)
+            → Walked (shop B.changes B.ended B.called B.logged M.is_moment M.is_random G.passed W.called)
+            number job.now tools.old.stage before share.old
+            → IsWorkedTo (shop B.changes B.ended B.called B.logged M.is_moment M.is_random G.passed W.called)
+            number job.now tools.new.stage before share.new }
+        ensures ended { B.ended share.new.tallies ≡ B.ended share.old.tallies }
+    {
         'calls: loop {
             let stage = &mut tools.stage;
             match &stage.step {
@@ -76,6 +102,49 @@ impl<'a, B: Bench, G: Gate, W: Wire, M: Moments> Workshop<'a, B, G, W, M> {
                 Step::ToAnswer => return,
                 Step::ToTell(..) | Step::Gone => unreachable!(),
             }
+        }
+    }
+
+    /// Begins a request's job: a run takes, unless its slot's head word answers it by one of its entity tags. It stands at a commit only after that
+    /// one taking.
+    pub(crate) fn begin<R: Wait>(
+        &self,
+        rt: &R,
+        tools: &mut Tools,
+        job: &Job,
+        share: &mut Share<B::Tallies>,
+    )
+        requires asked { job.now.turn ≡ None }
+        requires heads { tools.old.heads.table ≡ B.heads self.now.bench.now }
+        ensures heads { tools.new.heads.table ≡ tools.old.heads.table }
+        ensures begun { (number : ℕ) → Walked (shop B.changes B.ended B.called B.logged M.is_moment M.is_random G.passed W.called)
+            number job.now tools.new.stage share.old share.new }
+        ensures found { (number : ℕ) → IsToCommit tools.new.stage → AsksRun job.now.ask × IsStep
+            (shop B.changes B.ended B.called B.logged M.is_moment M.is_random G.passed W.called)
+            number job.now (ToTake 0) tools.new.stage share.old share.new }
+        ensures ended { B.ended share.new.tallies ≡ B.ended share.old.tallies }
+    {
+        self.look(tools, job);
+        let stage = &mut tools.stage;
+        if let Step::ToTake(_) = &stage.step {
+            self.take(rt, job, stage, share);
+        }
+    }
+
+    // Begins a request's job by a look at its slot's head word, where it has entity tags. It doesn't take yet.
+    fn look(&self, tools: &mut Tools, job: &Job)
+        requires { tools.old.heads.table ≡ B.heads self.now.bench.now }
+        ensures heads { tools.new.heads.table ≡ tools.old.heads.table }
+        ensures looked { (number : ℕ) (share : Done B.Tallies) → Walked
+            (shop B.changes B.ended B.called B.logged M.is_moment M.is_random G.passed W.called)
+            number job.now tools.new.stage share share }
+        ensures untaken { IsUntaken job.now tools.new.stage }
+    {
+        let stage = &mut tools.stage;
+        stage.ask(job);
+        if let Step::ToMatch = &stage.step {
+            let head = self.bench.peek(job.origin.slot, &mut tools.heads);
+            stage.matched(job, head);
         }
     }
 

@@ -1,139 +1,21 @@
-use Rattle.std.proofs.Common.{◌≡◌, ◌∙◌, ◌<◌, ℕ, ap, if◌then◌else◌, refl, subst, sym}
-use Rattle.std.specs.Prelude.{nat_lt}
-use Rattle.fc_heads.specs.Heads.{HeadSeat}
-use Rattle.fc_core.specs.Room.{stage_of}
-use Rattle.fc_core.specs.Stage.{Stage, ToAnswer, ToDescribe, ToInstall, ToList, ToMatch, ToRaise, ToRemove}
-use Rattle.fc_core.specs.Contents.{Listed}
-use Rattle.fc_core.specs.Stages.{after_list, word_raised}
-use Rattle.fc_core.specs.declared.stage.Step.{Step}
-use Rattle.fc_core.specs.declared.stage.Step.TheVariants as steps
+use Rattle.std.proofs.Common.{subst, sym}
+use Rattle.fc_core.specs.Stage.{Stage}
 use Rattle.fc_workers.specs.Called.{shop}
-use Rattle.fc_workers.specs.Steps.{IsReady, calls_left}
-use Rattle.fc_workers.proofs.Steps.{Walked, describe_step, lists_on, match_step, raise_step, sets_out, stands_at, walks_on}
+use Rattle.fc_workers.specs.Steps.{IsReady, Walked}
+use Rattle.fc_workers.proofs.Steps.{sets_out}
 use Rattle.fc_workers.proofs.workshop.Workshop.work_off.Goals as goal
 
-pub calls-init : goal.calls-init
-calls-init g c =
+pub work_on-requires-clause-ready : goal.work_on-requires-clause-ready
+work_on-requires-clause-ready g c =
     let s = (shop g.B.Bench.changes g.B.Bench.ended g.B.Bench.called g.B.Bench.logged
     g.M.Moments.is_moment g.M.Moments.is_random g.G.Gate.passed g.W.Wire.called) in
-    let before = c.args.share.now in (
-      refl,
-      subst (λ (x : Stage). Walked s c.args.number c.args.job.now x before before) (sym c.ask.ensures) (sets_out s c.args.number c.args.job.now before),
-      refl,
-    )
+    let begun = sets_out s c.args.number c.args.job.now c.args.share.now in
+    subst (λ (x : Stage). IsReady c.args.job.now x) (sym c.ask.ensures) begun.ready
 
-pub calls-preserved-in-ToTake-1 : goal.calls-preserved-in-ToTake-1
-calls-preserved-in-ToTake-1 g c =
-    let s = (shop g.B.Bench.changes g.B.Bench.ended g.B.Bench.called g.B.Bench.logged
-    g.M.Moments.is_moment g.M.Moments.is_random g.G.Gate.passed g.W.Wire.called) in (
-      c.calls.invariant.0,
-      walks_on s c.args.number c.args.job.now refl c.calls.invariant.1 (c.take.ensures.step c.args.number),
-      c.take.ensures.ended ∙ c.calls.invariant.2,
-    )
-
-pub calls-smaller-in-ToTake-1 : goal.calls-smaller-in-ToTake-1
-calls-smaller-in-ToTake-1 g c = (c.take.ensures.step c.args.number).follows.fewer
-
-pub calls-preserved-in-ToCommit-1 : goal.calls-preserved-in-ToCommit-1
-calls-preserved-in-ToCommit-1 g c =
-    let s = (shop g.B.Bench.changes g.B.Bench.ended g.B.Bench.called g.B.Bench.logged
-    g.M.Moments.is_moment g.M.Moments.is_random g.G.Gate.passed g.W.Wire.called) in (
-      c.calls.invariant.0,
-      walks_on s c.args.number c.args.job.now refl c.calls.invariant.1 c.commit.ensures.step,
-      c.commit.ensures.ended ∙ c.calls.invariant.2,
-    )
-
-pub calls-preserved-in-ToMatch-1 : goal.calls-preserved-in-ToMatch-1
-calls-preserved-in-ToMatch-1 g c =
+pub returns-clause-worked : goal.returns-clause-worked
+returns-clause-worked g c =
     let s = (shop g.B.Bench.changes g.B.Bench.ended g.B.Bench.called g.B.Bench.logged
     g.M.Moments.is_moment g.M.Moments.is_random g.G.Gate.passed g.W.Wire.called) in
-    let room = c.stage.inside in
-    let at : c.calls.tools.stage ≡ ToMatch =
-    stands_at c.calls.tools.stage room.step steps.ToMatch room.found room.seen room.answer c.stage.view_is c.in-ToMatch.is in
-    let step = match_step s c.args.number c.args.job.now c.peek-word.result c.calls.share c.peek-word.ensures.called c.matched.ensures in (
-      ap (λ (h : HeadSeat). h.table) c.peek-word.ensures.seen ∙ c.calls.invariant.0,
-      walks_on s c.args.number c.args.job.now at c.calls.invariant.1 step,
-      c.calls.invariant.2,
-    )
-
-pub calls-preserved-in-ToInstall-1 : goal.calls-preserved-in-ToInstall-1
-calls-preserved-in-ToInstall-1 g c =
-    let s = (shop g.B.Bench.changes g.B.Bench.ended g.B.Bench.called g.B.Bench.logged
-    g.M.Moments.is_moment g.M.Moments.is_random g.G.Gate.passed g.W.Wire.called) in
-    let room = c.stage.inside in
-    let at : c.calls.tools.stage ≡ ToInstall =
-    stands_at c.calls.tools.stage room.step steps.ToInstall room.found room.seen room.answer c.stage.view_is c.in-ToInstall.is in (
-      c.calls.invariant.0,
-      walks_on s c.args.number c.args.job.now at c.calls.invariant.1 (c.install.ensures.step c.args.number),
-      c.install.ensures.ended ∙ c.calls.invariant.2,
-    )
-
-pub calls-smaller-in-ToInstall-1 : goal.calls-smaller-in-ToInstall-1
-calls-smaller-in-ToInstall-1 g c =
-    let room = c.stage.inside in
-    let at : c.calls.tools.stage ≡ ToInstall =
-    stands_at c.calls.tools.stage room.step steps.ToInstall room.found room.seen room.answer c.stage.view_is c.in-ToInstall.is in
-    subst (λ (x : Stage). calls_left c.install.new.stage < calls_left x) (sym at) (c.install.ensures.step c.args.number).follows.fewer
-
-pub calls-preserved-in-ToRemove-1 : goal.calls-preserved-in-ToRemove-1
-calls-preserved-in-ToRemove-1 g c =
-    let s = (shop g.B.Bench.changes g.B.Bench.ended g.B.Bench.called g.B.Bench.logged
-    g.M.Moments.is_moment g.M.Moments.is_random g.G.Gate.passed g.W.Wire.called) in
-    let room = c.stage.inside in
-    let at : c.calls.tools.stage ≡ ToRemove =
-    stands_at c.calls.tools.stage room.step steps.ToRemove room.found room.seen room.answer c.stage.view_is c.in-ToRemove.is in (
-      c.calls.invariant.0,
-      walks_on s c.args.number c.args.job.now at c.calls.invariant.1 (c.remove.ensures.step c.args.number),
-      c.remove.ensures.ended ∙ c.calls.invariant.2,
-    )
-
-pub calls-smaller-in-ToRemove-1 : goal.calls-smaller-in-ToRemove-1
-calls-smaller-in-ToRemove-1 g c =
-    let room = c.stage.inside in
-    let at : c.calls.tools.stage ≡ ToRemove =
-    stands_at c.calls.tools.stage room.step steps.ToRemove room.found room.seen room.answer c.stage.view_is c.in-ToRemove.is in
-    subst (λ (x : Stage). calls_left c.remove.new.stage < calls_left x) (sym at) (c.remove.ensures.step c.args.number).follows.fewer
-
-pub calls-preserved-in-ToDescribe-1 : goal.calls-preserved-in-ToDescribe-1
-calls-preserved-in-ToDescribe-1 g c =
-    let s = (shop g.B.Bench.changes g.B.Bench.ended g.B.Bench.called g.B.Bench.logged
-    g.M.Moments.is_moment g.M.Moments.is_random g.G.Gate.passed g.W.Wire.called) in
-    let room = c.stage.inside in
-    let at : c.calls.tools.stage ≡ ToDescribe =
-    stands_at c.calls.tools.stage room.step steps.ToDescribe room.found room.seen room.answer c.stage.view_is c.in-ToDescribe.is in
-    let step = describe_step s c.args.number c.args.job.now c.receipt-receipt.result c.calls.share c.receipt-receipt.ensures.called
-    c.receipt-receipt.ensures.receipt c.told.ensures in
-    (c.calls.invariant.0, walks_on s c.args.number c.args.job.now at c.calls.invariant.1 step, c.calls.invariant.2)
-
-pub calls-preserved-in-ToList-1 : goal.calls-preserved-in-ToList-1
-calls-preserved-in-ToList-1 g c =
-    let s = (shop g.B.Bench.changes g.B.Bench.ended g.B.Bench.called g.B.Bench.logged
-    g.M.Moments.is_moment g.M.Moments.is_random g.G.Gate.passed g.W.Wire.called) in
-    let room = c.stage.inside in
-    let at : c.calls.tools.stage ≡ ToList room.seen =
-    stands_at c.calls.tools.stage room.step steps.ToList room.found room.seen room.answer c.stage.view_is c.in-ToList.is in
-    let words = c.list.new.words in
-    let walked = lists_on s c.args.number c.args.job.now room.seen words.items at c.list.ensures.listed c.calls.invariant.1 in
-    let next : c.listed.new.self ≡ ToAnswer (Listed words.items) =
-    c.listed.ensures ∙ (ap (λ (x : Step). after_list (stage_of x room.found words room.answer)) c.in-ToList.is
-    ∙ ap (λ (n : ℕ). if nat_lt n 64 then ToList (record { items = words.items }) else ToAnswer (Listed words.items)) c.list.ensures.listed.all) in (
-      c.list.ensures.heads ∙ c.calls.invariant.0,
-      subst (λ (x : Stage). Walked s c.args.number c.args.job.now x c.args.share.now c.calls.share) (sym next) walked,
-      c.calls.invariant.2,
-    )
-
-pub calls-preserved : goal.calls-preserved
-calls-preserved g c =
-    let s = (shop g.B.Bench.changes g.B.Bench.ended g.B.Bench.called g.B.Bench.logged
-    g.M.Moments.is_moment g.M.Moments.is_random g.G.Gate.passed g.W.Wire.called) in
-    let room = c.stage.inside in
-    let at : c.calls.tools.stage ≡ ToRaise c.in-ToRaise.word room.answer =
-    stands_at c.calls.tools.stage room.step (steps.ToRaise c.in-ToRaise.word) room.found room.seen room.answer c.stage.view_is c.in-ToRaise.is in
-    let own = subst (λ (x : Stage). IsReady c.args.job.now x) at c.calls.invariant.1.ready in
-    let step = raise_step s c.args.number c.args.job.now c.in-ToRaise.word room.answer c.calls.share c.raise.new.log c.raise.ensures.logged own in
-    let walked = walks_on s c.args.number c.args.job.now at c.calls.invariant.1 step in
-    let next = sym (c.raised.ensures ∙ ap word_raised at) in (
-      ap (λ (h : HeadSeat). h.table) c.raise.ensures.raised.after_is ∙ c.calls.invariant.0,
-      subst (λ (x : Stage). Walked s c.args.number c.args.job.now x c.args.share.now (record c.calls.share { log = c.raise.new.log })) next walked,
-      c.calls.invariant.2,
-    )
+    let share = c.args.share.now in
+    c.work_on.ensures.worked share (subst (λ (x : Stage). Walked s c.args.number c.args.job.now x share share) (sym c.ask.ensures)
+    (sets_out s c.args.number c.args.job.now share))

@@ -1,0 +1,33 @@
+use Rattle.std.proofs.Common.{◌∙◌, ℕ, inl, inr, refl, subst, sym}
+use Rattle.fc_core.specs.Stage.{Stage, ToCommit}
+use Rattle.fc_registry.specs.declared.job.Job.{Job}
+use Rattle.fc_workers.specs.declared.dispatcher.Dispatched.{Dispatched}
+use Rattle.fc_workers.specs.declared.dispatcher.Handover.TheVariants.{Dear}
+use Rattle.fc_workers.specs.declared.tools.Tools.{Tools}
+use Rattle.fc_workers.specs.Called.{shop}
+use Rattle.fc_workers.specs.Dispatch.{IsDearAt, IsDispatched}
+use Rattle.fc_workers.specs.Steps.{IsReady, IsToCommit}
+use Rattle.fc_workers.proofs.dispatcher.Dispatcher.dispatch_request.Goals as goal
+
+pub work_begun-requires-clause-ready : goal.work_begun-requires-clause-ready
+work_begun-requires-clause-ready g c =
+    let job = c.args.self.now.job in
+    let ready = subst (λ (t : Tools). IsReady job t.stage) (sym c.send_if-sent.ensures.tools) (c.begin.ensures.begun 0).ready in
+    subst (λ (j : Job). IsReady j c.send_if-sent.new.self.tools.stage) (sym c.if-sent.ensures.sent.1) ready
+
+dear_commits : (least : ℕ) (stage : Stage) → IsDearAt least stage → IsToCommit stage
+dear_commits least (ToCommit count t) dear = tt
+dear_commits least other dear = absurd dear
+
+pub returns-then-sent-clause-dispatched : goal.returns-then-sent-clause-dispatched
+returns-then-sent-clause-dispatched g c =
+    let s = (shop g.B.Bench.changes g.B.Bench.ended g.B.Bench.called g.B.Bench.logged
+    g.M.Moments.is_moment g.M.Moments.is_random g.G.Gate.passed g.W.Wire.called) in
+    let stage = c.begin.new.tools.stage in
+    let dear = c.stands_dear-goes.ensures c.if-sent.ensures.sent.0 in
+    let found = c.begin.ensures.found 18446744073709551615 (dear_commits c.args.least stage dear) in
+    let is = c.forget.ensures.done ∙ c.if-sent.ensures.sent.1 in
+    subst (λ (d : Dispatched _). IsDispatched s (Dear c.args.least) c.args.self.now.job c.args.self.now.done d) (sym is) (inl (record {
+      sent = refl;
+      may_go = inr (record { asks = found.0; request = c.requires; stage = stage; took = found.1; dear = dear; ended = c.begin.ensures.ended });
+    }))

@@ -1,0 +1,16 @@
+use Rattle.std.proofs.Common.{◌≡◌}
+use Rattle.fc_workers.specs.declared.share.Share.{Share}
+use Rattle.fc_workers.specs.Called.{shop}
+use Rattle.fc_workers.specs.Steps.{IsReady, Walked, calls_left}
+use Rattle.fc_workers.proofs.workshop.Workshop.work_on.Given as goal
+
+abbrev pub invariant-calls : goal.invariant-calls
+invariant-calls g l =
+    let s = (shop g.B.Bench.changes g.B.Bench.ended g.B.Bench.called g.B.Bench.logged
+    g.M.Moments.is_moment g.M.Moments.is_random g.G.Gate.passed g.W.Wire.called) in
+    (l.tools.heads.table ≡ l.initial.tools.heads.table) × IsReady l.job l.tools.stage
+    × ((before : Share _) → Walked s l.number l.job l.initial.tools.stage before l.initial.share → Walked s l.number l.job l.tools.stage before l.share)
+    × (g.B.Bench.ended l.share.tallies ≡ g.B.Bench.ended l.initial.share.tallies)
+
+abbrev pub decreases-calls : goal.decreases-calls
+decreases-calls g l = calls_left l.tools.stage
