@@ -96,7 +96,8 @@ pub fn bodies_go_in_blocks()
 pub fn requests_are_sent_by_the_schedule()
     ensures unanswered { (m : Message) (calls : List PeerCall) → (m.code ≡ 0 → ⊥) → IsTransmission true (message_bytes m) None calls
         → (schedule calls ≡ full_schedule (message_bytes m)) ⊎ AwaitsResponse (message_bytes m) (schedule calls) }
-    ensures answered { (m : Message) (count : ℕ) (calls : List PeerCall) → (m.code ≡ 0 → ⊥) → IsTransmission true (message_bytes m) (Some count) calls
+    ensures answered { (m : Message) (count : ℕ) (calls : List PeerCall) → (m.code ≡ 0 → ⊥)
+        → IsTransmission true (message_bytes m) (Some count) calls
         → BeginsSchedule (message_bytes m) (schedule calls) ⊎ AwaitsResponse (message_bytes m) (schedule calls) }
     ensures non_confirmable { (m : Message) (answer : Option ℕ) (calls : List PeerCall) → (m.code ≡ 0 → ⊥)
         → IsTransmission false (message_bytes m) answer calls → schedule calls ≡ Waits 32 ∷ Sends (message_bytes m) ∷ [] }
