@@ -12,7 +12,7 @@ use Rattle.fc_observe.specs.declared.entry.Phase.{Phase}
 use Rattle.fc_observe.specs.declared.entry.Phase.TheVariants.{TurnOut, Outstanding}
 use Rattle.fc_observe.specs.declared.entry.Turn.{Turn}
 use Rattle.fc_observe.specs.declared.observers.Ticked.TheVariants.{Resend}
-use Rattle.fc_observe.specs.Calls.{ObserverCall, Advance, Register, NextDue, Miss, Notify, GiveUp, Acknowledge, Tick, after_calls, changed_by, is_registration_of, observers_after}
+use Rattle.fc_observe.specs.Calls.{ObserverCall, Advance, Register, NextDue, Miss, Notify, GiveUp, Acknowledge, Tick, after_calls, changed_by, is_registration_of, observers, observers_after}
 use Rattle.fc_observe.specs.Entries.{acknowledged_phase, has_turn, is_entry_of, is_late, is_out_in, missed_phase, must_confirm, notified_by, retransmission, retransmitted_phase}
 use Rattle.fc_observe.specs.Laws.{RegistersNone}
 use Rattle.fc_observe.specs.Observers.{ObserverList, at_moment, entry_out, gives_turn, is_out, late_entry, ticked, ticked_at, ticked_by, turn_given_by}
@@ -98,6 +98,14 @@ goes_on (NextDue now noticed) t =
     let g = goes_on_by (at_moment now t) noticed (gives_turn noticed (at_moment now t)) in
     record { slot = g.slot; moment = g.moment; turns = g.turns }
 goes_on other t = record { slot = refl; moment = refl; turns = omega arith }
+
+-- so the slot is that of the list's `new`, and a list that was asked for a turn was handed the moment
+pub slot_is : (slot : ℕ) (h : List ObserverCall) → (observers slot h).slot ≡ slot
+slot_is slot [] = refl
+slot_is slot (c ∷ h) = let g = goes_on c (observers slot h) in g.slot ∙ slot_is slot h
+
+pub moment_is : (now noticed : ℕ) (t : ObserverList) → (observers_after (NextDue now noticed) t).moment ≡ max t.moment now
+moment_is now noticed t = let g = goes_on (NextDue now noticed) t in g.moment
 
 later_moment : (c : ObserverCall) (t : ObserverList) → t.moment ≤ moment_after c t
 later_moment (Advance now) t = omega arith

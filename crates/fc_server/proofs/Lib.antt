@@ -6,3 +6,4 @@ pub mod ShardEvents
 pub mod Beginning
 pub mod Served
 pub mod Quiet
+mod GivenTurns

@@ -1,16 +1,22 @@
 -- A server on one thread: what it does with a datagram is a list of events, whatever the history that it stands in. The clauses
 -- of the engine cite the agreement here: a server that agrees with a history is one that the history leaves.
-use Rattle.std.specs.Prelude.{◌≡◌, ℕ, zero, suc, Bool, true, false, List, [], ◌∷◌, ◌++◌, length, Option, None, is_some}
+use Rattle.std.specs.Prelude.{◌≡◌, ℕ, zero, suc, ◌/◌, ◌%◌, ◌≤◌, Bool, true, false, List, [], ◌∷◌, ◌++◌, length, Option, Some, None, is_some}
 use Rattle.std.specs.Borrow.{Bor}
 use Rattle.coap_msg.specs.declared.types.Emission.{Emission}
 use Rattle.coap_msg.specs.declared.types.Endpoint.{Endpoint}
+use Rattle.fc_observe.specs.declared.entry.Turn.{Turn}
+use Rattle.fc_registry.specs.declared.job.Job.{Job}
+use Rattle.fc_registry.specs.Calls.{is_out_at}
 use Rattle.fc_registry.specs.Shards.{shard_at}
+use Rattle.fc_registry.specs.Slots.{Shard, slot_in}
+use Rattle.fc_registry.specs.Watches.{watch_at}
 use Rattle.fc_core.specs.declared.event.Event.{Event}
 use Rattle.fc_core.specs.declared.event.Event.TheVariants.{Deliver, Peek, Take, Commit, Install, Remove, Receipt, Raise, Answer, Due, Fresh, Note, GiveUp, Signal, Tick, ShardTick}
 use Rattle.fc_core.specs.declared.front.Delivered.{Delivered}
 use Rattle.fc_core.specs.declared.front.Delivered.TheVariants.{Job as Brings, Signal as Signals}
 use Rattle.fc_core.specs.Stage.{Stage}
-use Rattle.fc_core.specs.Stage.{ToMatch, ToTake, ToInstall, ToRemove, ToDescribe, ToList}
+use Rattle.fc_core.specs.Stage.{ToMatch, ToTake, ToInstall, ToRemove, ToDescribe, ToList, ToTell}
+use Rattle.fc_core.specs.TurnStage as turns
 use Rattle.fc_core.specs.declared.stage.Task.{Task}
 use Rattle.fc_core.specs.History.{History, Then, did, seen}
 use Rattle.fc_core.specs.Legal.{AllMean, IsLegal}
@@ -121,6 +127,10 @@ pub record AsksForTurn (readings : List ℕ) (shard now random : ℕ) (old new :
   pub is_due : given ≡ is_some (shard_turn now (shard_at old.shards shard))
   pub asked : (h : History) (tasks : List Task) → Serves h old tasks → TurnGiven given readings (next h (Due shard now) None) (length tasks) now random new out
 
+-- what it gives is the turn of a slot that holds a program
+abbrev pub FindsProgram : ℕ → Shard → Type 0
+FindsProgram now shard = (job : Job) × (shard_turn now shard ≡ Some job) × (is_some (slot_in shard job.origin.slot).present ≡ true)
+
 -- the turn at work is the last job that came
 abbrev pub Turns : List ℕ → ℕ → ℕ → ServerState → Task → ServerState → Option Emission → Type 0
 Turns readings now random old task new out = (h : History) → (rest : List Task) → Serves h old (rest ++ task ∷ []) → Turned readings h (length rest) now random new out
@@ -144,3 +154,13 @@ pub record IsReachable (s : ServerState) : Type 0 where
   pub history : History
   pub tasks : List Task
   pub serves : Serves history s tasks
+
+-- a turn that is to take, and is out at its slot's shard, which was handed the moment
+pub record IsOutToTake (now : ℕ) (s : ServerState) (task : Task) : Type 0 where
+  pub turn : Turn
+  pub stage : task.stage ≡ ToTell turn turns.ToTake
+  pub handed : let n = task.job.origin.slot in now ≤ (shard_at s.shards (n % 8)).now
+  pub out :
+      let n = task.job.origin.slot in
+      let shard = shard_at s.shards (n % 8) in
+      is_out_at turn shard.now (watch_at shard (n / 8)) ≡ true

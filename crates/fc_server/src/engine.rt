@@ -1,8 +1,8 @@
 //! A server on one thread: each datagram that it hears is worked off to its answer.
-ghost use Rattle.std.specs.Prelude.{◌≡◌, ℕ, ◌<◌, ◌≤◌, List, [], true, None, max, IfOk, MatchBool};
+ghost use Rattle.std.specs.Prelude.{◌≡◌, ℕ, ◌<◌, ◌≤◌, List, [], false, true, None, is_some, max, IfOk, MatchBool};
 ghost use Rattle.arrayvec.specs.ArrayVec.{ArrayVec};
 ghost use Rattle.coap_msg.specs.declared.types.Emission.{Emission as Emitted};
-ghost use Rattle.fc_registry.specs.Shards.{shard_at};
+ghost use Rattle.fc_registry.specs.Shards.{shard_at, slot_in_shards};
 ghost use Rattle.fc_registry.specs.Slots.{last_serial};
 ghost use Rattle.fc_registry.specs.Watches.{StaysQuietUntil, at_time, is_quiet};
 ghost use Rattle.fc_core.specs.Stage.{Stage};
@@ -11,8 +11,8 @@ ghost use Rattle.fc_core.specs.History.{Begins};
 ghost use Rattle.fc_core.specs.Ids.{free_id};
 ghost use Rattle.fc_core.specs.Receiving.{delivered, emission_if};
 ghost use Rattle.fc_core.specs.Legal.{resent};
-ghost use Rattle.fc_server.specs.Serving.{Hears, IsBegun, IsReachable, AsksForTurn, Passes, TicksShard, Serves, Turns, WorksOff, WorksOffUnread};
-ghost use Rattle.fc_server.specs.Notified.{Starved, is_given, notification_in, notified_as};
+ghost use Rattle.fc_server.specs.Serving.{FindsProgram, Hears, IsBegun, IsOutToTake, IsReachable, AsksForTurn, Passes, TicksShard, Serves, Turns, WorksOff, WorksOffUnread};
+ghost use Rattle.fc_server.specs.Notified.{Starved, Unsent, is_given, notification_in, notified_as};
 ghost use Rattle.fc_server.specs.Serving.{IsSignalled};
 ghost use Rattle.fc_server.specs.Steps.{shard_told};
 
@@ -153,6 +153,7 @@ impl Engine {
         ensures asked { let told = notified_as result emission.new in
             AsksForTurn readings.now shard now random self.old self.new (is_given told) (notification_in told) }
         ensures starved { notified_as result emission.new ≡ Starved → free_id self.old.front.ids (max self.old.front.now now) ≡ None }
+        ensures unsent { notified_as result emission.new ≡ Unsent → FindsProgram now (shard_at self.old.shards shard) }
     {
         if !self.server.due(shard, now, &mut self.task.job) {
             return NotifyOutcome::Nobody;
@@ -168,7 +169,8 @@ impl Engine {
 pub enum NotifyOutcome {
     /// An observer is notified by what was written.
     Sent,
-    /// There was a turn, of which nothing is written: a worker has it, or has sent what it came to; or it was given up, since there was no memory for its taking.
+    /// There was a turn, of which nothing is written: a worker has it, or has sent what it came to; or it was given up, since there was no memory for its
+    /// taking. The taking of an empty slot asks for none.
     Unsent,
     /// There was a turn, which was given up, since no message id was free.
     Starved,
@@ -195,10 +197,13 @@ fn tell(
     task: &mut Task,
     emission: &mut Emission,
 ) -> NotifyOutcome
-    requires { IsBegun server.old task.old }
+    requires begun { IsBegun server.old task.old }
+    requires out { IsOutToTake now server.old task.old }
     ensures turns { Turns readings.now now random server.old task.old server.new (notification_in (notified_as result emission.new)) }
     ensures given { is_given (notified_as result emission.new) ≡ true }
     ensures starved { notified_as result emission.new ≡ Starved → free_id server.old.front.ids (max server.old.front.now now) ≡ None }
+    ensures unsent { notified_as result emission.new ≡ Unsent
+        → is_some (slot_in_shards server.old.shards task.old.job.origin.slot).present ≡ true }
 {
     server.take(readings, task);
     server.fresh(now, task);
@@ -213,6 +218,7 @@ fn told(sent: bool, starved: bool) -> NotifyOutcome
     ensures sent { (e : Emitted) → notification_in (notified_as result e) ≡ emission_if sent e }
     ensures given { (e : Emitted) → is_given (notified_as result e) ≡ true }
     ensures starved { (e : Emitted) → notified_as result e ≡ Starved → starved ≡ true }
+    ensures unsent { (e : Emitted) → notified_as result e ≡ Unsent → (sent ≡ false) × (starved ≡ false) }
 {
     if sent {
         NotifyOutcome::Sent

@@ -32,7 +32,8 @@
 //! - Each call is an event, and what it does with a datagram is the list of the events of one job, whatever the history so far, whose
 //!   taking is handed the readings that the call was given.
 //! - A signal goes to each shard. A shard that is ticked tells what it sends again, that it removed an observer, or that nothing is late;
-//!   one that is asked gives a turn just where an observer is due, and the turn is worked off by its events.
+//!   one that is asked gives a turn just where an observer is due, and the turn is worked off by its events. It tells that no message id
+//!   was free only where none is, and that there was no memory only of a slot that holds a program.
 //! - Before the moment that a shard tells, nothing is late there and nobody due, unless the server is called.
 //!
 //! By the contracts of `Server`, `Engine::hear`, `tick`, `resend`, `notify`, `quiet_until`.

@@ -3,12 +3,17 @@ use Rattle.std.specs.Prelude.{is_some}
 use Rattle.fc_core.specs.declared.event.Event.TheVariants.{Due}
 use Rattle.fc_core.specs.declared.stage.Task.{Task}
 use Rattle.fc_core.specs.Exchanges.{FrontState}
+use Rattle.fc_core.specs.History.{seen}
 use Rattle.fc_core.specs.Ids.{free_id}
 use Rattle.fc_registry.specs.declared.job.Job.{Job}
+use Rattle.fc_registry.specs.Shards.{shard_at, slot_in_shards}
+use Rattle.fc_registry.specs.Slots.{Slot}
 use Rattle.fc_registry.specs.Turns.{written_if}
 use Rattle.fc_server.specs.Notified.{is_given, notification_in, notified_as}
-use Rattle.fc_server.specs.Serving.{AsksForTurn, TurnGiven, Serves, next}
+use Rattle.fc_server.specs.Serving.{AsksForTurn, FindsProgram, IsOutToTake, TurnGiven, Serves, next}
 use Rattle.fc_server.specs.States.{ServerState}
+use Rattle.fc_server.specs.Steps.{shard_turn}
+use Rattle.fc_server.proofs.GivenTurns.{found_before, given_out}
 use Rattle.fc_server.proofs.Served.{asked_on, notified_served}
 use Rattle.fc_server.proofs.engine.Engine.notify.Goals as goal
 
@@ -16,8 +21,8 @@ use Rattle.fc_server.proofs.engine.Engine.notify.Goals as goal
 turn_is : (b : Bool) (result : Bool) (job : Job) (turn : Option Job) → result ≡ b → written_if result job ≡ turn → written_if b job ≡ turn
 turn_is b result job turn is written = ap (λ (x : Bool). written_if x job) (sym is) ∙ written
 
-pub tell-requires : goal.tell-requires
-tell-requires c =
+pub tell-requires-clause-begun : goal.tell-requires-clause-begun
+tell-requires-clause-begun c =
     let e = c.due.ensures in
     let h = c.self.invariant.history in
     let tasks = c.self.invariant.tasks in
@@ -82,3 +87,23 @@ pub returns-clause-starved : goal.returns-clause-starved
 returns-clause-starved c = λ is.
     subst (λ (s : ServerState). free_id s.front.ids (max s.front.now c.args.now) ≡ None) c.self.view_is
     (subst (λ (f : FrontState). free_id f.ids (max f.now c.args.now) ≡ None) c.due.ensures.front (c.tell.ensures.starved is))
+
+-- the turn that the shard gave is the job's
+comes : (c : goal.After-tell) → Some c.due.new.job ≡ shard_turn c.args.now (shard_at c.self.inside.server.shards c.args.shard)
+comes c = turn_is true c.due.result c.due.new.job _ c.if-not-due.false c.due.ensures.job
+
+pub tell-requires-clause-out : goal.tell-requires-clause-out
+tell-requires-clause-out c =
+    subst (λ (t : Task). IsOutToTake c.args.now c.due.new.self t) (sym c.begin.ensures)
+    (given_out (seen c.self.invariant.history) c.args.shard c.args.now c.requires c.self.inside.server.shards c.due.new.self.shards c.self.invariant.serves.agrees.shards c.due.ensures.shards
+    c.due.new.job (turn_is true c.due.result c.due.new.job _ c.if-not-due.false c.due.ensures.job) c.due.new.self refl)
+
+pub returns-clause-unsent : goal.returns-clause-unsent
+returns-clause-unsent c = λ is.
+    let old = c.self.inside.server.shards in
+    let job = c.due.new.job in
+    let new = c.due.new.self.shards in
+    let held = subst (λ (t : Task). is_some (slot_in_shards new t.job.origin.slot).present ≡ true) c.begin.ensures (c.tell.ensures.unsent is) in
+    let before = found_before (seen c.self.invariant.history) c.args.shard c.args.now c.requires old new c.self.invariant.serves.agrees.shards c.due.ensures.shards job (comes c) in
+    subst (λ (s : ServerState). FindsProgram c.args.now (shard_at s.shards c.args.shard)) c.self.view_is
+    (job, sym (comes c), ap (λ (x : Slot). is_some x.present) (sym before) ∙ held)
