@@ -1,5 +1,5 @@
 -- How a request is laid out in its region, and read from it.
-use Rattle.std.specs.Prelude.{◌≡◌, ℕ, ◌≤◌, List, length, take, drop, Option}
+use Rattle.std.specs.Prelude.{◌≡◌, ℕ, ◌-◌, ◌≤◌, List, length, take, drop, replicate, Option}
 use Rattle.fc_help.specs.declared.request.Method.{Method}
 use Rattle.fc_help.specs.Request.{Request}
 use Rattle.fc_help.specs.Region.{region_of}
@@ -27,3 +27,7 @@ pub record IsLaidOut (method : Method) (slot : ℕ) (content_format : Option ℕ
   pub fits : FitsRegion (read_from method slot content_format query payload region)
   pub query_is : length (part_at region 16 query) ≡ query
   pub payload_is : length (part_at region 80 payload) ≡ payload
+
+-- from a place on all bytes are zero
+abbrev pub IsZeroFrom : ℕ → List ℕ → Type 0
+IsZeroFrom at bytes = drop at bytes ≡ replicate (length bytes - at) 0

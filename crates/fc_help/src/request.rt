@@ -1,8 +1,8 @@
 //! The request that a program answers.
-ghost use Rattle.std.specs.Prelude.{◌≡◌, ◌+◌, ◌++◌, ◌≤◌, ◌↔◌, length, IsTrue};
+ghost use Rattle.std.specs.Prelude.{◌≡◌, ◌+◌, ◌++◌, ◌≤◌, ◌↔◌, drop, length, IsTrue};
 ghost use Rattle.fc_help.specs.Layout.{request_with};
 ghost use Rattle.fc_help.specs.Region.{region_head, method_number, padded, region_of};
-ghost use Rattle.fc_help.specs.Layout.{FitsRegion};
+ghost use Rattle.fc_help.specs.Layout.{FitsRegion, IsZeroFrom};
 
 use arrayvec::ArrayVec;
 use std::marker::Model;
@@ -92,7 +92,7 @@ fn head(
     ]
 }
 
-/// Writes the region of a request over another.
+/// Lays the region of a request out.
 fn lay_out(
     region: &mut ArrayVec<u8, REGION>,
     method: Method,
@@ -109,6 +109,60 @@ fn lay_out(
     let _fits = region.try_extend_from_slice(&head(method, slot, content_format, query, payload));
     put_padded(region, query, QUERY);
     put_padded(region, payload, PAYLOAD);
+}
+
+/// Writes bytes over the first of others, and zeros over the rest.
+fn write_padded(room: &mut [u8], bytes: &[u8])
+    requires { length bytes.now ≤ length room.old }
+    ensures { room.new ≡ padded (length room.old) bytes.now }
+{
+    room[..bytes.len()].copy_from_slice(bytes);
+    room[bytes.len()..].fill(0);
+}
+
+/// Writes a head and a query over others.
+fn write_start(room: &mut [u8], head: &[u8; HEAD], query: &[u8])
+    requires room { length room.old ≡ 80 }
+    requires query { length query.now ≤ 64 }
+    ensures { room.new ≡ head.now ++ padded 64 query.now }
+{
+    room[..HEAD].copy_from_slice(head);
+    write_padded(&mut room[HEAD..], query);
+}
+
+/// Writes a payload over another of this size, behind which all is zero already.
+fn write_payload(room: &mut [u8], before: usize, payload: &[u8])
+    requires room { length room.old ≡ 1024 }
+    requires before { before ≤ 1024 }
+    requires payload { length payload.now ≤ 1024 }
+    requires zeros { IsZeroFrom before room.old }
+    ensures { room.new ≡ padded 1024 payload.now }
+{
+    let written = before.max(payload.len());
+    write_padded(&mut room[..written], payload);
+}
+
+/// Writes the region of a request over another's, whose payload has this size. Behind a payload only what the one before had more is cleared.
+fn lay_over(
+    region: &mut ArrayVec<u8, REGION>,
+    before: usize,
+    method: Method,
+    slot: u8,
+    content_format: Option<u16>,
+    query: &[u8],
+    payload: &[u8],
+)
+    requires size { length region.old.items ≡ 1104 }
+    requires before { before ≤ 1024 }
+    requires zeros { IsZeroFrom before (drop 80 region.old.items) }
+    requires query { length query.now ≤ QUERY }
+    requires payload { length payload.now ≤ PAYLOAD }
+    ensures { region.new.items ≡ region_of (request_with method slot content_format query.now payload.now) }
+{
+    let head = head(method, slot, content_format, query, payload);
+    let bytes = region.as_mut_slice();
+    write_start(&mut bytes[..BEFORE_PAYLOAD], &head, query);
+    write_payload(&mut bytes[BEFORE_PAYLOAD..], before, payload);
 }
 
 /// A method's byte.
@@ -160,8 +214,9 @@ impl Request {
         requires payload { length payload.now ≤ PAYLOAD }
         ensures { self.new ≡ request_with method slot content_format query.now payload.now }
     {
-        lay_out(
+        lay_over(
             &mut self.region,
+            usize::from(self.payload_size),
             method,
             slot,
             content_format,
@@ -252,8 +307,9 @@ impl Request {
     pub fn copy_from(&mut self, other: &Request)
         ensures { self.new ≡ other.now }
     {
-        self.region.clear();
-        let _fits = self.region.try_extend_from_slice(other.region.as_slice());
+        self.region
+            .as_mut_slice()
+            .copy_from_slice(other.region.as_slice());
         self.method = other.method;
         self.slot = other.slot;
         self.content_format = other.content_format;
