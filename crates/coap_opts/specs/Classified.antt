@@ -41,22 +41,26 @@ asked_by r = record {
   payload = r.payload.now;
 }
 
--- the request where no check fails, or the code of the first that does
-abbrev pub IsRequestOf : Message → Result Request Code → Type 0
-IsRequestOf m (Ok r) = (refusal_code m ≡ None) × (asked m ≡ Some (asked_by r))
-IsRequestOf m (Err answer) = refusal_code m ≡ Some answer.byte
+-- the request that was written where no check fails, or the code of the first that does
+abbrev pub IsRequestOf : Message → Result (Unit {0}) Code → Request → Type 0
+IsRequestOf m (Ok done) r = (refusal_code m ≡ None) × (asked m ≡ Some (asked_by r))
+IsRequestOf m (Err answer) r = refusal_code m ≡ Some answer.byte
 
--- what is done about a request, as a verdict
-abbrev pub asking_verdict : Asking → Verdict
-asking_verdict (asking.Serve r) = IsAsked (asked_by r)
-asking_verdict (asking.Refuse answer) = IsRefused answer.byte
-asking_verdict asking.Silent = IsSilent
+-- where a request was written over another, nothing more is told of it
+abbrev pub written : Request → Unit {0} → Asked
+written r done = asked_by r
 
-abbrev pub verdict_of : Classified → Verdict
-verdict_of (classified.Request done) = asking_verdict done
-verdict_of classified.Reset = IsReset
-verdict_of (classified.Signal reset) = IsSignal reset
-verdict_of classified.Ignored = IsIgnored
+-- what is done about a request, as a verdict, by what is told of one that is carried out
+abbrev pub asking_verdict : {R : Type 0} → (R → Asked) → Asking R → Verdict
+asking_verdict request (asking.Serve told) = IsAsked (request told)
+asking_verdict request (asking.Refuse answer) = IsRefused answer.byte
+asking_verdict request asking.Silent = IsSilent
+
+abbrev pub verdict_of : {R : Type 0} → (R → Asked) → Classified R → Verdict
+verdict_of request (classified.Request done) = asking_verdict request done
+verdict_of request classified.Reset = IsReset
+verdict_of request (classified.Signal reset) = IsSignal reset
+verdict_of request classified.Ignored = IsIgnored
 
 -- a refusal is the reply of a client error or a server error, 4.00 to 5.31
 pub record IsErrorCode (answer : ℕ) : Type 0 where

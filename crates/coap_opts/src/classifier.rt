@@ -1,7 +1,7 @@
 //! Request classification: message type, options, method, path, in the order of the checks.
 ghost use Rattle.std.specs.Prelude.{◌≡◌, ◌||◌, None, Some};
 ghost use Rattle.coap_opts.specs.Verdict.{refusal_verdict, request_verdict, verdict};
-ghost use Rattle.coap_opts.specs.Classified.{IsRequestOf, asking_verdict, verdict_of};
+ghost use Rattle.coap_opts.specs.Classified.{IsRequestOf, asked_by, asking_verdict, verdict_of, written};
 ghost use Rattle.coap_opts.specs.Verdict as spec;
 
 use crate::block::Block;
@@ -14,18 +14,42 @@ use coap_msg::{Code, Message, MessageType};
 
 /// Classifies a message: a request with its fields, the code of the first check that fails, or what else is done about it.
 /// Its options are walked once.
+pub fn classify<'a>(message: &Message<'a>) -> Classified<Request<'a>>
+    ensures { verdict_of asked_by result ≡ verdict message.now }
+{
+    let mut request = Request::blank();
+    match classify_over(message, &mut request) {
+        Classified::Request(asking) => Classified::Request(served(asking, request)),
+        Classified::Reset => Classified::Reset,
+        Classified::Signal { reset } => Classified::Signal { reset },
+        Classified::Ignored => Classified::Ignored,
+    }
+}
+
+/// What is done about a request, which was written.
+fn served<'a>(asking: Asking<()>, request: Request<'a>) -> Asking<Request<'a>>
+    ensures { asking_verdict asked_by result ≡ asking_verdict (written request.entry) asking }
+{
+    match asking {
+        Asking::Serve(()) => Asking::Serve(request),
+        Asking::Refuse(code) => Asking::Refuse(code),
+        Asking::Silent => Asking::Silent,
+    }
+}
+
+/// Classifies a message as `classify` does, and writes the request that is carried out over another: none is moved.
 #[tactic(auto, unfolding(crate::specs::Verdict::verdict))]
-pub fn classify<'a>(message: &Message<'a>) -> Classified<'a>
-    ensures { verdict_of result ≡ verdict message.now }
+pub fn classify_over<'a>(message: &Message<'a>, request: &mut Request<'a>) -> Classified<()>
+    ensures { verdict_of (written request.new) result ≡ verdict message.now }
 {
     let is_empty = message.code() == Code::EMPTY;
     match message.kind() {
         MessageType::Confirmable if is_request(message.code()) => {
-            Classified::Request(judge(message))
+            Classified::Request(judge(message, request))
         }
         MessageType::Confirmable => Classified::Reset,
         MessageType::NonConfirmable if is_request(message.code()) => {
-            Classified::Request(judge(message))
+            Classified::Request(judge(message, request))
         }
         MessageType::Acknowledgement if is_empty => Classified::Signal { reset: false },
         MessageType::Reset if is_empty => Classified::Signal { reset: true },
@@ -40,18 +64,18 @@ fn is_request(code: Code) -> bool
     code != Code::EMPTY && code.class() == 0
 }
 
-fn judge<'a>(message: &Message<'a>) -> Asking<'a>
-    ensures { asking_verdict result ≡ request_verdict message.now }
+fn judge<'a>(message: &Message<'a>, request: &mut Request<'a>) -> Asking<()>
+    ensures { asking_verdict (written request.new) result ≡ request_verdict message.now }
 {
-    match request(message) {
-        Ok(request) => Asking::Serve(request),
+    match write_request(message, request) {
+        Ok(()) => Asking::Serve(()),
         Err(code) => refused(message.kind(), code),
     }
 }
 
 /// A non-confirmable request with an unrecognised critical option gets no answer.
-fn refused<'a>(kind: MessageType, code: Code) -> Asking<'a>
-    ensures { asking_verdict result ≡ refusal_verdict kind code.byte }
+fn refused(kind: MessageType, code: Code) -> Asking<()>
+    ensures { (r : Request) → asking_verdict (written r) result ≡ refusal_verdict kind code.byte }
 {
     if kind == MessageType::NonConfirmable && code == Code::BAD_OPTION {
         Asking::Silent
@@ -60,9 +84,9 @@ fn refused<'a>(kind: MessageType, code: Code) -> Asking<'a>
     }
 }
 
-/// The request, or the code of the first check that fails.
-fn request<'a>(message: &Message<'a>) -> Result<Request<'a>, Code>
-    ensures { IsRequestOf message.now result }
+/// Writes the request over another, or gives the code of the first check that fails.
+fn write_request<'a>(message: &Message<'a>, request: &mut Request<'a>) -> Result<(), Code>
+    ensures { IsRequestOf message.now result request.new }
 {
     let collected = collect(message);
     if collected.names_proxy() {
@@ -91,16 +115,15 @@ fn request<'a>(message: &Message<'a>) -> Result<Request<'a>, Code>
     if payload.len() > PAYLOAD {
         return Err(Code::REQUEST_ENTITY_TOO_LARGE);
     }
-    Ok(Request {
-        action,
-        query: collected.query.items,
-        content_format: fields::format_of(collected.content_format),
-        etags: collected.etags,
-        observe: observe_at(action, fields::observe_of(collected.observe)),
-        block1: fields::block_of(collected.block1),
-        block2: fields::block_of(collected.block2),
-        payload,
-    })
+    request.action = action;
+    request.query = collected.query.items;
+    request.content_format = fields::format_of(collected.content_format);
+    request.etags = collected.etags;
+    request.observe = observe_at(action, fields::observe_of(collected.observe));
+    request.block1 = fields::block_of(collected.block1);
+    request.block2 = fields::block_of(collected.block2);
+    request.payload = payload;
+    Ok(())
 }
 
 /// A block of the reserved size, or a query that is too long.

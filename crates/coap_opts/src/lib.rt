@@ -32,7 +32,7 @@
 //! - Integers and blocks are read and written exactly, a block's value by its number, M and size. Each resource has one path.
 //! - Each named option is its number, with the lengths of its value and the methods that it is of.
 //!
-//! By the contracts of `classify`, `Reply::write`, `decode_uint`, `encode_uint`, `Block`, `laws`.
+//! By the contracts of `classify`, `classify_over`, `Reply::write`, `decode_uint`, `encode_uint`, `Block`, `laws`.
 #![tactic(auto)]
 
 pub mod block;
@@ -49,7 +49,7 @@ pub mod served;
 pub mod uint;
 
 pub use block::Block;
-pub use classifier::classify;
+pub use classifier::{classify, classify_over};
 pub use reply::{Reply, ReplyOptions};
 pub use request::{Action, Asking, Classified, Method, Query, Request, Resource};
 pub use served::{OPTIONS, Row};

@@ -72,11 +72,27 @@ pub struct Request<'a> {
     pub payload: &'a [u8],
 }
 
+impl<'a> Request<'a> {
+    /// Makes a request that says nothing, to be written over.
+    pub fn blank() -> Request<'a> {
+        Request {
+            action: Action::Discover,
+            query: Query::new(),
+            content_format: None,
+            etags: ArrayVec::new(),
+            observe: None,
+            block1: None,
+            block2: None,
+            payload: &[],
+        }
+    }
+}
+
 /// What is done about a request.
 #[derive(Drop)]
-pub enum Asking<'a> {
+pub enum Asking<R> {
     /// It is carried out.
-    Serve(Request<'a>),
+    Serve(R),
     /// It is answered by this code; type, id and token of the reply follow from the message's own.
     Refuse(Code),
     /// Non-confirmable, with an unrecognised critical option, it is rejected without an answer (RFC 7252, 5.4.1).
@@ -85,9 +101,9 @@ pub enum Asking<'a> {
 
 /// The class of a message: a request, or what else is done about it.
 #[derive(Drop)]
-pub enum Classified<'a> {
+pub enum Classified<R> {
     /// A request, and what is done about it.
-    Request(Asking<'a>),
+    Request(Asking<R>),
     /// A confirmable message that is neither empty nor a request is rejected, and so is an empty one, by a Reset message
     /// with its id (RFC 7252, 4.2 and 4.3).
     Reset,

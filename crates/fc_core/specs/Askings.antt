@@ -3,6 +3,7 @@ use Rattle.std.specs.Prelude.{◌≤◌, length}
 use Rattle.coap_msg.specs.Wire.{Message}
 use Rattle.coap_opts.specs.declared.request.Asking.{Asking}
 use Rattle.coap_opts.specs.declared.request.Asking.TheVariants.{Serve, Refuse, Silent}
+use Rattle.coap_opts.specs.declared.request.Request.{Request}
 use Rattle.coap_opts.specs.Fields.{IsResource}
 use Rattle.coap_opts.specs.Served.{resource_in}
 use Rattle.coap_opts.specs.Verdict.{Asked}
@@ -11,14 +12,14 @@ use Rattle.fc_core.specs.Exchanges.{FrontState}
 use Rattle.fc_core.specs.Receiving.{Received, Refused, Silenced, look_in, looked, request_received}
 use Rattle.coap_msg.specs.declared.types.Endpoint.{Endpoint}
 
-abbrev pub new_request : FrontState → Endpoint → Message → Asking → Received
-new_request f to m (Serve request) = request_received f to m (asked_by request)
-new_request f to m (Refuse answer) = Refused m answer.byte
-new_request f to m Silent = Silenced m
+abbrev pub new_request : FrontState → Endpoint → Message → Asking (Unit {0}) → Request → Received
+new_request f to m (Serve done) request = request_received f to m (asked_by request)
+new_request f to m (Refuse answer) request = Refused m answer.byte
+new_request f to m Silent request = Silenced m
 
 -- what a request is to a front that has advanced to the moment
-abbrev pub asked_in : FrontState → Endpoint → Message → Asking → Received
-asked_in f to m asking = looked (look_in f to m) m (new_request f to m asking)
+abbrev pub asked_in : FrontState → Endpoint → Message → Asking (Unit {0}) → Request → Received
+asked_in f to m asking request = looked (look_in f to m) m (new_request f to m asking request)
 
 -- a request that is carried out names a resource that there is, and is within the limits of its query and its payload
 pub record IsServable (asked : Asked) : Type 0 where
@@ -27,7 +28,7 @@ pub record IsServable (asked : Asked) : Type 0 where
   pub payload : length asked.payload ≤ 1024
 
 -- a refusal has the code of a reply
-abbrev pub IsAsking : Asking → Type 0
-IsAsking (Serve request) = IsServable (asked_by request)
-IsAsking (Refuse answer) = 64 ≤ answer.byte
-IsAsking Silent = Unit {0}
+abbrev pub IsAsking : Asking (Unit {0}) → Request → Type 0
+IsAsking (Serve done) request = IsServable (asked_by request)
+IsAsking (Refuse answer) request = 64 ≤ answer.byte
+IsAsking Silent request = Unit {0}

@@ -27,7 +27,7 @@ use coap_msg::{
 };
 use coap_opts::laws::requests_are_within;
 use coap_opts::request::ETAGS;
-use coap_opts::{Action, Asking, Block, Classified, Request, classify};
+use coap_opts::{Action, Asking, Block, Classified, Request, classify_over};
 use coap_reply::reset;
 use fc_help::Method;
 use fc_registry::{Ask, CANCEL, Job, Opening, Origin, REGISTER, SlotNumber, has_observe};
@@ -265,8 +265,11 @@ impl Front {
             self.new ≡ after_received (received_as f endpoint message.now (verdict message.now)) f endpoint }
     {
         requests_are_within();
-        match classify(message) {
-            Classified::Request(asking) => self.request(endpoint, message, &asking, job, reply),
+        let mut request = Request::blank();
+        match classify_over(message, &mut request) {
+            Classified::Request(asking) => {
+                self.request(endpoint, message, asking, &request, job, reply)
+            }
             Classified::Reset => self.reject(endpoint, message.id(), reply),
             Classified::Signal { reset } => {
                 self.exchanges.expire(self.now);
@@ -284,18 +287,19 @@ impl Front {
         &mut self,
         endpoint: Endpoint,
         message: &Message<'_>,
-        asking: &Asking<'_>,
+        asking: Asking<()>,
+        request: &Request<'_>,
         job: &mut Job,
         reply: &mut Emission,
     ) -> Heard
-        requires { IsAsking asking.now }
+        requires { IsAsking asking request.now }
         ensures delivered { let f = front_expired self.old in
-            heard result job.new reply.new ≡ handed_on (asked_in f endpoint message.now asking.entry.now) f endpoint }
+            heard result job.new reply.new ≡ handed_on (asked_in f endpoint message.now asking request.now) f endpoint }
         ensures after { let f = front_expired self.old in
-            self.new ≡ after_received (asked_in f endpoint message.now asking.entry.now) f endpoint }
+            self.new ≡ after_received (asked_in f endpoint message.now asking request.now) f endpoint }
     {
         match self.exchanges.look(self.now, endpoint, message.id()) {
-            Looked::New => self.open(endpoint, message, asking, job, reply),
+            Looked::New => self.open(endpoint, message, asking, request, job, reply),
             Looked::Again(bytes) => {
                 reply.to = endpoint;
                 reply.bytes = bytes;
@@ -313,15 +317,16 @@ impl Front {
         &mut self,
         endpoint: Endpoint,
         message: &Message<'_>,
-        asking: &Asking<'_>,
+        asking: Asking<()>,
+        request: &Request<'_>,
         job: &mut Job,
         reply: &mut Emission,
     ) -> Heard
         requires new { look_in self.old endpoint message.now ≡ IsNew }
-        requires asking { IsAsking asking.now }
-        ensures delivered { let x = new_request self.old endpoint message.now asking.entry.now in
+        requires asking { IsAsking asking request.now }
+        ensures delivered { let x = new_request self.old endpoint message.now asking request.now in
             heard result job.new reply.new ≡ handed_on x self.old endpoint }
-        ensures after { let x = new_request self.old endpoint message.now asking.entry.now in
+        ensures after { let x = new_request self.old endpoint message.now asking request.now in
             self.new ≡ after_received x self.old endpoint }
     {
         match asking {
@@ -329,8 +334,8 @@ impl Front {
                 self.open_exchange(endpoint, message);
                 Heard::Nothing
             }
-            Asking::Refuse(code) => self.settle(endpoint, message, *code, None, reply),
-            Asking::Serve(request) => self.serve(endpoint, message, request, job, reply),
+            Asking::Refuse(code) => self.settle(endpoint, message, code, None, reply),
+            Asking::Serve(()) => self.serve(endpoint, message, request, job, reply),
         }
     }
 

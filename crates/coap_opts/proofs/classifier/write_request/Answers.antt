@@ -5,7 +5,7 @@ use Rattle.coap_opts.specs.Path.{method_of}
 use Rattle.coap_opts.specs.Values.{place_in, uint_value}
 use Rattle.coap_opts.specs.Verdict as spec
 use Rattle.coap_opts.proofs.Order.{proxy_fails, unknown_fails, method_fails, path_fails, service_fails, value_fails, payload_fails, none_fails, collected_proxy, collected_bad, collected_query, collected_served, known_by, asked_with}
-use Rattle.coap_opts.proofs.classifier.request.Goals as goal
+use Rattle.coap_opts.proofs.classifier.write_request.Goals as goal
 
 pub returns-then-names_proxy : goal.returns-then-names_proxy
 returns-then-names_proxy c = proxy_fails c.args.message.now (collected_proxy _ _ c.collect-collected.ensures.parts ∙ (sym c.names_proxy.ensures ∙ c.if-names_proxy.true))
@@ -55,8 +55,8 @@ returns c =
     let good = collected_bad _ _ c.collect-collected.ensures.parts _ _ c.block_of.ensures c.block_of-2.ensures ∙ (sym c.is_bad.ensures ∙ c.if-is_bad.false) in (
       none_fails c.args.message.now c.in-Some.method c.in-Some-resource_of.resource c.in-Some-action_of.action served good (le-ltb 1024 (length c.args.message.now.payload) (omega (arith, ap length c.payload-payload.ensures))),
       asked_with c.args.message.now c.in-Some.method c.in-Some-resource_of.resource c.in-Some-action_of.action _ _ _ _ _ _ _ served (collected_query _ _ c.collect-collected.ensures.parts good)
-          (c.format_of.ensures ∙ ap (option_map uint_value) c.collect-collected.ensures.parts.content_format) c.collect-collected.ensures.parts.etags
-          (c.observe_at.ensures ∙ ap (spec.observe_at c.in-Some-action_of.action) (c.observe_of.ensures ∙ ap (option_map uint_value) c.collect-collected.ensures.parts.observe))
-          (c.block_of-3.ensures ∙ ap (option_map place_in) c.collect-collected.ensures.parts.block1) (c.block_of-4.ensures ∙ ap (option_map place_in) c.collect-collected.ensures.parts.block2)
+          (c.format_of-request.ensures ∙ ap (option_map uint_value) c.collect-collected.ensures.parts.content_format) c.collect-collected.ensures.parts.etags
+          (c.observe_at-request.ensures ∙ ap (spec.observe_at c.in-Some-action_of.action) (c.observe_of.ensures ∙ ap (option_map uint_value) c.collect-collected.ensures.parts.observe))
+          (c.block_of-request.ensures ∙ ap (option_map place_in) c.collect-collected.ensures.parts.block1) (c.block_of-request-2.ensures ∙ ap (option_map place_in) c.collect-collected.ensures.parts.block2)
           c.payload-payload.ensures,
     )
