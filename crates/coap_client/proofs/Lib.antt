@@ -8,4 +8,5 @@ mod JoinedAnswers
 mod TakenBlocks
 pub mod Scheduled
 pub mod Observes
+pub mod ObserverCalls
 pub mod Watching

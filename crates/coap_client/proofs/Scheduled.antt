@@ -1,48 +1,97 @@
 -- The schedule of a request that is transmitted.
-use Rattle.std.proofs.Common.{◌≡◌, ℕ, zero, suc, ◌+◌, ◌-◌, ◌*◌, ◌<◌, ◌⊎◌, inl, inr, Bool, true, false, List, [], ◌∷◌, ◌++◌, Option, Some, None, refl, sym, ap, subst, ◌∙◌, append_assoc, arith, cond}
+use Rattle.std.proofs.Common.{◌≡◌, ℕ, zero, suc, ◌+◌, ◌-◌, ◌*◌, ◌<◌, ◌⊎◌, inl, inr, Bool, true, false, List, [], ◌∷◌, ◌++◌, Result, Ok, Err, Option, Some, None, refl, sym, ap, subst, ◌∙◌, append_assoc, arith, cond}
 use Rattle.std.specs.Prelude.{◌==◌, drop, not}
-use Rattle.std.specs.List.{All}
-use Rattle.std.proofs.lemmas.Bool.{cond-false, eqb-true, false_from_ne_true}
-use Rattle.std.proofs.lemmas.List.Elements.{All-head, All-tail, filter-append}
+use Rattle.std.proofs.lemmas.Bool.{eqb-true, false_from_ne_true}
+use Rattle.std.proofs.lemmas.List.Elements.{filter-append}
+use Rattle.coap_msg.specs.Reading.{reading_of}
 use Rattle.coap_msg.specs.Wire.{Message, message_bytes}
+use Rattle.coap_msg.specs.declared.types.Bad.{Bad}
+use Rattle.coap_msg.specs.declared.types.MessageType.{MessageType}
+use Rattle.coap_msg.specs.declared.types.MessageType.TheVariants.{Acknowledgement, Confirmable, NonConfirmable, Reset}
+use Rattle.coap_client.specs.declared.transmission.Reception.{Reception}
+use Rattle.coap_client.specs.declared.transmission.Reception.TheVariants.{Reply, Separate, Repeat, Acknowledged, Rejected, Other}
+use Rattle.coap_client.specs.Listening.{ArePassedOver, EndsBy, IsOver, IsPassedOver, acknowledges, acknowledges_kind, acknowledges_read, sent_behind}
 use Rattle.coap_client.specs.PeerCalls.{PeerCall, Sends, Waits, Receives}
+use Rattle.coap_client.specs.Registrations.{IsLeft, IsPassedOverLeaving}
 use Rattle.coap_client.specs.Schedules.{AwaitsResponse, BeginsSchedule, full_schedule, has_code, is_scheduled, schedule}
-use Rattle.coap_client.specs.Transmissions.{ack_timeout, AreInVain, EndsAnswered, EndsAwaited, IsAcknowledgedFirst, IsLastSending, IsMeanwhile, IsOver, IsSending, IsTransmission}
+use Rattle.coap_client.specs.Transmissions.{ack_timeout, acknowledges_answer, AreInVain, EndsAnswered, EndsAwaited, IsAcknowledgedFirst, IsLastSending, IsSending, IsTransmission}
 
 -- what is called one after the other
 both : (xs ys newer older : List PeerCall) → schedule xs ≡ newer → schedule ys ≡ older → schedule (xs ++ ys) ≡ newer ++ older
 both xs ys newer older x y = filter-append is_scheduled xs ys ∙ ap (λ (l : List PeerCall). l ++ schedule ys) x ∙ ap (λ (l : List PeerCall). newer ++ l) y
 
--- while a wait lasts nothing is scheduled
-reaction : (call : PeerCall) → IsMeanwhile call → is_scheduled call ≡ false
-reaction (Sends bytes) own = ap has_code own.is
-reaction (Waits seconds) own = absurd own
-reaction (Receives None) own = absurd own
-reaction (Receives (Some bytes)) own = refl
+-- an acknowledgement isn't scheduled
+acknowledgement_of : (kind : MessageType) (id : ℕ) → schedule (acknowledges_kind kind id) ≡ []
+acknowledgement_of Confirmable id = refl
+acknowledgement_of NonConfirmable id = refl
+acknowledgement_of Acknowledgement id = refl
+acknowledgement_of Reset id = refl
 
-meanwhile : (calls : List PeerCall) → All IsMeanwhile calls → schedule calls ≡ []
-meanwhile [] all = refl
-meanwhile (c ∷ calls) all =
-    cond-false (is_scheduled c) (c ∷ schedule calls) (schedule calls) (reaction c (All-head IsMeanwhile c calls all)) ∙ meanwhile calls (All-tail IsMeanwhile c calls all)
+acknowledgement_read : (r : Result Message Bad) → schedule (acknowledges_read r) ≡ []
+acknowledgement_read (Ok m) = acknowledgement_of m.kind m.id
+acknowledgement_read (Err bad) = refl
 
-over : (calls : List PeerCall) → IsOver calls → schedule calls ≡ []
-over calls o = elim o.is as (λ _. schedule calls ≡ []) [
-  | inl timed ↦ ap schedule timed ∙ meanwhile o.meanwhile o.are
-  | inr full ↦ ap schedule full.0 ∙ meanwhile o.meanwhile o.are
+acknowledgement : (bytes : List ℕ) → schedule (acknowledges bytes) ≡ []
+acknowledgement bytes = acknowledgement_read (reading_of bytes)
+
+acknowledgement_behind : (heard : Reception) (bytes : List ℕ) → schedule (sent_behind heard bytes) ≡ []
+acknowledgement_behind Reply bytes = refl
+acknowledgement_behind Separate bytes = refl
+acknowledgement_behind Repeat bytes = acknowledgement bytes
+acknowledgement_behind Acknowledged bytes = refl
+acknowledgement_behind Rejected bytes = refl
+acknowledgement_behind Other bytes = refl
+
+acknowledgement_of_answer : (answer : Option (List ℕ)) → schedule (acknowledges_answer answer) ≡ []
+acknowledgement_of_answer None = refl
+acknowledgement_of_answer (Some answer) = acknowledgement answer
+
+-- nothing that is sent behind what is passed over is scheduled
+abbrev IsQuiet : (List ℕ → List PeerCall → Type 0) → Type 0
+IsQuiet passes = (bytes : List ℕ) (sent : List PeerCall) → passes bytes sent → schedule sent ≡ []
+
+request_is_quiet : (tells : List ℕ → Reception → Type 0) (awaited : Bool) → IsQuiet (IsPassedOver tells awaited)
+request_is_quiet tells awaited bytes sent p = ap schedule p.sent_is ∙ acknowledgement_behind p.heard bytes
+
+leaving_is_quiet : (token : List ℕ) (id : ℕ) → IsQuiet (IsPassedOverLeaving token id)
+leaving_is_quiet token id bytes sent p = elim p.notification as (λ _. schedule sent ≡ []) [
+  | inl own ↦ ap schedule own.1 ∙ acknowledgement bytes
+  | inr other ↦ ap schedule other.1
 ]
 
--- after an acknowledgement a response is waited for
-acknowledged : (P : List PeerCall → Type 0) (heard : List PeerCall) → ((more : List PeerCall) → P more → schedule more ≡ []) → IsAcknowledgedFirst P heard → schedule heard ≡ Waits 93 ∷ []
-acknowledged P heard ends a =
-    ap schedule a.is ∙ both a.more (Waits 93 ∷ a.first) [] (Waits 93 ∷ []) (ends a.more a.ends) (ap (λ (l : List PeerCall). Waits 93 ∷ l) (meanwhile a.first a.are))
+-- while a wait lasts nothing is scheduled
+passed : (passes : List ℕ → List PeerCall → Type 0) → IsQuiet passes → (n : ℕ) (calls : List PeerCall) → ArePassedOver passes n calls → schedule calls ≡ []
+passed passes quiet zero calls none = ap schedule none
+passed passes quiet (suc n) calls one =
+    ap schedule one.is
+    ∙ both one.sent (Receives (Some one.bytes) ∷ one.older) [] [] (quiet one.bytes one.sent one.passed) (passed passes quiet n one.older one.before)
 
-awaited : (answer : Option ℕ) (heard : List PeerCall) → EndsAwaited answer heard → schedule heard ≡ []
-awaited None heard ends = over heard ends
-awaited (Some count) heard ends = meanwhile heard ends
+over : (passes : List ℕ → List PeerCall → Type 0) → IsQuiet passes → (calls : List PeerCall) → IsOver passes calls → schedule calls ≡ []
+over passes quiet calls o = elim o.is as (λ _. schedule calls ≡ []) [
+  | inl timed ↦ ap schedule timed ∙ passed passes quiet o.n o.older o.before
+  | inr full ↦ ap schedule full.0 ∙ passed passes quiet o.n o.older o.before
+]
 
--- an answer is acknowledged, or it isn't
-taken : (confirmable : Bool) (request : List ℕ) (answer : Option ℕ) (calls : List PeerCall) (t : IsTransmission confirmable request answer calls) → schedule calls ≡ schedule t.asked
-taken confirmable request answer calls t = ap schedule t.is ∙ both t.taken t.asked [] (schedule t.asked) (meanwhile t.taken t.acknowledged) refl
+ended : (passes : List ℕ → List PeerCall → Type 0) → IsQuiet passes → (bytes : List ℕ) (calls : List PeerCall) → EndsBy passes bytes calls → schedule calls ≡ []
+ended passes quiet bytes calls e = ap schedule e.is ∙ passed passes quiet e.n e.older e.before
+
+-- an answer is awaited
+awaited : (tells : List ℕ → Reception → Type 0) (answer : Option (List ℕ)) (heard : List PeerCall) → EndsAwaited tells answer heard → schedule heard ≡ []
+awaited tells None heard ends = over (IsPassedOver tells true) (request_is_quiet tells true) heard ends
+awaited tells (Some answer) heard ends = ended (IsPassedOver tells true) (request_is_quiet tells true) answer heard ends.1
+
+-- after an acknowledgement it is waited for longer
+acknowledged : (tells : List ℕ → Reception → Type 0) (answer : Option (List ℕ)) (heard : List PeerCall) → IsAcknowledgedFirst tells answer heard → schedule heard ≡ Waits 93 ∷ []
+acknowledged tells answer heard a =
+    ap schedule a.is
+    ∙ both a.more (Waits 93 ∷ a.first) [] (Waits 93 ∷ []) (awaited tells answer a.more a.ends)
+    (ap (λ (l : List PeerCall). Waits 93 ∷ l) (ended (IsPassedOver tells false) (request_is_quiet tells false) a.acknowledged.0 a.first a.acknowledged.2))
+
+-- and acknowledged where it asks for that
+taken : (confirmable : Bool) (tells : List ℕ → Reception → Type 0) (request : List ℕ) (answer : Option (List ℕ)) (calls : List PeerCall) (t : IsTransmission confirmable tells request answer calls)
+    → schedule calls ≡ schedule t.asked
+taken confirmable tells request answer calls t =
+    ap schedule t.is ∙ both (acknowledges_answer answer) t.asked [] (schedule t.asked) (acknowledgement_of_answer answer) refl
 
 -- ---- of a message that isn't empty
 module _ (m : Message) (coded : m.code ≡ 0 → ⊥) where
@@ -78,51 +127,65 @@ module _ (m : Message) (coded : m.code ≡ 0 → ⊥) where
       ∙ append_assoc newer (Waits (ack_timeout n) ∷ Sends request ∷ []) (first_of n)
       ∙ ap (λ (l : List PeerCall). newer ++ l) (one_more n few)
 
-  in_vain : (n : ℕ) (calls : List PeerCall) → n < 6 → AreInVain request n calls → schedule calls ≡ first_of n
-  in_vain zero calls few none = ap schedule none
-  in_vain (suc n) calls few again =
-      once_more n IsOver calls again.older again.last [] (omega (arith, few)) (in_vain n again.older (omega (arith, few)) again.before) again.in_vain
-      (over again.in_vain.heard again.in_vain.ends) again.is
+  in_vain : (passes : List ℕ → List PeerCall → Type 0) → IsQuiet passes → (n : ℕ) (calls : List PeerCall) → n < 6 → AreInVain passes request n calls → schedule calls ≡ first_of n
+  in_vain passes quiet zero calls few none = ap schedule none
+  in_vain passes quiet (suc n) calls few again =
+      once_more n (IsOver passes) calls again.older again.last [] (omega (arith, few)) (in_vain passes quiet n again.older (omega (arith, few)) again.before) again.in_vain
+      (over passes quiet again.in_vain.heard again.in_vain.ends) again.is
       ∙ ap first_of (omega arith)
 
   -- and then no more
-  last : (P : List PeerCall → Type 0) (calls newer : List PeerCall) (s : IsLastSending request P calls) → schedule s.sending.heard ≡ newer → schedule calls ≡ newer ++ first_of (s.n + 1)
-  last P calls newer s heard =
+  last : (passes : List ℕ → List PeerCall → Type 0) → IsQuiet passes → (P : List PeerCall → Type 0) (calls newer : List PeerCall) (s : IsLastSending passes request P calls)
+      → schedule s.sending.heard ≡ newer → schedule calls ≡ newer ++ first_of (s.n + 1)
+  last passes quiet P calls newer s heard =
       let few = s.few in
-      once_more s.n P calls s.older s.last newer few (in_vain s.n s.older (omega (arith, few)) s.before) s.sending heard s.is
+      once_more s.n P calls s.older s.last newer few (in_vain passes quiet s.n s.older (omega (arith, few)) s.before) s.sending heard s.is
 
   begins : (n : ℕ) → n < 5 → BeginsSchedule request (first_of (n + 1))
   begins n few = (5 - (n + 1), omega (arith, few), refl)
 
   -- at once, or after an acknowledgement
-  begun : (P : List PeerCall → Type 0) (calls : List PeerCall) (s : IsLastSending request P calls) → schedule s.sending.heard ≡ [] → BeginsSchedule request (schedule calls)
-  begun P calls s heard = subst (BeginsSchedule request) (sym (last P calls [] s heard)) (begins s.n s.few)
+  begun : (passes : List ℕ → List PeerCall → Type 0) → IsQuiet passes → (P : List PeerCall → Type 0) (calls : List PeerCall) (s : IsLastSending passes request P calls)
+      → schedule s.sending.heard ≡ [] → BeginsSchedule request (schedule calls)
+  begun passes quiet P calls s heard = subst (BeginsSchedule request) (sym (last passes quiet P calls [] s heard)) (begins s.n s.few)
 
-  begun_later : (P : List PeerCall → Type 0) (calls : List PeerCall) (s : IsLastSending request P calls) → schedule s.sending.heard ≡ Waits 93 ∷ [] → AwaitsResponse request (schedule calls)
-  begun_later P calls s heard = (first_of (s.n + 1), begins s.n s.few, last P calls (Waits 93 ∷ []) s heard)
+  begun_later : (passes : List ℕ → List PeerCall → Type 0) → IsQuiet passes → (P : List PeerCall → Type 0) (calls : List PeerCall) (s : IsLastSending passes request P calls)
+      → schedule s.sending.heard ≡ Waits 93 ∷ [] → AwaitsResponse request (schedule calls)
+  begun_later passes quiet P calls s heard = (first_of (s.n + 1), begins s.n s.few, last passes quiet P calls (Waits 93 ∷ []) s heard)
 
   -- ---- transmissions
 
-  pub unanswered : (calls : List PeerCall) → IsTransmission true request None calls → (schedule calls ≡ full_schedule request) ⊎ AwaitsResponse request (schedule calls)
-  unanswered calls t =
-      let own = sym (taken true request None calls t) in
+  pub unanswered : (tells : List ℕ → Reception → Type 0) (calls : List PeerCall) → IsTransmission true tells request None calls
+      → (schedule calls ≡ full_schedule request) ⊎ AwaitsResponse request (schedule calls)
+  unanswered tells calls t =
+      let passes = IsPassedOver tells false in
+      let quiet = request_is_quiet tells false in
+      let own = sym (taken true tells request None calls t) in
       subst (λ (l : List PeerCall). (l ≡ full_schedule request) ⊎ AwaitsResponse request l) own (elim t.is_asked as (λ _. (schedule t.asked ≡ full_schedule request) ⊎ AwaitsResponse request (schedule t.asked)) [
-        | inl all ↦ inl (in_vain 5 t.asked (omega arith) all)
-        | inr s ↦ inr (begun_later (IsAcknowledgedFirst IsOver) t.asked s (acknowledged IsOver s.sending.heard over s.sending.ends))
+        | inl all ↦ inl (in_vain passes quiet 5 t.asked (omega arith) all)
+        | inr s ↦ inr (begun_later passes quiet (IsAcknowledgedFirst tells None) t.asked s (acknowledged tells None s.sending.heard s.sending.ends))
       ])
 
-  pub answered : (count : ℕ) (calls : List PeerCall) → IsTransmission true request (Some count) calls → BeginsSchedule request (schedule calls) ⊎ AwaitsResponse request (schedule calls)
-  answered count calls t =
-      let own = sym (taken true request (Some count) calls t) in
+  pub answered : (tells : List ℕ → Reception → Type 0) (answer : List ℕ) (calls : List PeerCall) → IsTransmission true tells request (Some answer) calls
+      → BeginsSchedule request (schedule calls) ⊎ AwaitsResponse request (schedule calls)
+  answered tells answer calls t =
+      let passes = IsPassedOver tells false in
+      let quiet = request_is_quiet tells false in
+      let own = sym (taken true tells request (Some answer) calls t) in
       let s = t.is_asked in
       subst (λ (l : List PeerCall). BeginsSchedule request l ⊎ AwaitsResponse request l) own (elim s.sending.ends as (λ _. BeginsSchedule request (schedule t.asked) ⊎ AwaitsResponse request (schedule t.asked)) [
-        | inl at_once ↦ inl (begun EndsAnswered t.asked s (meanwhile s.sending.heard at_once))
-        | inr later ↦ inr (begun_later EndsAnswered t.asked s (acknowledged (All IsMeanwhile) s.sending.heard meanwhile later))
+        | inl at_once ↦ inl (begun passes quiet (EndsAnswered tells answer) t.asked s (ended passes quiet answer s.sending.heard at_once.1))
+        | inr later ↦ inr (begun_later passes quiet (EndsAnswered tells answer) t.asked s (acknowledged tells (Some answer) s.sending.heard later))
       ])
 
-  pub sent_once : (answer : Option ℕ) (calls : List PeerCall) → IsTransmission false request answer calls → schedule calls ≡ Waits 32 ∷ Sends request ∷ []
-  sent_once answer calls t =
-      taken false request answer calls t ∙ sent 32 (EndsAwaited answer) t.asked [] t.is_asked (awaited answer t.is_asked.heard t.is_asked.ends)
+  pub sent_once : (tells : List ℕ → Reception → Type 0) (answer : Option (List ℕ)) (calls : List PeerCall) → IsTransmission false tells request answer calls
+      → schedule calls ≡ Waits 32 ∷ Sends request ∷ []
+  sent_once tells answer calls t =
+      taken false tells request answer calls t ∙ sent 32 (EndsAwaited tells answer) t.asked [] t.is_asked (awaited tells answer t.is_asked.heard t.is_asked.ends)
 
-  pub acknowledged_at_last : (calls : List PeerCall) → IsLastSending request (All IsMeanwhile) calls → BeginsSchedule request (schedule calls)
-  acknowledged_at_last calls s = begun (All IsMeanwhile) calls s (meanwhile s.sending.heard s.sending.ends)
+  pub acknowledged_at_last : (token : List ℕ) (id : ℕ) (calls : List PeerCall) → IsLastSending (IsPassedOverLeaving token id) request (IsLeft token id) calls
+      → BeginsSchedule request (schedule calls)
+  acknowledged_at_last token id calls s =
+      let passes = IsPassedOverLeaving token id in
+      let quiet = leaving_is_quiet token id in
+      begun passes quiet (IsLeft token id) calls s (ended passes quiet s.sending.ends.bytes s.sending.heard s.sending.ends.ends)

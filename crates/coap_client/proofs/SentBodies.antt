@@ -1,5 +1,5 @@
 -- What is sent of a request's body before a fetch ends.
-use Rattle.std.proofs.Common.{◌≡◌, inl, inr, ℕ, ◌%◌, ◌+◌, ◌*◌, ◌≤◌, ◌==◌, nat_lt, nat_le, bytes_eq, true, List, [], ◌∷◌, ◌++◌, length, take, Option, Some, None, refl, sym, ap, subst, ◌∙◌, arith}
+use Rattle.std.proofs.Common.{◌≡◌, ℕ, ◌%◌, ◌+◌, ◌*◌, ◌≤◌, ◌==◌, nat_lt, nat_le, bytes_eq, true, List, [], ◌∷◌, ◌++◌, length, take, Option, Some, None, refl, sym, ap, subst, ◌∙◌, arith}
 use Rattle.std.proofs.lemmas.Bool.{ltb-false}
 use Rattle.std.proofs.lemmas.List.{append-nil, take_all}
 use Rattle.std.proofs.Math.Seq.{take-add}
@@ -15,7 +15,7 @@ use Rattle.coap_client.specs.declared.reply.Next.TheVariants as next
 use Rattle.std.specs.List.{All}
 use Rattle.std.proofs.lemmas.List.Elements.{All-nil, All-cons}
 use Rattle.coap_client.specs.Requests.{part_request}
-use Rattle.coap_client.specs.Fetching.{State, Out, Ended, Outdated, Lost, AnswersInState, AreReplies, IsFetched, RepliesLeadTo, after_reply, moved_on, state_after, taken_ids}
+use Rattle.coap_client.specs.Fetching.{State, Out, Ended, Outdated, Lost, AnswersInState, AreReplies, RepliesLeadTo, after_reply, moved_on, state_after, taken_ids}
 use Rattle.coap_client.specs.Joined.{SendsWhole, payloads}
 use Rattle.coap_client.specs.Parts.{block_of, first_part, has_more, part_payload}
 use Rattle.coap_client.specs.Replies.{block1_of, block2_of, by_more, by_option, by_part, etag_of, is_continue, is_final, fits_place, is_success, is_understood, next_block, next_by_code, next_number, next_of_answer, next_of_body, next_of_whole, next_size}
@@ -169,14 +169,10 @@ requests_went went came e first known (m ∷ ms) are =
     one_went went came e ((first + length ms) % 65536) (taken_ids known ms) (state_after e ms) m (requests_of e first ms) are.1 (requests_went went came e first known ms are.0)
 
 -- a fetch that ended by a success has sent the whole body
-pub went_whole : (went came : List ℕ → Type 0) (e : Errand) (first : ℕ) (known : List ℕ) (code : ℕ) (answer : List ℕ) →
-    RepliesLeadTo went came e first known (Ended code answer) → SendsWhole went e code
-went_whole went came e first known code answer l success = record {
+pub went_whole : (went came : List ℕ → Type 0) (e : Errand) (first : ℕ) (known : List ℕ) (Called : List Message → Type 0) (code : ℕ) (answer : List ℕ) →
+    RepliesLeadTo went came e first known Called (Ended code answer) → SendsWhole went e code
+went_whole went came e first known Called code answer l success = record {
   requests = requests_of e first l.replies;
   each = requests_went went came e first known l.replies l.are;
   joined = requests_join e first l.replies ∙ whole_sent e l.replies code answer l.leads success;
 }
-
-pub fetched_whole : (went came : List ℕ → Type 0) (e : Errand) (first code : ℕ) (answer : List ℕ) → IsFetched went came e first code answer → SendsWhole went e code
-fetched_whole went came e first code answer (inl l) = went_whole went came e first [] code answer l
-fetched_whole went came e first code answer (inr r) = went_whole went came e _ _ code answer r.again

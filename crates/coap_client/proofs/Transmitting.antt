@@ -1,17 +1,22 @@
 -- What is called on a peer, one call behind the other.
-use Rattle.std.proofs.Common.{◌≡◌, ◌%◌, ℕ, zero, suc, IfOk, IfSome, Result, Ok, Err, ◌+◌, ◌<◌, ◌≤◌, ◌^◌, inl, inr, Bool, List, [], ◌∷◌, ◌++◌, length, Option, Some, None, refl, sym, ◌∙◌, ap, subst, append_assoc, length-append, take, add-one, arith}
-use Rattle.std.specs.List.{All}
-use Rattle.std.proofs.lemmas.List.Elements.{All-append, All-cons, All-nil}
-use Rattle.coap_msg.specs.Wire.{message_bytes}
-use Rattle.coap_client.specs.declared.errand.Errand.{Errand}
+use Rattle.std.proofs.Common.{◌≡◌, ℕ, suc, IfOk, IfSome, Result, Ok, Err, ◌+◌, ◌<◌, ◌^◌, inl, inr, Bool, true, false, List, [], ◌∷◌, ◌++◌, Option, Some, None, refl, sym, ◌∙◌, ap, subst, append_assoc, take, add-one}
 use Rattle.coap_client.specs.declared.fetcher.FetchFault.{FetchFault}
-use Rattle.coap_client.specs.declared.part.Part.{Part}
-use Rattle.coap_client.specs.Requests.{IsPartOf, part_request}
-use Rattle.coap_client.specs.PeerCalls.{Adds, PeerCall, Sends, Waits, Receives, receives_in}
-use Rattle.coap_client.specs.Transmissions.{ack_timeout, most_sendings, non_wait, separate_wait, AreInVain, AreTransmissions, MakesCalls, IsAcknowledgedFirst, EndsAnswered, IsTransmitted, IsAskedAgain, EndsAwaited, IsLastSending, IsMeanwhile, IsOver, IsSending, IsTransmission}
+use Rattle.coap_client.specs.declared.transmission.Reception.{Reception}
+use Rattle.coap_client.specs.declared.transmission.Reception.TheVariants.{Reply, Separate, Repeat, Acknowledged, Rejected, Other}
+use Rattle.coap_client.specs.declared.transmission.SentRequest.{SentRequest}
+use Rattle.coap_client.specs.Heard.{IsAwaitedAnswer, TellsSent}
+use Rattle.coap_client.specs.Listening.{ArePassedOver, EndsBy, IsAcknowledged, IsAnswered, IsOver, IsPassedOver, acknowledges, is_answer, is_passed_over, sent_behind}
+use Rattle.coap_client.specs.PeerCalls.{Adds, PeerCall, Sends, Waits, Receives, bytes_in, receives_in}
+use Rattle.coap_client.specs.Transmissions.{ack_timeout, most_sendings, non_wait, separate_wait, AreBehind, AreInVain, MakesCalls, IsAcknowledgedFirst, EndsAnswered, IsTransmitted, IsAskedAgain, EndsAwaited, IsLastSending, IsSending, IsTransmission}
 
-abbrev Calls : Type 1
+abbrev pub Calls : Type 1
 Calls = List PeerCall → Type 0
+
+abbrev Passes : Type 1
+Passes = List ℕ → List PeerCall → Type 0
+
+abbrev Told : Type 1
+Told = List ℕ → Reception → Type 0
 
 -- nothing is called
 pub does_nothing : (now P : Calls) → P [] → MakesCalls now now P
@@ -42,39 +47,113 @@ does_of before after P Q one turns calls h = let a = one calls h in record { mor
 
 -- ---- while a wait lasts
 
--- so many datagrams came at least
-pub record HasCome (n : ℕ) (heard : List PeerCall) : Type 0 where
-  pub are : All IsMeanwhile heard
-  pub many : n ≤ length heard
+pub none_come : (passes : Passes) (now : Calls) → MakesCalls now now (ArePassedOver passes 0)
+none_come passes now = does_nothing now (ArePassedOver passes 0) refl
 
-pub none_come : (now : Calls) → MakesCalls now now (HasCome 0)
-none_come now = does_nothing now (HasCome 0) (record { are = All-nil IsMeanwhile; many = omega arith })
+-- another one comes
+record Comes (passes : Passes) (n : ℕ) (bytes : List ℕ) (calls : List PeerCall) : Type 0 where
+  pub older : List PeerCall
+  pub before : ArePassedOver passes n older
+  pub is : calls ≡ Receives (Some bytes) ∷ older
 
--- another one comes, and is acknowledged or not
-pub one_comes : (n count : ℕ) (buffer : List ℕ) (o : Option ℕ) (before between after later : Calls) → o ≡ Some count → MakesCalls before between (HasCome n)
-    → Adds between after (receives_in buffer o ∷ []) → MakesCalls after later (All IsMeanwhile) → MakesCalls before later (HasCome (n + 1))
-one_comes n count buffer o before between after later some one adds other =
-    let call = Receives (Some (take count buffer)) in
-    does_both before after later (HasCome (n + 1)) (All IsMeanwhile) (HasCome (n + 1))
-    (does_then before between after (HasCome n) (HasCome (n + 1)) (call ∷ []) one (subst (λ (x : Option ℕ). Adds between after (receives_in buffer x ∷ [])) some adds)
-    (λ first h. record { are = All-cons IsMeanwhile call first tt h.are; many = omega (arith, h.many) }))
-    other
-    (λ first second a b. record { are = All-append IsMeanwhile second first b a.are; many = omega (arith, a.many, length-append second first) })
+comes : (passes : Passes) (n count : ℕ) (buffer : List ℕ) (o : Option ℕ) (before between after : Calls) → o ≡ Some count → MakesCalls before between (ArePassedOver passes n)
+    → Adds between after (receives_in buffer o ∷ []) → MakesCalls before after (Comes passes n (take count buffer))
+comes passes n count buffer o before between after some one adds =
+    does_then before between after (ArePassedOver passes n) (Comes passes n (take count buffer)) (Receives (Some (take count buffer)) ∷ []) one
+    (subst (λ (x : Option ℕ). Adds between after (receives_in buffer x ∷ [])) some adds)
+    (λ first h. record { older = first; before = h; is = refl })
+
+pub ended : (passes : Passes) (n count : ℕ) (buffer : List ℕ) (o : Option ℕ) (before between after : Calls) → o ≡ Some count → MakesCalls before between (ArePassedOver passes n)
+    → Adds between after (receives_in buffer o ∷ []) → MakesCalls before after (EndsBy passes (take count buffer))
+ended passes n count buffer o before between after some one adds =
+    does_of before after (Comes passes n (take count buffer)) (EndsBy passes (take count buffer)) (comes passes n count buffer o before between after some one adds)
+    (λ calls h. record { n = n; older = h.older; before = h.before; is = h.is })
+
+-- another one comes, and is passed over
+pub one_comes : (passes : Passes) (n count : ℕ) (buffer : List ℕ) (o : Option ℕ) (before between after later : Calls) → o ≡ Some count → MakesCalls before between (ArePassedOver passes n)
+    → Adds between after (receives_in buffer o ∷ []) → MakesCalls after later (passes (take count buffer)) → MakesCalls before later (ArePassedOver passes (n + 1))
+one_comes passes n count buffer o before between after later some one adds other =
+    subst (λ (x : ℕ). MakesCalls before later (ArePassedOver passes x)) (sym (add-one n))
+    (does_both before after later (Comes passes n (take count buffer)) (passes (take count buffer)) (ArePassedOver passes (suc n))
+    (comes passes n count buffer o before between after some one adds) other
+    (λ first second a b. record {
+      older = a.older;
+      before = a.before;
+      bytes = take count buffer;
+      sent = second;
+      passed = b;
+      is = ap (λ (x : List PeerCall). second ++ x) a.is;
+    }))
 
 -- the wait is over
-pub over : (n : ℕ) (buffer : List ℕ) (o : Option ℕ) (before between after : Calls) → o ≡ None → MakesCalls before between (HasCome n)
-    → Adds between after (receives_in buffer o ∷ []) → MakesCalls before after IsOver
-over n buffer o before between after none one adds =
-    does_then before between after (HasCome n) IsOver (Receives None ∷ []) one (subst (λ (x : Option ℕ). Adds between after (receives_in buffer x ∷ [])) none adds)
-    (λ first h. record { meanwhile = first; are = h.are; is = inl refl })
-
-pub come : (n : ℕ) (before after : Calls) → MakesCalls before after (HasCome n) → MakesCalls before after (All IsMeanwhile)
-come n before after one = does_of before after (HasCome n) (All IsMeanwhile) one (λ heard h. h.are)
+pub over : (passes : Passes) (n : ℕ) (buffer : List ℕ) (o : Option ℕ) (before between after : Calls) → o ≡ None → MakesCalls before between (ArePassedOver passes n)
+    → Adds between after (receives_in buffer o ∷ []) → MakesCalls before after (IsOver passes)
+over passes n buffer o before between after none one adds =
+    does_then before between after (ArePassedOver passes n) (IsOver passes) (Receives None ∷ []) one (subst (λ (x : Option ℕ). Adds between after (receives_in buffer x ∷ [])) none adds)
+    (λ first h. record { n = n; older = first; before = h; is = inl refl })
 
 -- so many came that no more are listened to
-pub flooded : (n : ℕ) (before after : Calls) → 2 ^ 64 ≤ n + 1 → MakesCalls before after (HasCome n) → MakesCalls before after IsOver
-flooded n before after many one =
-    does_of before after (HasCome n) IsOver one (λ heard h. record { meanwhile = heard; are = h.are; is = inr (refl, (let m = h.many in omega (arith, m, many))) })
+pub flooded : (passes : Passes) (n : ℕ) (before after : Calls) → n + 1 ≡ 2 ^ 64 → MakesCalls before after (ArePassedOver passes n) → MakesCalls before after (IsOver passes)
+flooded passes n before after many one =
+    does_of before after (ArePassedOver passes n) (IsOver passes) one (λ heard h. record { n = n; older = heard; before = h; is = inr (refl, many) })
+
+-- ---- by what a datagram is to a request
+
+pub passed : (tells : Told) (awaited : Bool) (bytes : List ℕ) (heard : Reception) (before after : Calls) → tells bytes heard → is_passed_over awaited heard ≡ true
+    → Adds before after (sent_behind heard bytes) → MakesCalls before after (IsPassedOver tells awaited bytes)
+passed tells awaited bytes heard before after told over adds =
+    does before after (IsPassedOver tells awaited bytes) (sent_behind heard bytes) adds (record { heard = heard; told = told; passed = over; sent_is = refl })
+
+-- behind what isn't passed over nothing is sent
+quiet : (awaited : Bool) (bytes : List ℕ) (heard : Reception) (before after : Calls) → is_passed_over awaited heard ≡ false → Adds before after (sent_behind heard bytes) → Adds before after []
+quiet awaited bytes Reply before after ends adds = adds
+quiet awaited bytes Separate before after ends adds = adds
+quiet awaited bytes Repeat before after ends adds = absurd (cc ends)
+quiet awaited bytes Acknowledged before after ends adds = adds
+quiet awaited bytes Rejected before after ends adds = adds
+quiet awaited bytes Other before after ends adds = adds
+
+pub ended_by : (tells : Told) (awaited : Bool) (n count : ℕ) (buffer : List ℕ) (o : Option ℕ) (heard : Reception) (before between after later : Calls) → o ≡ Some count
+    → MakesCalls before between (ArePassedOver (IsPassedOver tells awaited) n) → Adds between after (receives_in buffer o ∷ []) → is_passed_over awaited heard ≡ false
+    → Adds after later (sent_behind heard (take count buffer)) → MakesCalls before later (EndsBy (IsPassedOver tells awaited) (take count buffer))
+ended_by tells awaited n count buffer o heard before between after later some one adds ends sends =
+    let passes = IsPassedOver tells awaited in
+    does_then before after later (EndsBy passes (take count buffer)) (EndsBy passes (take count buffer)) [] (ended passes n count buffer o before between after some one adds)
+    (quiet awaited (take count buffer) heard after later ends sends) (λ first h. h)
+
+-- what ends a wait and is neither an acknowledgement nor a rejection answers
+answering : (awaited : Bool) (heard : Reception) → is_passed_over awaited heard ≡ false → (heard ≡ Acknowledged → ⊥) → (heard ≡ Rejected → ⊥) → is_answer awaited heard ≡ true
+answering awaited Reply ends acknowledged rejected = refl
+answering true Separate ends acknowledged rejected = refl
+answering false Separate ends acknowledged rejected = absurd (cc ends)
+answering awaited Repeat ends acknowledged rejected = absurd (cc ends)
+answering awaited Acknowledged ends acknowledged rejected = absurd (acknowledged refl)
+answering awaited Rejected ends acknowledged rejected = absurd (rejected refl)
+answering awaited Other ends acknowledged rejected = absurd (cc ends)
+
+-- and as one that is awaited
+pub awaited_answer : (came : List ℕ → Type 0) (r : SentRequest) (awaited : Bool) (bytes : List ℕ) (heard : Reception) → came bytes → TellsSent r bytes heard
+    → is_passed_over awaited heard ≡ false → (heard ≡ Acknowledged → ⊥) → (heard ≡ Rejected → ⊥) → IsAwaitedAnswer came r awaited bytes
+awaited_answer came r awaited bytes Reply came_is told ends acknowledged rejected = record { message = told.message; came_is = came_is; read_is = told.read_is; answers = inl told.holds }
+awaited_answer came r true bytes Separate came_is told ends acknowledged rejected = record { message = told.message; came_is = came_is; read_is = told.read_is; answers = inr (refl, told.holds) }
+awaited_answer came r false bytes Separate came_is told ends acknowledged rejected = absurd (cc ends)
+awaited_answer came r awaited bytes Repeat came_is told ends acknowledged rejected = absurd (cc ends)
+awaited_answer came r awaited bytes Acknowledged came_is told ends acknowledged rejected = absurd (acknowledged refl)
+awaited_answer came r awaited bytes Rejected came_is told ends acknowledged rejected = absurd (rejected refl)
+awaited_answer came r awaited bytes Other came_is told ends acknowledged rejected = absurd (cc ends)
+
+pub answer_came : (tells : Told) (awaited : Bool) (answer : List ℕ) (heard : Reception) (before after : Calls) → tells answer heard → is_passed_over awaited heard ≡ false
+    → (heard ≡ Acknowledged → ⊥) → (heard ≡ Rejected → ⊥) → MakesCalls before after (EndsBy (IsPassedOver tells awaited) answer) → MakesCalls before after (IsAnswered tells awaited answer)
+answer_came tells awaited answer heard before after told ends acknowledged rejected one =
+    does_of before after (EndsBy (IsPassedOver tells awaited) answer) (IsAnswered tells awaited answer) one
+    (λ calls h. (record { heard = heard; told = told; answers = answering awaited heard ends acknowledged rejected }, h))
+
+pub acknowledgement_came : (tells : Told) (awaited : Bool) (bytes : List ℕ) (heard : Reception) (before after : Calls) → tells bytes heard → is_passed_over awaited heard ≡ false
+    → heard ≡ Acknowledged → MakesCalls before after (EndsBy (IsPassedOver tells awaited) bytes) → MakesCalls before after (λ calls. (awaited ≡ false) × IsAcknowledged tells calls)
+acknowledgement_came tells awaited bytes heard before after told ends is one =
+    let not_awaited : awaited ≡ false = sym (ap (is_passed_over awaited) is) ∙ ends in
+    does_of before after (EndsBy (IsPassedOver tells awaited) bytes) (λ calls. (awaited ≡ false) × IsAcknowledged tells calls) one
+    (λ calls h. (not_awaited, (bytes, subst (tells bytes) is told, subst (λ (b : Bool). EndsBy (IsPassedOver tells b) bytes calls) not_awaited h)))
 
 -- ---- a request
 
@@ -87,29 +166,28 @@ sending request seconds before between after P adds one =
     (λ first heard is h. record { heard = heard; ends = h; is = ap (λ (x : List PeerCall). heard ++ x) is })
 
 -- once more in vain
-pub in_vain : (request : List ℕ) (n : ℕ) (before between after : Calls) → MakesCalls before between (AreInVain request n) → MakesCalls between after (IsSending request (ack_timeout n) IsOver)
-    → MakesCalls before after (AreInVain request (n + 1))
-in_vain request n before between after one other = subst (λ (x : ℕ). MakesCalls before after (AreInVain request x)) (sym (add-one n))
-    (
-    does_both before between after (AreInVain request n) (IsSending request (ack_timeout n) IsOver) (AreInVain request (suc n)) one other
+pub in_vain : (passes : Passes) (request : List ℕ) (n : ℕ) (before between after : Calls) → MakesCalls before between (AreInVain passes request n)
+    → MakesCalls between after (IsSending request (ack_timeout n) (IsOver passes)) → MakesCalls before after (AreInVain passes request (n + 1))
+in_vain passes request n before between after one other = subst (λ (x : ℕ). MakesCalls before after (AreInVain passes request x)) (sym (add-one n))
+    (does_both before between after (AreInVain passes request n) (IsSending request (ack_timeout n) (IsOver passes)) (AreInVain passes request (suc n)) one other
     (λ older last a b. record { older = older; before = a; last = last; in_vain = b; is = refl }))
 
 -- for the last time
-pub last_sending : (request : List ℕ) (n : ℕ) (before between after P : Calls) → n < most_sendings → MakesCalls before between (AreInVain request n)
-    → MakesCalls between after (IsSending request (ack_timeout n) P) → MakesCalls before after (IsLastSending request P)
-last_sending request n before between after P few one other =
-    does_both before between after (AreInVain request n) (IsSending request (ack_timeout n) P) (IsLastSending request P) one other
+pub last_sending : (passes : Passes) (request : List ℕ) (n : ℕ) (before between after P : Calls) → n < most_sendings → MakesCalls before between (AreInVain passes request n)
+    → MakesCalls between after (IsSending request (ack_timeout n) P) → MakesCalls before after (IsLastSending passes request P)
+last_sending passes request n before between after P few one other =
+    does_both before between after (AreInVain passes request n) (IsSending request (ack_timeout n) P) (IsLastSending passes request P) one other
     (λ older last a b. record { n = n; few = few; older = older; before = a; last = last; sending = b; is = refl })
 
 -- it is acknowledged, and its answer waited for
-pub acknowledged : (before between begun after P : Calls) → MakesCalls before between (All IsMeanwhile) → Adds between begun (Waits separate_wait ∷ []) → MakesCalls begun after P
-    → MakesCalls before after (IsAcknowledgedFirst P)
-acknowledged before between begun after P one adds other calls h =
+acknowledged : (tells : Told) (answer : Option (List ℕ)) (before between begun after : Calls) → MakesCalls before between (IsAcknowledged tells)
+    → Adds between begun (Waits separate_wait ∷ []) → MakesCalls begun after (EndsAwaited tells answer) → MakesCalls before after (IsAcknowledgedFirst tells answer)
+acknowledged tells answer before between begun after one adds other calls h =
     let a = one calls h in
     let b = other (Waits separate_wait ∷ a.more ++ calls) (adds (a.more ++ calls) a.is) in
     record {
       more = b.more ++ Waits separate_wait ∷ a.more;
-      are = record { first = a.more; are = a.are; more = b.more; ends = b.are; is = refl };
+      are = record { first = a.more; acknowledged = a.are; more = b.more; ends = b.are; is = refl };
       is = subst after (sym (append_assoc b.more (Waits separate_wait ∷ a.more) calls)) b.is;
     }
 
@@ -120,95 +198,68 @@ again request n seconds between sent after P twice adds one =
     sending request (ack_timeout n) between sent after P (subst (λ (s : ℕ). Adds between sent (Waits s ∷ Sends request ∷ [])) twice adds) one
 
 -- it is answered, after it was acknowledged or not
-pub answered : (request : List ℕ) (n count : ℕ) (before between after : Calls) → n < most_sendings → MakesCalls before between (AreInVain request n)
-    → MakesCalls between after (IsSending request (ack_timeout n) (All IsMeanwhile)) → MakesCalls before after (IsAskedAgain request (Some count))
-answered request n count before between after few one other =
-    last_sending request n before between after EndsAnswered few one
-    (does_of between after _ (IsSending request (ack_timeout n) EndsAnswered) other (λ calls s. record { heard = s.heard; ends = inl s.ends; is = s.is }))
+pub answered : (tells : Told) (request : List ℕ) (n : ℕ) (answer : List ℕ) (before between after : Calls) → n < most_sendings
+    → MakesCalls before between (AreInVain (IsPassedOver tells false) request n) → MakesCalls between after (IsSending request (ack_timeout n) (IsAnswered tells false answer))
+    → MakesCalls before after (IsAskedAgain tells request (Some answer))
+answered tells request n answer before between after few one other =
+    last_sending (IsPassedOver tells false) request n before between after (EndsAnswered tells answer) few one
+    (does_of between after (IsSending request (ack_timeout n) (IsAnswered tells false answer)) (IsSending request (ack_timeout n) (EndsAnswered tells answer)) other
+    (λ calls s. record { heard = s.heard; ends = inl s.ends; is = s.is }))
 
-pub answered_later : (request : List ℕ) (n : ℕ) (before between after : Calls) → n < most_sendings → MakesCalls before between (AreInVain request n)
-    → (r : Result (Option ℕ) FetchFault) → IfOk r (λ answer. MakesCalls between after (IsSending request (ack_timeout n) (IsAcknowledgedFirst (EndsAwaited answer))))
-    → IfOk r (λ answer. MakesCalls before after (IsAskedAgain request answer))
-answered_later request n before between after few one (Ok None) other =
-    does_of before after (IsLastSending request (IsAcknowledgedFirst IsOver)) (IsAskedAgain request None) (last_sending request n before between after (IsAcknowledgedFirst IsOver) few one other)
-    (λ calls s. inr s)
-answered_later request n before between after few one (Ok (Some count)) other =
-    last_sending request n before between after EndsAnswered few one
-    (does_of between after _ (IsSending request (ack_timeout n) EndsAnswered) other (λ calls s. record { heard = s.heard; ends = inr s.ends; is = s.is }))
-answered_later request n before between after few one (Err fault) other = tt
-
-pub in_vain_to_the_end : (request : List ℕ) (n : ℕ) (before after : Calls) → n ≡ most_sendings → MakesCalls before after (AreInVain request n) → MakesCalls before after (IsAskedAgain request None)
-in_vain_to_the_end request n before after five one =
-    does_of before after (AreInVain request most_sendings) (IsAskedAgain request None) (subst (λ (x : ℕ). MakesCalls before after (AreInVain request x)) five one) (λ calls s. inl s)
+answered_later : (tells : Told) (request : List ℕ) (n : ℕ) (answer : Option (List ℕ)) (before between after : Calls) → n < most_sendings
+    → MakesCalls before between (AreInVain (IsPassedOver tells false) request n) → MakesCalls between after (IsSending request (ack_timeout n) (IsAcknowledgedFirst tells answer))
+    → MakesCalls before after (IsAskedAgain tells request answer)
+answered_later tells request n None before between after few one other =
+    let passes = IsPassedOver tells false in
+    does_of before after (IsLastSending passes request (IsAcknowledgedFirst tells None)) (IsAskedAgain tells request None)
+    (last_sending passes request n before between after (IsAcknowledgedFirst tells None) few one other) (λ calls s. inr s)
+answered_later tells request n (Some answer) before between after few one other =
+    last_sending (IsPassedOver tells false) request n before between after (EndsAnswered tells answer) few one
+    (does_of between after (IsSending request (ack_timeout n) (IsAcknowledgedFirst tells (Some answer))) (IsSending request (ack_timeout n) (EndsAnswered tells answer)) other
+    (λ calls s. record { heard = s.heard; ends = inr s.ends; is = s.is }))
 
 -- it is acknowledged, and then awaited
-pub awaited : (request : List ℕ) (n seconds : ℕ) (between sent heard begun after : Calls) → seconds ≡ ack_timeout n → Adds between sent (Waits seconds ∷ Sends request ∷ [])
-    → MakesCalls sent heard (All IsMeanwhile) → Adds heard begun (Waits separate_wait ∷ []) → (r : Result (Option ℕ) FetchFault) → IfOk r (λ answer. MakesCalls begun after (EndsAwaited answer))
-    → IfOk r (λ answer. MakesCalls between after (IsSending request (ack_timeout n) (IsAcknowledgedFirst (EndsAwaited answer))))
-awaited request n seconds between sent heard begun after twice adds one waits (Ok answer) other =
-    again request n seconds between sent after (IsAcknowledgedFirst (EndsAwaited answer)) twice adds (acknowledged sent heard begun after (EndsAwaited answer) one waits other)
-awaited request n seconds between sent heard begun after twice adds one waits (Err fault) other = tt
+pub awaited : (tells : Told) (request : List ℕ) (n seconds : ℕ) (buffer : List ℕ) (before between sent heard begun after : Calls) → n < most_sendings
+    → MakesCalls before between (AreInVain (IsPassedOver tells false) request n) → seconds ≡ ack_timeout n → Adds between sent (Waits seconds ∷ Sends request ∷ [])
+    → MakesCalls sent heard (λ calls. (false ≡ false) × IsAcknowledged tells calls) → Adds heard begun (Waits separate_wait ∷ []) → (r : Result (Option ℕ) FetchFault)
+    → IfOk r (λ count. MakesCalls begun after (EndsAwaited tells (bytes_in buffer count))) → IfOk r (λ count. MakesCalls before after (IsAskedAgain tells request (bytes_in buffer count)))
+awaited tells request n seconds buffer before between sent heard begun after few one twice adds came waits (Ok count) other =
+    let answer = bytes_in buffer count in
+    answered_later tells request n answer before between after few one
+    (again request n seconds between sent after (IsAcknowledgedFirst tells answer) twice adds (acknowledged tells answer sent heard begun after
+    (does_of sent heard (λ calls. (false ≡ false) × IsAcknowledged tells calls) (IsAcknowledged tells) came (λ calls h. h.1)) waits other))
+awaited tells request n seconds buffer before between sent heard begun after few one twice adds came waits (Err fault) other = tt
+
+pub in_vain_to_the_end : (tells : Told) (request : List ℕ) (n : ℕ) (before after : Calls) → n ≡ most_sendings
+    → MakesCalls before after (AreInVain (IsPassedOver tells false) request n) → MakesCalls before after (IsAskedAgain tells request None)
+in_vain_to_the_end tells request n before after five one =
+    let passes = IsPassedOver tells false in
+    does_of before after (AreInVain passes request most_sendings) (IsAskedAgain tells request None)
+    (subst (λ (x : ℕ). MakesCalls before after (AreInVain passes request x)) five one) (λ calls s. inl s)
 
 -- another is sent once, and its answer waited for
-pub once : (request : List ℕ) (before between after : Calls) → Adds before between (Waits non_wait ∷ Sends request ∷ []) → (r : Result (Option ℕ) FetchFault)
-    → IfOk r (λ answer. MakesCalls between after (EndsAwaited answer)) → IfOk r (λ answer. MakesCalls before after (IsSending request non_wait (EndsAwaited answer)))
-once request before between after adds (Ok answer) one = sending request non_wait before between after (EndsAwaited answer) adds one
-once request before between after adds (Err fault) one = tt
+pub once : (tells : Told) (request buffer : List ℕ) (before between after : Calls) → Adds before between (Waits non_wait ∷ Sends request ∷ []) → (r : Result (Option ℕ) FetchFault)
+    → IfOk r (λ count. MakesCalls between after (EndsAwaited tells (bytes_in buffer count)))
+    → IfOk r (λ count. MakesCalls before after (IsSending request non_wait (EndsAwaited tells (bytes_in buffer count))))
+once tells request buffer before between after adds (Ok count) one = sending request non_wait before between after (EndsAwaited tells (bytes_in buffer count)) adds one
+once tells request buffer before between after adds (Err fault) one = tt
 
 -- the answer is acknowledged
-pub transmitted : (confirmable : Bool) (request : List ℕ) (answer : Option ℕ) (before between after : Calls) → MakesCalls before between (IsTransmitted confirmable request answer)
-    → MakesCalls between after (All IsMeanwhile) → MakesCalls before after (IsTransmission confirmable request answer)
-transmitted confirmable request answer before between after one other =
-    does_both before between after (IsTransmitted confirmable request answer) (All IsMeanwhile) (IsTransmission confirmable request answer) one other
-    (λ asked taken a b. record { asked = asked; is_asked = a; taken = taken; acknowledged = b; is = refl })
+pub transmitted : (confirmable : Bool) (tells : Told) (request answer : List ℕ) (before between after : Calls) → MakesCalls before between (IsTransmitted confirmable tells request (Some answer))
+    → Adds between after (acknowledges answer) → MakesCalls before after (IsTransmission confirmable tells request (Some answer))
+transmitted confirmable tells request answer before between after one adds =
+    does_then before between after (IsTransmitted confirmable tells request (Some answer)) (IsTransmission confirmable tells request (Some answer)) (acknowledges answer) one adds
+    (λ asked a. record { asked = asked; is_asked = a; is = refl })
 
--- ---- a fetch
+pub unanswered : (confirmable : Bool) (tells : Told) (request : List ℕ) (before after : Calls) → MakesCalls before after (IsTransmitted confirmable tells request None)
+    → MakesCalls before after (IsTransmission confirmable tells request None)
+unanswered confirmable tells request before after one =
+    does_of before after (IsTransmitted confirmable tells request None) (IsTransmission confirmable tells request None) one (λ asked a. record { asked = asked; is_asked = a; is = refl })
 
--- one more request
-pub one_request : (e : Errand) (first n count : ℕ) (part : Part) (confirmable : Bool) (request : List ℕ) (id : ℕ) (answer : Option ℕ) (before between after : Calls)
-    → answer ≡ Some count → confirmable ≡ e.confirmable → request ≡ message_bytes (part_request e part id) → id ≡ (first + n) % 65536 → IsPartOf e part
-    → MakesCalls before between (AreTransmissions e first n) → MakesCalls between after (IsTransmission confirmable request answer) → MakesCalls before after (AreTransmissions e first (n + 1))
-one_request e first n count part confirmable request id answer before between after some c r i own one other =
-    let last = subst (λ (a : Option ℕ). MakesCalls between after (IsTransmission e.confirmable (message_bytes (part_request e part ((first + n) % 65536))) a)) some
-    (subst (λ (x : ℕ). MakesCalls between after (IsTransmission e.confirmable (message_bytes (part_request e part x)) answer)) i
-    (subst (λ (x : List ℕ). MakesCalls between after (IsTransmission e.confirmable x answer)) r
-    (subst (λ (x : Bool). MakesCalls between after (IsTransmission x request answer)) c other))) in
-    subst (λ (x : ℕ). MakesCalls before after (AreTransmissions e first x)) (sym (add-one n))
-    (does_both before between after (AreTransmissions e first n) (IsTransmission e.confirmable (message_bytes (part_request e part ((first + n) % 65536))) (Some count)) (AreTransmissions e first (suc n)) one last
-    (λ older calls a b. record { older = older; before = a; part = part; own = own; count = count; last = calls; transmission = b; is = refl }))
-
-pub no_requests : (e : Errand) (first : ℕ) (now : Calls) → MakesCalls now now (AreTransmissions e first 0)
-no_requests e first now = does_nothing now (AreTransmissions e first 0) refl
-
-suc_left : (k j : ℕ) → suc (k + j) ≡ suc k + j
-suc_left k j = omega arith
-
--- requests go on after others
-joined : (e : Errand) (first j k : ℕ) (older calls : List PeerCall) → AreTransmissions e first j older → AreTransmissions e ((first + j) % 65536) k calls
-    → AreTransmissions e first (k + j) (calls ++ older)
-joined e first j zero older calls a b =
-    subst (λ (n : ℕ). AreTransmissions e first n (calls ++ older)) (omega arith) (subst (λ (x : List PeerCall). AreTransmissions e first j (x ++ older)) (sym b) a)
-joined e first j (suc k) older calls a b =
-    let id : ((first + j) % 65536 + k) % 65536 ≡ (first + (k + j)) % 65536 = omega arith in
-    subst (λ (n : ℕ). AreTransmissions e first n (calls ++ older)) (suc_left k j) (record {
-      older = b.older ++ older;
-      before = joined e first j k older b.older a b.before;
-      part = b.part;
-      own = b.own;
-      count = b.count;
-      last = b.last;
-      transmission = subst (λ (x : ℕ). IsTransmission e.confirmable (message_bytes (part_request e b.part x)) (Some b.count) b.last) id b.transmission;
-      is = ap (λ (x : List PeerCall). x ++ older) b.is ∙ append_assoc b.last b.older older;
-    })
-
-pub begun_again : (e : Errand) (first next j k : ℕ) (before between after : Calls) → next ≡ (first + j) % 65536 → MakesCalls before between (AreTransmissions e first j)
-    → MakesCalls between after (AreTransmissions e next k) → MakesCalls before after (AreTransmissions e first (k + j))
-begun_again e first next j k before between after is one other =
-    does_both before between after (AreTransmissions e first j) (AreTransmissions e ((first + j) % 65536) k) (AreTransmissions e first (k + j)) one
-    (subst (λ (x : ℕ). MakesCalls between after (AreTransmissions e x k)) is other) (joined e first j k)
+-- one request behind others
+pub both : (before between after P Q : Calls) → MakesCalls before between P → MakesCalls between after Q → MakesCalls before after (AreBehind P Q)
+both before between after P Q one other =
+    does_both before between after P Q (AreBehind P Q) one other (λ older newer a b. record { older = older; first = a; newer = newer; then = b; is = refl })
 
 pub some_of : (o : Option ℕ) (n : ℕ) (P : ℕ → Type 0) → o ≡ Some n → IfSome o P → P n
 some_of o n P some h = subst (λ (x : Option ℕ). IfSome x P) some h
-
-pub unacknowledged : (now : Calls) → MakesCalls now now (All IsMeanwhile)
-unacknowledged now = does_nothing now (All IsMeanwhile) (All-nil IsMeanwhile)

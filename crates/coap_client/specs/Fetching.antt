@@ -1,5 +1,6 @@
 -- A fetch as a list of replies, the newest first, each to the request that the ones before it have led to.
-use Rattle.std.specs.Prelude.{◌≡◌, ℕ, ◌+◌, ◌%◌, ◌⊎◌, if◌then◌else◌, List, [], ◌∷◌, ◌++◌, length}
+use Rattle.std.specs.Prelude.{◌≡◌, ℕ, ◌+◌, ◌%◌, ◌⊎◌, if◌then◌else◌, List, [], ◌∷◌, ◌++◌, length, Some, Ok}
+use Rattle.coap_msg.specs.Reading.{reading_of}
 use Rattle.coap_msg.specs.Wire.{Message, message_bytes}
 use Rattle.coap_opts.specs.declared.request.Method.TheVariants.{Get}
 use Rattle.coap_client.specs.declared.errand.Errand.{Errand}
@@ -13,9 +14,11 @@ use Rattle.coap_client.specs.declared.part.Part.TheVariants.{Answer}
 use Rattle.coap_client.specs.declared.reply.Next.{Next}
 use Rattle.coap_client.specs.declared.reply.Next.TheVariants as next
 use Rattle.coap_client.specs.Parts.{first_part}
-use Rattle.coap_client.specs.Heard.{IsTakenResponse}
+use Rattle.coap_client.specs.Heard.{IsTakenResponse, Tells}
+use Rattle.coap_client.specs.PeerCalls.{PeerCall}
 use Rattle.coap_client.specs.Replies.{begins_exchange, etag_of, next_of}
-use Rattle.coap_client.specs.Requests.{part_request}
+use Rattle.coap_client.specs.Requests.{IsPartOf, part_request}
+use Rattle.coap_client.specs.Transmissions.{AreBehind, IsTransmission, MakesCalls}
 
 -- a request is out, and so much of the answer is there, with this ETag; or the fetch has ended; or a further block of the answer was of another version; or an answer didn't fit
 pub data State : Type 0 where
@@ -69,38 +72,67 @@ AreReplies went came e first known [] = Unit {0}
 AreReplies went came e first known (m ∷ ms) =
     AreReplies went came e first known ms × AnswersInState went came e ((first + length ms) % 65536) (taken_ids known ms) (state_after e ms) m
 
--- replies to the requests from this id on lead to this state
-pub record RepliesLeadTo (went came : List ℕ → Type 0) (e : Errand) (first : ℕ) (known : List ℕ) (state : State) : Type 0 where
+-- the request of the part that is out, with this message id, is transmitted behind those before, and its answer spells the message
+pub record IsNextRequest (Before : List PeerCall → Type 0) (e : Errand) (id : ℕ) (earlier : List ℕ) (state : State) (m : Message) (calls : List PeerCall) : Type 0 where
+  pub older : List PeerCall
+  pub before : Before older
+  pub part : Part
+  pub body : List ℕ
+  pub etag : List ℕ
+  pub out : state ≡ Out part body etag
+  pub own : IsPartOf e part
+  pub answer : List ℕ
+  pub read_is : reading_of answer ≡ Ok m
+  pub last : List PeerCall
+  pub transmission : IsTransmission e.confirmable (Tells e.confirmable id earlier) (message_bytes (part_request e part id)) (Some answer) last
+  pub is : calls ≡ last ++ older
+
+-- for each of these replies its request, and nothing else
+abbrev pub AreRequests : Errand → ℕ → List ℕ → List Message → List PeerCall → Type 0
+AreRequests e first known [] calls = calls ≡ []
+AreRequests e first known (m ∷ ms) calls =
+    IsNextRequest (AreRequests e first known ms) e ((first + length ms) % 65536) (taken_ids known ms) (state_after e ms) m calls
+
+-- replies to the requests from this id on lead to this state, and so much is called for them
+pub record RepliesLeadTo (went came : List ℕ → Type 0) (e : Errand) (first : ℕ) (known : List ℕ) (Called : List Message → Type 0) (state : State) : Type 0 where
   pub replies : List Message
   pub are : AreReplies went came e first known replies
   pub leads : state_after e replies ≡ state
+  pub called : Called replies
 
 -- after replies to a GET whose last one was outdated, others to requests of later ids lead to this state
-pub record RepliesLeadToAgain (went came : List ℕ → Type 0) (e : Errand) (first : ℕ) (state : State) : Type 0 where
+pub record RepliesLeadToAgain (went came : List ℕ → Type 0) (before after : List PeerCall → Type 0) (e : Errand) (first : ℕ) (state : State) : Type 0 where
   pub outdated : List Message
   pub are : AreReplies went came e first [] outdated
   pub leads : state_after e outdated ≡ Outdated
   pub method : e.method ≡ Get
-  pub again : RepliesLeadTo went came e ((first + length outdated) % 65536) (taken_ids [] outdated) state
+  pub next : ℕ
+  pub next_is : next ≡ (first + length outdated) % 65536
+  pub again : RepliesLeadTo went came e next (taken_ids [] outdated)
+      (λ replies. MakesCalls before after (AreBehind (AreRequests e first [] outdated) (AreRequests e next (taken_ids [] outdated) replies))) state
 
--- the fetch ends with this code and body, at once or begun again once
-abbrev pub IsFetched : (List ℕ → Type 0) → (List ℕ → Type 0) → Errand → ℕ → ℕ → List ℕ → Type 0
-IsFetched went came e first code body =
-    RepliesLeadTo went came e first [] (Ended code body) ⊎ RepliesLeadToAgain went came e first (Ended code body)
+-- the fetch ends with this code and body, at once or begun again once, and nothing is called but for its replies
+abbrev pub IsFetched : (List ℕ → Type 0) → (List ℕ → Type 0) → (List PeerCall → Type 0) → (List PeerCall → Type 0) → Errand → ℕ → ℕ → List ℕ → Type 0
+IsFetched went came before after e first code body =
+    RepliesLeadTo went came e first [] (λ replies. MakesCalls before after (AreRequests e first [] replies)) (Ended code body)
+    ⊎ RepliesLeadToAgain went came before after e first (Ended code body)
 
--- replies have led to this state, so that the next request has this id, and messages of these ids have answered
-pub record IsFetching (went came : List ℕ → Type 0) (e : Errand) (first : ℕ) (known : List ℕ) (id : ℕ) (earlier : List ℕ) (state : State) : Type 0 where
+-- replies have led to this state, so that the next request has this id, and messages of these ids have answered; so much was called for them
+pub record IsFetching (went came : List ℕ → Type 0) (before now : List PeerCall → Type 0) (e : Errand) (first : ℕ) (known : List ℕ) (id : ℕ) (earlier : List ℕ) (state : State) : Type 0 where
   pub replies : List Message
   pub are : AreReplies went came e first known replies
   pub leads : state_after e replies ≡ state
   pub id_is : id ≡ (first + length replies) % 65536
   pub earlier_is : earlier ≡ taken_ids known replies
+  pub called : MakesCalls before now (AreRequests e first known replies)
 
 -- what one attempt comes to
-abbrev pub IsAttempt : (List ℕ → Type 0) → (List ℕ → Type 0) → Errand → ℕ → List ℕ → Attempt → Type 0
-IsAttempt went came e first known (attempt.Ended f) = RepliesLeadTo went came e first known (Ended f.code.byte f.body.items)
-IsAttempt went came e first known (attempt.Outdated id earlier) = IsFetching went came e first known id earlier.items Outdated
-IsAttempt went came e first known attempt.Misfit = RepliesLeadTo went came e first known Lost
+abbrev pub IsAttempt : (List ℕ → Type 0) → (List ℕ → Type 0) → (List PeerCall → Type 0) → (List PeerCall → Type 0) → Errand → ℕ → List ℕ → Attempt → Type 0
+IsAttempt went came before after e first known (attempt.Ended f) =
+    RepliesLeadTo went came e first known (λ replies. MakesCalls before after (AreRequests e first known replies)) (Ended f.code.byte f.body.items)
+IsAttempt went came before after e first known (attempt.Outdated id earlier) = IsFetching went came before after e first known id earlier.items Outdated
+IsAttempt went came before after e first known attempt.Misfit =
+    RepliesLeadTo went came e first known (λ replies. MakesCalls before after (AreRequests e first known replies)) Lost
 
 -- what an answer makes of a fetch under way: the next request is out, or it has ended, or the answer was outdated, or it doesn't fit
 abbrev pub IsNow : State → Course → Step → Type 0

@@ -68,13 +68,13 @@ pub record IsOther (confirmable : Bool) (id : ℕ) (m : Message) : Type 0 where
   pub separate : IsSeparate m → ⊥
 
 -- the request of this id is answered, acknowledged or rejected; or a response came in a message of its own, for the first time or again; or none of these
-abbrev pub IsHeardAs : SentRequest → Message → Reception → Type 0
-IsHeardAs r m Reply = IsPiggybacked r.confirmable r.id m
-IsHeardAs r m Separate = IsSeparateAmong r.earlier.now false m
-IsHeardAs r m Repeat = IsSeparateAmong r.earlier.now true m
-IsHeardAs r m Acknowledged = IsEmptyAcknowledgement r.id m
-IsHeardAs r m Rejected = IsReset r.id m
-IsHeardAs r m Other = IsOther r.confirmable r.id m
+abbrev pub IsHeardAs : Bool → ℕ → List ℕ → Message → Reception → Type 0
+IsHeardAs confirmable id earlier m Reply = IsPiggybacked confirmable id m
+IsHeardAs confirmable id earlier m Separate = IsSeparateAmong earlier false m
+IsHeardAs confirmable id earlier m Repeat = IsSeparateAmong earlier true m
+IsHeardAs confirmable id earlier m Acknowledged = IsEmptyAcknowledgement id m
+IsHeardAs confirmable id earlier m Rejected = IsReset id m
+IsHeardAs confirmable id earlier m Other = IsOther confirmable id m
 
 -- the datagram spells a message of this kind
 pub record IsReadAs (bytes : List ℕ) (P : Message → Type 0) : Type 0 where
@@ -82,10 +82,13 @@ pub record IsReadAs (bytes : List ℕ) (P : Message → Type 0) : Type 0 where
   pub read_is : reading_of bytes ≡ Ok message
   pub holds : P message
 
--- what a datagram is; one that spells no message is none of these
-abbrev pub Tells : SentRequest → List ℕ → Reception → Type 0
-Tells r bytes Other = (m : Message) → reading_of bytes ≡ Ok m → IsOther r.confirmable r.id m
-Tells r bytes heard = IsReadAs bytes (λ m. IsHeardAs r m heard)
+-- what a datagram is to the request of this id; one that spells no message is none of these
+abbrev pub Tells : Bool → ℕ → List ℕ → List ℕ → Reception → Type 0
+Tells confirmable id earlier bytes Other = (m : Message) → reading_of bytes ≡ Ok m → IsOther confirmable id m
+Tells confirmable id earlier bytes heard = IsReadAs bytes (λ m. IsHeardAs confirmable id earlier m heard)
+
+abbrev pub TellsSent : SentRequest → List ℕ → Reception → Type 0
+TellsSent r bytes heard = Tells r.confirmable r.id r.earlier.now bytes heard
 
 -- a response that came before is acknowledged where it asks for that
 abbrev pub AcknowledgesRepeat : (List ℕ → Type 0) → List ℕ → Reception → Type 0

@@ -5,9 +5,11 @@ pub mod Requests
 pub mod Replies
 pub mod Heard
 pub mod PeerCalls
+pub mod Listening
+pub mod Transmissions
 pub mod Fetching
 pub mod Joined
 pub mod Notices
 pub mod Notes
-pub mod Transmissions
+pub mod Registrations
 pub mod Schedules

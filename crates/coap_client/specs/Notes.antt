@@ -6,7 +6,7 @@ use Rattle.coap_msg.specs.Windows.{window}
 use Rattle.coap_msg.specs.Wire.{Message, message_bytes}
 use Rattle.coap_msg.specs.declared.types.MessageType.TheVariants.{Acknowledgement, Confirmable}
 use Rattle.coap_client.specs.declared.transmission.Reception.{Reception}
-use Rattle.coap_client.specs.declared.transmission.Reception.TheVariants.{Reply, Separate, Repeat, Acknowledged, Rejected, Other}
+use Rattle.coap_client.specs.declared.transmission.Reception.TheVariants.{Reply, Acknowledged, Rejected, Other}
 use Rattle.coap_client.specs.declared.transmission.Listened.{Listened}
 use Rattle.coap_client.specs.declared.transmission.Listened.TheVariants as listened
 use Rattle.coap_client.specs.declared.notice.Interest.TheVariants.{Register, Deregister}
@@ -36,12 +36,11 @@ pub record IsNoneOf (token : List ℕ) (id : ℕ) (m : Message) : Type 0 where
 
 -- what a datagram is to an observer whose request of this id is out; one that spells no message is none of these
 abbrev pub IsHeardBy : List ℕ → ℕ → Message → Reception → Type 0
-IsHeardBy token id m Reply = IsReplyWith token id m
-IsHeardBy token id m Separate = IsOwnResponse token m
+IsHeardBy token id m Reply = IsResponseWith token id m
 IsHeardBy token id m Acknowledged = IsEmptyAcknowledgement id m
 IsHeardBy token id m Rejected = IsReset id m
 IsHeardBy token id m Other = IsNoneOf token id m
-IsHeardBy token id m Repeat = ⊥
+IsHeardBy token id m heard = ⊥
 
 abbrev pub TellsObserver : List ℕ → ℕ → List ℕ → Reception → Type 0
 TellsObserver token id bytes Other = (m : Message) → reading_of bytes ≡ Ok m → IsNoneOf token id m

@@ -3,7 +3,6 @@ ghost use Rattle.std.specs.Prelude.{◌≡◌, ℕ, ◌+◌, ◌++◌, ◌%◌, 
 ghost use Rattle.coap_client.specs.Requests.{IsPartOf};
 ghost use Rattle.coap_client.specs.Replies.{begins_exchange};
 ghost use Rattle.coap_client.specs.Joined.{SendsWhole};
-ghost use Rattle.coap_client.specs.Transmissions.{AreTransmissions, MakesCalls, GoesOnAt};
 ghost use Rattle.coap_client.specs.Fetching.{IsAttempt, IsFetched, IsSameAnswer, IsStepOf, Out, going_on, with_taken_id};
 
 use crate::errand::Errand;
@@ -84,10 +83,9 @@ pub fn fetch<P: Peer>(
     errand: &Errand<'_>,
     first_id: u16,
 ) -> Result<Fetched, FetchFault>
-    ensures fetched { IfOk result (λ f. IsFetched P.went P.came errand.now first_id f.code.byte f.body.items) }
+    ensures fetched { IfOk result (λ f. IsFetched P.went P.came (P.called peer.old) (P.called peer.new) errand.now first_id
+        f.code.byte f.body.items) }
     ensures whole { IfOk result (λ f. SendsWhole P.went errand.now f.code.byte) }
-    ensures called { IfOk result (λ f. (n : ℕ)
-        × MakesCalls (P.called peer.old) (P.called peer.new) (AreTransmissions errand.now first_id n)) }
 {
     match fetch_once(alloc, peer, errand, first_id, Vec::new(alloc))? {
         Attempt::Ended(fetched) => Ok(fetched),
@@ -111,9 +109,7 @@ fn fetch_once<P: Peer>(
     first_id: u16,
     earlier: Vec<u16>,
 ) -> Result<Attempt, FetchFault>
-    ensures attempt { IfOk result (IsAttempt P.went P.came errand.now first_id earlier.items) }
-    ensures called { IfOk result (λ a. (n : ℕ) × GoesOnAt ((first_id + n) % 65536) a
-        × MakesCalls (P.called peer.old) (P.called peer.new) (AreTransmissions errand.now first_id n)) }
+    ensures { IfOk result (IsAttempt P.went P.came (P.called peer.old) (P.called peer.new) errand.now first_id earlier.items) }
 {
     let mut course = Course {
         id: first_id,

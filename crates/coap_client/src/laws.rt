@@ -7,13 +7,15 @@ ghost use Rattle.coap_client.specs.declared.errand.Errand.{Errand};
 ghost use Rattle.coap_client.specs.declared.part.Part.{Part};
 ghost use Rattle.coap_client.specs.declared.part.Part.TheVariants.{Body, Whole};
 ghost use Rattle.coap_client.specs.declared.notice.Notice.TheVariants.{Last};
-ghost use Rattle.coap_client.specs.declared.notice.Interest.TheVariants.{Deregister};
+ghost use Rattle.coap_client.specs.declared.notice.Interest.TheVariants.{Deregister, Register};
 ghost use Rattle.coap_client.specs.declared.observing.Observer.{Observer};
+ghost use Rattle.coap_client.specs.Heard.{Tells};
 ghost use Rattle.coap_client.specs.Notices.{can_be_shown, is_newer, notice_of, observe_request};
 ghost use Rattle.coap_client.specs.Parts.{first_part, part_options, part_payload};
 ghost use Rattle.coap_client.specs.PeerCalls.{PeerCall, Sends, Waits};
 ghost use Rattle.coap_client.specs.Schedules.{AwaitsResponse, BeginsSchedule, full_schedule, schedule};
-ghost use Rattle.coap_client.specs.Transmissions.{IsDeregistration, IsTransmission};
+ghost use Rattle.coap_client.specs.Registrations.{IsDeregistration, IsRegistration};
+ghost use Rattle.coap_client.specs.Transmissions.{IsTransmission};
 ghost use Rattle.coap_client.specs.Fetching.{Ended, Out, after_reply, state_after};
 ghost use Rattle.coap_client.specs.Joined.{IsOneAnswer, SaysTaken};
 ghost use Rattle.coap_client.specs.Replies.{first_or_none, is_success};
@@ -94,17 +96,21 @@ pub fn bodies_go_in_blocks()
 /// 4.8.2). One that is answered was sent and waited for so far. A non-confirmable request is sent once, and waited for 32 seconds. Beside these nothing is sent but
 /// empty messages.
 pub fn requests_are_sent_by_the_schedule()
-    ensures unanswered { (m : Message) (calls : List PeerCall) → (m.code ≡ 0 → ⊥) → IsTransmission true (message_bytes m) None calls
+    ensures unanswered { (id : ℕ) (earlier : List ℕ) (m : Message) (calls : List PeerCall) → (m.code ≡ 0 → ⊥)
+        → IsTransmission true (Tells true id earlier) (message_bytes m) None calls
         → (schedule calls ≡ full_schedule (message_bytes m)) ⊎ AwaitsResponse (message_bytes m) (schedule calls) }
-    ensures answered { (m : Message) (count : ℕ) (calls : List PeerCall) → (m.code ≡ 0 → ⊥)
-        → IsTransmission true (message_bytes m) (Some count) calls
+    ensures answered { (id : ℕ) (earlier : List ℕ) (m : Message) (answer : List ℕ) (calls : List PeerCall) → (m.code ≡ 0 → ⊥)
+        → IsTransmission true (Tells true id earlier) (message_bytes m) (Some answer) calls
         → BeginsSchedule (message_bytes m) (schedule calls) ⊎ AwaitsResponse (message_bytes m) (schedule calls) }
-    ensures non_confirmable { (m : Message) (answer : Option ℕ) (calls : List PeerCall) → (m.code ≡ 0 → ⊥)
-        → IsTransmission false (message_bytes m) answer calls → schedule calls ≡ Waits 32 ∷ Sends (message_bytes m) ∷ [] }
+    ensures non_confirmable { (id : ℕ) (earlier : List ℕ) (m : Message) (answer : Option (List ℕ)) (calls : List PeerCall)
+        → (m.code ≡ 0 → ⊥) → IsTransmission false (Tells false id earlier) (message_bytes m) answer calls → schedule calls ≡ Waits 32 ∷ Sends (message_bytes m) ∷ [] }
 {}
 
-/// A deregistration that ends well is sent by the same schedule, until it is acknowledged.
-pub fn deregistrations_are_sent_by_the_schedule()
-    ensures { (o : Observer) (calls : List PeerCall) → IsDeregistration o calls
+/// An observer's registration that is answered is sent by the same schedule; and its deregistration that ends well, until it is acknowledged.
+pub fn observers_are_sent_by_the_schedule()
+    ensures registration { (o : Observer) (answer : List ℕ) (calls : List PeerCall) → IsRegistration o answer calls
+        → BeginsSchedule (message_bytes (observe_request o.errand.now Register o.token o.id)) (schedule calls)
+        ⊎ AwaitsResponse (message_bytes (observe_request o.errand.now Register o.token o.id)) (schedule calls) }
+    ensures deregistration { (o : Observer) (calls : List PeerCall) → IsDeregistration o calls
         → BeginsSchedule (message_bytes (observe_request o.errand.now Deregister o.token ((o.id + 1) % 65536))) (schedule calls) }
 {}

@@ -11,17 +11,20 @@
 //!   `Peer::send`, and its datagram came from `Peer::receive`. A separate one is that of a request whose acknowledgement came, unless it
 //!   was non-confirmable, and its id is none of those before; and it was acknowledged where it is confirmable, and again where it comes
 //!   again.
-//! - What a fetch that ends with an answer calls on its peer, call by call (`Peer::called`): requests of its errand alone, whose ids count up,
-//!   each once the one before was answered. A confirmable one is sent again, by the same bytes, when a wait is over, of 2, 4, 8 and 16
-//!   seconds, so five times at most; once it is acknowledged it isn't, and 93 seconds more are waited. Another is sent once, and waited
-//!   for 32 seconds. Beside these nothing is sent but acknowledgements. `transmission::ask` tells that no answer came only where it was
-//!   sent five times, or acknowledged, and each wait was over, or 2^64 - 1 datagrams came in one.
+//! - What a fetch that ends with an answer calls on its peer, call by call (`Peer::called`), is told by what comes: for each of these replies
+//!   its request, whose ids count up, each once the one before was answered, and nothing behind the last. A confirmable one is sent again, by
+//!   the same bytes, when a wait is over, of 2, 4, 8 and 16 seconds, so five times at most; once it is acknowledged it isn't, and 93 seconds
+//!   more are waited. Another is sent once, and waited for 32 seconds. The first datagram that answers, acknowledges or rejects a request ends
+//!   its wait; a separate response answers only where one is awaited, and one of an id that has answered before doesn't. Beside requests nothing
+//!   is sent but the acknowledgements of answers and of those, each where it is confirmable, once. `transmission::ask` tells that no answer came
+//!   only where the request was sent five times, or acknowledged, and each wait was over, or 2^64 - 1 datagrams came in one.
 //! - An answer that doesn't fit what was asked ends the fetch, by a clause. Where a fetch ends by a success, requests that were handed over
 //!   bring the whole body, joined; each block of it goes behind a success that says that the one before was taken; and the answer is the
 //!   payloads of blocks of one ETag, or of none, each of which begins where the ones before it end, and behind the last of which there is
 //!   none. What a result rests on is begun again once at most, and only for a GET.
 //! - An observer's registration and deregistration are messages that fit a datagram, with its token, and are sent again as a confirmable
-//!   request of a fetch is, until one is answered, the other acknowledged. What a response is to it, exactly, by
+//!   request of a fetch is, until one is answered, the other acknowledged; while the one is out its answer alone is acknowledged, while the
+//!   other is each confirmable notification. What a response is to it, exactly, by
 //!   RFC 7641's comparison: a newer state, one answer for what isn't newer and for a repeat of what was shown, the last, or one that can't
 //!   be shown.
 //! - What an observer shows next came by `Peer::receive`, is a response with its token in a message of its own, was acknowledged where it

@@ -7,8 +7,10 @@ ghost use Rattle.coap_client.specs.Notes.{HasAcknowledgement, HasArrived, HasDer
 ghost use Rattle.coap_client.specs.Notices.{IsOwnResponse, observe_request, observe_value};
 ghost use Rattle.coap_client.specs.Replies.{IsReset};
 ghost use Rattle.coap_opts.specs.Values.{uint_bytes};
-ghost use Rattle.coap_client.specs.Transmissions.{MakesCalls, IsAskedAgain, EndsAwaited, IsDeregistration, IsHeard, IsMeanwhile, IsOverUnless, IsRegistration};
-ghost use Rattle.std.specs.List.{All};
+ghost use Rattle.coap_client.specs.Listening.{IsHeard};
+ghost use Rattle.coap_client.specs.PeerCalls.{bytes_in};
+ghost use Rattle.coap_client.specs.Registrations.{AcknowledgesNotification, IsDeregistration, IsOverUnlessLeft, IsRegistration};
+ghost use Rattle.coap_client.specs.Transmissions.{MakesCalls, IsAskedAgain, EndsAwaited};
 ghost use Rattle.std.specs.Bool.{OnTrue};
 ghost use Rattle.coap_client.specs.Parts.{resource_options};
 ghost use Rattle.coap_client.specs.Paths.{slices_in};
@@ -19,7 +21,7 @@ use crate::notice::{Interest, Notice, is_notification, is_reply_with};
 use crate::peer::Peer;
 use crate::reply::{is_empty_acknowledgement, is_reset};
 use crate::transmission::{
-    Listened, Reception, SENDINGS, SEPARATE_WAIT, ack_timeout, acknowledge, send,
+    Listened, Reception, SENDINGS, SEPARATE_WAIT, ack_timeout, acknowledge, is_passed_over, send,
 };
 use crate::watch::Watch;
 use coap_msg::{Code, Datagram, Message, MessageType, Outgoing, read, write};
@@ -60,7 +62,8 @@ impl<'a> Observer<'a> {
     ) -> Result<usize, FetchFault>
         ensures registered { IfOk result (λ count. (count ≤ length buffer.new)
             × IsRegistered P.went P.came self.now (take count buffer.new)) }
-        ensures called { IfOk result (λ count. MakesCalls (P.called peer.old) (P.called peer.new) (IsRegistration self.now count)) }
+        ensures called { IfOk result (λ count. MakesCalls (P.called peer.old) (P.called peer.new)
+            (IsRegistration self.now (take count buffer.new))) }
     {
         let mut datagram = Datagram::new();
         write_request(
@@ -87,7 +90,8 @@ impl<'a> Observer<'a> {
     ) -> Result<Option<usize>, FetchFault>
         ensures answer { IfOk result (λ r. IfSome r (λ count. (count ≤ length buffer.new) × P.went datagram.now.items
             × HasArrived P.came (IsResponseWith self.now.token self.now.id) (take count buffer.new))) }
-        ensures called { IfOk result (λ r. MakesCalls (P.called peer.old) (P.called peer.new) (IsAskedAgain datagram.now.items r)) }
+        ensures called { IfOk result (λ r. MakesCalls (P.called peer.old) (P.called peer.new)
+            (IsAskedAgain (TellsObserver self.now.token self.now.id) datagram.now.items (bytes_in buffer.new r))) }
     {
         for sendings in 0..SENDINGS {
             send(peer, datagram, ack_timeout(sendings))?;
@@ -111,7 +115,8 @@ impl<'a> Observer<'a> {
     ) -> Result<Option<usize>, FetchFault>
         ensures answer { IfOk result (λ r. IfSome r (λ count. (count ≤ length buffer.new)
             × HasArrived P.came (IsResponseWith self.now.token self.now.id) (take count buffer.new))) }
-        ensures called { IfOk result (λ r. MakesCalls (P.called peer.old) (P.called peer.new) (EndsAwaited r)) }
+        ensures called { IfOk result (λ r. MakesCalls (P.called peer.old) (P.called peer.new)
+            (EndsAwaited (TellsObserver self.now.token self.now.id) (bytes_in buffer.new r))) }
     {
         match self.listen(peer, true, buffer)? {
             Listened::Answer(count) => Ok(Some(count)),
@@ -119,25 +124,27 @@ impl<'a> Observer<'a> {
         }
     }
 
-    // Listens for the answer while a wait lasts, and passes over what is none of these.
+    // Listens for the answer while a wait lasts, and passes over what doesn't end it.
     fn listen<P: Peer>(
         &self,
         peer: &mut P,
-        acknowledged: bool,
+        awaited: bool,
         buffer: &mut [u8],
     ) -> Result<Listened, FetchFault>
         ensures listened { IfOk result (HearsAnswer P.came self.now.token self.now.id buffer.new) }
-        ensures called { IfOk result (λ x. MakesCalls (P.called peer.old) (P.called peer.new) (IsHeard acknowledged x)) }
+        ensures called { IfOk result (λ x. MakesCalls (P.called peer.old) (P.called peer.new)
+            (IsHeard (TellsObserver self.now.token self.now.id) awaited buffer.new x)) }
     {
         for received in 0..u64::MAX {
             let Some(count) = peer.receive(buffer)? else {
                 return Ok(Listened::Nothing);
             };
-            match hear_datagram(&self.token, self.id, &buffer[..count]) {
-                Reception::Reply | Reception::Separate => return Ok(Listened::Answer(count)),
-                Reception::Acknowledged if !acknowledged => return Ok(Listened::Acknowledged),
+            let heard = hear_datagram(&self.token, self.id, &buffer[..count]);
+            match heard {
+                _ if is_passed_over(awaited, heard) => {}
+                Reception::Acknowledged => return Ok(Listened::Acknowledged),
                 Reception::Rejected => return Err(FetchFault::Rejected),
-                Reception::Acknowledged | Reception::Repeat | Reception::Other => {}
+                _ => return Ok(Listened::Answer(count)),
             }
         }
         Ok(Listened::Nothing)
@@ -252,10 +259,8 @@ fn hear_datagram(token: &[u8], id: u16, bytes: &[u8]) -> Reception
 fn hear_message(token: &[u8], id: u16, message: &Message<'_>) -> Reception
     ensures { IsHeardBy token.now id message.now result }
 {
-    if is_reply_with(token, id, message) {
+    if is_reply_with(token, id, message) || is_notification(token, message) {
         Reception::Reply
-    } else if is_notification(token, message) {
-        Reception::Separate
     } else if is_empty_acknowledgement(id, message) {
         Reception::Acknowledged
     } else if is_reset(id, message) {
@@ -274,7 +279,7 @@ fn is_acknowledged<P: Peer>(
     buffer: &mut [u8],
 ) -> Result<bool, FetchFault>
     ensures acknowledged { IfOk result (λ is. OnTrue is (HasAcknowledgement P.came id)) }
-    ensures called { IfOk result (λ is. MakesCalls (P.called peer.old) (P.called peer.new) (IsOverUnless is)) }
+    ensures called { IfOk result (λ is. MakesCalls (P.called peer.old) (P.called peer.new) (IsOverUnlessLeft token.now id is)) }
 {
     for received in 0..u64::MAX {
         let Some(count) = peer.receive(buffer)? else {
@@ -298,11 +303,12 @@ fn acknowledge_notification<P: Peer>(
     token: &[u8],
     bytes: &[u8],
 ) -> Result<(), FetchFault>
-    ensures { OnOk result (MakesCalls (P.called peer.old) (P.called peer.new) (All IsMeanwhile)) }
+    ensures { OnOk result (MakesCalls (P.called peer.old) (P.called peer.new) (AcknowledgesNotification token.now bytes.now)) }
 {
-    if tells_notification(token, bytes) {
-        acknowledge(peer, bytes)?;
+    if !tells_notification(token, bytes) {
+        return Ok(());
     }
+    acknowledge(peer, bytes)?;
     Ok(())
 }
 

@@ -1,14 +1,14 @@
 //! What comes from the server: a request goes out, and again until it is answered or acknowledged.
 ghost use Rattle.std.specs.Prelude.{◌≡◌, ◌<◌, ◌≤◌, [], ◌∷◌, IfOk, IfSome, OnOk, false, length, take, true};
-ghost use Rattle.std.specs.List.{All};
 ghost use Rattle.coap_msg.specs.Wire.{message_bytes};
 ghost use Rattle.coap_msg.specs.Reading.{reading_of};
 ghost use Rattle.coap_msg.specs.Wire as wire;
 ghost use Rattle.coap_msg.specs.declared.types.MessageType.TheVariants.{Confirmable};
-ghost use Rattle.coap_client.specs.Heard.{AcknowledgesRepeat, Listens, HasTakenResponse, HasResponse, IsAwaitedAnswer, IsHeardAs, Tells};
-ghost use Rattle.coap_client.specs.PeerCalls.{Adds, Sends, Waits};
+ghost use Rattle.coap_client.specs.Heard.{AcknowledgesRepeat, Listens, HasTakenResponse, HasResponse, IsAwaitedAnswer, IsHeardAs, TellsSent};
+ghost use Rattle.coap_client.specs.Listening.{IsHeard, acknowledges, is_passed_over, sent_behind};
+ghost use Rattle.coap_client.specs.PeerCalls.{Adds, Sends, Waits, bytes_in};
 ghost use Rattle.coap_client.specs.Replies.{is_taken};
-ghost use Rattle.coap_client.specs.Transmissions.{ack_timeout, most_sendings, non_wait, MakesCalls, IsTransmitted, IsAskedAgain, EndsAwaited, IsHeard, IsMeanwhile, IsSending, IsTransmission};
+ghost use Rattle.coap_client.specs.Transmissions.{ack_timeout, most_sendings, non_wait, MakesCalls, IsTransmitted, IsAskedAgain, EndsAwaited, IsSending, IsTransmission};
 ghost use Rattle.coap_client.specs.Requests.{acknowledgement};
 
 use crate::fetcher::FetchFault;
@@ -42,9 +42,9 @@ pub struct SentRequest<'a> {
 /// What a datagram from the server is to the request that is out.
 #[derive(Clone, Copy, PartialEq, Eq)]
 pub enum Reception {
-    /// Its answer, in its acknowledgement.
+    /// Its answer, in its acknowledgement, or told by its token.
     Reply,
-    /// An answer in a message of its own.
+    /// An answer in a message of its own, without a token.
     Separate,
     /// The same, which came before.
     Repeat,
@@ -89,7 +89,7 @@ pub fn ask<P: Peer>(
     ensures response { IfOk result (λ r. IfSome r (λ count. (count ≤ length buffer.new)
         × HasTakenResponse P.went P.came request.now (take count buffer.new))) }
     ensures called { IfOk result (λ r. MakesCalls (P.called peer.old) (P.called peer.new)
-        (IsTransmission request.now.confirmable request.now.datagram.now.items r)) }
+        (IsTransmission request.now.confirmable (TellsSent request.now) request.now.datagram.now.items (bytes_in buffer.new r))) }
 {
     let Some(count) = transmit(peer, request, buffer)? else {
         return Ok(None);
@@ -107,7 +107,7 @@ fn transmit<P: Peer>(
     ensures response { IfOk result (λ r. IfSome r (λ count. (count ≤ length buffer.new)
         × HasResponse P.went P.came request.now (take count buffer.new))) }
     ensures called { IfOk result (λ r. MakesCalls (P.called peer.old) (P.called peer.new)
-        (IsTransmitted request.now.confirmable request.now.datagram.now.items r)) }
+        (IsTransmitted request.now.confirmable (TellsSent request.now) request.now.datagram.now.items (bytes_in buffer.new r))) }
 {
     if request.confirmable {
         ask_again(peer, request, buffer)
@@ -125,7 +125,7 @@ fn ask_again<P: Peer>(
     ensures response { IfOk result (λ r. IfSome r (λ count. (count ≤ length buffer.new)
         × HasResponse P.went P.came request.now (take count buffer.new))) }
     ensures called { IfOk result (λ r. MakesCalls (P.called peer.old) (P.called peer.new)
-        (IsAskedAgain request.now.datagram.now.items r)) }
+        (IsAskedAgain (TellsSent request.now) request.now.datagram.now.items (bytes_in buffer.new r))) }
 {
     for sendings in 0..SENDINGS {
         send(peer, request.datagram, ack_timeout(sendings))?;
@@ -151,7 +151,7 @@ fn ask_once<P: Peer>(
     ensures response { IfOk result (λ r. IfSome r (λ count. (count ≤ length buffer.new)
         × HasResponse P.went P.came request.now (take count buffer.new))) }
     ensures called { IfOk result (λ r. MakesCalls (P.called peer.old) (P.called peer.new)
-        (IsSending request.now.datagram.now.items non_wait (EndsAwaited r))) }
+        (IsSending request.now.datagram.now.items non_wait (EndsAwaited (TellsSent request.now) (bytes_in buffer.new r)))) }
 {
     send(peer, request.datagram, NON_WAIT)?;
     await_separate(peer, request, buffer)
@@ -179,7 +179,8 @@ fn await_separate<P: Peer>(
 ) -> Result<Option<usize>, FetchFault>
     ensures answer { IfOk result (λ r. IfSome r (λ count. (count ≤ length buffer.new)
         × IsAwaitedAnswer P.came request.now true (take count buffer.new))) }
-    ensures called { IfOk result (λ r. MakesCalls (P.called peer.old) (P.called peer.new) (EndsAwaited r)) }
+    ensures called { IfOk result (λ r. MakesCalls (P.called peer.old) (P.called peer.new)
+        (EndsAwaited (TellsSent request.now) (bytes_in buffer.new r))) }
 {
     match listen(peer, request, true, buffer)? {
         Listened::Answer(count) => Ok(Some(count)),
@@ -187,7 +188,7 @@ fn await_separate<P: Peer>(
     }
 }
 
-// Listens while a wait lasts, and passes over what is none of these. An answer in a message of its own is one where it is awaited.
+// Listens while a wait lasts, and passes over what doesn't end it.
 fn listen<P: Peer>(
     peer: &mut P,
     request: &SentRequest<'_>,
@@ -195,22 +196,35 @@ fn listen<P: Peer>(
     buffer: &mut [u8],
 ) -> Result<Listened, FetchFault>
     ensures listened { IfOk result (Listens P.came request.now awaited buffer.new) }
-    ensures called { IfOk result (λ x. MakesCalls (P.called peer.old) (P.called peer.new) (IsHeard awaited x)) }
+    ensures called { IfOk result (λ x. MakesCalls (P.called peer.old) (P.called peer.new)
+        (IsHeard (TellsSent request.now) awaited buffer.new x)) }
 {
     for received in 0..u64::MAX {
         let Some(count) = peer.receive(buffer)? else {
             return Ok(Listened::Nothing);
         };
-        match hear_from(peer, request, &buffer[..count])? {
-            Reception::Reply => return Ok(Listened::Answer(count)),
-            Reception::Separate if awaited => return Ok(Listened::Answer(count)),
-            Reception::Acknowledged if !awaited => return Ok(Listened::Acknowledged),
+        let heard = hear_from(peer, request, &buffer[..count])?;
+        match heard {
+            _ if is_passed_over(awaited, heard) => {}
+            Reception::Acknowledged => return Ok(Listened::Acknowledged),
             Reception::Rejected => return Err(FetchFault::Rejected),
-            Reception::Separate | Reception::Acknowledged | Reception::Repeat | Reception::Other =>
-                {}
+            _ => return Ok(Listened::Answer(count)),
         }
     }
     Ok(Listened::Nothing)
+}
+
+// Whether a wait goes on behind a datagram: a response in a message of its own is an answer only where one is awaited, and an acknowledgement ends the wait only where
+// none is.
+pub(crate) fn is_passed_over(awaited: bool, heard: Reception) -> bool
+    ensures { result ≡ is_passed_over awaited heard }
+{
+    match heard {
+        Reception::Repeat | Reception::Other => true,
+        Reception::Separate => !awaited,
+        Reception::Acknowledged => awaited,
+        Reception::Reply | Reception::Rejected => false,
+    }
 }
 
 // What a datagram is to a request. A response that came before is acknowledged again, where it asks for that (RFC 7252, 4.2).
@@ -219,9 +233,9 @@ fn hear_from<P: Peer>(
     request: &SentRequest<'_>,
     bytes: &[u8],
 ) -> Result<Reception, FetchFault>
-    ensures heard { IfOk result (Tells request.now bytes.now) }
+    ensures heard { IfOk result (TellsSent request.now bytes.now) }
     ensures repeat { IfOk result (AcknowledgesRepeat P.went bytes.now) }
-    ensures called { OnOk result (MakesCalls (P.called peer.old) (P.called peer.new) (All IsMeanwhile)) }
+    ensures called { IfOk result (λ heard. Adds (P.called peer.old) (P.called peer.new) (sent_behind heard bytes.now)) }
 {
     let heard = hear_datagram(request, bytes);
     if heard == Reception::Repeat {
@@ -232,7 +246,7 @@ fn hear_from<P: Peer>(
 
 // What a datagram is to a request.
 fn hear_datagram(request: &SentRequest<'_>, bytes: &[u8]) -> Reception
-    ensures { Tells request.now bytes.now result }
+    ensures { TellsSent request.now bytes.now result }
 {
     match read(bytes) {
         Ok(message) => hear_message(request, &message),
@@ -241,7 +255,7 @@ fn hear_datagram(request: &SentRequest<'_>, bytes: &[u8]) -> Reception
 }
 
 fn hear_message(request: &SentRequest<'_>, message: &Message<'_>) -> Reception
-    ensures { IsHeardAs request.now message.now result }
+    ensures { IsHeardAs request.now.confirmable request.now.id request.now.earlier.now message.now result }
 {
     if request.confirmable && is_reply(request.id, message) {
         Reception::Reply
@@ -262,7 +276,7 @@ fn hear_message(request: &SentRequest<'_>, message: &Message<'_>) -> Reception
 pub(crate) fn acknowledge<P: Peer>(peer: &mut P, bytes: &[u8]) -> Result<(), FetchFault>
     ensures went { OnOk result ((m : wire.Message) → reading_of bytes.now ≡ Ok m → m.kind ≡ Confirmable
         → P.went (message_bytes (acknowledgement m.id))) }
-    ensures called { OnOk result (MakesCalls (P.called peer.old) (P.called peer.new) (All IsMeanwhile)) }
+    ensures called { OnOk result (Adds (P.called peer.old) (P.called peer.new) (acknowledges bytes.now)) }
 {
     match read(bytes) {
         Ok(message) if message.kind() == MessageType::Confirmable => {

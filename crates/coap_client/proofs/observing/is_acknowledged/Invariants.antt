@@ -1,7 +1,8 @@
+use Rattle.coap_client.specs.Listening.{ArePassedOver}
+use Rattle.coap_client.specs.Registrations.{IsPassedOverLeaving}
 use Rattle.coap_client.specs.Transmissions.{MakesCalls}
-use Rattle.coap_client.proofs.Transmitting.{HasCome}
 use Rattle.coap_client.proofs.observing.is_acknowledged.Given as goal
 
--- as many datagrams came, and were acknowledged or not
+-- as many datagrams came, and were passed over
 abbrev pub invariant-loop-received : goal.invariant-loop-received
-invariant-loop-received g l = MakesCalls (g.P.Peer.called l.fn.peer) (g.P.Peer.called l.peer) (HasCome l.received)
+invariant-loop-received g l = MakesCalls (g.P.Peer.called l.fn.peer) (g.P.Peer.called l.peer) (ArePassedOver (IsPassedOverLeaving l.token l.id) l.received)

@@ -1,43 +1,52 @@
-use Rattle.std.proofs.Common.{arith}
-use Rattle.std.specs.List.{All}
-use Rattle.coap_client.specs.Transmissions.{IsHeard, IsMeanwhile}
-use Rattle.coap_client.specs.declared.transmission.Listened.TheVariants.{Acknowledged}
-use Rattle.coap_client.proofs.Transmitting.{come, does_of, flooded, none_come, one_comes, over}
+use Rattle.std.proofs.Common.{◌≤◌, length, take, sym, ◌∙◌, arith}
+use Rattle.coap_client.specs.Heard.{TellsSent}
+use Rattle.coap_client.specs.Listening.{IsPassedOver}
+use Rattle.coap_client.proofs.Transmitting.{acknowledgement_came, answer_came, awaited_answer, ended_by, flooded, none_come, one_comes, over, passed, some_of}
 use Rattle.coap_client.proofs.transmission.listen.Goals as goal
 
 pub loop-received-init : goal.loop-received-init
-loop-received-init g c = none_come (g.P.Peer.called c.args.peer.now)
+loop-received-init g c = none_come (IsPassedOver (TellsSent c.args.request.now) c.args.awaited) (g.P.Peer.called c.args.peer.now)
 
 pub loop-received-preserved : goal.loop-received-preserved
 loop-received-preserved g c =
-    one_comes c.loop-received.received c.in-Some.count c.receive.new.buffer _ (g.P.Peer.called c.args.peer.now) (g.P.Peer.called c.loop-received.peer)
-    (g.P.Peer.called c.receive.new.self) (g.P.Peer.called c.hear_from.new.peer) c.in-Some.is c.loop-received.invariant c.in_ok-count.ensures.called c.in_ok-hear_from.ensures.called
+    let tells = TellsSent c.args.request.now in
+    one_comes (IsPassedOver tells c.args.awaited) c.loop-received.received c.in-Some.count c.receive.new.buffer _ (g.P.Peer.called c.args.peer.now) (g.P.Peer.called c.loop-received.peer)
+    (g.P.Peer.called c.receive.new.self) (g.P.Peer.called c.hear_from.new.peer) c.in-Some.is c.loop-received.invariant c.in_ok-count.ensures.called
+    (passed tells c.args.awaited _ c.in_ok-heard.heard (g.P.Peer.called c.receive.new.self) (g.P.Peer.called c.hear_from.new.peer) c.in_ok-heard.ensures.heard
+    (sym c.is_passed_over.ensures ∙ c.if-is_passed_over.true) c.in_ok-heard.ensures.called)
 
 pub returns-in_default-clause-called : goal.returns-in_default-clause-called
 returns-in_default-clause-called g c =
-    over c.loop-received.received c.receive.new.buffer _ (g.P.Peer.called c.args.peer.now) (g.P.Peer.called c.loop-received.peer) (g.P.Peer.called c.receive.new.self)
-    c.in_default.is c.loop-received.invariant c.in_ok-count.ensures.called
-
-pub returns-in-Reply-clause-called : goal.returns-in-Reply-clause-called
-returns-in-Reply-clause-called g c =
-    come _ _ _
-    (one_comes c.loop-received.received c.in-Some.count c.receive.new.buffer _ (g.P.Peer.called c.args.peer.now) (g.P.Peer.called c.loop-received.peer)
-    (g.P.Peer.called c.receive.new.self) (g.P.Peer.called c.hear_from.new.peer) c.in-Some.is c.loop-received.invariant c.in_ok-count.ensures.called c.in_ok-hear_from.ensures.called)
-
-pub returns-in-Separate-clause-called : goal.returns-in-Separate-clause-called
-returns-in-Separate-clause-called g c =
-    come _ _ _
-    (one_comes c.loop-received.received c.in-Some.count c.receive.new.buffer _ (g.P.Peer.called c.args.peer.now) (g.P.Peer.called c.loop-received.peer)
-    (g.P.Peer.called c.receive.new.self) (g.P.Peer.called c.hear_from.new.peer) c.in-Some.is c.loop-received.invariant c.in_ok-count.ensures.called c.in_ok-hear_from.ensures.called)
+    over (IsPassedOver (TellsSent c.args.request.now) c.args.awaited) c.loop-received.received c.receive.new.buffer _ (g.P.Peer.called c.args.peer.now) (g.P.Peer.called c.loop-received.peer)
+    (g.P.Peer.called c.receive.new.self) c.in_default.is c.loop-received.invariant c.in_ok-count.ensures.called
 
 pub returns-in-Acknowledged-clause-called : goal.returns-in-Acknowledged-clause-called
 returns-in-Acknowledged-clause-called g c =
-    does_of _ _ (All IsMeanwhile) (IsHeard c.args.awaited Acknowledged)
-    (come _ _ _
-    (one_comes c.loop-received.received c.in-Some.count c.receive.new.buffer _ (g.P.Peer.called c.args.peer.now) (g.P.Peer.called c.loop-received.peer)
-    (g.P.Peer.called c.receive.new.self) (g.P.Peer.called c.hear_from.new.peer) c.in-Some.is c.loop-received.invariant c.in_ok-count.ensures.called c.in_ok-hear_from.ensures.called))
-    (λ heard h. (c.if-not-awaited.true, h))
+    let tells = TellsSent c.args.request.now in
+    let ends = sym c.is_passed_over.ensures ∙ c.if-is_passed_over.false in
+    acknowledgement_came tells c.args.awaited (take c.in-Some.count c.receive.new.buffer) c.in_ok-heard.heard (g.P.Peer.called c.args.peer.now) (g.P.Peer.called c.hear_from.new.peer)
+    c.in_ok-heard.ensures.heard ends c.in-Acknowledged.is
+    (ended_by tells c.args.awaited c.loop-received.received c.in-Some.count c.receive.new.buffer _ c.in_ok-heard.heard (g.P.Peer.called c.args.peer.now) (g.P.Peer.called c.loop-received.peer)
+    (g.P.Peer.called c.receive.new.self) (g.P.Peer.called c.hear_from.new.peer) c.in-Some.is c.loop-received.invariant c.in_ok-count.ensures.called ends c.in_ok-heard.ensures.called)
+
+pub returns-in_default-2-clause-listened : goal.returns-in_default-2-clause-listened
+returns-in_default-2-clause-listened g c =
+    let came = some_of _ c.in-Some.count (λ n. (n ≤ length c.receive.new.buffer) × g.P.Peer.came (take n c.receive.new.buffer)) c.in-Some.is c.in_ok-count.ensures.came in (
+      came.0,
+      awaited_answer g.P.Peer.came c.args.request.now c.args.awaited _ c.in_ok-heard.heard came.1 c.in_ok-heard.ensures.heard (sym c.is_passed_over.ensures ∙ c.if-is_passed_over.false)
+          c.in_default-2.not-Acknowledged c.in_default-2.not-Rejected,
+    )
+
+pub returns-in_default-2-clause-called : goal.returns-in_default-2-clause-called
+returns-in_default-2-clause-called g c =
+    let tells = TellsSent c.args.request.now in
+    let ends = sym c.is_passed_over.ensures ∙ c.if-is_passed_over.false in
+    answer_came tells c.args.awaited (take c.in-Some.count c.receive.new.buffer) c.in_ok-heard.heard (g.P.Peer.called c.args.peer.now) (g.P.Peer.called c.hear_from.new.peer)
+    c.in_ok-heard.ensures.heard ends c.in_default-2.not-Acknowledged c.in_default-2.not-Rejected
+    (ended_by tells c.args.awaited c.loop-received.received c.in-Some.count c.receive.new.buffer _ c.in_ok-heard.heard (g.P.Peer.called c.args.peer.now) (g.P.Peer.called c.loop-received.peer)
+    (g.P.Peer.called c.receive.new.self) (g.P.Peer.called c.hear_from.new.peer) c.in-Some.is c.loop-received.invariant c.in_ok-count.ensures.called ends c.in_ok-heard.ensures.called)
 
 pub returns-clause-called : goal.returns-clause-called
 returns-clause-called g c =
-    flooded c.loop-received.received (g.P.Peer.called c.args.peer.now) (g.P.Peer.called c.loop-received.peer) (let end = c.loop-received-test.false in omega (arith, end)) c.loop-received.invariant
+    flooded (IsPassedOver (TellsSent c.args.request.now) c.args.awaited) c.loop-received.received (g.P.Peer.called c.args.peer.now) (g.P.Peer.called c.loop-received.peer)
+    (let end = c.loop-received-test.false in let bound = c.loop-received.auto.received-end in omega (arith, end, bound)) c.loop-received.invariant

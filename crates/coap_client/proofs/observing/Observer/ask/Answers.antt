@@ -1,37 +1,42 @@
-use Rattle.std.proofs.Common.{false, arith, subst}
-use Rattle.coap_client.specs.Transmissions.{MakesCalls, IsHeard}
-use Rattle.coap_client.proofs.Transmitting.{again, answered, answered_later, awaited, in_vain, in_vain_to_the_end}
+use Rattle.std.proofs.Common.{false, take, arith, subst}
+use Rattle.coap_client.specs.Notes.{TellsObserver}
+use Rattle.coap_client.specs.Listening.{IsHeard, IsPassedOver}
+use Rattle.coap_client.specs.Transmissions.{MakesCalls}
+use Rattle.coap_client.proofs.Transmitting.{again, answered, awaited, in_vain, in_vain_to_the_end}
 use Rattle.coap_client.proofs.observing.Observer.ask.Goals as goal
 
 pub loop-sendings-preserved : goal.loop-sendings-preserved
 loop-sendings-preserved g c =
+    let tells = TellsObserver c.args.self.now.token c.args.self.now.id in
     let sent = g.P.Peer.called c.send.new.peer in
     let after = g.P.Peer.called c.listen.new.peer in
-    in_vain c.args.datagram.now.items c.loop-sendings.sendings (g.P.Peer.called c.args.peer.now) (g.P.Peer.called c.loop-sendings.peer) after c.loop-sendings.invariant
+    in_vain (IsPassedOver tells false) c.args.datagram.now.items c.loop-sendings.sendings (g.P.Peer.called c.args.peer.now) (g.P.Peer.called c.loop-sendings.peer) after
+    c.loop-sendings.invariant
     (again _ c.loop-sendings.sendings c.ack_timeout.result _ sent after _ c.ack_timeout.ensures c.in_ok-send.ensures.called
-    (subst (λ x. MakesCalls sent after (IsHeard false x)) c.in-Nothing.is c.in_ok-count.ensures.called))
+    (subst (λ x. MakesCalls sent after (IsHeard tells false c.listen.new.buffer x)) c.in-Nothing.is c.in_ok-count.ensures.called))
 
 pub returns-in-Answer-clause-called : goal.returns-in-Answer-clause-called
 returns-in-Answer-clause-called g c =
+    let tells = TellsObserver c.args.self.now.token c.args.self.now.id in
     let sent = g.P.Peer.called c.send.new.peer in
     let after = g.P.Peer.called c.listen.new.peer in
-    answered c.args.datagram.now.items c.loop-sendings.sendings c.in-Answer.count (g.P.Peer.called c.args.peer.now) (g.P.Peer.called c.loop-sendings.peer) after
-    c.loop-sendings-test.true c.loop-sendings.invariant
+    answered tells c.args.datagram.now.items c.loop-sendings.sendings (take c.in-Answer.count c.listen.new.buffer) (g.P.Peer.called c.args.peer.now)
+    (g.P.Peer.called c.loop-sendings.peer) after c.loop-sendings-test.true c.loop-sendings.invariant
     (again _ c.loop-sendings.sendings c.ack_timeout.result _ sent after _ c.ack_timeout.ensures c.in_ok-send.ensures.called
-    (subst (λ x. MakesCalls sent after (IsHeard false x)) c.in-Answer.is c.in_ok-count.ensures.called))
+    (subst (λ x. MakesCalls sent after (IsHeard tells false c.listen.new.buffer x)) c.in-Answer.is c.in_ok-count.ensures.called))
 
 pub returns-in-Acknowledged-clause-called : goal.returns-in-Acknowledged-clause-called
 returns-in-Acknowledged-clause-called g c =
+    let tells = TellsObserver c.args.self.now.token c.args.self.now.id in
     let sent = g.P.Peer.called c.send.new.peer in
     let heard = g.P.Peer.called c.listen.new.peer in
-    let request = c.args.datagram.now.items in
-    answered_later request c.loop-sendings.sendings (g.P.Peer.called c.args.peer.now) (g.P.Peer.called c.loop-sendings.peer) (g.P.Peer.called c.await_answer.new.peer)
-    c.loop-sendings-test.true c.loop-sendings.invariant c.await_answer.result
-    (awaited request c.loop-sendings.sendings c.ack_timeout.result _ sent heard (g.P.Peer.called c.begin_wait.new.self) _ c.ack_timeout.ensures c.in_ok-send.ensures.called
-    (λ calls h. let a = subst (λ x. MakesCalls sent heard (IsHeard false x)) c.in-Acknowledged.is c.in_ok-count.ensures.called calls h in record { more = a.more; are = a.are.1; is = a.is })
-    c.in_ok-begin_wait-in-Acknowledged.ensures c.await_answer.result c.await_answer.ensures.called)
+    awaited tells c.args.datagram.now.items c.loop-sendings.sendings c.ack_timeout.result c.await_answer.new.buffer (g.P.Peer.called c.args.peer.now)
+    (g.P.Peer.called c.loop-sendings.peer) sent heard (g.P.Peer.called c.begin_wait.new.self) (g.P.Peer.called c.await_answer.new.peer)
+    c.loop-sendings-test.true c.loop-sendings.invariant c.ack_timeout.ensures c.in_ok-send.ensures.called
+    (subst (λ x. MakesCalls sent heard (IsHeard tells false c.listen.new.buffer x)) c.in-Acknowledged.is c.in_ok-count.ensures.called)
+    c.in_ok-begin_wait-in-Acknowledged.ensures c.await_answer.result c.await_answer.ensures.called
 
 pub returns-clause-called : goal.returns-clause-called
 returns-clause-called g c =
-    in_vain_to_the_end c.args.datagram.now.items c.loop-sendings.sendings (g.P.Peer.called c.args.peer.now) (g.P.Peer.called c.loop-sendings.peer)
+    in_vain_to_the_end (TellsObserver c.args.self.now.token c.args.self.now.id) c.args.datagram.now.items c.loop-sendings.sendings (g.P.Peer.called c.args.peer.now) (g.P.Peer.called c.loop-sendings.peer)
     (let end = c.loop-sendings-test.false in let bound = c.loop-sendings.auto.sendings-end in omega (arith, end, bound)) c.loop-sendings.invariant

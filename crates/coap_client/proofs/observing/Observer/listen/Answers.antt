@@ -1,29 +1,51 @@
-use Rattle.std.specs.List.{All}
-use Rattle.coap_client.specs.Transmissions.{IsHeard, IsMeanwhile}
-use Rattle.coap_client.specs.declared.transmission.Listened.TheVariants.{Acknowledged}
-use Rattle.coap_client.proofs.Transmitting.{come, does_of, one_comes, over, unacknowledged}
+use Rattle.std.proofs.Common.{◌≤◌, length, take, sym, ◌∙◌, arith}
+use Rattle.coap_client.specs.Listening.{IsPassedOver}
+use Rattle.coap_client.specs.Notes.{TellsObserver}
+use Rattle.coap_client.proofs.ObserverCalls.{arrived, passed_quietly}
+use Rattle.coap_client.proofs.Transmitting.{acknowledgement_came, answer_came, ended, flooded, none_come, one_comes, over, some_of}
 use Rattle.coap_client.proofs.observing.Observer.listen.Goals as goal
+
+pub loop-received-init : goal.loop-received-init
+loop-received-init g c = none_come (IsPassedOver (TellsObserver c.args.self.now.token c.args.self.now.id) c.args.awaited) (g.P.Peer.called c.args.peer.now)
 
 pub loop-received-preserved : goal.loop-received-preserved
 loop-received-preserved g c =
-    one_comes c.loop-received.received c.in-Some.count c.receive.new.buffer _ (g.P.Peer.called c.args.peer.now) (g.P.Peer.called c.loop-received.peer)
-    (g.P.Peer.called c.receive.new.self) (g.P.Peer.called c.receive.new.self) c.in-Some.is c.loop-received.invariant c.in_ok-count.ensures.called (unacknowledged _)
+    let o = c.args.self.now in
+    one_comes (IsPassedOver (TellsObserver o.token o.id) c.args.awaited) c.loop-received.received c.in-Some.count c.receive.new.buffer _ (g.P.Peer.called c.args.peer.now)
+    (g.P.Peer.called c.loop-received.peer) (g.P.Peer.called c.receive.new.self) (g.P.Peer.called c.receive.new.self) c.in-Some.is c.loop-received.invariant c.in_ok-count.ensures.called
+    (passed_quietly o.token o.id c.args.awaited _ c.hear_datagram-heard.result (g.P.Peer.called c.receive.new.self) c.hear_datagram-heard.ensures (sym c.is_passed_over.ensures ∙ c.if-is_passed_over.true))
 
 pub returns-in_default-clause-called : goal.returns-in_default-clause-called
 returns-in_default-clause-called g c =
-    over c.loop-received.received c.receive.new.buffer _ (g.P.Peer.called c.args.peer.now) (g.P.Peer.called c.loop-received.peer) (g.P.Peer.called c.receive.new.self)
-    c.in_default.is c.loop-received.invariant c.in_ok-count.ensures.called
-
-pub returns-in-Reply-clause-called : goal.returns-in-Reply-clause-called
-returns-in-Reply-clause-called g c =
-    come _ _ _
-    (one_comes c.loop-received.received c.in-Some.count c.receive.new.buffer _ (g.P.Peer.called c.args.peer.now) (g.P.Peer.called c.loop-received.peer)
-    (g.P.Peer.called c.receive.new.self) (g.P.Peer.called c.receive.new.self) c.in-Some.is c.loop-received.invariant c.in_ok-count.ensures.called (unacknowledged _))
+    over (IsPassedOver (TellsObserver c.args.self.now.token c.args.self.now.id) c.args.awaited) c.loop-received.received c.receive.new.buffer _ (g.P.Peer.called c.args.peer.now)
+    (g.P.Peer.called c.loop-received.peer) (g.P.Peer.called c.receive.new.self) c.in_default.is c.loop-received.invariant c.in_ok-count.ensures.called
 
 pub returns-in-Acknowledged-clause-called : goal.returns-in-Acknowledged-clause-called
 returns-in-Acknowledged-clause-called g c =
-    does_of _ _ (All IsMeanwhile) (IsHeard c.args.acknowledged Acknowledged)
-    (come _ _ _
-    (one_comes c.loop-received.received c.in-Some.count c.receive.new.buffer _ (g.P.Peer.called c.args.peer.now) (g.P.Peer.called c.loop-received.peer)
-    (g.P.Peer.called c.receive.new.self) (g.P.Peer.called c.receive.new.self) c.in-Some.is c.loop-received.invariant c.in_ok-count.ensures.called (unacknowledged _)))
-    (λ heard h. (c.if-not-acknowledged.true, h))
+    let tells = TellsObserver c.args.self.now.token c.args.self.now.id in
+    acknowledgement_came tells c.args.awaited (take c.in-Some.count c.receive.new.buffer) c.hear_datagram-heard.result (g.P.Peer.called c.args.peer.now) (g.P.Peer.called c.receive.new.self)
+    c.hear_datagram-heard.ensures (sym c.is_passed_over.ensures ∙ c.if-is_passed_over.false) c.in-Acknowledged.is
+    (ended (IsPassedOver tells c.args.awaited) c.loop-received.received c.in-Some.count c.receive.new.buffer _ (g.P.Peer.called c.args.peer.now) (g.P.Peer.called c.loop-received.peer)
+    (g.P.Peer.called c.receive.new.self) c.in-Some.is c.loop-received.invariant c.in_ok-count.ensures.called)
+
+pub returns-in_default-2-clause-listened : goal.returns-in_default-2-clause-listened
+returns-in_default-2-clause-listened g c =
+    let o = c.args.self.now in
+    let came = some_of _ c.in-Some.count (λ n. (n ≤ length c.receive.new.buffer) × g.P.Peer.came (take n c.receive.new.buffer)) c.in-Some.is c.in_ok-count.ensures.came in (
+      came.0,
+      arrived g.P.Peer.came o.token o.id c.args.awaited _ c.hear_datagram-heard.result came.1 c.hear_datagram-heard.ensures (sym c.is_passed_over.ensures ∙ c.if-is_passed_over.false)
+          c.in_default-2.not-Acknowledged c.in_default-2.not-Rejected,
+    )
+
+pub returns-in_default-2-clause-called : goal.returns-in_default-2-clause-called
+returns-in_default-2-clause-called g c =
+    let tells = TellsObserver c.args.self.now.token c.args.self.now.id in
+    answer_came tells c.args.awaited (take c.in-Some.count c.receive.new.buffer) c.hear_datagram-heard.result (g.P.Peer.called c.args.peer.now) (g.P.Peer.called c.receive.new.self)
+    c.hear_datagram-heard.ensures (sym c.is_passed_over.ensures ∙ c.if-is_passed_over.false) c.in_default-2.not-Acknowledged c.in_default-2.not-Rejected
+    (ended (IsPassedOver tells c.args.awaited) c.loop-received.received c.in-Some.count c.receive.new.buffer _ (g.P.Peer.called c.args.peer.now) (g.P.Peer.called c.loop-received.peer)
+    (g.P.Peer.called c.receive.new.self) c.in-Some.is c.loop-received.invariant c.in_ok-count.ensures.called)
+
+pub returns-clause-called : goal.returns-clause-called
+returns-clause-called g c =
+    flooded (IsPassedOver (TellsObserver c.args.self.now.token c.args.self.now.id) c.args.awaited) c.loop-received.received (g.P.Peer.called c.args.peer.now) (g.P.Peer.called c.loop-received.peer)
+    (let end = c.loop-received-test.false in let bound = c.loop-received.auto.received-end in omega (arith, end, bound)) c.loop-received.invariant
