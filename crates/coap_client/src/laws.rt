@@ -6,7 +6,7 @@ ghost use Rattle.coap_opts.specs.declared.request.Method.TheVariants.{Put};
 ghost use Rattle.coap_client.specs.declared.errand.Errand.{Errand};
 ghost use Rattle.coap_client.specs.declared.part.Part.{Part};
 ghost use Rattle.coap_client.specs.declared.part.Part.TheVariants.{Body, Whole};
-ghost use Rattle.coap_client.specs.declared.notice.Notice.TheVariants.{Last};
+ghost use Rattle.coap_client.specs.declared.notice.Notice.TheVariants.{Last, State};
 ghost use Rattle.coap_client.specs.declared.notice.Interest.TheVariants.{Deregister, Register};
 ghost use Rattle.coap_client.specs.declared.observing.Observer.{Observer};
 ghost use Rattle.coap_client.specs.Heard.{Tells};
@@ -53,6 +53,11 @@ pub fn half_apart_is_newer_neither_way()
     ensures down { (v first second : ℕ) → second ≤ first + 128000 → is_newer (v + 8388608) first v second ≡ false }
 {}
 
+/// A sequence number that is behind by more than half of them is newer: they began anew between.
+pub fn more_than_half_behind_is_newer()
+    ensures { (v first second : ℕ) → is_newer (v + 8388609) first v second ≡ true }
+{}
+
 /// The same sequence number is newer by age alone, which is more than 128 seconds.
 pub fn the_same_is_newer_by_age_alone()
     ensures { (v first second : ℕ) → second ≤ first + 128000 → is_newer v first v second ≡ false }
@@ -73,10 +78,23 @@ pub fn without_observe_it_is_the_last()
     ensures { (m : Message) → can_be_shown m ≡ true → first_or_none (values_in 6 m.options) ≡ None → notice_of m ≡ Last }
 {}
 
+/// A success that can be shown and has an Observe of three bytes is a state of that sequence number.
+pub fn by_an_observe_of_three_bytes_it_is_a_state()
+    ensures { (m : Message) (a b c : ℕ) → can_be_shown m ≡ true → is_success m.code ≡ true
+        → first_or_none (values_in 6 m.options) ≡ Some (a ∷ b ∷ c ∷ []) → notice_of m ≡ State (65536 * a + 256 * b + c) }
+{}
+
 /// What can be shown and has an Observe of four bytes, which is none, is the last one.
 pub fn by_a_long_observe_it_is_the_last()
     ensures { (m : Message) (value : List ℕ) → can_be_shown m ≡ true
         → first_or_none (values_in 6 m.options) ≡ Some value → length value ≡ 4 → notice_of m ≡ Last }
+{}
+
+/// The first option of a registration is Observe, 6, of the value 0, which has no byte; that of a deregistration is Observe of the value 1 (RFC 7641, 2).
+pub fn registers_by_0_and_deregisters_by_1()
+    ensures registration { (e : Errand) (token : List ℕ) (id : ℕ) → take 1 (observe_request e Register token id).options ≡ (6, []) ∷ [] }
+    ensures deregistration { (e : Errand) (token : List ℕ) (id : ℕ)
+        → take 1 (observe_request e Deregister token id).options ≡ (6, 1 ∷ []) ∷ [] }
 {}
 
 /// A PUT's body of more than 1,024 bytes goes in blocks of 1,024, from the first on (RFC 7959, 2.5): block n is that part of it, and is sent with the Block1
