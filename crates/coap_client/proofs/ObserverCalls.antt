@@ -1,16 +1,25 @@
 -- What is called by an observer.
-use Rattle.std.proofs.Common.{◌≡◌, ℕ, inl, inr, Bool, true, false, List, [], refl}
+use Rattle.std.proofs.Common.{◌≡◌, ◌≤◌, ◌⊎◌, ◌+◌, ◌^◌, ℕ, zero, suc, max, inl, inr, Bool, true, false, List, [], ◌∷◌, ◌++◌, Ok, Option, Some, None, refl, sym, subst, ap, ◌∙◌, append_assoc, arith}
+use Rattle.coap_msg.specs.Reading.{reading_of}
+use Rattle.coap_msg.specs.Wire.{Message}
+use Rattle.coap_client.specs.declared.notice.Notice.{Notice}
+use Rattle.coap_client.specs.declared.notice.Notice.TheVariants.{Older}
 use Rattle.coap_client.specs.declared.transmission.Reception.{Reception}
 use Rattle.coap_client.specs.declared.transmission.Reception.TheVariants.{Reply, Separate, Repeat, Acknowledged, Rejected, Other}
+use Rattle.coap_client.specs.declared.watch.Watch.{Watch}
 use Rattle.coap_client.specs.Heard.{IsReadAs}
-use Rattle.coap_client.specs.Listening.{EndsBy, IsPassedOver, acknowledges, is_passed_over}
-use Rattle.coap_client.specs.Notes.{HasArrived, IsAcknowledgementOf, IsResponseWith, TellsObserver}
-use Rattle.coap_client.specs.Notices.{IsOwnResponse}
-use Rattle.coap_client.specs.PeerCalls.{Adds}
-use Rattle.coap_client.specs.Registrations.{AcknowledgesNotification, IsLeft, IsPassedOverLeaving}
+use Rattle.coap_client.specs.Listening.{ArePassedOver, EndsBy, IsOver, IsPassedOver, acknowledges, is_passed_over}
+use Rattle.coap_client.specs.Notes.{HasArrived, HasOwnResponse, IsAcknowledgementOf, IsResponseWith, TellsObserver}
+use Rattle.coap_client.specs.Notices.{IsOwnResponse, notice_after}
+use Rattle.coap_client.specs.ObserverCalls.{AcknowledgesNotification, AreObserverSteps, AwaitsNotification, IsAnsweredRegistration, IsLeft, IsNoNotification, IsNoticed, IsObservation, IsObserverStep, IsObserving, IsOlderNotification, IsPassedOverLeaving, IsPassedOverWatching}
+use Rattle.coap_client.specs.PeerCalls.{Adds, PeerCall, Receives, Waits}
 use Rattle.coap_client.specs.Replies.{IsReset}
+use Rattle.coap_client.specs.declared.observing.Observer.{Observer}
 use Rattle.coap_client.specs.Transmissions.{MakesCalls}
-use Rattle.coap_client.proofs.Transmitting.{Calls, does, does_of, passed}
+use Rattle.coap_client.proofs.Transmitting.{Calls, Passes, does, does_both, does_nothing, does_of, does_then, passed}
+
+suc_left : (k j : ℕ) → suc (k + j) ≡ suc k + j
+suc_left k j = omega arith
 
 -- nothing is sent behind what is passed over while a registration is out
 pub passed_quietly : (token : List ℕ) (id : ℕ) (awaited : Bool) (bytes : List ℕ) (heard : Reception) (now : Calls) → TellsObserver token id bytes heard → is_passed_over awaited heard ≡ true
@@ -51,3 +60,206 @@ pub left : (token : List ℕ) (id : ℕ) (bytes : List ℕ) (before after : Call
     → MakesCalls before after (EndsBy (IsPassedOverLeaving token id) bytes) → MakesCalls before after (IsLeft token id)
 left token id bytes before after own one =
     does_of before after (EndsBy (IsPassedOverLeaving token id) bytes) (IsLeft token id) one (λ calls h. record { bytes = bytes; acknowledges_it = own; ends = h })
+
+-- ---- notifications
+
+pub no_notification : (token bytes : List ℕ) (now : Calls) → (IsReadAs bytes (IsOwnResponse token) → ⊥) → MakesCalls now now (IsNoNotification token bytes)
+no_notification token bytes now other = does now now (IsNoNotification token bytes) [] (λ calls h. h) (other, refl)
+
+-- a notification came, and was acknowledged
+pub noticed : (token : List ℕ) (passes : Passes) (bytes : List ℕ) (before between after : Calls) → IsReadAs bytes (IsOwnResponse token) → MakesCalls before between (EndsBy passes bytes)
+    → Adds between after (acknowledges bytes) → MakesCalls before after (IsNoticed token passes bytes)
+noticed token passes bytes before between after own one adds =
+    does_then before between after (EndsBy passes bytes) (IsNoticed token passes bytes) (acknowledges bytes) one adds (λ heard h. record { own = own; heard = heard; ends = h; is = refl })
+
+-- others are passed over behind these
+passed_behind : (other passes : Passes) → ((bytes : List ℕ) (sent : List PeerCall) → other bytes sent → passes bytes sent) → (m n : ℕ) (newer older : List PeerCall)
+    → ArePassedOver other m newer → ArePassedOver passes n older → ArePassedOver passes (m + n) (newer ++ older)
+passed_behind other passes turns zero n newer older none are =
+    subst (λ k. ArePassedOver passes k (newer ++ older)) (omega arith) (subst (λ (x : List PeerCall). ArePassedOver passes n (x ++ older)) (sym none) are)
+passed_behind other passes turns (suc m) n newer older one are =
+    subst (λ k. ArePassedOver passes k (newer ++ older)) (suc_left m n) (record {
+      older = one.older ++ older;
+      before = passed_behind other passes turns m n one.older older one.before are;
+      bytes = one.bytes;
+      sent = one.sent;
+      passed = turns one.bytes one.sent one.passed;
+      is = ap (λ (x : List PeerCall). x ++ older) one.is ∙ append_assoc one.sent (Receives (Some one.bytes) ∷ one.older) older;
+    })
+
+-- so many were passed over at least
+pub record HasPassed (passes : Passes) (least : ℕ) (calls : List PeerCall) : Type 0 where
+  pub n : ℕ
+  pub many : least ≤ n
+  pub are : ArePassedOver passes n calls
+
+pub none_passed : (passes : Passes) (now : Calls) → MakesCalls now now (HasPassed passes 0)
+none_passed passes now = does_nothing now (HasPassed passes 0) (record { n = 0; many = omega arith; are = refl })
+
+pub enough_passed : (passes : Passes) (least : ℕ) (before after : Calls) → 2 ^ 64 ≤ least + 1 → MakesCalls before after (HasPassed passes least) → MakesCalls before after (IsOver passes)
+enough_passed passes least before after full one =
+    does_of before after (HasPassed passes least) (IsOver passes) one
+    (λ heard h. record { n = h.n; older = heard; before = h.are; is = inr (refl, (let m = h.many in omega (arith, m, full))) })
+
+awaits_behind : (token : List ℕ) (other passes : Passes) → ((bytes : List ℕ) (sent : List PeerCall) → other bytes sent → passes bytes sent) → (least : ℕ) (older newer : List PeerCall) (answer : Option (List ℕ))
+    → HasPassed passes least older → AwaitsNotification token other answer newer → AwaitsNotification token passes answer (newer ++ older)
+awaits_behind token other passes turns least older newer None a b = record {
+  n = b.n + a.n;
+  older = b.older ++ older;
+  before = passed_behind other passes turns b.n a.n b.older older b.before a.are;
+  is = elim b.is as (λ _. (newer ++ older ≡ Receives None ∷ b.older ++ older) ⊎ ((newer ++ older ≡ b.older ++ older) × (2 ^ 64 ≤ b.n + a.n + 1))) [
+    | inl timed ↦ inl (ap (λ (x : List PeerCall). x ++ older) timed)
+    | inr full ↦ inr (ap (λ (x : List PeerCall). x ++ older) full.0, (let m = full.1 in omega (arith, m)))
+  ];
+}
+awaits_behind token other passes turns least older newer (Some bytes) a b =
+    let ends = b.ends in
+    record {
+      own = b.own;
+      heard = b.heard ++ older;
+      ends = record {
+        n = ends.n + a.n;
+        older = ends.older ++ older;
+        before = passed_behind other passes turns ends.n a.n ends.older older ends.before a.are;
+        is = ap (λ (x : List PeerCall). x ++ older) ends.is;
+      };
+      is = ap (λ (x : List PeerCall). x ++ older) b.is ∙ append_assoc (acknowledges bytes) b.heard older;
+    }
+
+watching : (told : ℕ → Type 0) (token : List ℕ) (w : Watch) (bytes : List ℕ) (sent : List PeerCall) → IsNoNotification token bytes sent → IsPassedOverWatching told token w bytes sent
+watching told token w bytes sent none = inr none
+
+-- the next notification that comes is shown, or the wait is over
+pub awaits_next : (told : ℕ → Type 0) (token : List ℕ) (w : Watch) (least : ℕ) (answer : Option (List ℕ)) (before between after : Calls)
+    → MakesCalls before between (HasPassed (IsPassedOverWatching told token w) least) → MakesCalls between after (AwaitsNotification token (IsNoNotification token) answer)
+    → MakesCalls before after (AwaitsNotification token (IsPassedOverWatching told token w) answer)
+awaits_next told token w least answer before between after one other =
+    let passes = IsPassedOverWatching told token w in
+    does_both before between after (HasPassed passes least) (AwaitsNotification token (IsNoNotification token) answer) (AwaitsNotification token passes answer) one other
+    (λ older newer a b. awaits_behind token (IsNoNotification token) passes (watching told token w) least older newer answer a b)
+
+-- or it is passed over
+pub older_passed : (told : ℕ → Type 0) (token : List ℕ) (w : Watch) (least : ℕ) (bytes : List ℕ) (before between after : Calls) → IsOlderNotification told token w bytes
+    → MakesCalls before between (HasPassed (IsPassedOverWatching told token w) least) → MakesCalls between after (AwaitsNotification token (IsNoNotification token) (Some bytes))
+    → MakesCalls before after (HasPassed (IsPassedOverWatching told token w) (least + 1))
+older_passed told token w least bytes before between after is_older one other =
+    let passes = IsPassedOverWatching told token w in
+    does_both before between after (HasPassed passes least) (IsNoticed token (IsNoNotification token) bytes) (HasPassed passes (least + 1)) one other
+    (λ older newer a b.
+    let ends = b.ends in
+    let many : least ≤ a.n = a.many in
+    record {
+      n = suc (ends.n + a.n);
+      many = omega (arith, many);
+      are = record {
+        older = ends.older ++ older;
+        before = passed_behind (IsNoNotification token) passes (watching told token w) ends.n a.n ends.older older ends.before a.are;
+        bytes = bytes;
+        sent = acknowledges bytes;
+        passed = inl (is_older, refl);
+        is = ap (λ (x : List PeerCall). x ++ older) b.is ∙ append_assoc (acknowledges bytes) b.heard older ∙ ap (λ (x : List PeerCall). acknowledges bytes ++ (x ++ older)) ends.is;
+      };
+    })
+
+-- what is told to be older is
+pub is_older : (went came : List ℕ → Type 0) (told : ℕ → Type 0) (token bytes : List ℕ) (w now : Watch) (m : Message) (moment at : ℕ) (notice : Notice) → HasOwnResponse went came token bytes
+    → reading_of bytes ≡ Ok m → told moment → now ≡ w → at ≡ max now.at moment → notice ≡ notice_after now at m → notice ≡ Older → IsOlderNotification told token w bytes
+is_older went came told token bytes w now m moment at notice own read told_is same is_at is older =
+    let spelled : own.message ≡ m = cc (own.heard.read_is, read) in
+    record {
+      message = m;
+      read_is = read;
+      own = subst (IsOwnResponse token) spelled own.own;
+      moment = moment;
+      told_is = told_is;
+      older = subst (λ (x : Watch). notice_after x (max x.at moment) m ≡ Older) same (subst (λ (x : ℕ). notice_after now x m ≡ Older) is_at (sym is ∙ older));
+    }
+
+-- ---- while it is registered
+
+one_more_step : (token : List ℕ) (older step : List PeerCall) → IsObserverStep token step → IsObserving token older → IsObserving token (step ++ older)
+one_more_step token older step is_step steps = (suc steps.0, record { older = older; before = steps.1; step = step; is_step = is_step; is = refl })
+
+-- a datagram came
+step_of : (token bytes : List ℕ) (sent older : List PeerCall) → AcknowledgesNotification token bytes sent → IsObserving token older → IsObserving token (sent ++ Receives (Some bytes) ∷ older)
+step_of token bytes sent older acknowledged steps =
+    subst (IsObserving token) (append_assoc sent (Receives (Some bytes) ∷ []) older)
+    (one_more_step token older (sent ++ Receives (Some bytes) ∷ []) (inr (inr (record { bytes = bytes; sent = sent; acknowledged = acknowledged; is = refl }))) steps)
+
+passed_steps : (token : List ℕ) (passes : Passes) → ((bytes : List ℕ) (sent : List PeerCall) → passes bytes sent → AcknowledgesNotification token bytes sent) → (n : ℕ) (calls : List PeerCall)
+    → ArePassedOver passes n calls → IsObserving token calls
+passed_steps token passes turns zero calls none = (0, none)
+passed_steps token passes turns (suc n) calls one =
+    subst (IsObserving token) (sym one.is) (step_of token one.bytes one.sent one.older (turns one.bytes one.sent one.passed) (passed_steps token passes turns n one.older one.before))
+
+watched : (told : ℕ → Type 0) (token : List ℕ) (w : Watch) (bytes : List ℕ) (sent : List PeerCall) → IsPassedOverWatching told token w bytes sent → AcknowledgesNotification token bytes sent
+watched told token w bytes sent (inl older) = inl (record { message = older.0.message; read_is = older.0.read_is; holds = older.0.own }, older.1)
+watched told token w bytes sent (inr none) = inr none
+
+awaited_steps : (told : ℕ → Type 0) (token : List ℕ) (w : Watch) (answer : Option (List ℕ)) (calls : List PeerCall) → AwaitsNotification token (IsPassedOverWatching told token w) answer calls
+    → IsObserving token calls
+awaited_steps told token w None calls o =
+    let steps = passed_steps token (IsPassedOverWatching told token w) (watched told token w) o.n o.older o.before in
+    elim o.is as (λ _. IsObserving token calls) [
+      | inl timed ↦ subst (IsObserving token) (sym timed) (one_more_step token o.older (Receives None ∷ []) (inr (inl refl)) steps)
+      | inr full ↦ subst (IsObserving token) (sym full.0) steps
+    ]
+awaited_steps told token w (Some bytes) calls x =
+    let ends = x.ends in
+    let steps = passed_steps token (IsPassedOverWatching told token w) (watched told token w) ends.n ends.older ends.before in
+    subst (IsObserving token) (sym (x.is ∙ ap (λ (l : List PeerCall). acknowledges bytes ++ l) ends.is))
+    (step_of token bytes (acknowledges bytes) ends.older (inl (x.own, refl)) steps)
+
+steps_behind : (token : List ℕ) (m n : ℕ) (newer older : List PeerCall) → AreObserverSteps token m newer → AreObserverSteps token n older → AreObserverSteps token (m + n) (newer ++ older)
+steps_behind token zero n newer older none are =
+    subst (λ k. AreObserverSteps token k (newer ++ older)) (omega arith) (subst (λ (x : List PeerCall). AreObserverSteps token n (x ++ older)) (sym none) are)
+steps_behind token (suc m) n newer older one are =
+    subst (λ k. AreObserverSteps token k (newer ++ older)) (suc_left m n) (record {
+      older = one.older ++ older;
+      before = steps_behind token m n one.older older one.before are;
+      step = one.step;
+      is_step = one.is_step;
+      is = ap (λ (x : List PeerCall). x ++ older) one.is ∙ append_assoc one.step one.older older;
+    })
+
+observed : (token : List ℕ) (newer older : List PeerCall) → IsObserving token newer → IsObserving token older → IsObserving token (newer ++ older)
+observed token newer older a b = (a.0 + b.0, steps_behind token a.0 b.0 newer older a.1 b.1)
+
+-- nothing came so far
+pub observes_nothing : (token : List ℕ) (now : Calls) → MakesCalls now now (IsObserving token)
+observes_nothing token now = does_nothing now (IsObserving token) (0, refl)
+
+-- a notification is awaited, as the watch does
+pub awaits_observing : (told : ℕ → Type 0) (token : List ℕ) (w : Watch) (answer : Option (List ℕ)) (before between after : Calls) → MakesCalls before between (IsObserving token)
+    → MakesCalls between after (AwaitsNotification token (IsPassedOverWatching told token w) answer) → MakesCalls before after (IsObserving token)
+awaits_observing told token w answer before between after one other =
+    does_both before between after (IsObserving token) (AwaitsNotification token (IsPassedOverWatching told token w) answer) (IsObserving token) one other
+    (λ older newer a b. observed token newer older (awaited_steps told token w answer newer b) a)
+
+-- a wait is begun
+pub waits_observing : (token : List ℕ) (seconds : ℕ) (before between after : Calls) → MakesCalls before between (IsObserving token) → Adds between after (Waits seconds ∷ [])
+    → MakesCalls before after (IsObserving token)
+waits_observing token seconds before between after one adds =
+    does_then before between after (IsObserving token) (IsObserving token) (Waits seconds ∷ []) one adds
+    (λ older steps. one_more_step token older (Waits seconds ∷ []) (inl (seconds, refl)) steps)
+
+-- it is registered, and observes
+pub registered : (o : Observer) (before after : Calls) → MakesCalls before after (IsAnsweredRegistration o) → MakesCalls before after (IsObservation o)
+registered o before after one =
+    does_of before after (IsAnsweredRegistration o) (IsObservation o) one (λ calls a. record { older = calls; first = a; newer = []; then = (0, refl); is = refl })
+
+pub observes : (o : Observer) (before between after : Calls) → MakesCalls before between (IsObservation o) → MakesCalls between after (IsObserving o.token) → MakesCalls before after (IsObservation o)
+observes o before between after one other =
+    does_both before between after (IsObservation o) (IsObserving o.token) (IsObservation o) one other
+    (λ older newer a b. record {
+      older = a.older;
+      first = a.first;
+      newer = newer ++ a.newer;
+      then = observed o.token newer a.newer b a.then;
+      is = ap (λ (x : List PeerCall). newer ++ x) a.is ∙ sym (append_assoc newer a.newer a.older);
+    })
+
+pub observes_waiting : (o : Observer) (seconds : ℕ) (before between after : Calls) → MakesCalls before between (IsObservation o) → Adds between after (Waits seconds ∷ [])
+    → MakesCalls before after (IsObservation o)
+observes_waiting o seconds before between after one adds =
+    observes o before between after one (waits_observing o.token seconds between between after (observes_nothing o.token between) adds)

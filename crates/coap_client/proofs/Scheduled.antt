@@ -12,7 +12,7 @@ use Rattle.coap_client.specs.declared.transmission.Reception.{Reception}
 use Rattle.coap_client.specs.declared.transmission.Reception.TheVariants.{Reply, Separate, Repeat, Acknowledged, Rejected, Other}
 use Rattle.coap_client.specs.Listening.{ArePassedOver, EndsBy, IsOver, IsPassedOver, acknowledges, acknowledges_kind, acknowledges_read, sent_behind}
 use Rattle.coap_client.specs.PeerCalls.{PeerCall, Sends, Waits, Receives}
-use Rattle.coap_client.specs.Registrations.{IsLeft, IsPassedOverLeaving}
+use Rattle.coap_client.specs.ObserverCalls.{IsLeft, IsPassedOverLeaving}
 use Rattle.coap_client.specs.Schedules.{AwaitsResponse, BeginsSchedule, full_schedule, has_code, is_scheduled, schedule}
 use Rattle.coap_client.specs.Transmissions.{ack_timeout, acknowledges_answer, AreInVain, EndsAnswered, EndsAwaited, IsAcknowledgedFirst, IsLastSending, IsSending, IsTransmission}
 

@@ -1,5 +1,5 @@
 -- What is called on a peer, one call behind the other.
-use Rattle.std.proofs.Common.{◌≡◌, ℕ, suc, IfOk, IfSome, Result, Ok, Err, ◌+◌, ◌<◌, ◌^◌, inl, inr, Bool, true, false, List, [], ◌∷◌, ◌++◌, Option, Some, None, refl, sym, ◌∙◌, ap, subst, append_assoc, take, add-one}
+use Rattle.std.proofs.Common.{◌≡◌, ℕ, suc, IfOk, IfSome, Result, Ok, Err, ◌+◌, ◌<◌, ◌≤◌, ◌^◌, inl, inr, Bool, true, false, List, [], ◌∷◌, ◌++◌, Option, Some, None, refl, sym, ◌∙◌, ap, subst, append_assoc, take, add-one}
 use Rattle.coap_client.specs.declared.fetcher.FetchFault.{FetchFault}
 use Rattle.coap_client.specs.declared.transmission.Reception.{Reception}
 use Rattle.coap_client.specs.declared.transmission.Reception.TheVariants.{Reply, Separate, Repeat, Acknowledged, Rejected, Other}
@@ -12,7 +12,7 @@ use Rattle.coap_client.specs.Transmissions.{ack_timeout, most_sendings, non_wait
 abbrev pub Calls : Type 1
 Calls = List PeerCall → Type 0
 
-abbrev Passes : Type 1
+abbrev pub Passes : Type 1
 Passes = List ℕ → List PeerCall → Type 0
 
 abbrev Told : Type 1
@@ -93,7 +93,7 @@ over passes n buffer o before between after none one adds =
     (λ first h. record { n = n; older = first; before = h; is = inl refl })
 
 -- so many came that no more are listened to
-pub flooded : (passes : Passes) (n : ℕ) (before after : Calls) → n + 1 ≡ 2 ^ 64 → MakesCalls before after (ArePassedOver passes n) → MakesCalls before after (IsOver passes)
+pub flooded : (passes : Passes) (n : ℕ) (before after : Calls) → 2 ^ 64 ≤ n + 1 → MakesCalls before after (ArePassedOver passes n) → MakesCalls before after (IsOver passes)
 flooded passes n before after many one =
     does_of before after (ArePassedOver passes n) (IsOver passes) one (λ heard h. record { n = n; older = heard; before = h; is = inr (refl, many) })
 

@@ -11,5 +11,5 @@ pub mod Fetching
 pub mod Joined
 pub mod Notices
 pub mod Notes
-pub mod Registrations
+pub mod ObserverCalls
 pub mod Schedules

@@ -1,5 +1,5 @@
 -- What is called while a wait lasts: datagrams come that are passed over, until one ends it. Of a list of calls the newest stands first.
-use Rattle.std.specs.Prelude.{◌≡◌, ℕ, zero, suc, ◌+◌, ◌^◌, ◌⊎◌, not, Bool, true, false, List, [], ◌∷◌, ◌++◌, take, Result, Ok, Err, Some, None}
+use Rattle.std.specs.Prelude.{◌≡◌, ℕ, zero, suc, ◌+◌, ◌≤◌, ◌^◌, ◌⊎◌, not, Bool, true, false, List, [], ◌∷◌, ◌++◌, take, Result, Ok, Err, Some, None}
 use Rattle.coap_msg.specs.Reading.{reading_of}
 use Rattle.coap_msg.specs.Wire.{Message, message_bytes}
 use Rattle.coap_msg.specs.declared.types.Bad.{Bad}
@@ -33,7 +33,7 @@ pub record IsOver (passes : List ℕ → List PeerCall → Type 0) (heard : List
   pub n : ℕ
   pub older : List PeerCall
   pub before : ArePassedOver passes n older
-  pub is : (heard ≡ Receives None ∷ older) ⊎ ((heard ≡ older) × (n + 1 ≡ 2 ^ 64))
+  pub is : (heard ≡ Receives None ∷ older) ⊎ ((heard ≡ older) × (2 ^ 64 ≤ n + 1))
 
 -- this datagram ends it, the first that isn't passed over
 pub record EndsBy (passes : List ℕ → List PeerCall → Type 0) (bytes : List ℕ) (heard : List PeerCall) : Type 0 where

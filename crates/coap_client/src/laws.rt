@@ -14,7 +14,7 @@ ghost use Rattle.coap_client.specs.Notices.{can_be_shown, is_newer, notice_of, o
 ghost use Rattle.coap_client.specs.Parts.{first_part, part_options, part_payload};
 ghost use Rattle.coap_client.specs.PeerCalls.{PeerCall, Sends, Waits};
 ghost use Rattle.coap_client.specs.Schedules.{AwaitsResponse, BeginsSchedule, full_schedule, schedule};
-ghost use Rattle.coap_client.specs.Registrations.{IsDeregistration, IsRegistration};
+ghost use Rattle.coap_client.specs.ObserverCalls.{IsDeregistration, IsRegistration};
 ghost use Rattle.coap_client.specs.Transmissions.{IsTransmission};
 ghost use Rattle.coap_client.specs.Fetching.{Ended, Out, after_reply, state_after};
 ghost use Rattle.coap_client.specs.Joined.{IsOneAnswer, SaysTaken};

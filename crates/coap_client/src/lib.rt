@@ -29,7 +29,8 @@
 //!   be shown.
 //! - What an observer shows next came by `Peer::receive`, is a response with its token in a message of its own, was acknowledged where it
 //!   is confirmable, and is a state newer than what was shown last, at a moment that the peer told, or the last, of which no clause says
-//!   that it is newer. A deregistration that ends well was sent and acknowledged.
+//!   that it is newer. What it passes over is no notification, or is no newer, or repeats what was shown, and nothing is sent but the
+//!   acknowledgement of each confirmable notification. A deregistration that ends well was sent and acknowledged.
 //! - Of that comparison: that 0 is newer than 16,777,215, that what is ahead by 8,388,607 is newer, and what is behind by 8,388,609, of two
 //!   8,388,608 apart neither within 128 s, nor the same number, and any 128,001 ms later; that of two at one moment at most one is newer; and
 //!   that what can be shown is the last where it has no Observe, or one of four bytes, and a success with one of three a state. A registration

@@ -9,7 +9,7 @@ ghost use Rattle.coap_client.specs.Replies.{IsReset};
 ghost use Rattle.coap_opts.specs.Values.{uint_bytes};
 ghost use Rattle.coap_client.specs.Listening.{IsHeard};
 ghost use Rattle.coap_client.specs.PeerCalls.{bytes_in};
-ghost use Rattle.coap_client.specs.Registrations.{AcknowledgesNotification, IsDeregistration, IsOverUnlessLeft, IsRegistration};
+ghost use Rattle.coap_client.specs.ObserverCalls.{AcknowledgesNotification, AwaitsNotification, IsDeregistration, IsNoNotification, IsOverUnlessLeft, IsPassedOverWatching, IsRegistration, noted_in};
 ghost use Rattle.coap_client.specs.Transmissions.{MakesCalls, IsAskedAgain, EndsAwaited};
 ghost use Rattle.std.specs.Bool.{OnTrue};
 ghost use Rattle.coap_client.specs.Parts.{resource_options};
@@ -195,7 +195,9 @@ impl Watch {
         token: &[u8],
         buffer: &mut [u8],
     ) -> Result<Option<NotedMessage>, FetchFault>
-        ensures { IfOk result (Watches P.went P.came P.is_moment token.now buffer.new self.old self.new) }
+        ensures watched { IfOk result (Watches P.went P.came P.is_moment token.now buffer.new self.old self.new) }
+        ensures called { IfOk result (λ r. MakesCalls (P.called peer.old) (P.called peer.new)
+            (AwaitsNotification token.now (IsPassedOverWatching P.is_moment token.now self.old) (noted_in buffer.new r))) }
     {
         for _ in 0..u64::MAX {
             let Some(count) = hear(peer, token, buffer)? else {
@@ -221,8 +223,10 @@ impl Watch {
 
 // The next notification that comes while a wait lasts. A confirmable one is acknowledged.
 fn hear<P: Peer>(peer: &mut P, token: &[u8], buffer: &mut [u8]) -> Result<Option<usize>, FetchFault>
-    ensures { IfOk result (λ r. IfSome r (λ count. (count ≤ length buffer.new)
+    ensures heard { IfOk result (λ r. IfSome r (λ count. (count ≤ length buffer.new)
         × HasOwnResponse P.went P.came token.now (take count buffer.new))) }
+    ensures called { IfOk result (λ r. MakesCalls (P.called peer.old) (P.called peer.new)
+        (AwaitsNotification token.now (IsNoNotification token.now) (bytes_in buffer.new r))) }
 {
     for _ in 0..u64::MAX {
         let Some(count) = peer.receive(buffer)? else {

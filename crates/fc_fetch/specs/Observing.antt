@@ -3,6 +3,9 @@ use Rattle.std.specs.Prelude.{◌≡◌, ℕ, ◌++◌, max, List, [], ◌∷◌
 use Rattle.std.specs.Io.KnownBytes.{Appends}
 use Rattle.coap_client.specs.Notes.{AreNotes, HasDeregistered, IsWatching, Note}
 use Rattle.coap_client.specs.Notices.{notice_of, observe_request}
+use Rattle.coap_client.specs.ObserverCalls.{IsDeregistration, IsObservation}
+use Rattle.coap_client.specs.PeerCalls.{PeerCall}
+use Rattle.coap_client.specs.Transmissions.{AreBehind}
 use Rattle.coap_client.specs.declared.notice.Interest.TheVariants.{Register}
 use Rattle.coap_client.specs.declared.notice.Notice.{Notice}
 use Rattle.coap_client.specs.declared.notice.Notice.TheVariants as notice
@@ -49,6 +52,14 @@ IsEnd limit (Last code) latest older = (latest.message.code ≡ code.byte) × (n
 abbrev pub HasLeft : (List ℕ → Type 0) → (List ℕ → Type 0) → Observer → ObservationEnd → Type 0
 HasLeft went came o (Last code) = Unit {0}
 HasLeft went came o other = HasDeregistered went came o
+
+-- what is called for that, and what is called from the registration on
+abbrev pub IsLeaving : Observer → ObservationEnd → List PeerCall → Type 0
+IsLeaving o (Last code) calls = calls ≡ []
+IsLeaving o other calls = IsDeregistration o calls
+
+abbrev pub ObservesToEnd : Observer → ObservationEnd → List PeerCall → Type 0
+ObservesToEnd o end calls = AreBehind (IsObservation o) (IsLeaving o end) calls
 
 -- the registration was sent; its answer and notifications were printed, a line each: each came, is newer than the one before it, and was printed once
 pub record HasShown (went came : List ℕ → Type 0) (told : ℕ → Type 0) (o : Observer) (shown : Shown) (limit : ℕ) (before after : Option (List ℕ)) (end : ObservationEnd) : Type 0 where

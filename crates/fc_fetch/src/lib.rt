@@ -11,6 +11,8 @@
 //!   s, each can be shown, and each but the last is a state.
 //! - Where it ends for its count there are just so many, and there, and where it ends for its time, the last is a state as well, and the
 //!   deregistration was sent and acknowledged. Where it ends otherwise, the last is an error or has no sequence number.
+//! - Between the registration and the deregistration it begins waits, and takes what comes in; nothing is sent but the acknowledgement of each
+//!   confirmable notification. Behind the deregistration, or an error or an answer without a sequence number, nothing is called.
 //! - No clause says that all that came and are newer are printed, nor that it deregisters where it fails.
 //!
 //! By the contracts of `address::Address::parse`, `printer::write_answer`, `write_note`, `client::print_answer`, `observer::print_notes`, `print_to_end`; `laws`.

@@ -1,8 +1,11 @@
 //! An observer's program: it registers, prints what it is notified of, a line each, and deregisters (RFC 7641).
-ghost use Rattle.std.specs.Prelude.{◌≡◌, ◌≤◌, ◌⊎◌, IfOk};
+ghost use Rattle.std.specs.Prelude.{◌≡◌, ◌≤◌, ◌⊎◌, [], ◌∷◌, IfOk, OnOk};
 ghost use Rattle.coap_client.specs.Notes.{Watches};
+ghost use Rattle.coap_client.specs.ObserverCalls.{IsAnsweredRegistration, IsObservation, IsObserving};
+ghost use Rattle.coap_client.specs.PeerCalls.{Adds, Waits};
+ghost use Rattle.coap_client.specs.Transmissions.{MakesCalls};
 ghost use Rattle.fc_cli.specs.declared.status.Status.TheVariants.{Failed};
-ghost use Rattle.fc_fetch.specs.Observing.{HasLeft, HasShown, IsFirstShown, end_status, lines_wanted};
+ghost use Rattle.fc_fetch.specs.Observing.{HasLeft, HasShown, IsFirstShown, IsLeaving, ObservesToEnd, end_status, lines_wanted};
 
 use crate::address::Address;
 use crate::client::{FetchStop, first_id, resource};
@@ -171,11 +174,11 @@ pub fn print_to_end<P: Peer, W: Write>(
     ensures shown { IfOk result (HasShown P.went P.came P.is_moment observer.now shown
         (lines_wanted extent.count) (W.contents out.old) (W.contents out.new)) }
     ensures left { IfOk result (HasLeft P.went P.came observer.now) }
+    ensures called { IfOk result (λ end. MakesCalls (P.called peer.old) (P.called peer.new) (ObservesToEnd observer.now end)) }
 {
     match print_notes(alloc, peer, out, observer, shown, extent, buffer) {
-        Ok(ObservationEnd::Last(code)) => Ok(ObservationEnd::Last(code)),
         Ok(end) => {
-            observer.deregister(alloc, peer, buffer)?;
+            leave(alloc, peer, observer, end, buffer)?;
             Ok(end)
         }
         Err(error) => {
@@ -184,6 +187,23 @@ pub fn print_to_end<P: Peer, W: Write>(
             }
             Err(error)
         }
+    }
+}
+
+// Deregisters, where the server may notify further.
+fn leave<P: Peer>(
+    alloc: Global,
+    peer: &mut P,
+    observer: &Observer<'_>,
+    end: ObservationEnd,
+    buffer: &mut [u8],
+) -> Result<(), FetchFault>
+    ensures left { OnOk result (HasLeft P.went P.came observer.now end) }
+    ensures called { OnOk result (MakesCalls (P.called peer.old) (P.called peer.new) (IsLeaving observer.now end)) }
+{
+    match end {
+        ObservationEnd::Last(_) => Ok(()),
+        ObservationEnd::Counted | ObservationEnd::Over => observer.deregister(alloc, peer, buffer),
     }
 }
 
@@ -209,8 +229,9 @@ pub fn print_notes<P: Peer, W: Write>(
     extent: ObservationExtent,
     buffer: &mut [u8],
 ) -> Result<ObservationEnd, NotesError>
-    ensures { IfOk result (HasShown P.went P.came P.is_moment observer.now shown
+    ensures shown { IfOk result (HasShown P.went P.came P.is_moment observer.now shown
         (lines_wanted extent.count) (W.contents out.old) (W.contents out.new)) }
+    ensures called { OnOk result (MakesCalls (P.called peer.old) (P.called peer.new) (IsObservation observer.now)) }
 {
     let mut watch = match print_first(alloc, peer, out, observer, shown, buffer)? {
         First::State(watch) => watch,
@@ -261,7 +282,8 @@ fn print_first<P: Peer, W: Write>(
     shown: Shown,
     buffer: &mut [u8],
 ) -> Result<First, NotesError>
-    ensures { IfOk result (IsFirstShown P.went P.came P.is_moment observer.now shown (W.contents out.old) (W.contents out.new)) }
+    ensures shown { IfOk result (IsFirstShown P.went P.came P.is_moment observer.now shown (W.contents out.old) (W.contents out.new)) }
+    ensures called { OnOk result (MakesCalls (P.called peer.old) (P.called peer.new) (IsAnsweredRegistration observer.now)) }
 {
     let count = observer.register(alloc, peer, buffer)?;
     let Ok(message) = read(&buffer[..count]) else {
@@ -283,7 +305,9 @@ fn moment<P: Peer>(peer: &P) -> Result<u64, FetchFault>
     Ok(peer.now()?)
 }
 
-fn begin_wait<P: Peer>(peer: &mut P, seconds: u64) -> Result<(), FetchFault> {
+fn begin_wait<P: Peer>(peer: &mut P, seconds: u64) -> Result<(), FetchFault>
+    ensures { OnOk result (Adds (P.called peer.old) (P.called peer.new) (Waits seconds ∷ [])) }
+{
     Ok(peer.begin_wait(seconds)?)
 }
 
@@ -295,7 +319,8 @@ fn await_note<P: Peer>(
     ends: bool,
     buffer: &mut [u8],
 ) -> Result<Option<NotedMessage>, FetchFault>
-    ensures { IfOk result (Watches P.went P.came P.is_moment observer.now.token buffer.new watch.old watch.new) }
+    ensures watched { IfOk result (Watches P.went P.came P.is_moment observer.now.token buffer.new watch.old watch.new) }
+    ensures called { OnOk result (MakesCalls (P.called peer.old) (P.called peer.new) (IsObserving observer.now.token)) }
 {
     for _ in 0..u64::MAX {
         match watch.next(peer, &observer.token, buffer)? {

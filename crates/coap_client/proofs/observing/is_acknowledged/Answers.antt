@@ -1,6 +1,6 @@
 use Rattle.std.proofs.Common.{take, arith}
 use Rattle.std.proofs.lemmas.Bool.{iff_false}
-use Rattle.coap_client.specs.Registrations.{IsPassedOverLeaving}
+use Rattle.coap_client.specs.ObserverCalls.{IsPassedOverLeaving}
 use Rattle.coap_client.proofs.ObserverCalls.{left, passed_leaving}
 use Rattle.coap_client.proofs.Transmitting.{ended, flooded, none_come, one_comes, over}
 use Rattle.coap_client.proofs.observing.is_acknowledged.Goals as goal
@@ -31,4 +31,4 @@ returns-then-tells_acknowledgement-clause-called g c =
 pub returns-clause-called : goal.returns-clause-called
 returns-clause-called g c =
     flooded (IsPassedOverLeaving c.args.token.now c.args.id) c.loop-received.received (g.P.Peer.called c.args.peer.now) (g.P.Peer.called c.loop-received.peer)
-    (let end = c.loop-received-test.false in let bound = c.loop-received.auto.received-end in omega (arith, end, bound)) c.loop-received.invariant
+    (let end = c.loop-received-test.false in omega (arith, end)) c.loop-received.invariant

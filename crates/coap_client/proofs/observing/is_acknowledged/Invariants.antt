@@ -1,5 +1,5 @@
 use Rattle.coap_client.specs.Listening.{ArePassedOver}
-use Rattle.coap_client.specs.Registrations.{IsPassedOverLeaving}
+use Rattle.coap_client.specs.ObserverCalls.{IsPassedOverLeaving}
 use Rattle.coap_client.specs.Transmissions.{MakesCalls}
 use Rattle.coap_client.proofs.observing.is_acknowledged.Given as goal
 

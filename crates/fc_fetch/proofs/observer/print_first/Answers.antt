@@ -5,8 +5,8 @@ use Rattle.fc_fetch.proofs.Lines.{first_shown, only_shown}
 use Rattle.fc_fetch.proofs.observer.print_first.Goals as goal
 use Rattle.fc_fetch.proofs.observer.print_first.Goals.{in-State+in_ok-first-in-State, in-Last}
 
-pub returns : goal.returns
-returns g c =
+pub returns-clause-shown : goal.returns-clause-shown
+returns-clause-shown g c =
     let registered = c.in_ok-count.ensures.registered.1 in
     let read = sym c.read.ensures.function ∙ c.in-Ok.is in
     let told = c.in_ok-at.ensures in

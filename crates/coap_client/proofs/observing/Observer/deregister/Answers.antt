@@ -1,5 +1,5 @@
 use Rattle.std.proofs.Common.{◌+◌, ◌%◌, subst}
-use Rattle.coap_client.specs.Registrations.{IsLeft, IsOverUnlessLeft, IsPassedOverLeaving}
+use Rattle.coap_client.specs.ObserverCalls.{IsLeft, IsOverUnlessLeft, IsPassedOverLeaving}
 use Rattle.coap_client.specs.Transmissions.{MakesCalls, IsLastSending}
 use Rattle.coap_client.proofs.Transmitting.{again, in_vain, last_sending}
 use Rattle.coap_client.proofs.observing.Observer.deregister.Goals as goal

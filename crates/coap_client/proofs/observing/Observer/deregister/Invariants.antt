@@ -1,4 +1,4 @@
-use Rattle.coap_client.specs.Registrations.{IsPassedOverLeaving}
+use Rattle.coap_client.specs.ObserverCalls.{IsPassedOverLeaving}
 use Rattle.coap_client.specs.Transmissions.{AreInVain, MakesCalls}
 use Rattle.coap_client.proofs.observing.Observer.deregister.Given as goal
 

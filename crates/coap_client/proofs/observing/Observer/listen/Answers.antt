@@ -48,4 +48,4 @@ returns-in_default-2-clause-called g c =
 pub returns-clause-called : goal.returns-clause-called
 returns-clause-called g c =
     flooded (IsPassedOver (TellsObserver c.args.self.now.token c.args.self.now.id) c.args.awaited) c.loop-received.received (g.P.Peer.called c.args.peer.now) (g.P.Peer.called c.loop-received.peer)
-    (let end = c.loop-received-test.false in let bound = c.loop-received.auto.received-end in omega (arith, end, bound)) c.loop-received.invariant
+    (let end = c.loop-received-test.false in omega (arith, end)) c.loop-received.invariant

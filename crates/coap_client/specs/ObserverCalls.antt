@@ -1,0 +1,123 @@
+-- What an observer calls: its registration, what it listens to while it is registered, and its deregistration. Of a list of calls the newest stands first.
+use Rattle.std.specs.Prelude.{◌≡◌, ℕ, zero, suc, ◌+◌, ◌%◌, ◌⊎◌, max, option_map, Bool, true, false, List, [], ◌∷◌, ◌++◌, take, Ok, Option, Some, None}
+use Rattle.coap_msg.specs.Reading.{reading_of}
+use Rattle.coap_msg.specs.Wire.{Message, message_bytes}
+use Rattle.coap_client.specs.declared.notice.Interest.TheVariants.{Register, Deregister}
+use Rattle.coap_client.specs.declared.notice.Notice.TheVariants.{Older}
+use Rattle.coap_client.specs.declared.observing.NotedMessage.{NotedMessage}
+use Rattle.coap_client.specs.declared.observing.Observer.{Observer}
+use Rattle.coap_client.specs.declared.watch.Watch.{Watch}
+use Rattle.coap_client.specs.Heard.{IsReadAs}
+use Rattle.coap_client.specs.Listening.{EndsBy, IsOver, acknowledges}
+use Rattle.coap_client.specs.Notes.{IsAcknowledgementOf, TellsObserver}
+use Rattle.coap_client.specs.Notices.{IsOwnResponse, notice_after, observe_request}
+use Rattle.coap_client.specs.PeerCalls.{PeerCall, Receives, Waits}
+use Rattle.coap_client.specs.Replies.{IsReset}
+use Rattle.coap_client.specs.Transmissions.{AreBehind, IsLastSending, IsTransmission}
+
+-- ---- the registration
+
+-- it is transmitted, and answered
+abbrev pub IsRegistration : Observer → List ℕ → List PeerCall → Type 0
+IsRegistration o answer calls =
+    IsTransmission true (TellsObserver o.token o.id) (message_bytes (observe_request o.errand.now Register o.token o.id)) (Some answer) calls
+
+abbrev pub IsAnsweredRegistration : Observer → List PeerCall → Type 0
+IsAnsweredRegistration o calls = (answer : List ℕ) × IsRegistration o answer calls
+
+-- ---- notifications
+
+-- what is none is passed over
+abbrev pub IsNoNotification : List ℕ → List ℕ → List PeerCall → Type 0
+IsNoNotification token bytes sent = (IsReadAs bytes (IsOwnResponse token) → ⊥) × (sent ≡ [])
+
+-- behind one its acknowledgement is sent, where it asks for that, and nothing behind another datagram
+abbrev pub AcknowledgesNotification : List ℕ → List ℕ → List PeerCall → Type 0
+AcknowledgesNotification token bytes sent = (IsReadAs bytes (IsOwnResponse token) × (sent ≡ acknowledges bytes)) ⊎ IsNoNotification token bytes sent
+
+-- one that isn't shown: it repeats what was, or is no newer, at a moment that was told
+pub record IsOlderNotification (told : ℕ → Type 0) (token : List ℕ) (w : Watch) (bytes : List ℕ) : Type 0 where
+  pub message : Message
+  pub read_is : reading_of bytes ≡ Ok message
+  pub own : IsOwnResponse token message
+  pub moment : ℕ
+  pub told_is : told moment
+  pub older : notice_after w (max w.at moment) message ≡ Older
+
+-- that is passed over as well, and acknowledged
+abbrev pub IsPassedOverWatching : (ℕ → Type 0) → List ℕ → Watch → List ℕ → List PeerCall → Type 0
+IsPassedOverWatching told token w bytes sent = (IsOlderNotification told token w bytes × (sent ≡ acknowledges bytes)) ⊎ IsNoNotification token bytes sent
+
+-- this one came, and was acknowledged
+pub record IsNoticed (token : List ℕ) (passes : List ℕ → List PeerCall → Type 0) (bytes : List ℕ) (calls : List PeerCall) : Type 0 where
+  pub own : IsReadAs bytes (IsOwnResponse token)
+  pub heard : List PeerCall
+  pub ends : EndsBy passes bytes heard
+  pub is : calls ≡ acknowledges bytes ++ heard
+
+-- or none, and the wait is over
+abbrev pub AwaitsNotification : List ℕ → (List ℕ → List PeerCall → Type 0) → Option (List ℕ) → List PeerCall → Type 0
+AwaitsNotification token passes None calls = IsOver passes calls
+AwaitsNotification token passes (Some bytes) calls = IsNoticed token passes bytes calls
+
+-- the notification at the start of the buffer, if one is to be shown
+abbrev pub noted_in : List ℕ → Option NotedMessage → Option (List ℕ)
+noted_in buffer noted = option_map (λ x. take x.count buffer) noted
+
+-- ---- while it is registered
+
+-- a datagram comes, and is acknowledged where it is a notification that asks for that
+pub record ComesToObserver (token : List ℕ) (step : List PeerCall) : Type 0 where
+  pub bytes : List ℕ
+  pub sent : List PeerCall
+  pub acknowledged : AcknowledgesNotification token bytes sent
+  pub is : step ≡ sent ++ Receives (Some bytes) ∷ []
+
+-- or a wait is begun, or over
+abbrev pub IsObserverStep : List ℕ → List PeerCall → Type 0
+IsObserverStep token step = ((seconds : ℕ) × (step ≡ Waits seconds ∷ [])) ⊎ ((step ≡ Receives None ∷ []) ⊎ ComesToObserver token step)
+
+pub record IsOneMoreStep (Before : List PeerCall → Type 0) (token : List ℕ) (calls : List PeerCall) : Type 0 where
+  pub older : List PeerCall
+  pub before : Before older
+  pub step : List PeerCall
+  pub is_step : IsObserverStep token step
+  pub is : calls ≡ step ++ older
+
+abbrev pub AreObserverSteps : List ℕ → ℕ → List PeerCall → Type 0
+AreObserverSteps token zero calls = calls ≡ []
+AreObserverSteps token (suc n) calls = IsOneMoreStep (AreObserverSteps token n) token calls
+
+abbrev pub IsObserving : List ℕ → List PeerCall → Type 0
+IsObserving token calls = (n : ℕ) × AreObserverSteps token n calls
+
+-- it registers, and observes
+abbrev pub IsObservation : Observer → List PeerCall → Type 0
+IsObservation o calls = AreBehind (IsAnsweredRegistration o) (IsObserving o.token) calls
+
+-- ---- the deregistration
+
+-- while it is out, with this id, what neither acknowledges nor rejects it is passed over
+pub record IsPassedOverLeaving (token : List ℕ) (id : ℕ) (bytes : List ℕ) (sent : List PeerCall) : Type 0 where
+  pub acknowledged : IsReadAs bytes (IsAcknowledgementOf id) → ⊥
+  pub rejected : IsReadAs bytes (IsReset id) → ⊥
+  pub notification : AcknowledgesNotification token bytes sent
+
+-- it was acknowledged
+pub record IsLeft (token : List ℕ) (id : ℕ) (heard : List PeerCall) : Type 0 where
+  pub bytes : List ℕ
+  pub acknowledges_it : IsReadAs bytes (IsAcknowledgementOf id)
+  pub ends : EndsBy (IsPassedOverLeaving token id) bytes heard
+
+-- it was, or the wait is over
+abbrev pub IsOverUnlessLeft : List ℕ → ℕ → Bool → List PeerCall → Type 0
+IsOverUnlessLeft token id true heard = IsLeft token id heard
+IsOverUnlessLeft token id false heard = IsOver (IsPassedOverLeaving token id) heard
+
+-- it is sent until it is acknowledged
+abbrev pub IsDeregistrationOf : Observer → ℕ → List PeerCall → Type 0
+IsDeregistrationOf o id calls =
+    IsLastSending (IsPassedOverLeaving o.token id) (message_bytes (observe_request o.errand.now Deregister o.token id)) (IsLeft o.token id) calls
+
+abbrev pub IsDeregistration : Observer → List PeerCall → Type 0
+IsDeregistration o calls = IsDeregistrationOf o ((o.id + 1) % 65536) calls
