@@ -45,7 +45,7 @@ StandsIn code loops None t = IsOutside loops t
 StandsIn code loops (Some m) t = IsWithin code loops m t
 
 -- no loop begins at the slot
-not_head : (code : List Insn) (loops : List Loop) (t i : ℕ) (l : Loop) → AreBodies code loops → begins loops t ≡ None → slice_get loops i ≡ Some l → l.head ≤ t → l.head < t
+pub not_head : (code : List Insn) (loops : List Loop) (t i : ℕ) (l : Loop) → AreBodies code loops → begins loops t ≡ None → slice_get loops i ≡ Some l → l.head ≤ t → l.head < t
 not_head code loops t i l b e g le = elim (cases_eq l.head t) [
   | inl same ↦ absurd (cc (e, subst (λ k. begins loops k ≡ Some l) same (b.first i l g)))
   | inr d ↦ omega (arith, le, d)
@@ -94,14 +94,14 @@ calls_in : (code : List Insn) (loops : List Loop) (slot t : ℕ) (f : Flow) → 
 calls_in code loops slot t f b at calls = record { apart = λ i l g from upto. b.whole i slot t l f g at calls from upto }
 
 -- two loops that begin together are one
-same_head : (code : List Insn) (loops : List Loop) (i k : ℕ) (l m : Loop) → AreBodies code loops → slice_get loops i ≡ Some l → slice_get loops k ≡ Some m → l.head ≡ m.head → l ≡ m
+pub same_head : (code : List Insn) (loops : List Loop) (i k : ℕ) (l m : Loop) → AreBodies code loops → slice_get loops i ≡ Some l → slice_get loops k ≡ Some m → l.head ≡ m.head → l ≡ m
 same_head code loops i k l m b g h e =
     let a = b.first i l g in
     let c = subst (λ j. begins loops j ≡ Some m) (sym e) (b.first k m h) in
     cc (a, c)
 
 -- a loop that has the slot behind another's end in its body has the other in it
-around : (code : List Insn) (loops : List Loop) (i k : ℕ) (l m : Loop) → AreBodies code loops → slice_get loops i ≡ Some l → slice_get loops k ≡ Some m → m.head < l.last + 1 → l.last + 1 ≤ m.last → m.head < l.head
+pub around : (code : List Insn) (loops : List Loop) (i k : ℕ) (l m : Loop) → AreBodies code loops → slice_get loops i ≡ Some l → slice_get loops k ≡ Some m → m.head < l.last + 1 → l.last + 1 ≤ m.last → m.head < l.head
 around code loops i k l m b g h from upto = elim (cases_lt m.head l.head) [
   | inl lt ↦ lt
   | inr ge ↦ elim (cases_eq l.head m.head) [

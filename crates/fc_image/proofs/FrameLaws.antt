@@ -14,6 +14,7 @@ use Rattle.fc_image.specs.Laws.{frames_at}
 use Rattle.fc_image.specs.ShapeRules.{is_place, is_instruction, is_later, leaves, IsShapedBy}
 use Rattle.fc_image.proofs.FunctionTables.{length-depths, depth_is, rest_of}
 use Rattle.fc_image.proofs.PathLaws.{offset_lands, not_true, first_false, second_false, placed}
+use Rattle.fc_image.proofs.Costs.{flow_there}
 
 -- ---- the frames of a slot, by those of later ones
 
@@ -36,11 +37,6 @@ call_frames code slot o g lt =
 past_frames : (code : List Insn) (slot : ℕ) → length code ≤ slot → frames_at code slot ≡ 0
 past_frames code slot le = get_or_past (depths (is_start code) 0 code) slot 0 (let n = length-depths (is_start code) 0 code in omega (arith, n, le))
 
-there : (code : List Insn) (i : ℕ) → i < length code → (insn : Insn) × (slice_get code i ≡ Some insn)
-there [] i h = absurd (omega arith)
-there (x ∷ code) zero h = (x, refl)
-there (x ∷ code) (suc i) h = there code i (omega arith)
-
 -- no function starts from the next slot on to a later one
 within_frames : (code : List Insn) (slot n : ℕ) → starts_within code slot n ≡ false → frames_at code (slot + n) ≤ frames_at code slot
 within_frames code slot zero e = let z : slot + 0 ≡ slot = omega arith in rw z (omega arith)
@@ -49,7 +45,7 @@ within_frames code slot (suc n) e =
     let z : slot + suc n ≡ slot + n + 1 = omega arith in
     let s : is_start code (slot + n + 1) ≡ false = ap (is_start code) (sym z) ∙ second_false (starts_within code slot n) (is_start code (slot + suc n)) e in
     let b : frames_at code (slot + n + 1) ≤ frames_at code (slot + n) = elim (cases_lt (slot + n) (length code)) [
-      | inl lt ↦ let i = there code (slot + n) lt in stay_frames code (slot + n) i.0 i.1 s
+      | inl lt ↦ let i = flow_there code (slot + n) lt in stay_frames code (slot + n) i.0 i.1 s
       | inr ge ↦ let p = past_frames code (slot + n + 1) (omega (arith, ge)) in omega (arith, p)
     ] in
     let c : frames_at code (slot + suc n) ≡ frames_at code (slot + n + 1) = ap (frames_at code) z in

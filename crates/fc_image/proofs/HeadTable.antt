@@ -12,6 +12,7 @@ use Rattle.fc_image.specs.Loops.{bound_of, step_of, loop_at, loop_if, and_loop, 
 use Rattle.fc_image.specs.Tables.{IsLow, AreLow, AreHeads, headed}
 use Rattle.fc_image.proofs.CostTable.{drop_at}
 use Rattle.fc_image.proofs.LoopForm.{bound_is, step_is, loop_by_is, if_at}
+use Rattle.fc_image.proofs.Costs.{flow_there}
 
 -- ---- the loop whose jump back an instruction is
 
@@ -54,12 +55,7 @@ From allowed code slot = loops_from allowed code slot (drop slot code)
 from_here : (allowed : Bool) (code : List Insn) (slot : ℕ) (insn : Insn) → slice_get code slot ≡ Some insn → From allowed code slot ≡ and_loop (loop_if allowed code slot insn) (From allowed code (suc slot))
 from_here allowed code slot insn e = ap (loops_from allowed code slot) (drop_at code slot insn e)
 
-there : (code : List Insn) (slot : ℕ) → slot < length code → (insn : Insn) × (slice_get code slot ≡ Some insn)
-there [] slot lt = absurd (omega (arith, lt))
-there (x ∷ code) zero lt = (x, refl)
-there (x ∷ code) (suc slot) lt = there code slot (omega (arith, lt))
-
--- a loop that ends before a slot doesn't begin or end there
+-- a loop that ends before a slot doesn't begin or end flow_there
 begins_on : (o : Option Loop) (loops : List Loop) (h : ℕ) → ((l : Loop) → o ≡ Some l → l.head ≢ h) → begins (and_loop o loops) h ≡ begins loops h
 begins_on None loops h n = refl
 begins_on (Some l) loops h n = let other = n l refl in let t : (l.head == h) ≡ false = grind (arith, nat_tests, other) in ap (λ b. if b then Some l else begins loops h) t
@@ -76,7 +72,7 @@ unfolding loops_of
 begins_from allowed code zero h le = refl
 begins_from allowed code (suc n) h le = begins_from allowed code n h (omega (arith, le)) ∙ elim (cases_lt n (length code)) [
   | inl lt ↦
-      let i = there code n lt in
+      let i = flow_there code n lt in
       ap (λ l. begins l h) (from_here allowed code n i.0 i.1)
       ∙ begins_on (loop_if allowed code n i.0) (From allowed code (suc n)) h (λ l e same. let x = here allowed code n i.0 l e in let o = x.low.order in let last = x.last in absurd (omega (arith, o, last, same, le)))
   | inr ge ↦ ap (λ l. begins l h) (empty_from allowed code n ge ∙ sym (empty_from allowed code (suc n) (omega (arith, ge))))
@@ -87,7 +83,7 @@ unfolding loops_of
 ends_from allowed code zero h le = refl
 ends_from allowed code (suc n) h le = ends_from allowed code n h (omega (arith, le)) ∙ elim (cases_lt n (length code)) [
   | inl lt ↦
-      let i = there code n lt in
+      let i = flow_there code n lt in
       ap (λ l. ends l h) (from_here allowed code n i.0 i.1)
       ∙ ends_on (loop_if allowed code n i.0) (From allowed code (suc n)) h (λ l e same. let last = (here allowed code n i.0 l e).last in absurd (omega (arith, last, same, le)))
   | inr ge ↦ ap (λ l. ends l h) (empty_from allowed code n ge ∙ sym (empty_from allowed code (suc n) (omega (arith, ge))))
@@ -100,7 +96,7 @@ ends_past allowed code first (insn ∷ rest) slot lt =
     ends_on (loop_if allowed code first insn) (loops_from allowed code (suc first) rest) slot (λ l e same. let last = (here allowed code first insn l e).last in absurd (omega (arith, last, same, lt)))
     ∙ ends_past allowed code (suc first) rest slot (omega (arith, lt))
 
--- the loop that ends at a slot is that of the instruction there
+-- the loop that ends at a slot is that of the instruction flow_there
 pub ends_here : (allowed : Bool) (code : List Insn) (slot : ℕ) (insn : Insn) → slice_get code slot ≡ Some insn → ends (loops_of allowed code) slot ≡ loop_if allowed code slot insn
 ends_here allowed code slot insn e = ends_from allowed code slot slot (omega arith) ∙ ap (λ l. ends l slot) (from_here allowed code slot insn e) ∙ go (loop_if allowed code slot insn) refl
   where
@@ -113,7 +109,7 @@ ends_here allowed code slot insn e = ends_from allowed code slot slot (omega ari
 
 -- ---- the table
 
--- a place for each of 1,024 slots: the loop that begins there, of those that end from a slot on
+-- a place for each of 1,024 slots: the loop that begins flow_there, of those that end from a slot on
 pub record AreHeadsFrom (allowed : Bool) (code : List Insn) (slot : ℕ) (heads : List (Option Loop)) : Type 0 where
   pub count : length heads ≡ 1024
   pub each : (h : ℕ) → h < 1024 → get_or heads h None ≡ begins (From allowed code slot) h

@@ -5,16 +5,7 @@ use Rattle.fc_isa.specs.declared.rule.Rule.{Rule}
 use Rattle.fc_isa.specs.declared.rule.Rule.TheVariants.{Format, SlotCount, VarsSize, Budget, Reserved}
 use Rattle.fc_image.specs.Head.{head_breaks, head_fault, stated, has_magic, slots_allowed}
 use Rattle.fc_image.specs.Written.{KeepsHead}
-
--- where none of five tests finds anything, each is false
-pub none_of_five : (a b c d e : Bool) (x y z v w : Rule) → cond a (Some x) (cond b (Some y) (cond c (Some z) (cond d (Some v) (cond e (Some w) None)))) ≡ None
-    → (a ≡ false) × (b ≡ false) × (c ≡ false) × (d ≡ false) × (e ≡ false)
-none_of_five true b c d e x y z v w h = absurd (cc h)
-none_of_five false true c d e x y z v w h = absurd (cc h)
-none_of_five false false true d e x y z v w h = absurd (cc h)
-none_of_five false false false true e x y z v w h = absurd (cc h)
-none_of_five false false false false true x y z v w h = absurd (cc h)
-none_of_five false false false false false x y z v w h = (refl, refl, refl, refl, refl)
+use Rattle.fc_isa.proofs.Faultless.{none_of_five}
 
 size_tells : (word : Bool) (n m : ℕ) → not ((nat_le 16 n && word) && (n == m)) ≡ false → n ≡ m
 size_tells word n m h = grind (arith, nat_tests)

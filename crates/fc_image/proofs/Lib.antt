@@ -13,4 +13,4 @@ mod Rows
 pub mod LoopForm
 pub mod Leaving
 pub mod Spanned
-mod LoopLaws
+pub mod LoopLaws

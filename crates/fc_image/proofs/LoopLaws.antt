@@ -33,6 +33,7 @@ use Rattle.fc_image.proofs.Attained.{longest_in}
 use Rattle.fc_image.proofs.PathLaws.{not_true, first_false, second_false, placed, lands, goes_on}
 use Rattle.fc_image.proofs.FrameLaws.{second_half, no_half, stay_frames, call_frames, jump_frames, first_and_added}
 use Rattle.fc_image.proofs.LoopForm.{IsJump, has_jump, is_among, loop_last, calm, IsAside, aside, nested, begins_first, ends_last}
+use Rattle.fc_image.proofs.Costs.{flow_here}
 
 -- ---- how a flow leads on
 
@@ -65,10 +66,6 @@ flow_insn code slot f e = go (slice_get code slot) refl e
     go : (o : Option Insn) → slice_get code slot ≡ o → flow_of slot o ≡ Some f → (insn : Insn) × (slice_get code slot ≡ Some insn) × (flow slot insn ≡ f)
     go None g h = absurd (cc h)
     go (Some insn) g h = (insn, g, cc h)
-
-insn_flow : (code : List Insn) (slot : ℕ) (insn : Insn) → slice_get code slot ≡ Some insn → flow_at code slot ≡ Some (flow slot insn)
-unfolding flow_at
-insn_flow code slot insn e = ap (flow_of slot) e
 
 -- ---- wide loads
 
@@ -423,7 +420,7 @@ last_not allowed code slot i l e g same = absurd (cc (e, subst (λ n. ends (loop
 pub bodies : (allowed : Bool) (code : List Insn) → is_program code ≡ true → IsShapedBy allowed code → AreBodies code (loops_of allowed code)
 bodies allowed code p s = record {
   order = λ i l g. (has_jump allowed code i l g).order;
-  jumps = λ i l g. let j = has_jump allowed code i l g in insn_flow code l.last (JumpIf j.jump) j.stands ∙ ap (λ t. Some (Forks t (l.last + 1))) j.lands;
+  jumps = λ i l g. let j = has_jump allowed code i l g in flow_here code l.last (JumpIf j.jump) j.stands ∙ ap (λ t. Some (Forks t (l.last + 1))) j.lands;
   after = λ i l g. let j = has_jump allowed code i l g in (past_jump allowed code l.last j.jump s j.stands).1;
   first = λ i l g. begins_first allowed code i l s g;
   last = λ i l g. ends_last allowed code i l g;

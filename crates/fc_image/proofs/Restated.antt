@@ -7,7 +7,8 @@ use Rattle.std.proofs.lemmas.Nat.{le_bytes_2, le_bytes_4}
 use Rattle.fc_isa.specs.declared.rule.Rule.TheVariants.{Format, SlotCount, VarsSize, Budget, Reserved}
 use Rattle.fc_image.specs.Head.{head_breaks, head_fault, stated, has_magic, is_word, version_of}
 use Rattle.fc_image.specs.Written.{digit_of, head_bytes}
-use Rattle.fc_image.proofs.Kept.{none_of_five}
+use Rattle.fc_isa.proofs.Faultless.{none_of_five}
+use Rattle.fc_isa.proofs.Slot.{two_bytes}
 
 -- the first four of these bytes, and the rest
 record Word (bytes : List ℕ) : Type 0 where
@@ -42,11 +43,6 @@ pub record AreBytes (bytes : List ℕ) : Type 0 where
 -- what the type of a slice of `u8` says
 pub are_bytes : (bytes : List ℕ) → ((i : ℕ) → Fits w8 (get_or bytes i 0)) → AreBytes bytes
 are_bytes bytes h = record { each = λ i. let f = h i in omega arith }
-
-two_bytes : (x y : ℕ) → x < 256 → y < 256 → (i : ℕ) → get_or (x ∷ y ∷ []) i 0 < 256
-two_bytes x y hx hy zero = hx
-two_bytes x y hx hy (suc zero) = hy
-two_bytes x y hx hy (suc (suc i)) = omega arith
 
 four_bytes : (x y z w : ℕ) → x < 256 → y < 256 → z < 256 → w < 256 → (i : ℕ) → get_or (x ∷ y ∷ z ∷ w ∷ []) i 0 < 256
 four_bytes x y z w hx hy hz hw zero = hx

@@ -10,9 +10,9 @@ use Rattle.fc_isa.specs.declared.version.ImageVersion.TheVariants.{One, Two}
 use Rattle.fc_image.specs.Head.{Head, slots_allowed, version_of, head_breaks, head_fault, stated, has_magic, is_bad_count, is_bad_size, is_bad_budget}
 use Rattle.fc_image.specs.Written.{IsHead, digit_of, head_bytes}
 
-few : (version : ImageVersion) (n : ℕ) → n ≤ slots_allowed version → n ≤ 1024
-few One n le = omega (arith, le)
-few Two n le = omega (arith, le)
+pub few_slots : (version : ImageVersion) (n : ℕ) → n ≤ slots_allowed version → n ≤ 1024
+few_slots One n le = omega (arith, le)
+few_slots Two n le = omega (arith, le)
 
 version_back : (version : ImageVersion) → version_of (digit_of version) ≡ version
 version_back One = refl
@@ -25,7 +25,7 @@ magic_known Two = refl
 pub stated_written : (h : Head) (slots : List ℕ) → IsHead h → stated (head_bytes h ++ slots) ≡ h
 stated_written h slots k =
     let vars : from_le_bytes w16 (to_le_bytes w16 h.vars_size) ≡ h.vars_size = from_le_bytes-to_le_bytes_2 h.vars_size (omega (arith, k.vars)) in
-    let count : from_le_bytes w16 (to_le_bytes w16 h.count) ≡ h.count = from_le_bytes-to_le_bytes_2 h.count (omega (arith, few h.version h.count k.count)) in
+    let count : from_le_bytes w16 (to_le_bytes w16 h.count) ≡ h.count = from_le_bytes-to_le_bytes_2 h.count (omega (arith, few_slots h.version h.count k.count)) in
     let budget : from_le_bytes w32 (to_le_bytes w32 h.budget) ≡ h.budget = from_le_bytes-to_le_bytes_4 h.budget (omega (arith, k.budget)) in
     rw (vars, count, budget) (ap (λ (v : ImageVersion). record h { version = v }) (version_back h.version))
 

@@ -2,7 +2,7 @@
 use Rattle.std.proofs.Common.{◌≡◌, ◌⊎◌, inl, inr, ℕ, ◌+◌, ◌*◌, ◌^◌, ◌<◌, ◌==◌, ◌&&◌, ◌||◌, not, Bool, true, false, cond, Option, Some, None, refl, sym, ap, ◌∙◌, arith, rules}
 use Rattle.std.specs.Int.{w16, w32, cast_signed}
 use Rattle.std.specs.Prelude.{FitsSigned, nat_lt, if◌then◌else◌}
-use Rattle.std.proofs.lemmas.Bool.{eq-eqb, eqb-true}
+use Rattle.std.proofs.lemmas.Bool.{eq-eqb, eqb-true, and_parts}
 use Rattle.std.proofs.lemmas.Bool.Decides.{nat_tests}
 use Rattle.std.proofs.lemmas.Int.{ints, of_z-to_z}
 use Rattle.fc_isa.specs.declared.insn.Width.{Width}
@@ -28,7 +28,7 @@ use Rattle.fc_isa.proofs.Insns.{Fit}
 
 -- ---- what fields that break no rule have
 
-none_of_five : (a b c d e : Bool) (v w x y z : Rule) → cond a (Some v) (cond b (Some w) (cond c (Some x) (cond d (Some y) (cond e (Some z) None)))) ≡ None
+pub none_of_five : (a b c d e : Bool) (v w x y z : Rule) → cond a (Some v) (cond b (Some w) (cond c (Some x) (cond d (Some y) (cond e (Some z) None)))) ≡ None
     → (a ≡ false) × (b ≡ false) × (c ≡ false) × (d ≡ false) × (e ≡ false)
 none_of_five true b c d e v w x y z h = absurd (cc h)
 none_of_five false true c d e v w x y z h = absurd (cc h)
@@ -40,10 +40,6 @@ none_of_five false false false false false v w x y z h = (refl, refl, refl, refl
 not_false : (b : Bool) → not b ≡ false → b ≡ true
 not_false true h = refl
 not_false false h = absurd (cc h)
-
-both : (a b : Bool) → (a && b) ≡ true → (a ≡ true) × (b ≡ true)
-both true b h = (refl, h)
-both false b h = absurd (cc h)
 
 either : (a b : Bool) → (a || b) ≡ true → (a ≡ true) ⊎ (b ≡ true)
 either true b h = inl refl
@@ -77,7 +73,7 @@ faultless : (f : Fields) (next : Option Fields) → slot_fault f next ≡ None �
 faultless f next h =
     let p = none_of_five (breaks f next Opcode) (breaks f next Register) (breaks f next FramePointer) (breaks f next Field) (breaks f next WideLoad) Opcode Register FramePointer Field WideLoad h in
     let r = low_registers f.dst f.src p.1 in
-    let v = both (unused_are_zero (shape_of f.opcode) f) (values_allowed (shape_of f.opcode) f) (not_false _ p.3) in
+    let v = and_parts (unused_are_zero (shape_of f.opcode) f) (values_allowed (shape_of f.opcode) f) (not_false _ p.3) in
     record {
       known = not_false (is_known (shape_of f.opcode)) p.0;
       dst = r.0;
@@ -101,9 +97,9 @@ or_zero false n h e = eqb-true n 0 h
 
 zeros : (s : Shape) (f : Fields) → unused_are_zero s f ≡ true → Zeros s f
 zeros s f h =
-    let halves = both (((uses s).dst || (f.dst == 0)) && ((uses s).src || (f.src == 0))) (((uses s).offset || (f.offset == 0)) && ((uses s).imm || (f.imm == 0))) h in
-    let regs = both ((uses s).dst || (f.dst == 0)) ((uses s).src || (f.src == 0)) halves.0 in
-    let rest = both ((uses s).offset || (f.offset == 0)) ((uses s).imm || (f.imm == 0)) halves.1 in
+    let halves = and_parts (((uses s).dst || (f.dst == 0)) && ((uses s).src || (f.src == 0))) (((uses s).offset || (f.offset == 0)) && ((uses s).imm || (f.imm == 0))) h in
+    let regs = and_parts ((uses s).dst || (f.dst == 0)) ((uses s).src || (f.src == 0)) halves.0 in
+    let rest = and_parts ((uses s).offset || (f.offset == 0)) ((uses s).imm || (f.imm == 0)) halves.1 in
     record {
       dst = or_zero (uses s).dst f.dst regs.0;
       src = or_zero (uses s).src f.src regs.1;
@@ -293,9 +289,9 @@ pub record IsWideLoad (f : Fields) (next : Fields) : Type 0 where
 
 half_is : (g : Fields) → is_second_half (Some g) ≡ true → second_half g.imm ≡ g
 half_is g h =
-    let p = both ((g.opcode == 0) && (g.dst == 0)) ((g.src == 0) && (g.offset == 0)) h in
-    let q = both (g.opcode == 0) (g.dst == 0) p.0 in
-    let r = both (g.src == 0) (g.offset == 0) p.1 in
+    let p = and_parts ((g.opcode == 0) && (g.dst == 0)) ((g.src == 0) && (g.offset == 0)) h in
+    let q = and_parts (g.opcode == 0) (g.dst == 0) p.0 in
+    let r = and_parts (g.src == 0) (g.offset == 0) p.1 in
     same g _ _ _ _ _ (sym (eqb-true g.opcode 0 q.0)) (sym (eqb-true g.dst 0 q.1)) (sym (eqb-true g.src 0 r.0)) (sym (eqb-true g.offset 0 r.1)) refl
 
 wide_shape : (s : Shape) → is_wide s ≡ true → s ≡ LoadWideShape

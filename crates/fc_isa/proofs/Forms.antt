@@ -1,7 +1,7 @@
 -- Forms and opcodes give one another.
-use Rattle.std.proofs.Common.{◌≡◌, ℕ, ◌==◌, ◌&&◌, Bool, true, false, cond, Option, Some, None, List, [], ◌∷◌, refl, sym, ap, ◌∙◌}
+use Rattle.std.proofs.Common.{◌≡◌, ℕ, ◌==◌, Bool, true, false, cond, Option, Some, None, List, [], ◌∷◌, refl, sym, ap, ◌∙◌}
 use Rattle.std.specs.List.{find, list_all}
-use Rattle.std.proofs.lemmas.Bool.{eqb-true}
+use Rattle.std.proofs.lemmas.Bool.{eqb-true, and_parts}
 use Rattle.fc_isa.specs.declared.insn.Width.{Width}
 use Rattle.fc_isa.specs.declared.insn.Width.TheVariants.{W32, W64}
 use Rattle.fc_isa.specs.declared.insn.AluOp.{AluOp}
@@ -121,10 +121,6 @@ is_plain (Alu Sdiv width source) = false
 is_plain (Alu Smod width source) = false
 is_plain shape = true
 
-both : (a b : Bool) → (a && b) ≡ true → (a ≡ true) × (b ≡ true)
-both true b h = (refl, h)
-both false b h = absurd (cc h)
-
 -- what a list's first element that passes is
 pub record IsFound {A : Type 0} (p q : A → Bool) (x : A) : Type 0 where
   pub passes : p x ≡ true
@@ -137,7 +133,7 @@ found_step p q y x ys false e k h more = more h
 find_passes : {A : Type 0} (p q : A → Bool) (xs : List A) (x : A) → list_all q xs ≡ true → find p xs ≡ Some x → IsFound p q x
 find_passes p q [] x a h = absurd (cc h)
 find_passes p q (y ∷ ys) x a h =
-    let ab = both (q y) (list_all q ys) a in
+    let ab = and_parts (q y) (list_all q ys) a in
     found_step p q y x ys (p y) refl ab.0 h (find_passes p q ys x ab.1)
 
 all_plain : list_all is_plain known_shapes ≡ true

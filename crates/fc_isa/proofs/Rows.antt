@@ -1,7 +1,7 @@
 -- Facts over all opcodes, computed once.
 use Rattle.std.proofs.Common.{◌≡◌, ℕ, zero, suc, ◌+◌, ◌<◌, length, List, [], ◌∷◌, Bool, true, false, cond, not, ◌==◌, ◌&&◌, subst, refl, arith, ap, ◌∙◌, sym}
 use Rattle.std.specs.Prelude.{slice_index_or, count_by}
-use Rattle.std.proofs.lemmas.Bool.{agree_below, agree_below_at, eqb-true}
+use Rattle.std.proofs.lemmas.Bool.{agree_below, agree_below_at, eqb-true, and_parts}
 use Rattle.fc_isa.specs.declared.shape.Shape.{Shape}
 use Rattle.fc_isa.specs.declared.shape.Shape.TheVariants.{Unknown}
 use Rattle.fc_isa.specs.declared.table.TheConstants.{SHAPES}
@@ -22,18 +22,14 @@ all_rows : rows_test 0 SHAPES ≡ true
 unfolding shape_of known_shapes
 all_rows = refl
 
-both : (a b : Bool) → (a && b) ≡ true → (a ≡ true) × (b ≡ true)
-both true b h = (refl, h)
-both false b h = absurd (cc h)
-
 row_at : (rows : List Shape) (k i : ℕ) → rows_test k rows ≡ true → i < length rows → row_test (k + i) (slice_index_or rows i Unknown) ≡ true
 row_at [] k i h l = absurd (omega arith)
 row_at (row ∷ rows) k zero h l =
     let e : k ≡ k + 0 = omega arith in
-    subst (λ o. row_test o row ≡ true) e (both (row_test k row) (rows_test (suc k) rows) h).0
+    subst (λ o. row_test o row ≡ true) e (and_parts (row_test k row) (rows_test (suc k) rows) h).0
 row_at (row ∷ rows) k (suc i) h l =
     let e : suc k + i ≡ k + suc i = omega arith in
-    subst (λ o. row_test o (slice_index_or rows i Unknown) ≡ true) e (row_at rows (suc k) i (both (row_test k row) (rows_test (suc k) rows) h).1 (omega arith))
+    subst (λ o. row_test o (slice_index_or rows i Unknown) ≡ true) e (row_at rows (suc k) i (and_parts (row_test k row) (rows_test (suc k) rows) h).1 (omega arith))
 
 unknown_is : (shape : Shape) → not (is_known shape) ≡ true → shape ≡ Unknown
 unknown_is Unknown h = refl
@@ -42,7 +38,7 @@ unknown_is shape h = absurd (cc h)
 tested : (opcode : ℕ) (row : Shape) (known : Bool) → is_known row ≡ known → row_test opcode row ≡ true → row ≡ shape_of opcode
 tested opcode row true k h =
     let h' : ((opcode_of row == opcode) && is_plain row) ≡ true = rw k at h in
-    let p = both (opcode_of row == opcode) (is_plain row) h' in
+    let p = and_parts (opcode_of row == opcode) (is_plain row) h' in
     sym (form_back row k p.1) ∙ ap shape_of (eqb-true (opcode_of row) opcode p.0)
 tested opcode row false k h =
     let h' : not (is_known (shape_of opcode)) ≡ true = rw k at h in

@@ -41,7 +41,7 @@ offset_below bs b = let part = part_bytes bs 2 2 b in omega (arith, part.each 0,
 pub read_fit : (bs : List ℕ) → AreBytes bs → Fit (read_fields bs)
 read_fit bs b = record { dst = omega arith; offset = offset_below bs b; imm = imm_below bs b }
 
-two_bytes : (a b : ℕ) → a < 256 → b < 256 → (i : ℕ) → get_or (a ∷ b ∷ []) i 0 < 256
+pub two_bytes : (a b : ℕ) → a < 256 → b < 256 → (i : ℕ) → get_or (a ∷ b ∷ []) i 0 < 256
 two_bytes a b p q zero = p
 two_bytes a b p q (suc zero) = q
 two_bytes a b p q (suc (suc i)) = lit< tt

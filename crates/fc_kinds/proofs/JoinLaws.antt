@@ -38,7 +38,7 @@ stack_least : (t : Bool) (l lo hi l' lo' hi' m lo'' hi'' : _) → (l == l') ≡ 
 stack_least true l lo hi l' lo' hi' m lo'' hi'' e p q = (p.0, omega (arith, ints, clamps, p, q), omega (arith, ints, clamps, p, q))
 stack_least false l lo hi l' lo' hi' m lo'' hi'' e p q = let same : l ≡ l' = p.0 ∙ sym q.0 in absurd (grind (arith, nat_tests, e, same))
 
-join_least : (a b c : Kind) → KindWithin a c → KindWithin b c → KindWithin (join_kind a b) c
+pub join_least : (a b c : Kind) → KindWithin a c → KindWithin b c → KindWithin (join_kind a b) c
 join_least a b Unset p q = tt
 join_least (Num lo hi) (Num lo' hi') (Num lo'' hi'') p q = (omega (arith, p, q), omega (arith, p, q))
 join_least (Stack l lo hi) (Stack l' lo' hi') (Stack m lo'' hi'') p q = stack_least (l == l') l lo hi l' lo' hi' m lo'' hi'' refl p q

@@ -1,7 +1,7 @@
 -- Where the wider kinds meet the demands the narrower do, and their effect is narrower.
 use Rattle.std.proofs.Common.{◌≡◌, ℕ, zero, suc, ◌+◌, ◌^◌, ◌<◌, ◌&&◌, Bool, true, false, Option, Some, None, List, [], ◌∷◌, length, refl, sym, ap, subst, arith, length-set, inl, inr, get_or-set_same, get_or-set_other}
 use Rattle.std.specs.Prelude.{slice_set}
-use Rattle.std.proofs.lemmas.Bool.{cases_eq}
+use Rattle.std.proofs.lemmas.Bool.{cases_eq, and_parts, and_from}
 use Rattle.std.proofs.lemmas.Int.{ints}
 use Rattle.fc_isa.specs.declared.insn.Width.{Width}
 use Rattle.fc_isa.specs.declared.insn.Width.TheVariants.{W32, W64}
@@ -59,14 +59,6 @@ where_meets : (ks ks' after' : List Kind) (t t' : Bool) → AreKinds ks → With
 where_meets ks ks' after' t false a w f e = absurd (cc e)
 where_meets ks ks' after' true true a w f e = record { after = ks; is = refl; within = subst (Within ks) (cc e) w; kinds = a }
 where_meets ks ks' after' false true a w f e = absurd (cc (f refl))
-
-pub both_true : (a b : Bool) → (a && b) ≡ true → (a ≡ true) × (b ≡ true)
-both_true true b e = (refl, e)
-both_true false b e = absurd (cc e)
-
-true_both : (a b : Bool) → a ≡ true → b ≡ true → (a && b) ≡ true
-true_both true b e f = f
-true_both false b e f = absurd (cc e)
 
 pub operand_is : (width : Width) (o : Operand) (ks : List Kind) → IsOperand o → AreKinds ks → IsKind (operand_kind width o ks)
 operand_is W32 (Imm k) ks i a = (omega arith, omega (arith, ints, i))
@@ -160,8 +152,8 @@ arguments_follow : (vars : ℕ) (arguments : Arguments) (ks ks' : List Kind) →
 arguments_follow vars NoArgument ks ks' w e = refl
 arguments_follow vars OneNumber ks ks' w e = is_number_follows (kind_at ks 1) (kind_at ks' 1) (w.each 1) e
 arguments_follow vars TwoNumbers ks ks' w e =
-    let b = both_true (is_number (kind_at ks' 1)) (is_number (kind_at ks' 2)) e in
-    true_both (is_number (kind_at ks 1)) (is_number (kind_at ks 2)) (is_number_follows (kind_at ks 1) (kind_at ks' 1) (w.each 1) b.0) (is_number_follows (kind_at ks 2) (kind_at ks' 2) (w.each 2) b.1)
+    let b = and_parts (is_number (kind_at ks' 1)) (is_number (kind_at ks' 2)) e in
+    and_from (is_number (kind_at ks 1)) (is_number (kind_at ks 2)) (is_number_follows (kind_at ks 1) (kind_at ks' 1) (w.each 1) b.0) (is_number_follows (kind_at ks 2) (kind_at ks' 2) (w.each 2) b.1)
 arguments_follow vars Bytes ks ks' w e = count_follows vars (kind_at ks 1) (kind_at ks' 1) (kind_at ks 2) (kind_at ks' 2) (w.each 1) (w.each 2) e
 
 most_low : (h : Helper) → (signature_of h).most < 2 ^ 64
@@ -196,11 +188,11 @@ transfer_meets vars (Load loaded dst base offset) ks ks' after' i a w e =
     (may_read_follows vars (bytes_loaded loaded) offset (kind_at ks base) (kind_at ks' base) (w.each base)) (kind_within_same (num (loaded_interval loaded)))) e
 transfer_meets vars (StoreImm size base offset imm) ks ks' after' i a w e = where_meets ks ks' after' _ _ a w (may_write_follows vars (size_of size) offset (kind_at ks base) (kind_at ks' base) (w.each base)) e
 transfer_meets vars (Store size base offset src) ks ks' after' i a w e = where_meets ks ks' after' _ _ a w
-    (λ t. let b = both_true _ _ t in true_both _ _ (may_write_follows vars (size_of size) offset (kind_at ks base) (kind_at ks' base) (w.each base) b.0) (is_number_follows (kind_at ks src) (kind_at ks' src) (w.each src) b.1)) e
+    (λ t. let b = and_parts _ _ t in and_from _ _ (may_write_follows vars (size_of size) offset (kind_at ks base) (kind_at ks' base) (w.each base) b.0) (is_number_follows (kind_at ks src) (kind_at ks' src) (w.each src) b.1)) e
 transfer_meets vars (JumpAlways offset) ks ks' after' i a w e = where_meets ks ks' after' true true a w (λ t. t) e
 transfer_meets vars (JumpAlwaysLong offset) ks ks' after' i a w e = where_meets ks ks' after' true true a w (λ t. t) e
 transfer_meets vars (JumpIf j) ks ks' after' i a w e = where_meets ks ks' after' _ _ a w
-    (λ t. let b = both_true _ _ t in true_both _ _ (is_number_follows (kind_at ks j.left) (kind_at ks' j.left) (w.each j.left) b.0) (number_operand j.width j.right ks ks' w b.1)) e
+    (λ t. let b = and_parts _ _ t in and_from _ _ (is_number_follows (kind_at ks j.left) (kind_at ks' j.left) (w.each j.left) b.0) (number_operand j.width j.right ks ks' w b.1)) e
 transfer_meets vars (CallHelper number) ks ks' after' i a w e = helper_meets vars (helper_of number) ks ks' after' a w e
 transfer_meets vars (CallLocal offset) ks ks' after' i a w e =
     record { after = returned ks; is = refl; within = subst (Within (returned ks)) (cc e) (call_within (num (all 64)) (num (all 64)) ks ks' (omega arith, omega arith) w); kinds = call_kinds (num (all 64)) ks (omega arith) a }

@@ -1,5 +1,6 @@
 -- Both operands of a conditional jump are numbers.
 use Rattle.std.proofs.Common.{◌≡◌, ℕ, Bool, true, false, Some, List, refl, subst}
+use Rattle.std.proofs.lemmas.Bool.{and_parts}
 use Rattle.fc_isa.specs.declared.insn.Insn.{Insn}
 use Rattle.fc_isa.specs.declared.insn.Insn.TheVariants.{JumpIf}
 use Rattle.fc_isa.specs.declared.insn.Width.{Width}
@@ -9,13 +10,12 @@ use Rattle.fc_isa.specs.declared.insn.Operand.TheVariants.{Imm, Reg}
 use Rattle.fc_kinds.specs.declared.kind.Kind.{Kind}
 use Rattle.fc_kinds.specs.Kinds.{kind_at}
 use Rattle.fc_kinds.specs.Transfer.{is_number, operand_kind, where_met, transfer}
-use Rattle.fc_kinds.proofs.TransferLaws.{both_true}
 
 abbrev pub AreNumbers : Insn → List Kind → Type 0
 AreNumbers (JumpIf j) ks = (is_number (kind_at ks j.left) ≡ true) × (is_number (operand_kind W64 j.right ks) ≡ true)
 AreNumbers insn ks = Unit {0}
 
-met_is : (t : Bool) (ks after : List Kind) → where_met t ks ≡ Some after → (t ≡ true) × (ks ≡ after)
+pub met_is : (t : Bool) (ks after : List Kind) → where_met t ks ≡ Some after → (t ≡ true) × (ks ≡ after)
 met_is true ks after e = (refl, cc e)
 met_is false ks after e = absurd (cc e)
 
@@ -28,6 +28,6 @@ pub are_numbers : (vars : ℕ) (insn : Insn) (ks after : List Kind) → transfer
 unfolding transfer
 are_numbers vars (JumpIf j) ks after e =
     let m = met_is _ ks after e in
-    let b = both_true (is_number (kind_at ks j.left)) (is_number (operand_kind j.width j.right ks)) m.0 in
+    let b = and_parts (is_number (kind_at ks j.left)) (is_number (operand_kind j.width j.right ks)) m.0 in
     subst (AreNumbers (JumpIf j)) m.1 (b.0, number_at j.width j.right ks b.1)
 are_numbers vars insn ks after e = tt

@@ -24,12 +24,14 @@ use Rattle.fc_kinds.specs.Kinds.{kind_at, KindWithin, Within}
 use Rattle.fc_kinds.specs.Containing.{IsKind, AreKinds}
 use Rattle.fc_kinds.specs.Transfer.{num, is_number, put_kind, where_met, after_call, are_arguments, helped_kinds, transfer}
 use Rattle.fc_kinds.specs.Refinement.{both_numbers, when}
-use Rattle.fc_kinds.proofs.KindLaws.{kind_within_same, within_then}
+use Rattle.fc_kinds.proofs.KindLaws.{kind_within_same, within_then, within_trans}
 use Rattle.fc_image.specs.declared.loops.Loop.{Loop}
 use Rattle.fc_image.specs.Loops.{body, is_written, has_call}
 use Rattle.fc_isa.specs.Writes.{computes, is_call, is_that, writes}
 use Rattle.fc_verify.specs.Heads.{IsAnyNumber, IsHeadState, any_number, formed_kind, formed, enters, settled, gives_number}
 use Rattle.fc_verify.proofs.Rules.{IsUnder, Settles, SettlesIn, IsSound}
+use Rattle.fc_image.proofs.LoopLaws.{in_body}
+use Rattle.fc_kinds.proofs.WayLaws.{met_is}
 
 -- ---- the formed kinds, one by one
 
@@ -132,10 +134,6 @@ bound_enters : (l : Loop) (k : Kind) → 1 ≤ l.bound → KindWithin k (Num 0 (
 bound_enters l (Num lo hi) some w = grind (arith, nat_tests, some, w)
 bound_enters l _ some w = absurd w
 
-met_is : (t : Bool) (ks hs : List Kind) → where_met t ks ≡ Some hs → (t ≡ true) × (ks ≡ hs)
-met_is true ks hs e = (refl, cc e)
-met_is false ks hs e = absurd (cc e)
-
 pub formed_kinds : (code : List Insn) (l : Loop) (ks : List Kind) → IsSound l → AreKinds ks → AreKinds (formed code l ks)
 formed_kinds code l ks s a =
     let few = s.few in
@@ -209,28 +207,6 @@ inner_under code l m head ks hs s h a u e writes_in calls_in counts =
           (λ x n v d. u.each r d))
           (λ r ge d. subst (λ x. KindWithin x (kind_at head r)) (past_unset ks r len ge) (u.each r d));
     })
-
--- ---- the text of a body
-
-get_drop : (code : List Insn) (h i : ℕ) → slice_get (drop h code) i ≡ slice_get code (h + i)
-get_drop code zero i = let e : i ≡ 0 + i = omega arith in ap (slice_get code) e
-get_drop [] (suc h) i = refl
-get_drop (x ∷ code) (suc h) i = let e : suc (h + i) ≡ suc h + i = omega arith in get_drop code h i ∙ ap (slice_get (x ∷ code)) e
-
-get_take : (code : List Insn) (n i : ℕ) → i < n → slice_get (take n code) i ≡ slice_get code i
-get_take code zero i lt = absurd (omega (arith, lt))
-get_take [] (suc n) i lt = refl
-get_take (x ∷ code) (suc n) zero lt = refl
-get_take (x ∷ code) (suc n) (suc i) lt = get_take code n i (omega (arith, lt))
-
-some_in : (test : Insn → Bool) (xs : List Insn) (i : ℕ) (insn : Insn) → slice_get xs i ≡ Some insn → test insn ≡ true → list_any test xs ≡ true
-some_in test xs i insn e t = list_any-from_Any test xs (i, insn, slice_get_within xs i insn e, get_or_from_slice_get xs i insn insn e, t)
-
-in_body : (test : Insn → Bool) (code : List Insn) (l : Loop) (slot : ℕ) (insn : Insn) → l.head ≤ slot → slot ≤ l.last → slice_get code slot ≡ Some insn → test insn ≡ true → list_any test (body code l) ≡ true
-in_body test code l slot insn a b e t =
-    let at : l.head + (slot - l.head) ≡ slot = omega (arith, a) in
-    some_in test (body code l) (slot - l.head) insn
-    (get_take (drop l.head code) (suc l.last - l.head) (slot - l.head) (omega (arith, a, b)) ∙ get_drop code l.head (slot - l.head) ∙ ap (slice_get code) at ∙ e) t
 
 -- ---- what an instruction writes
 
@@ -317,14 +293,6 @@ body_keeps vars code l slot insn head ks after from upto stands i h a b u e n = 
 
 -- ---- the jump back
 
-then_within : (a b c : Kind) → KindWithin a b → KindWithin b c → KindWithin a c
-then_within a b c p q =
-    let w = within_then (a ∷ []) (b ∷ []) (c ∷ []) (record { each = one a b p }) (record { each = one b c q }) in w.each 0
-  where
-    one : (x y : Kind) → KindWithin x y → (r : ℕ) → KindWithin (kind_at (x ∷ []) r) (kind_at (y ∷ []) r)
-    one x y h zero = h
-    one x y h (suc r) = tt
-
 counted : (ks k : List Kind) (c n lo hi : ℕ) → c < length ks → with_some (refined Lt (interval lo hi) (interval n n)) (λ pair. Some (slice_set ks c (num pair.0))) ≡ Some k → KindWithin (kind_at k c) (Num 0 (n - 1))
 unfolding refined
 counted ks k c n lo hi lt e = go (nat_lt lo n) e
@@ -356,6 +324,6 @@ back code l j head ks k s h a u t w r p q e narrow = record {
         let c = s.counter in
         let b = counter_back j ks k l.counter l.bound (omega (arith, len, c)) t w r p q e in
         subst (λ x. KindWithin (kind_at k x) (kind_at head x)) (sym same) (subst (KindWithin (kind_at k l.counter)) (sym h.counter) b)
-    | inr d ↦ then_within (kind_at k i) (kind_at ks i) (kind_at head i) (narrow.each i) (u.each i d)
+    | inr d ↦ within_trans (kind_at k i) (kind_at ks i) (kind_at head i) (narrow.each i) (u.each i d)
   ];
 }

@@ -31,6 +31,7 @@ use Rattle.fc_verify.specs.Verified.{program_of as program}
 use Rattle.fc_isa.proofs.First.{first_fault_is}
 use Rattle.fc_isa.proofs.Low.{low_fault_at}
 use Rattle.fc_verify.proofs.LowHead.{head_rule_low}
+use Rattle.fc_image.proofs.Written.{few_slots}
 
 -- the typing's judgement of the program in an image
 abbrev pub types : List ℕ → Bool
@@ -100,10 +101,6 @@ untyped_program version bytes code some few s shaped nested = record {
   shaped = shaped;
   frames = nested;
 }
-
-few_slots : (version : ImageVersion) (n : ℕ) → n ≤ slots_allowed version → n ≤ 1024
-few_slots One n le = omega (arith, le)
-few_slots Two n le = omega (arith, le)
 
 few_frames : (version : ImageVersion) (n : ℕ) → n ≤ frames_allowed version → n ≤ 8
 few_frames One n le = omega (arith, le)

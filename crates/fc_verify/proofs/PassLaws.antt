@@ -20,8 +20,8 @@ use Rattle.fc_kinds.specs.Transfer.{transfer, enter, is_number}
 use Rattle.fc_kinds.specs.Refinement.{when}
 use Rattle.fc_kinds.specs.Entry.{entry, fourth_kind}
 use Rattle.fc_verify.specs.Typing.{States, state_at, Leads}
-use Rattle.fc_kinds.proofs.KindLaws.{within_same, within_then, kind_within_same, set_past}
-use Rattle.fc_kinds.proofs.JoinLaws.{joined_least, joined_at, joined_kinds}
+use Rattle.fc_kinds.proofs.KindLaws.{within_same, within_then, kind_within_same, set_past, within_trans}
+use Rattle.fc_kinds.proofs.JoinLaws.{joined_least, joined_at, joined_kinds, join_least}
 use Rattle.fc_kinds.proofs.Monotone.{is_number_follows}
 use Rattle.fc_kinds.proofs.TransferLaws.{transfer_meets, enter_within, enter_kinds}
 use Rattle.fc_kinds.proofs.RefinementLaws.{when_follows, WayFollows}
@@ -38,6 +38,7 @@ use Rattle.fc_verify.proofs.Rules.{IsUnder, IsSound}
 use Rattle.fc_verify.proofs.Heads.{settles, least, inner_under, body_keeps, back}
 use Rattle.fc_verify.proofs.Narrow.{way_inside}
 use Rattle.fc_verify.proofs.HandedOn.{AreWithin, leads_same, leads_then, leads_wider, are_within_then, set_other, leads_join, AllWays, all_lead, lead_all, all_then, WaysBy, all_from, all_to, led_length, led_keeps, led_grows, led_brings, led_all}
+use Rattle.fc_image.proofs.Costs.{begins_is}
 
 -- ---- kinds that hold values
 
@@ -72,14 +73,6 @@ entry_kinds version = record { count = refl; each = λ r. each_is (entry version
     each_is (k ∷ ks) h (suc r) = each_is ks h.1 r
 
 -- ---- shape
-
-pub begins_is : (loops : List Loop) (slot : ℕ) (l : Loop) → begins loops slot ≡ Some l → (i : ℕ) × (slice_get loops i ≡ Some l) × (l.head ≡ slot)
-begins_is [] slot l e = absurd (cc e)
-begins_is (m ∷ loops) slot l e = go (begins_is loops slot l) (nat_eq m.head slot) refl e
-  where
-    go : (begins loops slot ≡ Some l → (i : ℕ) × (slice_get loops i ≡ Some l) × (l.head ≡ slot)) → (b : Bool) → nat_eq m.head slot ≡ b → (if b then Some m else begins loops slot) ≡ Some l → (i : ℕ) × (slice_get (m ∷ loops) i ≡ Some l) × (l.head ≡ slot)
-    go ih true f g = let same : m ≡ l = cc g in let at : m.head ≡ slot = grind (arith, nat_tests, f) in (0, ap Some same, subst (λ x. x.head ≡ slot) same at)
-    go ih false f g = let r = ih g in (suc r.0, r.1, r.2)
 
 pub inside_is : (loops : List Loop) (i slot : ℕ) (l : Loop) → slice_get loops i ≡ Some l → l.head ≤ slot → slot ≤ l.last → is_inside loops slot ≡ true
 inside_is [] i slot l e a b = absurd (cc e)
@@ -128,25 +121,8 @@ record Sound (version : ImageVersion) (vars : ℕ) (code : List Insn) (loops : L
   done : (k : ℕ) (insn : Insn) (ks : List Kind) → k < slot → slice_get code k ≡ Some insn → state_at states k ≡ Some ks → IsWellTypedAt vars loops states k insn ks
   heads : (i : ℕ) (l : Loop) (ks : List Kind) → slice_get loops i ≡ Some l → l.head < slot → state_at states l.head ≡ Some ks → IsHeadState code l ks
 
--- one kind is contained where two are joined, or by way of another
-join_under : (a b c : Kind) → KindWithin a c → KindWithin b c → KindWithin (join_kind a b) c
-join_under a b c p q =
-    let w = joined_least (a ∷ []) (b ∷ []) (c ∷ []) (record { each = one a c p }) (record { each = one b c q }) in w.each 0
-  where
-    one : (x y : Kind) → KindWithin x y → (r : ℕ) → KindWithin (kind_at (x ∷ []) r) (kind_at (y ∷ []) r)
-    one x y h zero = h
-    one x y h (suc r) = tt
-
-then_within : (a b c : Kind) → KindWithin a b → KindWithin b c → KindWithin a c
-then_within a b c p q =
-    let w = within_then (a ∷ []) (b ∷ []) (c ∷ []) (record { each = one a b p }) (record { each = one b c q }) in w.each 0
-  where
-    one : (x y : Kind) → KindWithin x y → (r : ℕ) → KindWithin (kind_at (x ∷ []) r) (kind_at (y ∷ []) r)
-    one x y h zero = h
-    one x y h (suc r) = tt
-
 under_join : (l : Loop) (head a b : List Kind) → IsUnder l head a → IsUnder l head b → IsUnder l head (joined a b)
-under_join l head a b p q = record { each = λ r n. subst (λ k. KindWithin k (kind_at head r)) (sym (joined_at a b r)) (join_under (kind_at a r) (kind_at b r) (kind_at head r) (p.each r n) (q.each r n)) }
+under_join l head a b p q = record { each = λ r n. subst (λ k. KindWithin k (kind_at head r)) (sym (joined_at a b r)) (join_least (kind_at a r) (kind_at b r) (kind_at head r) (p.each r n) (q.each r n)) }
 
 inner_join : (loops : List Loop) (slot : ℕ) (states : States) (k : ℕ) (a b : List Kind) → Inner loops slot states k a → Inner loops slot states k b → Inner loops slot states k (joined a b)
 inner_join loops slot states k a b p q = record {
@@ -162,7 +138,7 @@ under_same : (l : Loop) (ks : List Kind) → IsUnder l ks ks
 under_same l ks = record { each = λ r n. kind_within_same (kind_at ks r) }
 
 under_then : (l : Loop) (head a b : List Kind) → Within a b → IsUnder l head b → IsUnder l head a
-under_then l head a b w u = record { each = λ r n. then_within (kind_at a r) (kind_at b r) (kind_at head r) (w.each r) (u.each r n) }
+under_then l head a b w u = record { each = λ r n. within_trans (kind_at a r) (kind_at b r) (kind_at head r) (w.each r) (u.each r n) }
 
 -- the kinds that a slot is passed with
 pub record Passed (vars : ℕ) (code : List Insn) (loops : List Loop) (slot : ℕ) (insn : Insn) (found kinds after : List Kind) : Type 0 where

@@ -10,7 +10,8 @@ use Rattle.fc_image.specs.Loops.{begins, is_in}
 use Rattle.fc_image.specs.LoopLaws.{AreLoops, IsBack, IsOnward}
 use Rattle.fc_verify.specs.Heads.{IsLoopOf, is_inside, reached}
 use Rattle.fc_verify.specs.Pass.{IsWithin}
-use Rattle.fc_verify.proofs.PassLaws.{begins_is, inside_is}
+use Rattle.fc_image.proofs.Costs.{begins_is}
+use Rattle.fc_verify.proofs.PassLaws.{inside_is}
 
 pub loop_is : (code : List Insn) (loops : List Loop) (slot : ℕ) → AreLoops code loops → IsLoopOf code (begins loops slot)
 loop_is code loops slot a = go (begins loops slot) refl
