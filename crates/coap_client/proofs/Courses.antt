@@ -9,11 +9,11 @@ use Rattle.coap_client.specs.declared.fetcher.Step.{Step}
 use Rattle.coap_client.specs.declared.transmission.SentRequest.{SentRequest}
 use Rattle.coap_client.specs.declared.part.Part.{Part}
 use Rattle.coap_client.specs.Parts.{first_part}
-use Rattle.coap_client.specs.PeerCalls.{PeerCall, bytes_in}
+use Rattle.coap_client.specs.PeerCalls.{PeerCall, received_bytes}
 use Rattle.coap_client.specs.Requests.{IsPartOf, part_request}
 use Rattle.coap_client.specs.Heard.{HasTakenResponse, IsTakenResponse, Tells, TellsSent}
 use Rattle.coap_client.specs.Transmissions.{IsTransmission, MakesCalls}
-use Rattle.coap_client.specs.Fetching.{State, Out, Outdated, AnswersInState, AreReplies, AreRequests, IsAnswerToPart, IsStepOf, IsFetching, RepliesLeadTo, RepliesLeadToAgain, after_reply, state_after, taken_ids, with_taken_id}
+use Rattle.coap_client.specs.Fetching.{State, Out, Outdated, AnswersInState, AreReplies, ArePartRequests, IsAnswerToPart, IsStepOf, IsFetching, RepliesLeadTo, RepliesLeadToAgain, after_reply, state_after, taken_ids, with_taken_id}
 use Rattle.coap_client.proofs.Transmitting.{both, does_both, does_nothing, some_of}
 
 -- the request of a part was transmitted, and answered by the message
@@ -53,7 +53,7 @@ transmits_part between after e part id earlier r answer called c i k d =
 
 pub exchanged : (went came : List ℕ → Type 0) (between after : List PeerCall → Type 0) (e : Errand) (part : Part) (id : ℕ) (earlier : List ℕ) (r : SentRequest) (count : ℕ) (buffer : List ℕ)
     (o : Option ℕ) (m : Message) → o ≡ Some count → IfSome o (λ n. (n ≤ length buffer) × HasTakenResponse went came r (take n buffer)) →
-    MakesCalls between after (IsTransmission r.confirmable (TellsSent r) r.datagram.now.items (bytes_in buffer o)) → reading_of (take count buffer) ≡ Ok m → IsPartOf e part →
+    MakesCalls between after (IsTransmission r.confirmable (TellsSent r) r.datagram.now.items (received_bytes buffer o)) → reading_of (take count buffer) ≡ Ok m → IsPartOf e part →
     r.confirmable ≡ e.confirmable → r.id ≡ id → r.earlier.now ≡ earlier → r.datagram.now.items ≡ message_bytes (part_request e part id) →
     IsExchanged went came between after e id earlier part m
 exchanged went came between after e part id earlier r count buffer o m some response called read own c i k d =
@@ -64,7 +64,7 @@ exchanged went came between after e part id earlier r count buffer o m some resp
       bytes = take count buffer;
       read_is = read;
       called = transmits_part between after e part id earlier r (take count buffer)
-          (subst (λ x. MakesCalls between after (IsTransmission r.confirmable (TellsSent r) r.datagram.now.items (bytes_in buffer x))) some called) c i k d;
+          (subst (λ x. MakesCalls between after (IsTransmission r.confirmable (TellsSent r) r.datagram.now.items (received_bytes buffer x))) some called) c i k d;
     }
 
 pub begins : (went came : List ℕ → Type 0) (now : List PeerCall → Type 0) (e : Errand) (first : ℕ) (known : List ℕ) (part : Part) (body etag : List ℕ) →
@@ -76,18 +76,18 @@ begins went came now e first known part body etag below p b t = record {
   leads = cc (p, b, t);
   id_is = omega (arith, below);
   earlier_is = refl;
-  called = does_nothing now (AreRequests e first known []) refl;
+  called = does_nothing now (ArePartRequests e first known []) refl;
 }
 
 -- one more request
 requested : (went came : List ℕ → Type 0) (before between after : List PeerCall → Type 0) (e : Errand) (first : ℕ) (known : List ℕ) (id : ℕ) (earlier : List ℕ) (part : Part) (body etag : List ℕ)
     (m : Message) (ms : List Message) → state_after e ms ≡ Out part body etag → id ≡ (first + length ms) % 65536 → earlier ≡ taken_ids known ms →
-    MakesCalls before between (AreRequests e first known ms) → IsExchanged went came between after e id earlier part m → MakesCalls before after (AreRequests e first known (m ∷ ms))
+    MakesCalls before between (ArePartRequests e first known ms) → IsExchanged went came between after e id earlier part m → MakesCalls before after (ArePartRequests e first known (m ∷ ms))
 requested went came before between after e first known id earlier part body etag m ms leads i k one x =
     let id' = (first + length ms) % 65536 in
     let ids = taken_ids known ms in
     let Exchange : ℕ → List ℕ → List PeerCall → Type 0 = λ n ns. IsTransmission e.confirmable (Tells e.confirmable n ns) (message_bytes (part_request e part n)) (Some x.bytes) in
-    does_both before between after (AreRequests e first known ms) (Exchange id' ids) (AreRequests e first known (m ∷ ms)) one
+    does_both before between after (ArePartRequests e first known ms) (Exchange id' ids) (ArePartRequests e first known (m ∷ ms)) one
     (subst (λ ns. MakesCalls between after (Exchange id' ns)) k (subst (λ n. MakesCalls between after (Exchange n earlier)) i x.called))
     (λ older last a b. record {
       older = older;
@@ -124,7 +124,7 @@ one_more went came before between after e first known id earlier part body etag 
 }
 
 pub leads_to : (went came : List ℕ → Type 0) (before after : List PeerCall → Type 0) (e : Errand) (first : ℕ) (known : List ℕ) (id : ℕ) (earlier : List ℕ) (state : State) →
-    IsFetching went came before after e first known id earlier state → RepliesLeadTo went came e first known (λ replies. MakesCalls before after (AreRequests e first known replies)) state
+    IsFetching went came before after e first known id earlier state → RepliesLeadTo went came e first known (λ replies. MakesCalls before after (ArePartRequests e first known replies)) state
 leads_to went came before after e first known id earlier state u = record { replies = u.replies; are = u.are; leads = u.leads; called = u.called }
 
 -- what the answer leads to
@@ -139,7 +139,7 @@ leads_on went came before between after e first known old new m step state u a s
 -- replies behind those whose last one was outdated
 pub leads_again : (went came : List ℕ → Type 0) (before between after : List PeerCall → Type 0) (e : Errand) (first next : ℕ) (known : List ℕ) (state : State) → e.method ≡ Get →
     IsFetching went came before between e first [] next known Outdated →
-    RepliesLeadTo went came e next known (λ replies. MakesCalls between after (AreRequests e next known replies)) state → RepliesLeadToAgain went came before after e first state
+    RepliesLeadTo went came e next known (λ replies. MakesCalls between after (ArePartRequests e next known replies)) state → RepliesLeadToAgain went came before after e first state
 leads_again went came before between after e first next known state method u l =
     let ids = taken_ids [] u.replies in
     record {
@@ -153,7 +153,7 @@ leads_again went came before between after e first next known state method u l =
         replies = l.replies;
         are = subst (λ x. AreReplies went came e next x l.replies) u.earlier_is l.are;
         leads = l.leads;
-        called = both before between after (AreRequests e first [] u.replies) (AreRequests e next ids l.replies) u.called
-            (subst (λ x. MakesCalls between after (AreRequests e next x l.replies)) u.earlier_is l.called);
+        called = both before between after (ArePartRequests e first [] u.replies) (ArePartRequests e next ids l.replies) u.called
+            (subst (λ x. MakesCalls between after (ArePartRequests e next x l.replies)) u.earlier_is l.called);
       };
     }

@@ -8,10 +8,10 @@ use Rattle.coap_client.specs.declared.transmission.Reception.{Reception}
 use Rattle.coap_client.specs.declared.transmission.Reception.TheVariants.{Reply, Separate, Repeat, Acknowledged, Rejected, Other}
 use Rattle.coap_client.specs.declared.watch.Watch.{Watch}
 use Rattle.coap_client.specs.Heard.{IsReadAs}
-use Rattle.coap_client.specs.Listening.{ArePassedOver, EndsBy, IsOver, IsPassedOver, acknowledges, is_passed_over}
+use Rattle.coap_client.specs.Listening.{ArePassedOver, EndsOn, IsOver, IsPassedOver, acknowledges, is_passed_over}
 use Rattle.coap_client.specs.Notes.{HasArrived, HasOwnResponse, IsAcknowledgementOf, IsResponseWith, TellsObserver}
 use Rattle.coap_client.specs.Notices.{IsOwnResponse, notice_after}
-use Rattle.coap_client.specs.ObserverCalls.{AcknowledgesNotification, AreObserverSteps, AwaitsNotification, IsAnsweredRegistration, IsLeft, IsNoNotification, IsNoticed, IsObservation, IsObserverStep, IsObserving, IsOlderNotification, IsPassedOverLeaving, IsPassedOverWatching}
+use Rattle.coap_client.specs.ObserverCalls.{AcknowledgesNotification, AreObserverSteps, AwaitsNotification, IsAnsweredRegistration, IsAcknowledgedLeaving, IsNoNotification, IsNoticed, IsObservation, IsObserverStep, IsObserving, IsOlderNotification, IsPassedOverLeaving, IsPassedOverWatching}
 use Rattle.coap_client.specs.PeerCalls.{Adds, PeerCall, Receives, Waits}
 use Rattle.coap_client.specs.Replies.{IsReset}
 use Rattle.coap_client.specs.declared.observing.Observer.{Observer}
@@ -57,9 +57,9 @@ passed_leaving token id bytes before after acknowledges_it rejects one =
     (λ sent h. record { acknowledged = acknowledges_it; rejected = rejects; notification = h })
 
 pub left : (token : List ℕ) (id : ℕ) (bytes : List ℕ) (before after : Calls) → IsReadAs bytes (IsAcknowledgementOf id)
-    → MakesCalls before after (EndsBy (IsPassedOverLeaving token id) bytes) → MakesCalls before after (IsLeft token id)
+    → MakesCalls before after (EndsOn (IsPassedOverLeaving token id) bytes) → MakesCalls before after (IsAcknowledgedLeaving token id)
 left token id bytes before after own one =
-    does_of before after (EndsBy (IsPassedOverLeaving token id) bytes) (IsLeft token id) one (λ calls h. record { bytes = bytes; acknowledges_it = own; ends = h })
+    does_of before after (EndsOn (IsPassedOverLeaving token id) bytes) (IsAcknowledgedLeaving token id) one (λ calls h. record { bytes = bytes; acknowledges_it = own; ends = h })
 
 -- ---- notifications
 
@@ -67,10 +67,10 @@ pub no_notification : (token bytes : List ℕ) (now : Calls) → (IsReadAs bytes
 no_notification token bytes now other = does now now (IsNoNotification token bytes) [] (λ calls h. h) (other, refl)
 
 -- a notification came, and was acknowledged
-pub noticed : (token : List ℕ) (passes : Passes) (bytes : List ℕ) (before between after : Calls) → IsReadAs bytes (IsOwnResponse token) → MakesCalls before between (EndsBy passes bytes)
+pub noticed : (token : List ℕ) (passes : Passes) (bytes : List ℕ) (before between after : Calls) → IsReadAs bytes (IsOwnResponse token) → MakesCalls before between (EndsOn passes bytes)
     → Adds between after (acknowledges bytes) → MakesCalls before after (IsNoticed token passes bytes)
 noticed token passes bytes before between after own one adds =
-    does_then before between after (EndsBy passes bytes) (IsNoticed token passes bytes) (acknowledges bytes) one adds (λ heard h. record { own = own; heard = heard; ends = h; is = refl })
+    does_then before between after (EndsOn passes bytes) (IsNoticed token passes bytes) (acknowledges bytes) one adds (λ heard h. record { own = own; heard = heard; ends = h; is = refl })
 
 -- others are passed over behind these
 passed_behind : (other passes : Passes) → ((bytes : List ℕ) (sent : List PeerCall) → other bytes sent → passes bytes sent) → (m n : ℕ) (newer older : List PeerCall)

@@ -10,9 +10,9 @@ use Rattle.coap_msg.specs.declared.types.MessageType.{MessageType}
 use Rattle.coap_msg.specs.declared.types.MessageType.TheVariants.{Acknowledgement, Confirmable, NonConfirmable, Reset}
 use Rattle.coap_client.specs.declared.transmission.Reception.{Reception}
 use Rattle.coap_client.specs.declared.transmission.Reception.TheVariants.{Reply, Separate, Repeat, Acknowledged, Rejected, Other}
-use Rattle.coap_client.specs.Listening.{ArePassedOver, EndsBy, IsOver, IsPassedOver, acknowledges, acknowledges_kind, acknowledges_read, sent_behind}
+use Rattle.coap_client.specs.Listening.{ArePassedOver, EndsOn, IsOver, IsPassedOver, acknowledges, acknowledges_kind, acknowledges_read, sent_behind}
 use Rattle.coap_client.specs.PeerCalls.{PeerCall, Sends, Waits, Receives}
-use Rattle.coap_client.specs.ObserverCalls.{IsLeft, IsPassedOverLeaving}
+use Rattle.coap_client.specs.ObserverCalls.{IsAcknowledgedLeaving, IsPassedOverLeaving}
 use Rattle.coap_client.specs.Schedules.{AwaitsResponse, BeginsSchedule, full_schedule, has_code, is_scheduled, schedule}
 use Rattle.coap_client.specs.Transmissions.{ack_timeout, acknowledges_answer, AreInVain, EndsAnswered, EndsAwaited, IsAcknowledgedFirst, IsLastSending, IsSending, IsTransmission}
 
@@ -72,7 +72,7 @@ over passes quiet calls o = elim o.is as (λ _. schedule calls ≡ []) [
   | inr full ↦ ap schedule full.0 ∙ passed passes quiet o.n o.older o.before
 ]
 
-ended : (passes : List ℕ → List PeerCall → Type 0) → IsQuiet passes → (bytes : List ℕ) (calls : List PeerCall) → EndsBy passes bytes calls → schedule calls ≡ []
+ended : (passes : List ℕ → List PeerCall → Type 0) → IsQuiet passes → (bytes : List ℕ) (calls : List PeerCall) → EndsOn passes bytes calls → schedule calls ≡ []
 ended passes quiet bytes calls e = ap schedule e.is ∙ passed passes quiet e.n e.older e.before
 
 -- an answer is awaited
@@ -183,9 +183,9 @@ module _ (m : Message) (coded : m.code ≡ 0 → ⊥) where
   sent_once tells answer calls t =
       taken false tells request answer calls t ∙ sent 32 (EndsAwaited tells answer) t.asked [] t.is_asked (awaited tells answer t.is_asked.heard t.is_asked.ends)
 
-  pub acknowledged_at_last : (token : List ℕ) (id : ℕ) (calls : List PeerCall) → IsLastSending (IsPassedOverLeaving token id) request (IsLeft token id) calls
+  pub acknowledged_at_last : (token : List ℕ) (id : ℕ) (calls : List PeerCall) → IsLastSending (IsPassedOverLeaving token id) request (IsAcknowledgedLeaving token id) calls
       → BeginsSchedule request (schedule calls)
   acknowledged_at_last token id calls s =
       let passes = IsPassedOverLeaving token id in
       let quiet = leaving_is_quiet token id in
-      begun passes quiet (IsLeft token id) calls s (ended passes quiet s.sending.ends.bytes s.sending.heard s.sending.ends.ends)
+      begun passes quiet (IsAcknowledgedLeaving token id) calls s (ended passes quiet s.sending.ends.bytes s.sending.heard s.sending.ends.ends)

@@ -14,7 +14,7 @@ abbrev pub IsUnsplit : List ℕ → Type 0
 IsUnsplit s = All (λ b. b ≢ slash) s
 
 -- a path is these segments and others, which the rest writes
-pub record IsLeft (whole done : List (List ℕ)) (rest : List ℕ) : Type 0 where
+pub record IsAcknowledgedLeaving (whole done : List (List ℕ)) (rest : List ℕ) : Type 0 where
   pub left : List (List ℕ)
   pub whole_is : whole ≡ done ++ left
   pub rest_is : IsSlashed rest left
@@ -23,7 +23,7 @@ pub record IsLeft (whole done : List (List ℕ)) (rest : List ℕ) : Type 0 wher
 pub record IsCutTo (text : List ℕ) (done : List (List ℕ)) (rest : List ℕ) : Type 0 where
   pub text_is : text ≡ path_text done ++ rest
   pub are : All IsSegment done
-  pub only : (whole : List (List ℕ)) → IsSlashed text whole → IsLeft whole done rest
+  pub only : (whole : List (List ℕ)) → IsSlashed text whole → IsAcknowledgedLeaving whole done rest
 
 pub uncut : (text : List ℕ) → IsCutTo text [] text
 uncut text = record { text_is = refl; are = All-nil IsSegment; only = λ whole p. record { left = whole; whole_is = refl; rest_is = p } }

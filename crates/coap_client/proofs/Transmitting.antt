@@ -5,8 +5,8 @@ use Rattle.coap_client.specs.declared.transmission.Reception.{Reception}
 use Rattle.coap_client.specs.declared.transmission.Reception.TheVariants.{Reply, Separate, Repeat, Acknowledged, Rejected, Other}
 use Rattle.coap_client.specs.declared.transmission.SentRequest.{SentRequest}
 use Rattle.coap_client.specs.Heard.{IsAwaitedAnswer, TellsSent}
-use Rattle.coap_client.specs.Listening.{ArePassedOver, EndsBy, IsAcknowledged, IsAnswered, IsOver, IsPassedOver, acknowledges, is_answer, is_passed_over, sent_behind}
-use Rattle.coap_client.specs.PeerCalls.{Adds, PeerCall, Sends, Waits, Receives, bytes_in, receives_in}
+use Rattle.coap_client.specs.Listening.{ArePassedOver, EndsOn, IsAcknowledgedBy, IsAnsweredBy, IsOver, IsPassedOver, acknowledges, is_answering, is_passed_over, sent_behind}
+use Rattle.coap_client.specs.PeerCalls.{Adds, PeerCall, Sends, Waits, Receives, received_bytes, receives_in}
 use Rattle.coap_client.specs.Transmissions.{ack_timeout, most_sendings, non_wait, separate_wait, AreBehind, AreInVain, MakesCalls, IsAcknowledgedFirst, EndsAnswered, IsTransmitted, IsAskedAgain, EndsAwaited, IsLastSending, IsSending, IsTransmission}
 
 abbrev pub Calls : Type 1
@@ -64,9 +64,9 @@ comes passes n count buffer o before between after some one adds =
     (λ first h. record { older = first; before = h; is = refl })
 
 pub ended : (passes : Passes) (n count : ℕ) (buffer : List ℕ) (o : Option ℕ) (before between after : Calls) → o ≡ Some count → MakesCalls before between (ArePassedOver passes n)
-    → Adds between after (receives_in buffer o ∷ []) → MakesCalls before after (EndsBy passes (take count buffer))
+    → Adds between after (receives_in buffer o ∷ []) → MakesCalls before after (EndsOn passes (take count buffer))
 ended passes n count buffer o before between after some one adds =
-    does_of before after (Comes passes n (take count buffer)) (EndsBy passes (take count buffer)) (comes passes n count buffer o before between after some one adds)
+    does_of before after (Comes passes n (take count buffer)) (EndsOn passes (take count buffer)) (comes passes n count buffer o before between after some one adds)
     (λ calls h. record { n = n; older = h.older; before = h.before; is = h.is })
 
 -- another one comes, and is passed over
@@ -115,14 +115,14 @@ quiet awaited bytes Other before after ends adds = adds
 
 pub ended_by : (tells : Told) (awaited : Bool) (n count : ℕ) (buffer : List ℕ) (o : Option ℕ) (heard : Reception) (before between after later : Calls) → o ≡ Some count
     → MakesCalls before between (ArePassedOver (IsPassedOver tells awaited) n) → Adds between after (receives_in buffer o ∷ []) → is_passed_over awaited heard ≡ false
-    → Adds after later (sent_behind heard (take count buffer)) → MakesCalls before later (EndsBy (IsPassedOver tells awaited) (take count buffer))
+    → Adds after later (sent_behind heard (take count buffer)) → MakesCalls before later (EndsOn (IsPassedOver tells awaited) (take count buffer))
 ended_by tells awaited n count buffer o heard before between after later some one adds ends sends =
     let passes = IsPassedOver tells awaited in
-    does_then before after later (EndsBy passes (take count buffer)) (EndsBy passes (take count buffer)) [] (ended passes n count buffer o before between after some one adds)
+    does_then before after later (EndsOn passes (take count buffer)) (EndsOn passes (take count buffer)) [] (ended passes n count buffer o before between after some one adds)
     (quiet awaited (take count buffer) heard after later ends sends) (λ first h. h)
 
 -- what ends a wait and is neither an acknowledgement nor a rejection answers
-answering : (awaited : Bool) (heard : Reception) → is_passed_over awaited heard ≡ false → (heard ≡ Acknowledged → ⊥) → (heard ≡ Rejected → ⊥) → is_answer awaited heard ≡ true
+answering : (awaited : Bool) (heard : Reception) → is_passed_over awaited heard ≡ false → (heard ≡ Acknowledged → ⊥) → (heard ≡ Rejected → ⊥) → is_answering awaited heard ≡ true
 answering awaited Reply ends acknowledged rejected = refl
 answering true Separate ends acknowledged rejected = refl
 answering false Separate ends acknowledged rejected = absurd (cc ends)
@@ -143,17 +143,17 @@ awaited_answer came r awaited bytes Rejected came_is told ends acknowledged reje
 awaited_answer came r awaited bytes Other came_is told ends acknowledged rejected = absurd (cc ends)
 
 pub answer_came : (tells : Told) (awaited : Bool) (answer : List ℕ) (heard : Reception) (before after : Calls) → tells answer heard → is_passed_over awaited heard ≡ false
-    → (heard ≡ Acknowledged → ⊥) → (heard ≡ Rejected → ⊥) → MakesCalls before after (EndsBy (IsPassedOver tells awaited) answer) → MakesCalls before after (IsAnswered tells awaited answer)
+    → (heard ≡ Acknowledged → ⊥) → (heard ≡ Rejected → ⊥) → MakesCalls before after (EndsOn (IsPassedOver tells awaited) answer) → MakesCalls before after (IsAnsweredBy tells awaited answer)
 answer_came tells awaited answer heard before after told ends acknowledged rejected one =
-    does_of before after (EndsBy (IsPassedOver tells awaited) answer) (IsAnswered tells awaited answer) one
+    does_of before after (EndsOn (IsPassedOver tells awaited) answer) (IsAnsweredBy tells awaited answer) one
     (λ calls h. (record { heard = heard; told = told; answers = answering awaited heard ends acknowledged rejected }, h))
 
 pub acknowledgement_came : (tells : Told) (awaited : Bool) (bytes : List ℕ) (heard : Reception) (before after : Calls) → tells bytes heard → is_passed_over awaited heard ≡ false
-    → heard ≡ Acknowledged → MakesCalls before after (EndsBy (IsPassedOver tells awaited) bytes) → MakesCalls before after (λ calls. (awaited ≡ false) × IsAcknowledged tells calls)
+    → heard ≡ Acknowledged → MakesCalls before after (EndsOn (IsPassedOver tells awaited) bytes) → MakesCalls before after (λ calls. (awaited ≡ false) × IsAcknowledgedBy tells calls)
 acknowledgement_came tells awaited bytes heard before after told ends is one =
     let not_awaited : awaited ≡ false = sym (ap (is_passed_over awaited) is) ∙ ends in
-    does_of before after (EndsBy (IsPassedOver tells awaited) bytes) (λ calls. (awaited ≡ false) × IsAcknowledged tells calls) one
-    (λ calls h. (not_awaited, (bytes, subst (tells bytes) is told, subst (λ (b : Bool). EndsBy (IsPassedOver tells b) bytes calls) not_awaited h)))
+    does_of before after (EndsOn (IsPassedOver tells awaited) bytes) (λ calls. (awaited ≡ false) × IsAcknowledgedBy tells calls) one
+    (λ calls h. (not_awaited, (bytes, subst (tells bytes) is told, subst (λ (b : Bool). EndsOn (IsPassedOver tells b) bytes calls) not_awaited h)))
 
 -- ---- a request
 
@@ -180,7 +180,7 @@ last_sending passes request n before between after P few one other =
     (λ older last a b. record { n = n; few = few; older = older; before = a; last = last; sending = b; is = refl })
 
 -- it is acknowledged, and its answer waited for
-acknowledged : (tells : Told) (answer : Option (List ℕ)) (before between begun after : Calls) → MakesCalls before between (IsAcknowledged tells)
+acknowledged : (tells : Told) (answer : Option (List ℕ)) (before between begun after : Calls) → MakesCalls before between (IsAcknowledgedBy tells)
     → Adds between begun (Waits separate_wait ∷ []) → MakesCalls begun after (EndsAwaited tells answer) → MakesCalls before after (IsAcknowledgedFirst tells answer)
 acknowledged tells answer before between begun after one adds other calls h =
     let a = one calls h in
@@ -199,11 +199,11 @@ again request n seconds between sent after P twice adds one =
 
 -- it is answered, after it was acknowledged or not
 pub answered : (tells : Told) (request : List ℕ) (n : ℕ) (answer : List ℕ) (before between after : Calls) → n < most_sendings
-    → MakesCalls before between (AreInVain (IsPassedOver tells false) request n) → MakesCalls between after (IsSending request (ack_timeout n) (IsAnswered tells false answer))
+    → MakesCalls before between (AreInVain (IsPassedOver tells false) request n) → MakesCalls between after (IsSending request (ack_timeout n) (IsAnsweredBy tells false answer))
     → MakesCalls before after (IsAskedAgain tells request (Some answer))
 answered tells request n answer before between after few one other =
     last_sending (IsPassedOver tells false) request n before between after (EndsAnswered tells answer) few one
-    (does_of between after (IsSending request (ack_timeout n) (IsAnswered tells false answer)) (IsSending request (ack_timeout n) (EndsAnswered tells answer)) other
+    (does_of between after (IsSending request (ack_timeout n) (IsAnsweredBy tells false answer)) (IsSending request (ack_timeout n) (EndsAnswered tells answer)) other
     (λ calls s. record { heard = s.heard; ends = inl s.ends; is = s.is }))
 
 answered_later : (tells : Told) (request : List ℕ) (n : ℕ) (answer : Option (List ℕ)) (before between after : Calls) → n < most_sendings
@@ -221,13 +221,13 @@ answered_later tells request n (Some answer) before between after few one other 
 -- it is acknowledged, and then awaited
 pub awaited : (tells : Told) (request : List ℕ) (n seconds : ℕ) (buffer : List ℕ) (before between sent heard begun after : Calls) → n < most_sendings
     → MakesCalls before between (AreInVain (IsPassedOver tells false) request n) → seconds ≡ ack_timeout n → Adds between sent (Waits seconds ∷ Sends request ∷ [])
-    → MakesCalls sent heard (λ calls. (false ≡ false) × IsAcknowledged tells calls) → Adds heard begun (Waits separate_wait ∷ []) → (r : Result (Option ℕ) FetchFault)
-    → IfOk r (λ count. MakesCalls begun after (EndsAwaited tells (bytes_in buffer count))) → IfOk r (λ count. MakesCalls before after (IsAskedAgain tells request (bytes_in buffer count)))
+    → MakesCalls sent heard (λ calls. (false ≡ false) × IsAcknowledgedBy tells calls) → Adds heard begun (Waits separate_wait ∷ []) → (r : Result (Option ℕ) FetchFault)
+    → IfOk r (λ count. MakesCalls begun after (EndsAwaited tells (received_bytes buffer count))) → IfOk r (λ count. MakesCalls before after (IsAskedAgain tells request (received_bytes buffer count)))
 awaited tells request n seconds buffer before between sent heard begun after few one twice adds came waits (Ok count) other =
-    let answer = bytes_in buffer count in
+    let answer = received_bytes buffer count in
     answered_later tells request n answer before between after few one
     (again request n seconds between sent after (IsAcknowledgedFirst tells answer) twice adds (acknowledged tells answer sent heard begun after
-    (does_of sent heard (λ calls. (false ≡ false) × IsAcknowledged tells calls) (IsAcknowledged tells) came (λ calls h. h.1)) waits other))
+    (does_of sent heard (λ calls. (false ≡ false) × IsAcknowledgedBy tells calls) (IsAcknowledgedBy tells) came (λ calls h. h.1)) waits other))
 awaited tells request n seconds buffer before between sent heard begun after few one twice adds came waits (Err fault) other = tt
 
 pub in_vain_to_the_end : (tells : Told) (request : List ℕ) (n : ℕ) (before after : Calls) → n ≡ most_sendings
@@ -239,9 +239,9 @@ in_vain_to_the_end tells request n before after five one =
 
 -- another is sent once, and its answer waited for
 pub once : (tells : Told) (request buffer : List ℕ) (before between after : Calls) → Adds before between (Waits non_wait ∷ Sends request ∷ []) → (r : Result (Option ℕ) FetchFault)
-    → IfOk r (λ count. MakesCalls between after (EndsAwaited tells (bytes_in buffer count)))
-    → IfOk r (λ count. MakesCalls before after (IsSending request non_wait (EndsAwaited tells (bytes_in buffer count))))
-once tells request buffer before between after adds (Ok count) one = sending request non_wait before between after (EndsAwaited tells (bytes_in buffer count)) adds one
+    → IfOk r (λ count. MakesCalls between after (EndsAwaited tells (received_bytes buffer count)))
+    → IfOk r (λ count. MakesCalls before after (IsSending request non_wait (EndsAwaited tells (received_bytes buffer count))))
+once tells request buffer before between after adds (Ok count) one = sending request non_wait before between after (EndsAwaited tells (received_bytes buffer count)) adds one
 once tells request buffer before between after adds (Err fault) one = tt
 
 -- the answer is acknowledged

@@ -88,10 +88,10 @@ pub record IsNextRequest (Before : List PeerCall → Type 0) (e : Errand) (id : 
   pub is : calls ≡ last ++ older
 
 -- for each of these replies its request, and nothing else
-abbrev pub AreRequests : Errand → ℕ → List ℕ → List Message → List PeerCall → Type 0
-AreRequests e first known [] calls = calls ≡ []
-AreRequests e first known (m ∷ ms) calls =
-    IsNextRequest (AreRequests e first known ms) e ((first + length ms) % 65536) (taken_ids known ms) (state_after e ms) m calls
+abbrev pub ArePartRequests : Errand → ℕ → List ℕ → List Message → List PeerCall → Type 0
+ArePartRequests e first known [] calls = calls ≡ []
+ArePartRequests e first known (m ∷ ms) calls =
+    IsNextRequest (ArePartRequests e first known ms) e ((first + length ms) % 65536) (taken_ids known ms) (state_after e ms) m calls
 
 -- replies to the requests from this id on lead to this state, and so much is called for them
 pub record RepliesLeadTo (went came : List ℕ → Type 0) (e : Errand) (first : ℕ) (known : List ℕ) (Called : List Message → Type 0) (state : State) : Type 0 where
@@ -109,12 +109,12 @@ pub record RepliesLeadToAgain (went came : List ℕ → Type 0) (before after : 
   pub next : ℕ
   pub next_is : next ≡ (first + length outdated) % 65536
   pub again : RepliesLeadTo went came e next (taken_ids [] outdated)
-      (λ replies. MakesCalls before after (AreBehind (AreRequests e first [] outdated) (AreRequests e next (taken_ids [] outdated) replies))) state
+      (λ replies. MakesCalls before after (AreBehind (ArePartRequests e first [] outdated) (ArePartRequests e next (taken_ids [] outdated) replies))) state
 
 -- the fetch ends with this code and body, at once or begun again once, and nothing is called but for its replies
 abbrev pub IsFetched : (List ℕ → Type 0) → (List ℕ → Type 0) → (List PeerCall → Type 0) → (List PeerCall → Type 0) → Errand → ℕ → ℕ → List ℕ → Type 0
 IsFetched went came before after e first code body =
-    RepliesLeadTo went came e first [] (λ replies. MakesCalls before after (AreRequests e first [] replies)) (Ended code body)
+    RepliesLeadTo went came e first [] (λ replies. MakesCalls before after (ArePartRequests e first [] replies)) (Ended code body)
     ⊎ RepliesLeadToAgain went came before after e first (Ended code body)
 
 -- replies have led to this state, so that the next request has this id, and messages of these ids have answered; so much was called for them
@@ -124,15 +124,15 @@ pub record IsFetching (went came : List ℕ → Type 0) (before now : List PeerC
   pub leads : state_after e replies ≡ state
   pub id_is : id ≡ (first + length replies) % 65536
   pub earlier_is : earlier ≡ taken_ids known replies
-  pub called : MakesCalls before now (AreRequests e first known replies)
+  pub called : MakesCalls before now (ArePartRequests e first known replies)
 
 -- what one attempt comes to
 abbrev pub IsAttempt : (List ℕ → Type 0) → (List ℕ → Type 0) → (List PeerCall → Type 0) → (List PeerCall → Type 0) → Errand → ℕ → List ℕ → Attempt → Type 0
 IsAttempt went came before after e first known (attempt.Ended f) =
-    RepliesLeadTo went came e first known (λ replies. MakesCalls before after (AreRequests e first known replies)) (Ended f.code.byte f.body.items)
+    RepliesLeadTo went came e first known (λ replies. MakesCalls before after (ArePartRequests e first known replies)) (Ended f.code.byte f.body.items)
 IsAttempt went came before after e first known (attempt.Outdated id earlier) = IsFetching went came before after e first known id earlier.items Outdated
 IsAttempt went came before after e first known attempt.Misfit =
-    RepliesLeadTo went came e first known (λ replies. MakesCalls before after (AreRequests e first known replies)) Lost
+    RepliesLeadTo went came e first known (λ replies. MakesCalls before after (ArePartRequests e first known replies)) Lost
 
 -- what an answer makes of a fetch under way: the next request is out, or it has ended, or the answer was outdated, or it doesn't fit
 abbrev pub IsNow : State → Course → Step → Type 0

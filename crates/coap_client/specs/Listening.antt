@@ -36,7 +36,7 @@ pub record IsOver (passes : List ℕ → List PeerCall → Type 0) (heard : List
   pub is : (heard ≡ Receives None ∷ older) ⊎ ((heard ≡ older) × (2 ^ 64 ≤ n + 1))
 
 -- this datagram ends it, the first that isn't passed over
-pub record EndsBy (passes : List ℕ → List PeerCall → Type 0) (bytes : List ℕ) (heard : List PeerCall) : Type 0 where
+pub record EndsOn (passes : List ℕ → List PeerCall → Type 0) (bytes : List ℕ) (heard : List PeerCall) : Type 0 where
   pub n : ℕ
   pub older : List PeerCall
   pub before : ArePassedOver passes n older
@@ -67,10 +67,10 @@ is_passed_over awaited Acknowledged = awaited
 is_passed_over awaited ended = false
 
 -- what answers: a response in the acknowledgement, and where it is awaited one in a message of its own
-abbrev pub is_answer : Bool → Reception → Bool
-is_answer awaited Reply = true
-is_answer awaited Separate = awaited
-is_answer awaited heard = false
+abbrev pub is_answering : Bool → Reception → Bool
+is_answering awaited Reply = true
+is_answering awaited Separate = awaited
+is_answering awaited heard = false
 
 -- what is sent behind a datagram: the acknowledgement of a response that came before
 abbrev pub sent_behind : Reception → List ℕ → List PeerCall
@@ -85,21 +85,21 @@ pub record IsPassedOver (tells : List ℕ → Reception → Type 0) (awaited : B
   pub sent_is : sent ≡ sent_behind heard bytes
 
 -- and one answers it
-pub record IsAnswer (tells : List ℕ → Reception → Type 0) (awaited : Bool) (bytes : List ℕ) : Type 0 where
+pub record AnswersAwaited (tells : List ℕ → Reception → Type 0) (awaited : Bool) (bytes : List ℕ) : Type 0 where
   pub heard : Reception
   pub told : tells bytes heard
-  pub answers : is_answer awaited heard ≡ true
+  pub answers : is_answering awaited heard ≡ true
 
 -- this answer came
-abbrev pub IsAnswered : (List ℕ → Reception → Type 0) → Bool → List ℕ → List PeerCall → Type 0
-IsAnswered tells awaited answer heard = IsAnswer tells awaited answer × EndsBy (IsPassedOver tells awaited) answer heard
+abbrev pub IsAnsweredBy : (List ℕ → Reception → Type 0) → Bool → List ℕ → List PeerCall → Type 0
+IsAnsweredBy tells awaited answer heard = AnswersAwaited tells awaited answer × EndsOn (IsPassedOver tells awaited) answer heard
 
 -- an acknowledgement without an answer came, where none had come before
-abbrev pub IsAcknowledged : (List ℕ → Reception → Type 0) → List PeerCall → Type 0
-IsAcknowledged tells heard = (bytes : List ℕ) × tells bytes Acknowledged × EndsBy (IsPassedOver tells false) bytes heard
+abbrev pub IsAcknowledgedBy : (List ℕ → Reception → Type 0) → List PeerCall → Type 0
+IsAcknowledgedBy tells heard = (bytes : List ℕ) × tells bytes Acknowledged × EndsOn (IsPassedOver tells false) bytes heard
 
 -- what was called while the wait lasted; an acknowledgement ends it only where no answer in a message of its own is awaited
 abbrev pub IsHeard : (List ℕ → Reception → Type 0) → Bool → List ℕ → Listened → List PeerCall → Type 0
 IsHeard tells awaited buffer listened.Nothing heard = IsOver (IsPassedOver tells awaited) heard
-IsHeard tells awaited buffer listened.Acknowledged heard = (awaited ≡ false) × IsAcknowledged tells heard
-IsHeard tells awaited buffer (listened.Answer count) heard = IsAnswered tells awaited (take count buffer) heard
+IsHeard tells awaited buffer listened.Acknowledged heard = (awaited ≡ false) × IsAcknowledgedBy tells heard
+IsHeard tells awaited buffer (listened.Answer count) heard = IsAnsweredBy tells awaited (take count buffer) heard

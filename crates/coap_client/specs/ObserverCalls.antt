@@ -8,7 +8,7 @@ use Rattle.coap_client.specs.declared.observing.NotedMessage.{NotedMessage}
 use Rattle.coap_client.specs.declared.observing.Observer.{Observer}
 use Rattle.coap_client.specs.declared.watch.Watch.{Watch}
 use Rattle.coap_client.specs.Heard.{IsReadAs}
-use Rattle.coap_client.specs.Listening.{EndsBy, IsOver, acknowledges}
+use Rattle.coap_client.specs.Listening.{EndsOn, IsOver, acknowledges}
 use Rattle.coap_client.specs.Notes.{IsAcknowledgementOf, TellsObserver}
 use Rattle.coap_client.specs.Notices.{IsOwnResponse, notice_after, observe_request}
 use Rattle.coap_client.specs.PeerCalls.{PeerCall, Receives, Waits}
@@ -52,7 +52,7 @@ IsPassedOverWatching told token w bytes sent = (IsOlderNotification told token w
 pub record IsNoticed (token : List ℕ) (passes : List ℕ → List PeerCall → Type 0) (bytes : List ℕ) (calls : List PeerCall) : Type 0 where
   pub own : IsReadAs bytes (IsOwnResponse token)
   pub heard : List PeerCall
-  pub ends : EndsBy passes bytes heard
+  pub ends : EndsOn passes bytes heard
   pub is : calls ≡ acknowledges bytes ++ heard
 
 -- or none, and the wait is over
@@ -104,20 +104,20 @@ pub record IsPassedOverLeaving (token : List ℕ) (id : ℕ) (bytes : List ℕ) 
   pub notification : AcknowledgesNotification token bytes sent
 
 -- it was acknowledged
-pub record IsLeft (token : List ℕ) (id : ℕ) (heard : List PeerCall) : Type 0 where
+pub record IsAcknowledgedLeaving (token : List ℕ) (id : ℕ) (heard : List PeerCall) : Type 0 where
   pub bytes : List ℕ
   pub acknowledges_it : IsReadAs bytes (IsAcknowledgementOf id)
-  pub ends : EndsBy (IsPassedOverLeaving token id) bytes heard
+  pub ends : EndsOn (IsPassedOverLeaving token id) bytes heard
 
 -- it was, or the wait is over
 abbrev pub IsOverUnlessLeft : List ℕ → ℕ → Bool → List PeerCall → Type 0
-IsOverUnlessLeft token id true heard = IsLeft token id heard
+IsOverUnlessLeft token id true heard = IsAcknowledgedLeaving token id heard
 IsOverUnlessLeft token id false heard = IsOver (IsPassedOverLeaving token id) heard
 
 -- it is sent until it is acknowledged
 abbrev pub IsDeregistrationOf : Observer → ℕ → List PeerCall → Type 0
 IsDeregistrationOf o id calls =
-    IsLastSending (IsPassedOverLeaving o.token id) (message_bytes (observe_request o.errand.now Deregister o.token id)) (IsLeft o.token id) calls
+    IsLastSending (IsPassedOverLeaving o.token id) (message_bytes (observe_request o.errand.now Deregister o.token id)) (IsAcknowledgedLeaving o.token id) calls
 
 abbrev pub IsDeregistration : Observer → List PeerCall → Type 0
 IsDeregistration o calls = IsDeregistrationOf o ((o.id + 1) % 65536) calls

@@ -15,8 +15,8 @@ abbrev pub Adds : (List PeerCall → Type 0) → (List PeerCall → Type 0) → 
 Adds before after more = (calls : List PeerCall) → before calls → after (more ++ calls)
 
 -- the datagram at the start of the buffer, if one came
-abbrev pub bytes_in : List ℕ → Option ℕ → Option (List ℕ)
-bytes_in buffer count = option_map (λ n. take n buffer) count
+abbrev pub received_bytes : List ℕ → Option ℕ → Option (List ℕ)
+received_bytes buffer count = option_map (λ n. take n buffer) count
 
 abbrev pub receives_in : List ℕ → Option ℕ → PeerCall
-receives_in buffer count = Receives (bytes_in buffer count)
+receives_in buffer count = Receives (received_bytes buffer count)

@@ -1,7 +1,7 @@
 -- How often a request is sent, and how long its answer is waited for (RFC 7252, 4.2). Of what a client calls, the newest stands first.
 use Rattle.std.specs.Prelude.{◌≡◌, ℕ, zero, suc, ◌+◌, ◌<◌, ◌^◌, ◌⊎◌, Bool, true, false, List, [], ◌∷◌, ◌++◌, Option, Some, None}
 use Rattle.coap_client.specs.declared.transmission.Reception.{Reception}
-use Rattle.coap_client.specs.Listening.{IsAcknowledged, IsAnswered, IsOver, IsPassedOver, acknowledges}
+use Rattle.coap_client.specs.Listening.{IsAcknowledgedBy, IsAnsweredBy, IsOver, IsPassedOver, acknowledges}
 use Rattle.coap_client.specs.PeerCalls.{PeerCall, Sends, Waits}
 
 -- how often a confirmable request is sent at most: once, and MAX_RETRANSMIT times again (RFC 7252, 4.8)
@@ -73,19 +73,19 @@ pub record IsLastSending (passes : List ℕ → List PeerCall → Type 0) (reque
 -- this answer came, or the wait is over, where an answer in a message of its own is awaited
 abbrev pub EndsAwaited : (List ℕ → Reception → Type 0) → Option (List ℕ) → List PeerCall → Type 0
 EndsAwaited tells None heard = IsOver (IsPassedOver tells true) heard
-EndsAwaited tells (Some answer) heard = IsAnswered tells true answer heard
+EndsAwaited tells (Some answer) heard = IsAnsweredBy tells true answer heard
 
 -- it was acknowledged, and its answer waited for longer
 pub record IsAcknowledgedFirst (tells : List ℕ → Reception → Type 0) (answer : Option (List ℕ)) (heard : List PeerCall) : Type 0 where
   pub first : List PeerCall
-  pub acknowledged : IsAcknowledged tells first
+  pub acknowledged : IsAcknowledgedBy tells first
   pub more : List PeerCall
   pub ends : EndsAwaited tells answer more
   pub is : heard ≡ more ++ Waits separate_wait ∷ first
 
 -- the answer came, at once or after an acknowledgement
 abbrev pub EndsAnswered : (List ℕ → Reception → Type 0) → List ℕ → List PeerCall → Type 0
-EndsAnswered tells answer heard = IsAnswered tells false answer heard ⊎ IsAcknowledgedFirst tells (Some answer) heard
+EndsAnswered tells answer heard = IsAnsweredBy tells false answer heard ⊎ IsAcknowledgedFirst tells (Some answer) heard
 
 -- a confirmable request is answered; or it is sent in vain as often as it may be, or acknowledged and then not answered
 abbrev pub IsAskedAgain : (List ℕ → Reception → Type 0) → List ℕ → Option (List ℕ) → List PeerCall → Type 0

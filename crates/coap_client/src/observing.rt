@@ -8,7 +8,7 @@ ghost use Rattle.coap_client.specs.Notices.{IsOwnResponse, observe_request, obse
 ghost use Rattle.coap_client.specs.Replies.{IsReset};
 ghost use Rattle.coap_opts.specs.Values.{uint_bytes};
 ghost use Rattle.coap_client.specs.Listening.{IsHeard};
-ghost use Rattle.coap_client.specs.PeerCalls.{bytes_in};
+ghost use Rattle.coap_client.specs.PeerCalls.{received_bytes};
 ghost use Rattle.coap_client.specs.ObserverCalls.{AcknowledgesNotification, AwaitsNotification, IsDeregistration, IsNoNotification, IsOverUnlessLeft, IsPassedOverWatching, IsRegistration, noted_in};
 ghost use Rattle.coap_client.specs.Transmissions.{MakesCalls, IsAskedAgain, EndsAwaited};
 ghost use Rattle.std.specs.Bool.{OnTrue};
@@ -91,7 +91,7 @@ impl<'a> Observer<'a> {
         ensures answer { IfOk result (λ r. IfSome r (λ count. (count ≤ length buffer.new) × P.went datagram.now.items
             × HasArrived P.came (IsResponseWith self.now.token self.now.id) (take count buffer.new))) }
         ensures called { IfOk result (λ r. MakesCalls (P.called peer.old) (P.called peer.new)
-            (IsAskedAgain (TellsObserver self.now.token self.now.id) datagram.now.items (bytes_in buffer.new r))) }
+            (IsAskedAgain (TellsObserver self.now.token self.now.id) datagram.now.items (received_bytes buffer.new r))) }
     {
         for sendings in 0..SENDINGS {
             send(peer, datagram, ack_timeout(sendings))?;
@@ -116,7 +116,7 @@ impl<'a> Observer<'a> {
         ensures answer { IfOk result (λ r. IfSome r (λ count. (count ≤ length buffer.new)
             × HasArrived P.came (IsResponseWith self.now.token self.now.id) (take count buffer.new))) }
         ensures called { IfOk result (λ r. MakesCalls (P.called peer.old) (P.called peer.new)
-            (EndsAwaited (TellsObserver self.now.token self.now.id) (bytes_in buffer.new r))) }
+            (EndsAwaited (TellsObserver self.now.token self.now.id) (received_bytes buffer.new r))) }
     {
         match self.listen(peer, true, buffer)? {
             Listened::Answer(count) => Ok(Some(count)),
@@ -226,7 +226,7 @@ fn hear<P: Peer>(peer: &mut P, token: &[u8], buffer: &mut [u8]) -> Result<Option
     ensures heard { IfOk result (λ r. IfSome r (λ count. (count ≤ length buffer.new)
         × HasOwnResponse P.went P.came token.now (take count buffer.new))) }
     ensures called { IfOk result (λ r. MakesCalls (P.called peer.old) (P.called peer.new)
-        (AwaitsNotification token.now (IsNoNotification token.now) (bytes_in buffer.new r))) }
+        (AwaitsNotification token.now (IsNoNotification token.now) (received_bytes buffer.new r))) }
 {
     for _ in 0..u64::MAX {
         let Some(count) = peer.receive(buffer)? else {

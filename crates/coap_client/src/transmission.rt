@@ -6,7 +6,7 @@ ghost use Rattle.coap_msg.specs.Wire as wire;
 ghost use Rattle.coap_msg.specs.declared.types.MessageType.TheVariants.{Confirmable};
 ghost use Rattle.coap_client.specs.Heard.{AcknowledgesRepeat, Listens, HasTakenResponse, HasResponse, IsAwaitedAnswer, IsHeardAs, TellsSent};
 ghost use Rattle.coap_client.specs.Listening.{IsHeard, acknowledges, is_passed_over, sent_behind};
-ghost use Rattle.coap_client.specs.PeerCalls.{Adds, Sends, Waits, bytes_in};
+ghost use Rattle.coap_client.specs.PeerCalls.{Adds, Sends, Waits, received_bytes};
 ghost use Rattle.coap_client.specs.Replies.{is_taken};
 ghost use Rattle.coap_client.specs.Transmissions.{ack_timeout, most_sendings, non_wait, MakesCalls, IsTransmitted, IsAskedAgain, EndsAwaited, IsSending, IsTransmission};
 ghost use Rattle.coap_client.specs.Requests.{acknowledgement};
@@ -89,7 +89,7 @@ pub fn ask<P: Peer>(
     ensures response { IfOk result (λ r. IfSome r (λ count. (count ≤ length buffer.new)
         × HasTakenResponse P.went P.came request.now (take count buffer.new))) }
     ensures called { IfOk result (λ r. MakesCalls (P.called peer.old) (P.called peer.new)
-        (IsTransmission request.now.confirmable (TellsSent request.now) request.now.datagram.now.items (bytes_in buffer.new r))) }
+        (IsTransmission request.now.confirmable (TellsSent request.now) request.now.datagram.now.items (received_bytes buffer.new r))) }
 {
     let Some(count) = transmit(peer, request, buffer)? else {
         return Ok(None);
@@ -107,7 +107,7 @@ fn transmit<P: Peer>(
     ensures response { IfOk result (λ r. IfSome r (λ count. (count ≤ length buffer.new)
         × HasResponse P.went P.came request.now (take count buffer.new))) }
     ensures called { IfOk result (λ r. MakesCalls (P.called peer.old) (P.called peer.new)
-        (IsTransmitted request.now.confirmable (TellsSent request.now) request.now.datagram.now.items (bytes_in buffer.new r))) }
+        (IsTransmitted request.now.confirmable (TellsSent request.now) request.now.datagram.now.items (received_bytes buffer.new r))) }
 {
     if request.confirmable {
         ask_again(peer, request, buffer)
@@ -125,7 +125,7 @@ fn ask_again<P: Peer>(
     ensures response { IfOk result (λ r. IfSome r (λ count. (count ≤ length buffer.new)
         × HasResponse P.went P.came request.now (take count buffer.new))) }
     ensures called { IfOk result (λ r. MakesCalls (P.called peer.old) (P.called peer.new)
-        (IsAskedAgain (TellsSent request.now) request.now.datagram.now.items (bytes_in buffer.new r))) }
+        (IsAskedAgain (TellsSent request.now) request.now.datagram.now.items (received_bytes buffer.new r))) }
 {
     for sendings in 0..SENDINGS {
         send(peer, request.datagram, ack_timeout(sendings))?;
@@ -151,7 +151,7 @@ fn ask_once<P: Peer>(
     ensures response { IfOk result (λ r. IfSome r (λ count. (count ≤ length buffer.new)
         × HasResponse P.went P.came request.now (take count buffer.new))) }
     ensures called { IfOk result (λ r. MakesCalls (P.called peer.old) (P.called peer.new)
-        (IsSending request.now.datagram.now.items non_wait (EndsAwaited (TellsSent request.now) (bytes_in buffer.new r)))) }
+        (IsSending request.now.datagram.now.items non_wait (EndsAwaited (TellsSent request.now) (received_bytes buffer.new r)))) }
 {
     send(peer, request.datagram, NON_WAIT)?;
     await_separate(peer, request, buffer)
@@ -180,7 +180,7 @@ fn await_separate<P: Peer>(
     ensures answer { IfOk result (λ r. IfSome r (λ count. (count ≤ length buffer.new)
         × IsAwaitedAnswer P.came request.now true (take count buffer.new))) }
     ensures called { IfOk result (λ r. MakesCalls (P.called peer.old) (P.called peer.new)
-        (EndsAwaited (TellsSent request.now) (bytes_in buffer.new r))) }
+        (EndsAwaited (TellsSent request.now) (received_bytes buffer.new r))) }
 {
     match listen(peer, request, true, buffer)? {
         Listened::Answer(count) => Ok(Some(count)),

@@ -47,8 +47,8 @@ IsRequestOf m (Ok done) r = (refusal_code m ≡ None) × (asked m ≡ Some (aske
 IsRequestOf m (Err answer) r = refusal_code m ≡ Some answer.byte
 
 -- where a request was written over another, nothing more is told of it
-abbrev pub written : Request → Unit {0} → Asked
-written r done = asked_by r
+abbrev pub written_over : Request → Unit {0} → Asked
+written_over r done = asked_by r
 
 -- what is done about a request, as a verdict, by what is told of one that is carried out
 abbrev pub asking_verdict : {R : Type 0} → (R → Asked) → Asking R → Verdict

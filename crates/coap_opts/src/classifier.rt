@@ -1,7 +1,7 @@
 //! Request classification: message type, options, method, path, in the order of the checks.
 ghost use Rattle.std.specs.Prelude.{◌≡◌, ◌||◌, None, Some};
 ghost use Rattle.coap_opts.specs.Verdict.{refusal_verdict, request_verdict, verdict};
-ghost use Rattle.coap_opts.specs.Classified.{IsRequestOf, asked_by, asking_verdict, verdict_of, written};
+ghost use Rattle.coap_opts.specs.Classified.{IsRequestOf, asked_by, asking_verdict, verdict_of, written_over};
 ghost use Rattle.coap_opts.specs.Verdict as spec;
 
 use crate::block::Block;
@@ -28,7 +28,7 @@ pub fn classify<'a>(message: &Message<'a>) -> Classified<Request<'a>>
 
 /// What is done about a request, which was written.
 fn served<'a>(asking: Asking<()>, request: Request<'a>) -> Asking<Request<'a>>
-    ensures { asking_verdict asked_by result ≡ asking_verdict (written request.entry) asking }
+    ensures { asking_verdict asked_by result ≡ asking_verdict (written_over request.entry) asking }
 {
     match asking {
         Asking::Serve(()) => Asking::Serve(request),
@@ -40,7 +40,7 @@ fn served<'a>(asking: Asking<()>, request: Request<'a>) -> Asking<Request<'a>>
 /// Classifies a message as `classify` does, and writes the request that is carried out over another: none is moved.
 #[tactic(auto, unfolding(crate::specs::Verdict::verdict))]
 pub fn classify_over<'a>(message: &Message<'a>, request: &mut Request<'a>) -> Classified<()>
-    ensures { verdict_of (written request.new) result ≡ verdict message.now }
+    ensures { verdict_of (written_over request.new) result ≡ verdict message.now }
 {
     let is_empty = message.code() == Code::EMPTY;
     match message.kind() {
@@ -65,7 +65,7 @@ fn is_request(code: Code) -> bool
 }
 
 fn judge<'a>(message: &Message<'a>, request: &mut Request<'a>) -> Asking<()>
-    ensures { asking_verdict (written request.new) result ≡ request_verdict message.now }
+    ensures { asking_verdict (written_over request.new) result ≡ request_verdict message.now }
 {
     match write_request(message, request) {
         Ok(()) => Asking::Serve(()),
@@ -75,7 +75,7 @@ fn judge<'a>(message: &Message<'a>, request: &mut Request<'a>) -> Asking<()>
 
 /// A non-confirmable request with an unrecognised critical option gets no answer.
 fn refused(kind: MessageType, code: Code) -> Asking<()>
-    ensures { (r : Request) → asking_verdict (written r) result ≡ refusal_verdict kind code.byte }
+    ensures { (r : Request) → asking_verdict (written_over r) result ≡ refusal_verdict kind code.byte }
 {
     if kind == MessageType::NonConfirmable && code == Code::BAD_OPTION {
         Asking::Silent

@@ -1,5 +1,5 @@
 use Rattle.std.proofs.Common.{◌+◌, ◌%◌, subst}
-use Rattle.coap_client.specs.ObserverCalls.{IsLeft, IsOverUnlessLeft, IsPassedOverLeaving}
+use Rattle.coap_client.specs.ObserverCalls.{IsAcknowledgedLeaving, IsOverUnlessLeft, IsPassedOverLeaving}
 use Rattle.coap_client.specs.Transmissions.{MakesCalls, IsLastSending}
 use Rattle.coap_client.proofs.Transmitting.{again, in_vain, last_sending}
 use Rattle.coap_client.proofs.observing.Observer.deregister.Goals as goal
@@ -22,8 +22,8 @@ returns-then-branch-clause-called g c =
     let sent = g.P.Peer.called c.send.new.peer in
     let after = g.P.Peer.called c.is_acknowledged.new.peer in
     let before = g.P.Peer.called c.args.peer.now in
-    subst (λ x. MakesCalls before after (IsLastSending (IsPassedOverLeaving token id) x (IsLeft token id))) c.in_ok-write_request.ensures
-    (last_sending (IsPassedOverLeaving token id) c.write_request.new.datagram.items c.loop-sendings.sendings before (g.P.Peer.called c.loop-sendings.peer) after (IsLeft token id)
+    subst (λ x. MakesCalls before after (IsLastSending (IsPassedOverLeaving token id) x (IsAcknowledgedLeaving token id))) c.in_ok-write_request.ensures
+    (last_sending (IsPassedOverLeaving token id) c.write_request.new.datagram.items c.loop-sendings.sendings before (g.P.Peer.called c.loop-sendings.peer) after (IsAcknowledgedLeaving token id)
     c.loop-sendings-test.true c.loop-sendings.invariant
     (again _ c.loop-sendings.sendings c.ack_timeout.result _ sent after _ c.ack_timeout.ensures c.in_ok-send.ensures.called
     (subst (λ b. MakesCalls sent after (IsOverUnlessLeft token id b)) c.if-branch.true c.in_ok-is_acknowledged.ensures.called)))

@@ -1,6 +1,6 @@
 use Rattle.std.proofs.Common.{Some, true, take, subst}
 use Rattle.coap_client.specs.Notes.{TellsObserver}
-use Rattle.coap_client.specs.PeerCalls.{bytes_in}
+use Rattle.coap_client.specs.PeerCalls.{received_bytes}
 use Rattle.coap_client.specs.Transmissions.{MakesCalls, IsAskedAgain}
 use Rattle.coap_client.proofs.Transmitting.{transmitted}
 use Rattle.coap_client.proofs.observing.Observer.register.Goals as goal
@@ -12,5 +12,5 @@ returns-clause-called g c =
     let between = g.P.Peer.called c.ask.new.peer in
     transmitted true tells _ (take c.in-Some.count c.ask.new.buffer) before between _
     (subst (λ x. MakesCalls before between (IsAskedAgain tells x (Some (take c.in-Some.count c.ask.new.buffer)))) c.in_ok-write_request.ensures
-    (subst (λ o. MakesCalls before between (IsAskedAgain tells c.write_request.new.datagram.items (bytes_in c.ask.new.buffer o))) c.in-Some.is c.in_ok-count.ensures.called))
+    (subst (λ o. MakesCalls before between (IsAskedAgain tells c.write_request.new.datagram.items (received_bytes c.ask.new.buffer o))) c.in-Some.is c.in_ok-count.ensures.called))
     c.in_ok-acknowledge.ensures.called

@@ -1,6 +1,6 @@
 use Rattle.std.proofs.Common.{◌≡◌, ℕ, ◌≤◌, List, length, sym, subst, arith}
 use Rattle.coap_msg.specs.Wire.{Message}
-use Rattle.coap_opts.specs.Classified.{IsErrorCode, asked_by, asking_verdict, written}
+use Rattle.coap_opts.specs.Classified.{IsErrorCode, asked_by, asking_verdict, written_over}
 use Rattle.coap_opts.specs.Fields.{IsAskedWithin}
 use Rattle.coap_opts.specs.Verdict.{Asked, Verdict, IsAsked, IsRefused}
 use Rattle.coap_opts.specs.declared.request.Asking.{Asking}
@@ -12,7 +12,7 @@ use Rattle.fc_core.proofs.front.Front.receive.Goals as goal
 -- what is done about a request is within its limits, where what this verdict accepts and what it refuses are
 within : (m : Message) (verdict : Verdict) → ((r : Asked) → verdict ≡ IsAsked r → IsAskedWithin m r)
     → ((answer : ℕ) → verdict ≡ IsRefused answer → IsErrorCode answer)
-    → (a : Asking (Unit {0})) (request : Request) → asking_verdict (written request) a ≡ verdict → IsAsking a request
+    → (a : Asking (Unit {0})) (request : Request) → asking_verdict (written_over request) a ≡ verdict → IsAsking a request
 within m verdict accepted refused (Serve done) request h =
     let w = accepted (asked_by request) (sym h) in
     record { resource = w.resource; query = w.query; payload = subst (λ (p : List ℕ). length p ≤ 1024) (sym w.payload_is) w.short }
