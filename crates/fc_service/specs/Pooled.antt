@@ -1,5 +1,5 @@
 -- What a pool's dispatcher does where it is fed.
-use Rattle.std.specs.Prelude.{◌≡◌, ◌⊎◌, ⊤, ℕ, List, slice_index, None, true}
+use Rattle.std.specs.Prelude.{◌≡◌, ◌⊎◌, ⊤, ℕ, Bool, List, slice_index, None, true, false}
 use Rattle.std.specs.Borrow.{Bor}
 use Rattle.coap_msg.specs.declared.types.Emission.{Emission}
 use Rattle.coap_msg.specs.declared.types.Endpoint.{Endpoint}
@@ -21,6 +21,11 @@ use Rattle.fc_service.specs.Intakes.{IntakeCalls}
 pub record Dispatching (T : Type 0) : Type 0 where
   pub handover : Handover
   pub done : Dispatched T
+
+-- which jobs go to workers, where workers were begun: none, where they weren't
+abbrev pub handover_where : Bool → Handover → Handover
+handover_where true handover = handover
+handover_where false handover = Never
 
 module _ {T : Type 0} (s : Shop T) where
   abbrev pub HearsPooled : ℕ → Endpoint → Bor (List ℕ) → Dispatching T → Dispatching T → Heard → Emission → Type 0
@@ -56,11 +61,11 @@ module _ {T : Type 0} (s : Shop T) where
     stays_quiet = StaysQuietPooled;
   }
 
-  -- a feeder fed a dispatcher of this handover, or, where there was no worker, of none, and gave this
-  pub record IsFed {F X : Type 0} (Feeds : IntakeCalls (Dispatching T) → F → Dispatching T → Dispatching T → X → Type 0) (handover : Handover) (feeder : F) (given : X) : Type 0 where
+  -- a feeder fed a dispatcher of this handover, or, where no workers were begun, of none, and gave this
+  pub record IsFed {F X : Type 0} (Feeds : IntakeCalls (Dispatching T) → F → Dispatching T → Dispatching T → X → Type 0) (handover : Handover) (has_workers : Bool) (feeder : F) (given : X) : Type 0 where
     pub first : Dispatching T
     pub last : Dispatching T
-    pub begins : (first.handover ≡ handover) ⊎ (first.handover ≡ Never)
+    pub begins : first.handover ≡ handover_where has_workers handover
     pub feeds : Feeds pooled_calls feeder first last given
 
 -- a shop whose jobs are never held up

@@ -46,10 +46,13 @@
 //!   (`laws`).
 //! - **By more workers** each datagram is taken in, in order, as a dispatcher takes one in at some front, and each turn as one that some
 //!   shard gave; nothing else of a round changes what was dispatched (`serve_at`, by `HasServedPooled`; `run_pool` hands on by `IsFed` what
-//!   its feeder did). That front and shards are the pool's, and one for all rounds, no clause says: that is seen of a dispatcher over any
-//!   bench (`fc_workers`).
+//!   its feeder did). That front and shards are the pool's, and one for all rounds, no clause says: a `serve_at` that made no pool, and took
+//!   each datagram for a repeat at a front of its own invention, would meet this. That a dispatcher asks the bench that it has is seen of
+//!   one over any bench (`fc_workers`).
 //! - **A pool** gives at its end eight shards, the serials that each began with, and changes; the serials of each shard have risen by just
-//!   these, which are told up to 2^64 - 1. That its workers worked at these shards is no clause.
+//!   these, which are told up to 2^64 - 1. That its workers worked at these shards is no clause. Its feeder's dispatcher hands jobs over as
+//!   the pool says, where it tells that workers were begun, and none where it tells that they weren't (`Fed::has_workers`); that it tells
+//!   so only where no thread could be made is tested.
 //! - **Replies** of a server on a socket are counted and added exactly, up to 2^64 - 1, and written as `sent S failed F`. That by more
 //!   workers what is added for their jobs is their own count, and that it is told to the log, is no clause.
 //!

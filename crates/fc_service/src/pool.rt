@@ -169,10 +169,11 @@ pub trait Feeder<X> {
         ensures { feeds N N.calls self intake.old intake.new result };
 }
 
-/// What a feeder gave, the replies to the jobs that it had worked off, and what the server came to.
+/// What a feeder gave, whether workers were begun beside it, the replies to the jobs that it had worked off, and what the server came to.
 #[derive(Drop)]
 pub struct Fed<X: Drop> {
     pub given: X,
+    pub has_workers: bool,
     pub replies: Replies,
     pub closed: ClosedServer,
 }
@@ -185,10 +186,11 @@ struct Begun<'a, B: Books, D: Device> {
     tallies: Vec<Tallies<B>>,
 }
 
-// What a feeder gave, and the shares of the workers and of who fed them.
+// What a feeder gave, whether workers were begun beside it, and the shares of the workers and of who fed them.
 #[derive(Drop)]
 struct Ended<X: Drop, T: Drop> {
     given: X,
+    has_workers: bool,
     own: Share<T>,
     shares: Vec<Share<T>>,
 }
@@ -241,7 +243,7 @@ pub fn run_pool<
     requires { pool.now.begin.serial ≤ last_serial }
     ensures counted { IfOk result (λ fed. HasCountedAll fed.closed) }
     ensures fed { let shop = locked_shop D.are_readings M.is_moment M.is_random W.called in
-        IfOk result (λ fed. IsFed shop (F.feeds _) pool.now.handover feeder fed.given) }
+        IfOk result (λ fed. IsFed shop (F.feeds _) pool.now.handover fed.has_workers feeder fed.given) }
 {
     let blanks = Blanks::new(u64::from(pool.workers) + 2);
     run_named::<Brand, R, W, M, D, E, X, F>(rt, alloc, err, pool, feeder, blanks)
@@ -271,7 +273,7 @@ fn run_named<
     requires books { blanks.parts ≡ B.parts }
     ensures counted { IfOk result (λ fed. HasCountedAll fed.closed) }
     ensures fed { let shop = locked_shop D.are_readings M.is_moment M.is_random W.called in
-        IfOk result (λ fed. IsFed shop (F.feeds _) pool.now.handover feeder fed.given) }
+        IfOk result (λ fed. IsFed shop (F.feeds _) pool.now.handover fed.has_workers feeder fed.given) }
 {
     let Begun {
         server,
@@ -315,14 +317,21 @@ fn close<B: Books, D: Device, X: Drop>(
     requires { reserve.parts + vec_len ended.shares + 1 ≡ B.parts }
     ensures counted { HasCountedAll result.closed }
     ensures given { result.given ≡ ended.given }
+    ensures workers { result.has_workers ≡ ended.has_workers }
 {
-    let Ended { given, own, shares } = ended;
+    let Ended {
+        given,
+        has_workers,
+        own,
+        shares,
+    } = ended;
     let replies = Replies::of(&shares).plus(Replies::by(&own));
     reserve.merge(own.tallies);
     reserve.merge_each(shares);
     let closed = server.close(&mut reserve);
     Fed {
         given,
+        has_workers,
         replies,
         closed,
     }
@@ -352,7 +361,7 @@ where
     requires { 0 < vec_len tallies }
     ensures shares { IfOk result (λ ended. vec_len ended.shares + 1 ≡ vec_len tallies) }
     ensures fed { let shop = open_shop B.changes B.ended B.called B.logged M.is_moment M.is_random W.called in
-        IfOk result (λ ended. IsFed shop (F.feeds _) pool.now.handover feeder ended.given) }
+        IfOk result (λ ended. IsFed shop (F.feeds _) pool.now.handover ended.has_workers feeder ended.given) }
 {
     let (jobs, sent, mut seats) = make_seats(alloc, tallies)?;
     let Some(own) = seats.pop() else {
@@ -371,15 +380,15 @@ where
     };
     let (workshop, channel, ended) = (&workshop, &jobs, &wire.ended);
     let handover = pool.handover;
-    let ((given, own), shares) = feed_workers(
+    let ((given, has_workers, own), shares) = feed_workers(
         rt,
         workshop,
         channel,
         seats,
-        move |has_workers| -> (X, Share<B::Tallies>)
+        move |has_workers| -> (X, bool, Share<B::Tallies>)
             requires { sent.channel ≡ channel.now }
             ensures { let shop = open_shop B.changes B.ended B.called B.logged M.is_moment M.is_random W.called in
-                IsFed shop (F.feeds _) handover feeder result.0 }
+                IsFed shop (F.feeds _) handover result.1 feeder result.0 }
         {
             let handover = if has_workers {
                 handover
@@ -394,11 +403,12 @@ where
                 ended,
             };
             let given = feeder.feed(rt, &mut intake);
-            (given, intake.close())
+            (given, has_workers, intake.close())
         },
     );
     Ok(Ended {
         given,
+        has_workers,
         own,
         shares: shares?,
     })

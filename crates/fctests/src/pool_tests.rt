@@ -45,6 +45,7 @@ fn a_pool_counts_the_changes_of_each_shard(rt: HostRuntime) -> Result<(), Fail> 
     let installs = Installs { alloc: rt.alloc() };
     let fed = run_pool(&rt, rt.alloc(), &mut err, &pool, installs)?;
     fed.given?;
+    assert!(rt; fed.has_workers);
     assert!(rt; fed.closed.changes == [0, 3, 1, 0, 0, 0, 0, 0]);
     assert!(rt; fed.closed.first_serials == [7; 8]);
     let [_, shard1, shard2, ..] = &fed.closed.shards;
