@@ -3,6 +3,7 @@ use Rattle.std.specs.Prelude.{◌≡◌, ℕ, Bool, List, [], ◌∷◌, ◌++�
 use Rattle.coap_msg.specs.declared.types.Emission.{Emission}
 use Rattle.coap_msg.specs.declared.types.Endpoint.{Endpoint}
 use Rattle.fc_workers.specs.Called.{WireCall, SendsReply, EndsJob}
+use Rattle.fc_workers.specs.declared.call_log.CallLog.{CallLog}
 
 -- a datagram that was received: who sent it, and its bytes
 pub record Incoming : Type 0 where
@@ -23,7 +24,7 @@ pub record Receive : Type 0 where
 abbrev pub Comes : Option (List Receive) → Option (List Receive) → List Receive → Type 0
 Comes before after more = IfSome before (λ known. after ≡ Some (known ++ more))
 
--- a reply that a wire sends is handed to a sink
-abbrev pub IsHanded : (Emission → Bool → Type 0) → WireCall → Type 0
-IsHanded Went (SendsReply number reply out) = Went reply out
-IsHanded Went (EndsJob number) = Unit {0}
+-- a reply that a wire sends is handed to a sink, once; where a job ends nothing is
+abbrev pub IsHanded : (Emission → Bool → CallLog → CallLog → Type 0) → WireCall → CallLog → CallLog → Type 0
+IsHanded Went (SendsReply number reply out) before after = Went reply out before after
+IsHanded Went (EndsJob number) before after = after ≡ before

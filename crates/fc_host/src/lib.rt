@@ -23,7 +23,8 @@
 //!   file is what one call of its reader gave, 56 bytes at most, and zeros behind.
 //! - **A datagram** that is received lies at the start of its buffer, which has 1,281 bytes, one more than it may have (`laws`). A source whose
 //!   receives are known says of each how long it was to wait, and what came; those of a socket of the system aren't.
-//! - **A reply** that a wire of workers sends is handed to its sink, which tells whether it went out.
+//! - **A reply** that a wire of workers sends is handed to its sink, once, with the log that the wire is handed; the sink tells whether it
+//!   went out. Where a job ends, nothing is.
 //! - Not claimed: that a moment is the clock's and a random word its low bits, that a file is read anew, what a socket sends and how long it waits, and that a
 //!   board gives the reply that was sent and the readings that were set.
 //!

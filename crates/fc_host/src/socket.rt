@@ -2,6 +2,7 @@
 ghost use Rattle.std.specs.Prelude.{◌≤◌, ⊤, [], ◌∷◌, Bool, IfSome, List, None, Option, length};
 ghost use Rattle.coap_msg.specs.declared.types.Emission.{Emission};
 ghost use Rattle.fc_host.specs.Sockets.{Comes, IsHanded, Receive, incoming_in};
+ghost use Rattle.fc_workers.specs.declared.call_log.CallLog.{CallLog as Log};
 
 use coap_msg::types::DATAGRAM;
 use coap_msg::{Emission, Endpoint};
@@ -34,12 +35,12 @@ pub trait Source {
 
 /// Where datagrams go.
 pub trait Sink {
-    // Which datagrams were handed to it: it says of one whether it was told to go out.
-    ghost went: { Emission → Bool → Type 0 } = { λ emission out. ⊤ };
+    // Which datagrams were handed to it, each from one state of the caller's log to the next: it says of one whether it was told to go out.
+    ghost went: { Emission → Bool → Log → Log → Type 0 } = { λ emission out before after. ⊤ };
 
     /// Sends a datagram. Tells whether it went out.
-    fn send(&self, emission: &Emission) -> bool
-        ensures { went emission.now result };
+    fn send(&self, emission: &Emission, log: &mut CallLog) -> bool
+        ensures { went emission.now result log.old log.new };
 }
 
 /// A socket that datagrams are received from, and how long its receives wait.
@@ -83,7 +84,8 @@ impl<'a> Source for Receiving<'a> {
 }
 
 impl Sink for UdpSocket {
-    fn send(&self, emission: &Emission) -> bool {
+    fn send(&self, emission: &Emission, log: &mut CallLog) -> bool {
+        let _ = log;
         let to = address_of(emission.to);
         self.send_to(emission.bytes.as_slice(), to).is_ok()
     }
@@ -118,13 +120,12 @@ pub struct Replying<'a, K: Sink> {
 }
 
 impl<'a, K: Sink> Wire for Replying<'a, K> {
-    ghost called = { λ call before after. IsHanded K.went call };
+    ghost called = { IsHanded K.went };
 
     fn send<R: Wait>(&self, rt: &R, number: u64, emission: &Emission, log: &mut CallLog) -> bool {
         let _ = rt;
         let _ = number;
-        let _ = log;
-        self.sink.send(emission)
+        self.sink.send(emission, log)
     }
 
     fn ended<R: Wait>(&self, rt: &R, number: u64, log: &mut CallLog) {

@@ -35,6 +35,7 @@ use Rattle.fc_service.specs.Settling.{AreStepsBy, Asked, IsStepBy, Passed, Resen
 use Rattle.fc_service.specs.Traffic.{Sending}
 use Rattle.fc_service.specs.declared.alone.Alone.{Alone}
 use Rattle.fc_service.specs.declared.replies.Replies.{Replies}
+use Rattle.fc_workers.specs.declared.call_log.CallLog.{CallLog}
 
 -- ---- what follows on a history
 
@@ -224,25 +225,25 @@ passed_goes_on now old new sent h tasks passes none v =
 
 -- ---- rounds
 
-module _ (sensors : List ℕ → Type 0) (moments : ℕ → Type 0) (went : Emission → Bool → Type 0) where
+module _ (sensors : List ℕ → Type 0) (moments : ℕ → Type 0) where
   received_goes_on : (now : ℕ) (received : Option Incoming) (old new : Alone) (sent : Option Emission) (h : History) (tasks : List Task)
-      → IsReceivedBy moments (ReadiesAlone sensors) alone_calls went now received old sent new → Leaves h old tasks
+      → IsReceivedBy moments (ReadiesAlone sensors) alone_calls now received old sent new → Leaves h old tasks
       → GoesOn h (option_to_list received) (option_to_list sent) new.engine
   received_goes_on now (Some incoming) old new sent h tasks w v = datagram_goes_on now incoming old new sent h tasks w v
   received_goes_on now None old new sent h tasks w v = passed_goes_on now old new sent h tasks w.0 w.1 v
 
   round_goes_on : (r : Round) (old new : Alone) (h : History) (tasks : List Task)
-      → IsRoundBy moments (ReadiesAlone sensors) alone_calls went r old new → Leaves h old tasks
+      → IsRoundBy moments (ReadiesAlone sensors) alone_calls r old new → Leaves h old tasks
       → GoesOn h (option_to_list r.received) (map (λ s. s.emission) r.sendings) new.engine
   round_goes_on r old new h tasks w v =
       let made : Leaves h w.ready tasks = subst (λ (s : ServerState). Serves h s tasks) (sym w.readied.2) v in
       let heard = received_goes_on r.now r.received w.ready w.answered r.sent h tasks w.carried_out made in
       let all = both_go_on h (option_to_list r.received) [] (option_to_list r.sent) (sent_in_steps r.steps) w.answered.engine new.engine heard
       (steps_go_on r.now r.steps w.answered new heard.later heard.tasks w.steps heard.serves) in
-      goes_on_as _ (option_to_list r.received) _ (map (λ s. s.emission) r.sendings) (append-nil (option_to_list r.received)) (sym w.sent.1) all
+      goes_on_as _ (option_to_list r.received) _ (map (λ s. s.emission) r.sendings) (append-nil (option_to_list r.received)) (sym w.sent) all
 
   rounds_go_on : (rounds : List Round) (old new : Alone) (h : History) (tasks : List Task)
-      → AreRoundsBy moments (ReadiesAlone sensors) alone_calls went rounds old new → Leaves h old tasks
+      → AreRoundsBy moments (ReadiesAlone sensors) alone_calls rounds old new → Leaves h old tasks
       → GoesOn h (received_in rounds) (map (λ s. s.emission) (sendings_in rounds)) new.engine
   rounds_go_on [] old new h tasks is v =
       record { later = h; follows = none_follows h; tasks = tasks; serves = subst (λ (a : Alone). Leaves h a tasks) (sym is) v }
@@ -262,12 +263,12 @@ one_history serial id ds es s w = record {
   emits = w.follows.emits_are;
 }
 
-pub rounds_are_one_history : (sensors : List ℕ → Type 0) (moments : ℕ → Type 0) (went : Emission → Bool → Type 0) (limit : ℕ) (begin : Begin) (before after : Option (List Receive)) (replies : Replies)
+pub rounds_are_one_history : (sensors : List ℕ → Type 0) (moments : ℕ → Type 0) (went : Emission → Bool → CallLog → CallLog → Type 0) (limit : ℕ) (begin : Begin) (before after : Option (List Receive)) (replies : Replies)
     (w : HasServed sensors moments went limit begin before after replies)
     → IsOneHistory begin.serial begin.id (received_in w.run.rounds) (map (λ s. s.emission) (sendings_in w.run.rounds)) w.last.engine
 rounds_are_one_history sensors moments went limit begin before after replies w =
     one_history begin.serial begin.id (received_in w.run.rounds) (map (λ s. s.emission) (sendings_in w.run.rounds)) w.last.engine
-    (rounds_go_on sensors moments went w.run.rounds w.first w.last (Begins begin.serial begin.id) [] w.run.has.are_rounds w.begins)
+    (rounds_go_on sensors moments w.run.rounds w.first w.last (Begins begin.serial begin.id) [] w.run.has.are_rounds w.begins)
 
 -- ---- lines
 

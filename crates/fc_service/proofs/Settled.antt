@@ -13,8 +13,9 @@ use Rattle.fc_service.specs.Playing.{output_of}
 use Rattle.fc_service.specs.Intakes.{IntakeCalls}
 use Rattle.fc_service.specs.Settling.{AreSettled, AreStepsBy, AreStepsTo, IsStepBy, Moves, SettlingStep, sent_in_step, sent_in_steps}
 use Rattle.fc_service.specs.Traffic.{Sends}
-use Rattle.fc_service.specs.declared.replies.Replies.{Replies}
+use Rattle.fc_service.specs.declared.replies.Outbox.{Outbox}
 use Rattle.fc_service.specs.declared.settle.Settling.{Settling}
+use Rattle.fc_workers.specs.declared.call_log.CallLog.{CallLog}
 
 -- what is printed of what one step sent
 pub printed_of : (out : Option Emission) → flat_map printed (option_to_list out) ≡ output_of out
@@ -47,11 +48,11 @@ module _ {S : Type 0} (calls : IntakeCalls S) where
   done_at_bound P taken now old new place w many = (w.0, w.1.taken, settled_at_bound calls now old new place w.0 w.1 (omega (arith, w.2, many)), w.3)
 
   -- what they sent was handed to a sink
-  pub none_settled : (Went : Emission → Bool → Type 0) (now : ℕ) (old new : S) (place : Settling) (r : Replies)
+  pub none_settled : (Went : Emission → Bool → CallLog → CallLog → Type 0) (now : ℕ) (old new : S) (place : Settling) (r : Outbox)
       → ((steps : List SettlingStep) × AreStepsTo calls now steps old new place × (sent_in_steps steps ≡ [])) → Steps (λ es. Sends Went es r r) 0 now old new place
   none_settled Went now old new place r w = (w.0, w.1, omega arith, subst (λ (es : List Emission). Sends Went es r r) (sym w.2) (none_sent Went r))
 
-  pub one_settled : (Went : Emission → Bool → Type 0) (taken now : ℕ) (old mid new : S) (from to : Settling) (a b c : Replies) (out : Option Emission) → Steps (λ es. Sends Went es a b) taken now old mid from
+  pub one_settled : (Went : Emission → Bool → CallLog → CallLog → Type 0) (taken now : ℕ) (old mid new : S) (from to : Settling) (a b c : Outbox) (out : Option Emission) → Steps (λ es. Sends Went es a b) taken now old mid from
       → ((step : SettlingStep) × IsStepBy calls now step mid new × (sent_in_step step ≡ out) × Moves from step to)
       → Sends Went (option_to_list out) b c → Steps (λ es. Sends Went es a c) (taken + 1) now old new to
   one_settled Went taken now old mid new from to a b c out w x sends =

@@ -2,14 +2,15 @@
 use Rattle.std.proofs.Common.{◌≡◌, ℕ, ◌+◌, Bool, true, false, not, List, [], ◌∷◌, ◌++◌, append-nil, append_assoc, add_assoc, add-zero, Option, Some, None, arith, refl, ap, sym, subst, ◌∙◌}
 use Rattle.std.specs.Prelude.{IfSome, cond, count_by}
 use Rattle.std.proofs.lemmas.List.{map-append}
-use Rattle.std.proofs.lemmas.List.Elements.{All-append, All-cons, All-nil}
 use Rattle.std.proofs.lemmas.List.Sums.{sum_by-append, sum_by-cons}
 use Rattle.coap_msg.specs.declared.types.Emission.{Emission}
 use Rattle.fc_workers.specs.Answers.{saturated}
 use Rattle.fc_host.specs.Sockets.{Comes, Receive}
 use Rattle.fc_service.specs.Counting.{counted}
-use Rattle.fc_service.specs.Traffic.{Sending, Sends, counted_each, replies_to}
+use Rattle.fc_service.specs.Traffic.{AreHanded, Sending, Sends, counted_each, replies_to}
+use Rattle.fc_service.specs.declared.replies.Outbox.{Outbox}
 use Rattle.fc_service.specs.declared.replies.Replies.{Replies}
+use Rattle.fc_workers.specs.declared.call_log.CallLog.{CallLog}
 
 -- ---- what came
 
@@ -29,20 +30,23 @@ pub each_counted : (xs ys : List Sending) (r : Replies) → counted_each (xs ++ 
 each_counted [] ys r = refl
 each_counted (x ∷ xs) ys r = each_counted xs ys (counted (Some x.out) r)
 
-module _ (Went : Emission → Bool → Type 0) where
-  pub none_sent : (r : Replies) → Sends Went [] r r
-  none_sent r = ([], (All-nil (λ s. Went s.emission s.out), refl), refl)
+module _ (Went : Emission → Bool → CallLog → CallLog → Type 0) where
+  pub more_handed : (xs ys : List Sending) (a b c : CallLog) → AreHanded Went xs a b → AreHanded Went ys b c → AreHanded Went (xs ++ ys) a c
+  more_handed [] ys a b c v w = subst (λ (l : CallLog). AreHanded Went ys l c) v w
+  more_handed (x ∷ xs) ys a b c v w = (v.0, v.1, more_handed xs ys v.0 b c v.2 w)
 
-  pub one_sent : (e : Emission) (out : Bool) (a b : Replies) → Went e out → b ≡ counted (Some out) a → Sends Went (e ∷ []) a b
-  one_sent e out a b went is =
-      let s : Sending = record { emission = e; out = out } in
-      (s ∷ [], (All-cons (λ s. Went s.emission s.out) s [] went (All-nil (λ s. Went s.emission s.out)), refl), is)
+  pub none_sent : (o : Outbox) → Sends Went [] o o
+  none_sent o = ([], refl, refl, refl)
 
-  pub more_sent : (a b c : Replies) (xs ys : List Emission) → Sends Went xs a b → Sends Went ys b c → Sends Went (xs ++ ys) a c
+  pub one_sent : (e : Emission) (out : Bool) (a b : Outbox) → Went e out a.log b.log → b.replies ≡ counted (Some out) a.replies → Sends Went (e ∷ []) a b
+  one_sent e out a b went is = (record { emission = e; out = out } ∷ [], (b.log, went, refl), refl, is)
+
+  pub more_sent : (a b c : Outbox) (xs ys : List Emission) → Sends Went xs a b → Sends Went ys b c → Sends Went (xs ++ ys) a c
   more_sent a b c xs ys v w = (
     v.0 ++ w.0,
-    (All-append (λ s. Went s.emission s.out) v.0 w.0 v.1.0 w.1.0, map-append (λ (s : Sending). s.emission) v.0 w.0 ∙ λ i. v.1.1 i ++ w.1.1 i),
-    w.2 ∙ (ap (counted_each w.0) v.2 ∙ sym (each_counted v.0 w.0 a)),
+    more_handed v.0 w.0 a.log b.log c.log v.1 w.1,
+    map-append (λ (s : Sending). s.emission) v.0 w.0 ∙ (λ i. v.2 i ++ w.2 i),
+    w.3 ∙ (ap (counted_each w.0) v.3 ∙ sym (each_counted v.0 w.0 a.replies)),
   )
 
 -- ---- how many went out

@@ -58,8 +58,8 @@ pub fn waits_end_in_time()
 {}
 
 /// What a server on one thread does in all of its rounds is one history of events, from the serial and the message id that it begins with on, in which each event
-/// emitted what it may: just the datagrams that were received are delivered, in order, and what its events emitted, in that order, is what the rounds handed to the sink. That
-/// the sink was handed nothing besides isn't said.
+/// emitted what it may: just the datagrams that were received are delivered, in order, and what its events emitted, in that order, is what the rounds handed to the sink, once
+/// each, and nothing besides with the log of these calls (`HasServed`).
 pub fn served_rounds_are_one_history<Z: Sensors, M: Moments, K: Sink>()
     ensures { (limit : ℕ) (begin : Begin) (before after : Option (List Receive)) (replies : Replies)
         (w : HasServed Z.are_sensed M.is_moment K.went limit begin before after replies)

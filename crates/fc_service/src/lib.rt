@@ -27,10 +27,10 @@
 //!   (`run_rounds`, by `HasRun`). Its rounds follow one another on one server. In each, at a moment that was asked for, what was received
 //!   is heard, once, whole and from its endpoint, or time passes where nothing came; then the shards are asked one after the other, 0 to 7,
 //!   each until it has told that nothing is late, and then until it has told that nobody is due; the last is shard 7, or one that has told
-//!   that no message id is free, or 8,192 steps were taken. Each emission of this, the reply first, was handed to the sink, and is counted
-//!   once, as the sink told. The rounds' receives, in order, how long each waited and what it received, are the source's, where these are
-//!   known: of a socket of the system they aren't. That each is handed over anew, where the same was before, that nothing else goes to the sink, and in which order, no
-//!   clause says (`Source::came`, `Sink::went`).
+//!   that no message id is free, or 8,192 steps were taken. Just what this emits, the reply first, is handed to the sink, once each, in that
+//!   order, and is counted once, as the sink told: the log of these calls has no other. That the sink is handed no other log by who receives
+//!   is read (`Outbox::new` alone makes one). The rounds' receives, in order, how long each waited and what it received, are the source's,
+//!   where these are known: of a socket of the system they aren't (`Source::came`, `Sink::went`).
 //! - **It sleeps no longer than it may**: the first receive is to wait 100 ms, and each other one 100 ms, or up to a moment before which no shard has told that
 //!   something may be late or somebody due, or, where each told of no moment, without end (`run_rounds`, by `WaitsAfter`). Of a server with workers it is tested
 //!   that no job is at work when it asks.
@@ -48,7 +48,8 @@
 //!   shard gave; nothing else of a round changes what was dispatched (`serve_at`, by `HasServedPooled`; `run_pool` hands on by `IsFed` what
 //!   its feeder did). That front and shards are the pool's, and one for all rounds, no clause says: a `serve_at` that made no pool, and took
 //!   each datagram for a repeat at a front of its own invention, would meet this. That a dispatcher asks the bench that it has is seen of
-//!   one over any bench (`fc_workers`).
+//!   one over any bench (`fc_workers`). What a worker sends is handed to the sink once, by the worker's own log (`Wire::called`); in which
+//!   order several threads hand theirs over, no clause says.
 //! - **A pool** gives at its end eight shards, the serials that each began with, and changes; the serials of each shard have risen by just
 //!   these, which are told up to 2^64 - 1. That its workers worked at these shards is no clause. Its feeder's dispatcher hands jobs over as
 //!   the pool says, where it tells that workers were begun, and none where it tells that they weren't (`Fed::has_workers`); that it tells

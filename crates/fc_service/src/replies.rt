@@ -2,7 +2,7 @@
 ghost use Rattle.std.specs.Prelude.{◌≡◌};
 ghost use Rattle.fc_service.specs.Counting.{both_replies, counted, failed_by, no_replies, replies_of, sent_by};
 
-use fc_workers::Share;
+use fc_workers::{CallLog, Share};
 use std::fmt;
 
 /// How many replies went out, and how many didn't. Each count stops at 2^64 - 1.
@@ -59,6 +59,25 @@ impl Replies {
             Some(true) => self.sent = self.sent.saturating_add(1),
             Some(false) => self.failed = self.failed.saturating_add(1),
             None => {}
+        }
+    }
+}
+
+/// The replies that were handed to a sink, and the log of these calls.
+#[derive(Drop)]
+pub(crate) struct Outbox {
+    pub(crate) replies: Replies,
+    pub(crate) log: CallLog,
+}
+
+impl Outbox {
+    /// Returns what holds no reply yet, and a new log.
+    pub(crate) fn new() -> Outbox
+        ensures { result.replies ≡ no_replies }
+    {
+        Outbox {
+            replies: Replies::none(),
+            log: CallLog::new(),
         }
     }
 }

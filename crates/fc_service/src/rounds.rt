@@ -9,7 +9,7 @@ ghost use Rattle.fc_service.specs.Settling.{AreSettled, AreStepsBy, SettlingStep
 ghost use Rattle.fc_service.specs.Traffic.{Sends};
 
 use crate::pool::Intake;
-use crate::replies::Replies;
+use crate::replies::{Outbox, Replies};
 use crate::settle::{STEPS, Settling};
 use coap_msg::{Emission, Endpoint};
 use fc_core::Heard;
@@ -59,7 +59,7 @@ pub(crate) fn run_rounds<R: Wait, N: Intake, P: Preparation<N>, S: Source, K: Si
 {
     let mut reply = blank_emission();
     let mut buffer = [0; BUFFER];
-    let mut replies = Replies::none();
+    let mut outbox = Outbox::new();
     let mut received = 0u32;
     let mut wait = Some(SHORTEST_WAIT);
     for _ in rt.forever() {
@@ -74,14 +74,14 @@ pub(crate) fn run_rounds<R: Wait, N: Intake, P: Preparation<N>, S: Source, K: Si
             Some((count, from)) => {
                 received = received.saturating_add(1);
                 let bytes = &buffer[..count];
-                hear(intake, now, from, bytes, &mut reply, sink, &mut replies);
+                hear(intake, now, from, bytes, &mut reply, sink, &mut outbox);
             }
             None => intake.tick(now),
         }
-        settle(intake, now, &mut reply, sink, &mut replies);
+        settle(intake, now, &mut reply, sink, &mut outbox);
         wait = next_wait(intake, now, idle);
     }
-    replies
+    outbox.replies
 }
 
 // How long a datagram is waited for after a round at a moment in milliseconds; `None` is without end. After one that received a datagram no shard is asked.
@@ -116,14 +116,14 @@ fn hear<N: Intake, K: Sink>(
     bytes: &[u8],
     reply: &mut Emission,
     sink: &K,
-    replies: &mut Replies,
+    outbox: &mut Outbox,
 )
     ensures { (sent : Option Emission) × IsHeardBy N.calls.hears now (record { from = from; bytes = bytes.now }) intake.old sent intake.new
-        × Sends K.went (option_to_list sent) replies.old replies.new }
+        × Sends K.went (option_to_list sent) outbox.old outbox.new }
 {
     let heard = intake.hear(now, from, bytes, reply);
     if is_reply(heard) {
-        send(reply, sink, replies);
+        send(reply, sink, outbox);
     }
 }
 
@@ -133,10 +133,10 @@ fn settle<N: Intake, K: Sink>(
     now: u64,
     emission: &mut Emission,
     sink: &K,
-    replies: &mut Replies,
+    outbox: &mut Outbox,
 )
     ensures { (steps : List SettlingStep) × AreStepsBy N.calls now steps intake.old intake.new × AreSettled steps
-        × Sends K.went (sent_in_steps steps) replies.old replies.new }
+        × Sends K.went (sent_in_steps steps) outbox.old outbox.new }
 {
     let mut settling = Settling::begin(intake, now);
     'steps: for taken in 0..STEPS {
@@ -144,24 +144,25 @@ fn settle<N: Intake, K: Sink>(
             return;
         }
         let sent = settling.step(intake, now, emission);
-        send_if(sent, emission, sink, replies);
+        send_if(sent, emission, sink, outbox);
     }
 }
 
 // Hands an emission to the sink, where it is to be sent, and counts whether it went out.
-fn send_if<K: Sink>(sent: bool, emission: &Emission, sink: &K, replies: &mut Replies)
-    ensures { Sends K.went (option_to_list (emission_if sent emission.now)) replies.old replies.new }
+fn send_if<K: Sink>(sent: bool, emission: &Emission, sink: &K, outbox: &mut Outbox)
+    ensures { Sends K.went (option_to_list (emission_if sent emission.now)) outbox.old outbox.new }
 {
     if sent {
-        send(emission, sink, replies);
+        send(emission, sink, outbox);
     }
 }
 
 // Hands an emission to the sink, and counts whether it went out.
-fn send<K: Sink>(emission: &Emission, sink: &K, replies: &mut Replies)
-    ensures { Sends K.went (emission.now ∷ []) replies.old replies.new }
+fn send<K: Sink>(emission: &Emission, sink: &K, outbox: &mut Outbox)
+    ensures { Sends K.went (emission.now ∷ []) outbox.old outbox.new }
 {
-    replies.count_if_any(Some(sink.send(emission)));
+    let out = sink.send(emission, &mut outbox.log);
+    outbox.replies.count_if_any(Some(out));
 }
 
 /// Whether what was written is to be sent.

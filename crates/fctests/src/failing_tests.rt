@@ -6,6 +6,7 @@ use coap_msg::{Emission, Endpoint};
 use fc_host::sensors::NoSensors;
 use fc_host::socket::{Buffer, Sink, Source};
 use fc_service::serve::{Extent, serve_at};
+use fc_workers::CallLog;
 use log::sink::Memory;
 use log::{LevelFilter, Logged};
 use std::process::Abort;
@@ -74,7 +75,8 @@ struct Matching {
 }
 
 impl Sink for Matching {
-    fn send(&self, emission: &Emission) -> bool {
+    fn send(&self, emission: &Emission, log: &mut CallLog) -> bool {
+        let _ = log;
         let send = self.sends.fetch_add(1, Ordering::SeqCst);
         let is_right = match ANSWERS.get(send) {
             Some(answer) => emission.bytes.as_slice() == *answer,

@@ -9,6 +9,7 @@ use fc_fetch::{FetchOptions, Shown, fetch};
 use fc_host::sensors::{NoSensors, Sensors};
 use fc_host::socket::{Buffer, Receiving, Sink, Source, open};
 use fc_service::serve::{Extent, Listening, serve, serve_at};
+use fc_workers::CallLog;
 use log::sink::Memory;
 use log::{LevelFilter, Logged};
 use std::alloc::{AllocError, Global};
@@ -314,8 +315,9 @@ struct Lossy {
 }
 
 impl Sink for Lossy {
-    fn send(&self, emission: &Emission) -> bool {
+    fn send(&self, emission: &Emission, log: &mut CallLog) -> bool {
         let _ = emission;
+        let _ = log;
         self.sends.fetch_add(1, Ordering::SeqCst) % 2 == 0
     }
 }

@@ -7,6 +7,7 @@ use coap_msg::{Emission, Endpoint};
 use fc_host::sensors::NoSensors;
 use fc_host::socket::{Buffer, Sink, Source};
 use fc_service::serve::{Extent, serve_at};
+use fc_workers::CallLog;
 use log::sink::Memory;
 use log::{LevelFilter, Logged};
 use std::process::Abort;
@@ -56,8 +57,9 @@ impl Source for Listed {
 struct Everywhere;
 
 impl Sink for Everywhere {
-    fn send(&self, emission: &Emission) -> bool {
+    fn send(&self, emission: &Emission, log: &mut CallLog) -> bool {
         let _ = emission;
+        let _ = log;
         true
     }
 }

@@ -19,5 +19,5 @@ returns-else-is_reply g c =
     let is : is_reply c.hear-heard.result ≡ false = sym c.is_reply.ensures ∙ c.if-is_reply.false in (
       None,
       record { borrow = c.args.bytes; bytes_are = refl; heard = c.hear-heard.result; reply = reply; hears = c.hear-heard.ensures; sent_is = sym (ap (λ (b : Bool). emission_if b reply) is) },
-      none_sent g.K.Sink.went c.args.replies.now,
+      none_sent g.K.Sink.went c.args.outbox.now,
     )

@@ -1,9 +1,17 @@
 use Rattle.std.proofs.Common.{ℕ, [], ◌∷◌, Option, subst, arith, rules, ◌∙◌}
 use Rattle.coap_msg.specs.declared.types.Endpoint.{Endpoint}
 use Rattle.fc_host.specs.Sockets.{Comes, incoming_in}
-use Rattle.fc_service.proofs.Runs.{heard_round, passed_round}
+use Rattle.fc_service.proofs.Runs.{heard_round, no_rounds, passed_round}
 use Rattle.fc_service.proofs.rounds.run_rounds.Goals as goal
 use Rattle.fc_service.proofs.rounds.run_rounds.Goals.{in-Some-came, in-None-came}
+
+pub loop-init : goal.loop-init
+loop-init g c = (
+  tt,
+  tt,
+  no_rounds g.M.Moments.is_moment g.P.Preparation.readies g.N.Intake.calls g.K.Sink.went
+      c.args.limit (g.S.Source.came c.args.source.now) c.args.intake.now c.new-outbox.result c.new-outbox.ensures,
+)
 
 pub loop-preserved : goal.loop-preserved
 loop-preserved g c =
@@ -15,15 +23,15 @@ loop-preserved g c =
       elim c.match-came.branch [
         | in-Some-came w ↦
             heard_round g.M.Moments.is_moment g.P.Preparation.readies g.N.Intake.calls g.K.Sink.went
-            c.args.limit c.loop.received c.match-came.received c.loop.wait c.next_wait-wait.result (g.S.Source.came c.args.source.now) before after c.args.intake.now c.loop.intake c.ready.new.intake w.hear.new.intake c.match-came.intake c.settle.new.intake c.loop.replies w.hear.new.replies c.match-came.replies c.settle.new.replies c.now-now.result _
+            c.args.limit c.loop.received c.match-came.received c.loop.wait c.next_wait-wait.result (g.S.Source.came c.args.source.now) before after c.args.intake.now c.loop.intake c.ready.new.intake w.hear.new.intake c.match-came.intake c.settle.new.intake c.loop.outbox w.hear.new.outbox c.match-came.outbox c.settle.new.outbox c.now-now.result _
             c.loop.invariant.2 c.now-now.ensures
             (subst (λ (o : Option (ℕ × Endpoint)). Comes before after (record { wait = c.loop.wait; came = incoming_in buffer o } ∷ [])) w.in-Some-came.is c.receive-came.ensures.given)
-            c.ready.ensures w.hear.ensures w.intake-is w.replies-is c.settle.ensures (λ some. search (rules, c.else-limit-gt0.either)) (omega (arith, c.ranges.limit.fits)) (w.received-is ∙ search (rules, w.saturating_add-received.ensures)) c.next_wait-wait.ensures
+            c.ready.ensures w.hear.ensures w.intake-is w.outbox-is c.settle.ensures (λ some. search (rules, c.else-limit-gt0.either)) (omega (arith, c.ranges.limit.fits)) (w.received-is ∙ search (rules, w.saturating_add-received.ensures)) c.next_wait-wait.ensures
         | in-None-came w ↦
             passed_round g.M.Moments.is_moment g.P.Preparation.readies g.N.Intake.calls g.K.Sink.went
-            c.args.limit c.loop.received c.match-came.received c.loop.wait c.next_wait-wait.result (g.S.Source.came c.args.source.now) before after c.args.intake.now c.loop.intake c.ready.new.intake w.tick.new.self c.match-came.intake c.settle.new.intake c.loop.replies c.match-came.replies c.settle.new.replies c.now-now.result
+            c.args.limit c.loop.received c.match-came.received c.loop.wait c.next_wait-wait.result (g.S.Source.came c.args.source.now) before after c.args.intake.now c.loop.intake c.ready.new.intake w.tick.new.self c.match-came.intake c.settle.new.intake c.loop.outbox c.match-came.outbox c.settle.new.outbox c.now-now.result
             c.loop.invariant.2 c.now-now.ensures
             (subst (λ (o : Option (ℕ × Endpoint)). Comes before after (record { wait = c.loop.wait; came = incoming_in buffer o } ∷ [])) w.in-None-came.is c.receive-came.ensures.given)
-            c.ready.ensures w.tick.ensures w.intake-is w.replies-is c.settle.ensures w.received-is c.next_wait-wait.ensures
+            c.ready.ensures w.tick.ensures w.intake-is w.outbox-is c.settle.ensures w.received-is c.next_wait-wait.ensures
       ],
     )

@@ -6,4 +6,4 @@ abbrev pub invariant-loop : goal.invariant-loop
 invariant-loop g l =
     (goal.iterator-loop g).can_next l.iterator' × (goal.iterator-loop g).is_finite l.iterator'
     × Runs g.M.Moments.is_moment g.P.Preparation.readies g.N.Intake.calls g.K.Sink.went
-    l.limit l.received l.wait (g.S.Source.came l.fn.source) (g.S.Source.came l.source) l.fn.intake l.intake l.replies
+    l.limit l.received l.wait (g.S.Source.came l.fn.source) (g.S.Source.came l.source) l.fn.intake l.intake l.outbox

@@ -4,4 +4,4 @@ use Rattle.fc_service.proofs.rounds.settle.Given as goal
 
 -- as many steps at least were taken, and what they sent was handed to the sink
 abbrev pub invariant-steps : goal.invariant-steps
-invariant-steps g l = Steps g.N.Intake.calls (λ es. Sends g.K.Sink.went es l.fn.replies l.replies) l.taken l.now l.fn.intake l.intake l.settling
+invariant-steps g l = Steps g.N.Intake.calls (λ es. Sends g.K.Sink.went es l.fn.outbox l.outbox) l.taken l.now l.fn.intake l.intake l.settling
