@@ -41,7 +41,7 @@ use Rattle.fc_core.specs.Steps.{Call, Takes, Commits, Installs, Lists, Matches, 
 use Rattle.fc_workers.specs.declared.share.Share.{Share}
 use Rattle.fc_workers.specs.Answers.{AreTallied, commit_changes, commit_overtakings, ended_by, install_changes, removal_changes, saturated, taking_refusals, IsTakingWith, IsSomeInstall, IsSomeReceipt, IsSomeRemoval, IsSomeTaking}
 use Rattle.fc_workers.specs.declared.call_log.CallLog.{CallLog}
-use Rattle.fc_workers.specs.Called.{BenchCall, InstallsProgram, LooksAt, RaisesWord, RemovesProgram, Shop, TellsReceipt}
+use Rattle.fc_workers.specs.Called.{InstallsProgram, LoggedCall, LooksAt, RaisesWord, RemovesProgram, Shop, TellsReceipt}
 use Rattle.fc_workers.specs.Steps.{AreSeen, AsksRun, Follows, IsReady, IsStep, IsUntaken, ListsOn, Walked, taken_at}
 use Rattle.fc_workers.specs.Work.{AreCalls, IsCallAt, IsCommitted, IsWorkedOff, HasCounted, stage_after, change_by, overtaking_by, refusal_by, takings_made, total}
 
@@ -236,9 +236,10 @@ module _ {T : Type 0} (shop : Shop T) (number : ℕ) (job : Job) where
     };
   })
 
-  -- calls that change nothing and count nothing
-  unchanged : (call : Call) (p : Share T) → change_by call ≡ 0 → refusal_by call ≡ 0 → overtaking_by call ≡ 0 → HasCounted shop job.origin.slot (call ∷ []) p p
-  unchanged call p none no_refusal no_overtaking = record {
+  -- calls that count nothing
+  logged_only : (call : Call) (p : Share T) (log : CallLog) → change_by call ≡ 0 → refusal_by call ≡ 0 → overtaking_by call ≡ 0
+      → HasCounted shop job.origin.slot (call ∷ []) p (record p { log = log })
+  logged_only call p log none no_refusal no_overtaking = record {
     tallies = subst (λ (n : ℕ). AreTallied (shop.changes p.tallies) (shop.changes p.tallies) job.origin.slot (0 + n)) (sym none)
         (same_tallies (shop.changes p.tallies) job.origin.slot);
     refusals = omega (arith, no_refusal);
@@ -255,27 +256,27 @@ module _ {T : Type 0} (shop : Shop T) (number : ℕ) (job : Job) where
     is = (refl, (tells, is, refl));
     next = refl;
     follows = told_follows job x;
-    counted = unchanged (Describes x) p refl refl refl;
+    counted = logged_only (Describes x) p p.log refl refl refl;
   })
 
-  pub match_step : (word : ℕ) (p : Share T) {next : Stage} → shop.bench (LooksAt job.origin.slot word) → next ≡ matched word job.etags.items
-      → IsStep shop number job ToMatch next p p
-  match_step word p looks e = is_step ToMatch e refl (record {
+  pub match_step : (word : ℕ) (p : Share T) (log : CallLog) {next : Stage} → shop.logged (LooksAt job.origin.slot word) p.log log
+      → next ≡ matched word job.etags.items → IsStep shop number job ToMatch next p (record p { log = log })
+  match_step word p log looks e = is_step ToMatch e refl (record {
     call = Matches job.etags.items word;
-    is = (refl, (refl, looks, refl));
+    is = (refl, (refl, looks));
     next = refl;
     follows = matched_follows job (is_match word job.etags.items) word;
-    counted = unchanged (Matches job.etags.items word) p refl refl refl;
+    counted = logged_only (Matches job.etags.items word) p log refl refl refl;
   })
 
-  pub list_step : (seen : ArrayVec ℕ) (word : ℕ) (p : Share T) {next : Stage} → shop.bench (LooksAt (length seen.items) word) → length seen.items < 64
-      → next ≡ listed (seen.items ++ word ∷ []) → IsStep shop number job (ToList seen) next p p
-  list_step seen word p looks lt e = is_step (ToList seen) e refl (record {
+  pub list_step : (seen : ArrayVec ℕ) (word : ℕ) (p : Share T) (log : CallLog) {next : Stage} → shop.logged (LooksAt (length seen.items) word) p.log log
+      → length seen.items < 64 → next ≡ listed (seen.items ++ word ∷ []) → IsStep shop number job (ToList seen) next p (record p { log = log })
+  list_step seen word p log looks lt e = is_step (ToList seen) e refl (record {
     call = Lists seen word;
-    is = (refl, (looks, refl));
+    is = (refl, looks);
     next = refl;
     follows = listed_follows job seen (seen.items ++ word ∷ []) (nat_lt (length (seen.items ++ word ∷ [])) 64) (length-append seen.items (word ∷ [])) lt refl;
-    counted = unchanged (Lists seen word) p refl refl refl;
+    counted = logged_only (Lists seen word) p log refl refl refl;
   })
 
   -- an image that breaks a rule
@@ -442,24 +443,30 @@ arrives shop number job stage content before now e w = record {
 }
 
 -- the words that were seen, and one more
-pub more_seen : (Called : BenchCall → Type 0) (n word : ℕ) (words : List ℕ) → AreSeen Called n words → Called (LooksAt (n + length words) word)
-    → AreSeen Called n (words ++ word ∷ [])
-more_seen Called n word [] seen looks = (subst (λ (k : ℕ). Called (LooksAt k word)) (omega arith) looks, tt)
-more_seen Called n word (w ∷ ws) seen looks = (seen.0, more_seen Called (n + 1) word ws seen.1 (subst (λ (k : ℕ). Called (LooksAt k word)) (omega arith) looks))
+pub more_seen : (Logged : LoggedCall → CallLog → CallLog → Type 0) (n word : ℕ) (words : List ℕ) (before now after : CallLog) → AreSeen Logged n words before now
+    → Logged (LooksAt (n + length words) word) now after → AreSeen Logged n (words ++ word ∷ []) before after
+more_seen Logged n word [] before now after seen looks =
+    (after, subst (λ (l : CallLog). Logged (LooksAt n word) l after) seen (subst (λ (k : ℕ). Logged (LooksAt k word) now after) (omega arith) looks), refl)
+more_seen Logged n word (w ∷ ws) before now after seen looks = (
+  seen.0,
+  seen.1,
+  more_seen Logged (n + 1) word ws seen.0 now after seen.2 (subst (λ (k : ℕ). Logged (LooksAt k word) now after) (omega arith) looks),
+)
 
 module _ {T : Type 0} (shop : Shop T) (number : ℕ) (job : Job) where
   -- a look at each head word that is left
-  walks_list : (seen : ArrayVec ℕ) (more : List ℕ) {stage : Stage} {before now : Share T} → stage ≡ ToList seen → AreSeen shop.bench (length seen.items) more
-      → 0 < length more → length (seen.items ++ more) ≡ 64 → Walked shop number job stage before now
-      → Walked shop number job (ToAnswer (Listed (seen.items ++ more))) before now
-  walks_list seen [] at looks some all w = absurd (omega (arith, some))
-  walks_list seen (word ∷ []) {stage} {before} {now} at looks some all w =
+  walks_list : (seen : ArrayVec ℕ) (more : List ℕ) (log : CallLog) {stage : Stage} {before now : Share T} → stage ≡ ToList seen
+      → AreSeen shop.logged (length seen.items) more now.log log → 0 < length more → length (seen.items ++ more) ≡ 64 → Walked shop number job stage before now
+      → Walked shop number job (ToAnswer (Listed (seen.items ++ more))) before (record now { log = log })
+  walks_list seen [] log at looks some all w = absurd (omega (arith, some))
+  walks_list seen (word ∷ []) log {stage} {before} {now} at looks some all w =
       let lt : length seen.items < 64 = subst (λ (x : Stage). IsReady job x) at w.ready in
       let words = seen.items ++ word ∷ [] in
       let last : nat_lt (length words) 64 ≡ false = le-ltb (length words) 64 (omega (arith, all)) in
       let next = sym (ap (λ (b : Bool). if b then ToList (record { items = words }) else ToAnswer (Listed words)) last) in
-      walks_on shop number job at w (list_step shop number job seen word now looks.0 lt next)
-  walks_list seen (word ∷ next ∷ more) {stage} {before} {now} at looks some all w =
+      let looked = subst (λ (l : CallLog). shop.logged (LooksAt (length seen.items) word) now.log l) (sym looks.2) looks.1 in
+      walks_on shop number job at w (list_step shop number job seen word now log looked lt next)
+  walks_list seen (word ∷ next ∷ more) log {stage} {before} {now} at looks some all w =
       let lt : length seen.items < 64 = subst (λ (x : Stage). IsReady job x) at w.ready in
       let words = seen.items ++ word ∷ [] in
       let on : ArrayVec ℕ = record { items = words } in
@@ -467,13 +474,16 @@ module _ {T : Type 0} (shop : Shop T) (number : ℕ) (job : Job) where
       let full : length (words ++ next ∷ more) ≡ 64 = ap length same ∙ all in
       let long = length-append words (next ∷ more) in
       let one : length words ≡ length seen.items + 1 = length-append seen.items (word ∷ []) in
-      let left = subst (λ (k : ℕ). AreSeen shop.bench k (next ∷ more)) (sym one) looks.1 in
+      let left = subst (λ (k : ℕ). AreSeen shop.logged k (next ∷ more) looks.0 log) (sym one) looks.2 in
       let yet : nat_lt (length words) 64 ≡ true = lt-ltb (length words) 64 (omega (arith, full, long)) in
       let goes_on = sym (ap (λ (b : Bool). if b then ToList on else ToAnswer (Listed words)) yet) in
-      let step = walks_on shop number job at w (list_step shop number job seen word now {next = ToList on} looks.0 lt goes_on) in
-      subst (λ (ws : List ℕ). Walked shop number job (ToAnswer (Listed ws)) before now) same (walks_list on (next ∷ more) refl left (omega arith) full step)
+      let step = walks_on shop number job at w (list_step shop number job seen word now looks.0 {next = ToList on} looks.1 lt goes_on) in
+      subst (λ (ws : List ℕ). Walked shop number job (ToAnswer (Listed ws)) before (record now { log = log })) same
+      (walks_list on (next ∷ more) log refl left (omega arith) full step)
 
-  pub lists_on : (seen : ArrayVec ℕ) (words : List ℕ) {stage : Stage} {before now : Share T} → stage ≡ ToList seen → ListsOn shop.bench seen.items words
-      → Walked shop number job stage before now → Walked shop number job (ToAnswer (Listed words)) before now
-  lists_on seen words {stage} {before} {now} at lists w = subst (λ (ws : List ℕ). Walked shop number job (ToAnswer (Listed ws)) before now) (sym lists.are)
-      (walks_list seen lists.more at lists.looks lists.some (sym (ap length lists.are) ∙ lists.all) w)
+  pub lists_on : (seen : ArrayVec ℕ) (words : List ℕ) (log : CallLog) {stage : Stage} {before now : Share T} → stage ≡ ToList seen
+      → ListsOn shop.logged seen.items words now.log log → Walked shop number job stage before now
+      → Walked shop number job (ToAnswer (Listed words)) before (record now { log = log })
+  lists_on seen words log {stage} {before} {now} at lists w =
+      subst (λ (ws : List ℕ). Walked shop number job (ToAnswer (Listed ws)) before (record now { log = log })) (sym lists.are)
+      (walks_list seen lists.more log at lists.looks lists.some (sym (ap length lists.are) ∙ lists.all) w)

@@ -3,9 +3,9 @@
 use Rattle.std.specs.Prelude.{◌≡◌, ℕ, ◌%◌, ◌<◌, true, false, List}
 use Rattle.fc_core.specs.Exchanges.{FrontState}
 use Rattle.fc_registry.specs.Slots.{Shard}
-use Rattle.fc_workers.specs.Called.{BenchCall, LooksAt, TellsReceipt, LeavesUnquiet, LooksAhead}
+use Rattle.fc_workers.specs.Called.{BenchCall, TellsReceipt, LeavesUnquiet, LooksAhead}
 use Rattle.fc_workers.specs.Called.{LoggedCall, HearsDatagram, DrawsId, AnswersRequest, TakesForJob, CommitsRun, InstallsProgram, RemovesProgram}
-use Rattle.fc_workers.specs.Called.{GivesReadings, AdvancesFront, HandsSignal, AdvancesQuiet, AdvancesShard, GivesTurn, NotesTurn, GivesUpTurn, RaisesWord}
+use Rattle.fc_workers.specs.Called.{GivesReadings, LooksAt, AdvancesFront, HandsSignal, AdvancesQuiet, AdvancesShard, GivesTurn, NotesTurn, GivesUpTurn, RaisesWord}
 use Rattle.fc_workers.specs.Doings.{AdvancesTo, AnswersAt, CommitsAt, DescribesTo, DrawsAt, GivesTurnAt, GivesUpAt, HandsOn, HearsAt, InstallsTo, NotesAt, PassesIfQuiet, RemovesFrom, TakesTo, TellsQuietUntil, TicksAt}
 
 -- a call that does this to a shard was asked of the shard of an index, 0 to 7
@@ -21,16 +21,17 @@ pub record IsFrontAsked (Does : FrontState → FrontState → Type 0) : Type 0 w
   pub after : FrontState
   pub does : Does before after
 
--- what a call of a server says: the shard of that index was asked, or of that slot. A look at a head word takes no lock: what it finds is said of the worker's seat
+-- what a call of a server says: the shard of that index was asked, or of that slot
 abbrev pub IsServerCall : BenchCall → Type 0
-IsServerCall (LooksAt slot word) = Unit {0}
 IsServerCall (TellsReceipt job receipt) = IsAsked (job.origin.slot % 8) (λ before after. DescribesTo job before receipt after)
 IsServerCall (LeavesUnquiet shard now) = IsAsked shard (λ before after. PassesIfQuiet now before false after)
 IsServerCall (LooksAhead shard until) = IsAsked shard (λ before after. TellsQuietUntil before until after)
 
--- and of each that a worker's log has: its readings are of the device, and the front was asked, or a shard. What a raise does is said of the worker's seat
+-- and of each that a worker's log has: its readings are of the device, and the front was asked, or a shard. A look at a head word and a raise take no lock: what they
+-- find and do is said of the worker's seat
 abbrev pub IsLoggedCall : (List ℕ → Type 0) → LoggedCall → Type 0
 IsLoggedCall AreReadings (GivesReadings readings) = AreReadings readings
+IsLoggedCall AreReadings (LooksAt slot word) = Unit {0}
 IsLoggedCall AreReadings (HearsDatagram now from bytes brings) = IsFrontAsked (HearsAt now from bytes brings)
 IsLoggedCall AreReadings (AdvancesFront now) = IsFrontAsked (AdvancesTo now)
 IsLoggedCall AreReadings (DrawsId now id) = IsFrontAsked (DrawsAt now id)

@@ -21,8 +21,6 @@ use Rattle.fc_workers.specs.declared.call_log.CallLog.{CallLog}
 
 -- a call of a bench that changes nothing, and is in no log: that it was made is known, and not how often or when
 pub data BenchCall : Type 0 where
-  -- a look at the head word of a slot
-  LooksAt : (slot word : ℕ) → BenchCall
   -- what the program in the slot of a job is
   TellsReceipt : (job : Job) (receipt : Option Receipt) → BenchCall
   -- a shard that isn't quiet at a moment is left as it is
@@ -42,6 +40,8 @@ pub data LoggedCall : Type 0 where
   AnswersRequest : (now : ℕ) (job : Job) (content : Content) (sent : Option Emission) → LoggedCall
   -- the readings of the device
   GivesReadings : (readings : List ℕ) → LoggedCall
+  -- a look at the head word of a slot
+  LooksAt : (slot word : ℕ) → LoggedCall
   -- a job takes what it finds in its slot, with these readings
   TakesForJob : (job : Job) (readings : List ℕ) (taken : Taken) → LoggedCall
   -- a run is committed at a moment, by its ticket

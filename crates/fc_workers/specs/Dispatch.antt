@@ -10,14 +10,14 @@ use Rattle.fc_jobs.specs.Ends.{with_sent}
 use Rattle.fc_registry.specs.declared.job.Job.{Job}
 use Rattle.fc_registry.specs.declared.receipt.Receipt.{Receipt}
 use Rattle.fc_core.specs.Stage.{Stage}
-use Rattle.fc_core.specs.Stage.{ToCommit, ToTake}
+use Rattle.fc_core.specs.Stage.{ToCommit}
 use Rattle.fc_workers.specs.declared.dispatcher.Dispatched.{Dispatched}
 use Rattle.fc_workers.specs.declared.dispatcher.Handover.{Handover}
 use Rattle.fc_workers.specs.declared.dispatcher.Handover.TheVariants.{Every, Dear, Never}
 use Rattle.fc_workers.specs.declared.call_log.CallLog.{CallLog}
 use Rattle.fc_workers.specs.Answers.{IsSomeDelivery, IsSomeTurn, saturated}
 use Rattle.fc_workers.specs.Called.{GivesTurn, HandsSignal, HearsDatagram, Shop, TellsReceipt}
-use Rattle.fc_workers.specs.Steps.{AsksRun, IsStep}
+use Rattle.fc_workers.specs.Steps.{AsksRun, HasTaken}
 use Rattle.fc_workers.specs.Work.{IsReplied}
 use Rattle.fc_workers.specs.declared.share.Share.{Share}
 
@@ -46,12 +46,12 @@ module _ {T : Type 0} (s : Shop T) where
     pub told : s.bench (TellsReceipt job (Some receipt))
     pub cost : least ≤ receipt.cost
 
-  -- a request's job of a run took here once, and what it found costs so many instructions or more. The log has no other call
+  -- a request's job of a run was looked up here, or wasn't, and took once, and what it found costs so many instructions or more. The log has no other call
   pub record IsFoundDear (least : ℕ) (job : Job) (before after : Share T) : Type 0 where
     pub asks : AsksRun job.ask
     pub request : job.turn ≡ None
     pub stage : Stage
-    pub took : IsStep s unsent job (ToTake 0) stage before after
+    pub took : HasTaken s unsent job stage before after
     pub dear : IsDearAt least stage
     pub ended : s.ended after.tallies ≡ s.ended before.tallies
 

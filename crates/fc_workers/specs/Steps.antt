@@ -1,5 +1,5 @@
 -- One step of a job's work, as the worker's loop keeps it.
-use Rattle.std.specs.Prelude.{◌≡◌, ℕ, ◌+◌, ◌*◌, ◌-◌, ◌<◌, ◌≤◌, List, [], ◌∷◌, ◌++◌, length}
+use Rattle.std.specs.Prelude.{◌≡◌, ◌⊎◌, ℕ, ◌+◌, ◌*◌, ◌-◌, ◌<◌, ◌≤◌, List, [], ◌∷◌, ◌++◌, length}
 use Rattle.fc_registry.specs.declared.job.Ask.{Ask}
 use Rattle.fc_registry.specs.declared.job.Ask.TheVariants.{Run}
 use Rattle.fc_registry.specs.declared.job.Job.{Job}
@@ -9,7 +9,8 @@ use Rattle.fc_core.specs.Contents.{IsOf}
 use Rattle.fc_core.specs.Stages.{takings}
 use Rattle.fc_core.specs.Steps.{Call, next_stage}
 use Rattle.fc_workers.specs.declared.share.Share.{Share}
-use Rattle.fc_workers.specs.Called.{BenchCall, LooksAt, Shop}
+use Rattle.fc_workers.specs.declared.call_log.CallLog.{CallLog}
+use Rattle.fc_workers.specs.Called.{LoggedCall, LooksAt, Shop}
 use Rattle.fc_workers.specs.Work.{AreCalls, HasCounted, IsCallAt, stage_after, takings_made, total}
 
 -- it asks for a run
@@ -95,15 +96,25 @@ IsUntaken job (ToTake n) = (n ≡ 0) × AsksRun job.ask
 IsUntaken job (ToCommit n t) = ⊥
 IsUntaken job other = Unit {0}
 
--- each of these words was seen at the head word of its slot, from slot n on
-abbrev pub AreSeen : (BenchCall → Type 0) → ℕ → List ℕ → Type 0
-AreSeen Called n [] = Unit {0}
-AreSeen Called n (word ∷ words) = Called (LooksAt n word) × AreSeen Called (n + 1) words
+-- each of these words was seen at the head word of its slot, from slot n on, one after the other, and the log has no other call
+abbrev pub AreSeen : (LoggedCall → CallLog → CallLog → Type 0) → ℕ → List ℕ → CallLog → CallLog → Type 0
+AreSeen Logged n [] before after = after ≡ before
+AreSeen Logged n (word ∷ words) before after = (next : CallLog) × Logged (LooksAt n word) before next × AreSeen Logged (n + 1) words next after
 
 -- head words of all slots, of which these were seen before, but not all
-pub record ListsOn (Called : BenchCall → Type 0) (seen words : List ℕ) : Type 0 where
+pub record ListsOn (Logged : LoggedCall → CallLog → CallLog → Type 0) (seen words : List ℕ) (before after : CallLog) : Type 0 where
   pub more : List ℕ
-  pub looks : AreSeen Called (length seen) more
+  pub looks : AreSeen Logged (length seen) more before after
   pub some : 0 < length more
   pub are : words ≡ seen ++ more
   pub all : length words ≡ 64
+
+-- the head word of the slot of a job was looked at, once, or it wasn't. The log has no other call
+abbrev pub IsLookedUp : (LoggedCall → CallLog → CallLog → Type 0) → Job → CallLog → CallLog → Type 0
+IsLookedUp Logged job before after = (after ≡ before) ⊎ ((word : ℕ) × Logged (LooksAt job.origin.slot word) before after)
+
+-- it was looked up, or it wasn't, and then took, once, and stands here
+pub record HasTaken {T : Type 0} (s : Shop T) (number : ℕ) (job : Job) (stage : Stage) (before after : Share T) : Type 0 where
+  pub log : CallLog
+  pub looks : IsLookedUp s.logged job before.log log
+  pub took : IsStep s number job (ToTake 0) stage (record before { log = log }) after

@@ -74,8 +74,8 @@ module _ {T : Type 0} (s : Shop T) where
   -- in a list; its slot's word is raised to the word that the stage told; and what else is answered is true of some slot. An answer, a loss and
   -- the calls of a turn are in no request's list
   abbrev pub IsCallOf : ℕ → Job → Call → CallLog → CallLog → Type 0
-  IsCallOf number job (Matches serials word) before after = (serials ≡ job.etags.items) × s.bench (LooksAt job.origin.slot word) × (after ≡ before)
-  IsCallOf number job (Lists seen word) before after = s.bench (LooksAt (length seen.items) word) × (after ≡ before)
+  IsCallOf number job (Matches serials word) before after = (serials ≡ job.etags.items) × s.logged (LooksAt job.origin.slot word) before after
+  IsCallOf number job (Lists seen word) before after = s.logged (LooksAt (length seen.items) word) before after
   IsCallOf number job (Takes count taken) before after = IsTakingWith s.logged job taken before after
   IsCallOf number job (Commits count t committed) before after = IsCommitted number t committed before after
   IsCallOf number job (Installs p answer) before after =

@@ -7,8 +7,8 @@ ghost use Rattle.fc_registry.specs.Notes.{noted_as};
 ghost use Rattle.fc_registry.specs.Turns.{written_if};
 ghost use Rattle.fc_registry.specs.Views.{HasSize, taken_with};
 ghost use Rattle.fc_heads.specs.Heads.{IsRaised, fresh, peeked, word_of};
-ghost use Rattle.fc_workers.specs.Called.{BenchCall, LeavesUnquiet, LooksAhead, LooksAt, TellsReceipt};
-ghost use Rattle.fc_workers.specs.Called.{AdvancesFront, AdvancesQuiet, GivesReadings, HandsSignal};
+ghost use Rattle.fc_workers.specs.Called.{BenchCall, LeavesUnquiet, LooksAhead, TellsReceipt};
+ghost use Rattle.fc_workers.specs.Called.{AdvancesFront, AdvancesQuiet, GivesReadings, HandsSignal, LooksAt};
 ghost use Rattle.fc_workers.specs.Called.{AdvancesShard, AnswersRequest, CommitsRun, DrawsId, GivesTurn, GivesUpTurn, HearsDatagram};
 ghost use Rattle.fc_workers.specs.Called.{InstallsProgram};
 ghost use Rattle.fc_workers.specs.Called.{LoggedCall, NotesTurn, RaisesWord, RemovesProgram, TakesForJob};
@@ -36,7 +36,7 @@ use std::sync::{Arc, Wait};
 /// next's: what others change in between is not said here. What a call does is said by who implements this.
 ///
 /// Each worker hands in tallies of its own. They count the changes of each shard that its calls answered, and the jobs
-/// that it ended. It hands in its log with each call that may change something, and for readings, which are soon out of date: so a clause says which of
+/// that it ended. It hands in its log with each call that may change something, or whose answer is soon out of date: so a clause says which of
 /// these it made, and in which order.
 pub trait Bench {
     /// What one worker changed, and how many jobs it ended.
@@ -237,11 +237,11 @@ pub trait Bench {
         ensures { result ≡ record { table = heads self.now; view = fresh } };
 
     /// Looks at the head word of a slot, as [`Heads::peek`](fc_heads::Heads::peek) does: it is no less than what the seat has seen of it. No lock is taken.
-    fn peek(&self, slot: SlotNumber, seat: &mut HeadSeat) -> u64
+    fn peek(&self, slot: SlotNumber, seat: &mut HeadSeat, log: &mut CallLog) -> u64
         requires { seat.old.table ≡ heads self.now }
         ensures rises { word_of seat.old.view.seen slot ≤ result }
         ensures seen { seat.new ≡ record seat.old { view = peeked seat.old.view slot result } }
-        ensures called { called (LooksAt slot result) };
+        ensures logged { logged (LooksAt slot result) log.old log.new };
 
     /// Raises the head word of the slot of a job, as [`Heads::raise`](fc_heads::Heads::raise) does: it is then no less than the word handed in. No lock is taken.
     fn raise(&self, job: &Job, word: u64, seat: &mut HeadSeat, log: &mut CallLog)

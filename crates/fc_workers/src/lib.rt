@@ -6,8 +6,8 @@
 //! [`Bench`] says of each call what the shard answers at some slot, and the next stage is told by that answer alone
 //! (`fc_core`'s `Stage`). `specs/Work.antt` says which calls a job's answer ends, and `specs/Shares.antt` what a worker's
 //! [`Share`] says of its jobs: it has worked off and ended just those that its `Got` gained, and its tallies have risen by
-//! the changes that their calls answered. Each call that may change something is handed the worker's [`CallLog`], and so is that for
-//! readings, which are soon out of date: so it is said that these were made in this order, and no others with this log.
+//! the changes that their calls answered. Each call that may change something, or whose answer is soon out of date, is handed the
+//! worker's [`CallLog`]: so it is said that these were made in this order, and no others with this log.
 //!
 //! What a call is answered by isn't said: that a bench takes from the job's own slot is its implementation's. Nor is it said that
 //! a call returns, or when.
@@ -43,8 +43,8 @@
 //!
 //! - **A worker's calls**: each of those that its log has leads the log on from where the one before it left it. So none was made twice,
 //!   out of order, or besides, with this log. That a worker hands its calls no other log is read: one is made in `Share::new` alone. What
-//!   isn't in the log changes nothing: looks at head words, receipts, moments and random words, until when a shard is quiet, and that it is
-//!   not quiet now. Of these an earlier call that was answered the same does for a later one; but a receipt is told of one job.
+//!   isn't in the log changes nothing: receipts, moments and random words, until when a shard is quiet, and that it is not quiet now. Of
+//!   these an earlier call that was answered the same does for a later one; but a receipt is told of one job.
 //! - **A request's job** comes to what it is to be answered by a list of calls from its first stage: each is the call that its stage needs,
 //!   answered as the shard does at some slot, and eight take at most. A look is at the head word of the job's slot, or, for a list, of each
 //!   slot in order, and the word of the job's slot is raised to the one that its change told.
@@ -64,8 +64,9 @@
 //!   where its handover lets it go, or works it off and ends it, and does
 //!   neither where there is none. It hands a signal to each of eight shards, once, as it was heard, asks the shard that it is told to, once, and
 //!   advances the front to the moment that it is handed, once. Its calls are in its share's log, as a worker's are. A dear job is a run: a
-//!   request's, which took here once and found a program of such a cost, and of which the log has no other call; or one of whose slot a receipt
-//!   was told, of such a cost. A request that took here and stays is worked off from there, by eight takings at most in all.
+//!   request's, which was looked up here or not, took once and found a program of such a cost, and of which the log has no other call; or
+//!   one of whose slot a receipt was told, of such a cost. A request that took here and stays is worked off from there, by eight takings at
+//!   most in all.
 //! - **A server behind nine locks** answers a taking, an install, a removal and a receipt as a shard of the index of the job's slot does in
 //!   some state, and a notification as one of that of the turn's does: of the turn, the message id, the moment and what is told that it is
 //!   handed. It answers a delivery, a draw of a message id, a turn, a tick, a notification and a job at the moment that it is handed or a

@@ -457,7 +457,8 @@ impl<'a, B: Books, D: Device> Bench for Locked<'a, B, D> {
         self.heads.new_seat()
     }
 
-    fn peek(&self, slot: SlotNumber, seat: &mut HeadSeat) -> u64 {
+    fn peek(&self, slot: SlotNumber, seat: &mut HeadSeat, log: &mut CallLog) -> u64 {
+        let _ = log;
         self.heads.peek(slot.number(), seat)
     }
 

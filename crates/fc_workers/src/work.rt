@@ -3,13 +3,14 @@ ghost use Rattle.std.specs.Prelude.{◌≡◌, ◌<◌, ℕ, None, length};
 ghost use Rattle.fc_verify.specs.Judged.{judged};
 ghost use Rattle.fc_verify.specs.Accepted.{Accepts, IsAccepted};
 ghost use Rattle.fc_core.specs.Stages.{image_of};
-ghost use Rattle.fc_core.specs.Stage.{ToInstall, ToRemove, ToTake};
+ghost use Rattle.fc_core.specs.Stage.{ToInstall, ToRemove};
 ghost use Rattle.fc_workers.specs.Called.{shop};
 ghost use Rattle.fc_workers.specs.Work.{IsWorkedTo};
-ghost use Rattle.fc_workers.specs.Steps.{AsksRun, IsReady, IsStep, IsToAnswer, IsToCommit, IsToTake, IsUntaken, ListsOn, Walked};
+ghost use Rattle.fc_workers.specs.Steps.{AsksRun, HasTaken, IsLookedUp, IsReady, IsStep, IsToAnswer, IsToCommit, IsToTake, IsUntaken, ListsOn, Walked};
 ghost use Rattle.fc_workers.specs.declared.share.Share.{Share as Done};
 
 use crate::bench::Bench;
+use crate::call_log::CallLog;
 use crate::share::Share;
 use crate::tools::Tools;
 use crate::workshop::{Gate, Moments, Wire, Workshop};
@@ -76,7 +77,8 @@ impl<'a, B: Bench, G: Gate, W: Wire, M: Moments> Workshop<'a, B, G, W, M> {
             let stage = &mut tools.stage;
             match &stage.step {
                 Step::ToMatch => {
-                    let word = self.bench.peek(job.origin.slot, &mut tools.heads);
+                    let log = &mut share.log;
+                    let word = self.bench.peek(job.origin.slot, &mut tools.heads, log);
                     stage.matched(job, word);
                 }
                 Step::ToTake(_) => self.take(rt, job, stage, share),
@@ -90,7 +92,7 @@ impl<'a, B: Bench, G: Gate, W: Wire, M: Moments> Workshop<'a, B, G, W, M> {
                     stage.told(receipt);
                 }
                 Step::ToList => {
-                    self.list(&mut tools.heads, &mut stage.seen);
+                    self.list(&mut tools.heads, &mut stage.seen, &mut share.log);
                     stage.listed();
                 }
                 Step::ToRaise(word) => {
@@ -119,12 +121,12 @@ impl<'a, B: Bench, G: Gate, W: Wire, M: Moments> Workshop<'a, B, G, W, M> {
         ensures heads { tools.new.heads.table ≡ tools.old.heads.table }
         ensures begun { (number : ℕ) → Walked (shop B.changes B.ended B.called B.logged M.is_moment M.is_random G.passed W.called)
             number job.now tools.new.stage share.old share.new }
-        ensures found { (number : ℕ) → IsToCommit tools.new.stage → AsksRun job.now.ask × IsStep
+        ensures found { (number : ℕ) → IsToCommit tools.new.stage → AsksRun job.now.ask × HasTaken
             (shop B.changes B.ended B.called B.logged M.is_moment M.is_random G.passed W.called)
-            number job.now (ToTake 0) tools.new.stage share.old share.new }
+            number job.now tools.new.stage share.old share.new }
         ensures ended { B.ended share.new.tallies ≡ B.ended share.old.tallies }
     {
-        self.look(tools, job);
+        self.look(tools, job, share);
         let stage = &mut tools.stage;
         if let Step::ToTake(_) = &stage.step {
             self.take(rt, job, stage, share);
@@ -132,33 +134,35 @@ impl<'a, B: Bench, G: Gate, W: Wire, M: Moments> Workshop<'a, B, G, W, M> {
     }
 
     // Begins a request's job by a look at its slot's head word, where it has entity tags. It doesn't take yet.
-    fn look(&self, tools: &mut Tools, job: &Job)
+    fn look(&self, tools: &mut Tools, job: &Job, share: &mut Share<B::Tallies>)
         requires { tools.old.heads.table ≡ B.heads self.now.bench.now }
         ensures heads { tools.new.heads.table ≡ tools.old.heads.table }
-        ensures looked { (number : ℕ) (share : Done B.Tallies) → Walked
-            (shop B.changes B.ended B.called B.logged M.is_moment M.is_random G.passed W.called)
-            number job.now tools.new.stage share share }
+        ensures kept { share.new ≡ record share.old { log = share.new.log } }
+        ensures looks { IsLookedUp B.logged job.now share.old.log share.new.log }
+        ensures looked { (number : ℕ) → Walked (shop B.changes B.ended B.called B.logged M.is_moment M.is_random G.passed W.called)
+            number job.now tools.new.stage share.old share.new }
         ensures untaken { IsUntaken job.now tools.new.stage }
     {
         let stage = &mut tools.stage;
         stage.ask(job);
         if let Step::ToMatch = &stage.step {
-            let head = self.bench.peek(job.origin.slot, &mut tools.heads);
+            let log = &mut share.log;
+            let head = self.bench.peek(job.origin.slot, &mut tools.heads, log);
             stage.matched(job, head);
         }
     }
 
     // Looks at the head words of the slots after those of these words, up to the last.
     #[inline(never)]
-    fn list(&self, heads: &mut HeadSeat, words: &mut Words)
+    fn list(&self, heads: &mut HeadSeat, words: &mut Words, log: &mut CallLog)
         requires seen { length words.old.items < 64 }
         requires heads { heads.old.table ≡ B.heads self.now.bench.now }
         ensures heads { heads.new.table ≡ heads.old.table }
-        ensures listed { ListsOn B.called words.old.items words.new.items }
+        ensures listed { ListsOn B.logged words.old.items words.new.items log.old log.new }
     {
         'slots: while words.len() < WORDS {
             let slot = SlotNumber::new(words.len() as u8);
-            let word = self.bench.peek(slot, heads);
+            let word = self.bench.peek(slot, heads, log);
             let _fits = words.try_push(word);
         }
     }

@@ -7,4 +7,4 @@ pub returns-in-ToTake-clause-begun : goal.returns-in-ToTake-clause-begun
 returns-in-ToTake-clause-begun g c number =
     let s = (shop g.B.Bench.changes g.B.Bench.ended g.B.Bench.called g.B.Bench.logged
     g.M.Moments.is_moment g.M.Moments.is_random g.G.Gate.passed g.W.Wire.called) in
-    walks_on s number c.args.job.now refl (c.look.ensures.looked number c.args.share.now) (c.take.ensures.step number)
+    walks_on s number c.args.job.now refl (c.look.ensures.looked number) (c.take.ensures.step number)

@@ -21,11 +21,11 @@ slots-preserved g c =
     c.try_push-fits.result c.try_push-fits.ensures.ok c.try_push-fits.ensures.full less in
     let at : c.new-slot.result ≡ length seen + length more = c.new-slot.ensures ∙
     (c.len-in-slots.ensures.value ∙ (ap length c.slots.invariant.2.1 ∙ length-append seen more)) in
-    let looks = subst (λ (k : ℕ). g.B.Bench.called (LooksAt k word)) at c.peek-word.ensures.called in
+    let looks = subst (λ (k : ℕ). g.B.Bench.logged (LooksAt k word) c.slots.log c.peek-word.new.log) at c.peek-word.ensures.logged in
     let are = new ∙ (ap (λ (ws : List ℕ). ws ++ word ∷ []) c.slots.invariant.2.1 ∙ append_assoc seen more (word ∷ [])) in
     let one = length-append c.slots.words.items (word ∷ []) in
     let long = ap length new in (
       ap (λ (h : HeadSeat). h.table) c.peek-word.ensures.seen ∙ c.slots.invariant.0,
       omega (arith, one, long, less),
-      (more ++ word ∷ [], are, more_seen g.B.Bench.called (length seen) word more c.slots.invariant.2.2 looks),
+      (more ++ word ∷ [], are, more_seen g.B.Bench.logged (length seen) word more c.args.log.now c.slots.log c.peek-word.new.log c.slots.invariant.2.2 looks),
     )

@@ -4,7 +4,7 @@ use Rattle.fc_workers.proofs.workshop.Workshop.list.Given as goal
 
 abbrev pub invariant-slots : goal.invariant-slots
 invariant-slots g l = (l.heads.table ≡ l.initial.heads.table) × (length l.words.items ≤ 64) ×
-    ((more : List ℕ) × (l.words.items ≡ l.initial.words.items ++ more) × AreSeen g.B.Bench.called (length l.initial.words.items) more)
+    ((more : List ℕ) × (l.words.items ≡ l.initial.words.items ++ more) × AreSeen g.B.Bench.logged (length l.initial.words.items) more l.initial.log l.log)
 
 abbrev pub decreases-slots : goal.decreases-slots
 decreases-slots g l = 64 - length l.words.items

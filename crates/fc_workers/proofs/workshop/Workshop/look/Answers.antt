@@ -1,4 +1,4 @@
-use Rattle.std.proofs.Common.{◌≡◌, ◌∙◌, refl, subst, sym}
+use Rattle.std.proofs.Common.{◌≡◌, ◌∙◌, inl, refl, subst, sym}
 use Rattle.fc_core.specs.Stage.{Stage, ToMatch}
 use Rattle.fc_core.specs.declared.stage.Step.TheVariants as steps
 use Rattle.fc_workers.specs.Called.{shop}
@@ -7,14 +7,14 @@ use Rattle.fc_workers.proofs.Steps.{asked_untaken, match_step, matched_untaken, 
 use Rattle.fc_workers.proofs.workshop.Workshop.look.Goals as goal
 
 pub returns-in-ToMatch-clause-looked : goal.returns-in-ToMatch-clause-looked
-returns-in-ToMatch-clause-looked g c number share =
+returns-in-ToMatch-clause-looked g c number =
     let s = (shop g.B.Bench.changes g.B.Bench.ended g.B.Bench.called g.B.Bench.logged
     g.M.Moments.is_moment g.M.Moments.is_random g.G.Gate.passed g.W.Wire.called) in
     let room = c.stage.inside in
     let at : c.ask.new.self ≡ ToMatch =
     stands_at c.ask.new.self room.step steps.ToMatch room.found room.seen room.answer c.stage.view_is c.in-ToMatch.is in
-    walks_on s number c.args.job.now (sym c.ask.ensures ∙ at) (sets_out s number c.args.job.now share)
-    (match_step s number c.args.job.now c.peek-head.result share c.peek-head.ensures.called c.matched.ensures)
+    walks_on s number c.args.job.now (sym c.ask.ensures ∙ at) (sets_out s number c.args.job.now c.args.share.now)
+    (match_step s number c.args.job.now c.peek-head.result c.args.share.now c.peek-head.new.log c.peek-head.ensures.logged c.matched.ensures)
 
 pub returns-in-ToMatch-clause-untaken : goal.returns-in-ToMatch-clause-untaken
 returns-in-ToMatch-clause-untaken g c =
@@ -27,8 +27,11 @@ pub returns-in_default : goal.returns-in_default
 returns-in_default g c =
     let s = (shop g.B.Bench.changes g.B.Bench.ended g.B.Bench.called g.B.Bench.logged
     g.M.Moments.is_moment g.M.Moments.is_random g.G.Gate.passed g.W.Wire.called) in
+    let share = c.args.share.now in
     record {
       heads = refl;
-      looked = λ number share. subst (λ (x : Stage). Walked s number c.args.job.now x share share) (sym c.ask.ensures) (sets_out s number c.args.job.now share);
+      kept = refl;
+      looks = inl refl;
+      looked = λ number. subst (λ (x : Stage). Walked s number c.args.job.now x share share) (sym c.ask.ensures) (sets_out s number c.args.job.now share);
       untaken = asked_untaken c.args.job.now c.ask.ensures;
     }

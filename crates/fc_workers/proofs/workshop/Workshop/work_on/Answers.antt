@@ -45,7 +45,7 @@ calls-preserved-in-ToMatch-1 g c =
     let room = c.stage.inside in
     let at : c.calls.tools.stage ≡ ToMatch =
     stands_at c.calls.tools.stage room.step steps.ToMatch room.found room.seen room.answer c.stage.view_is c.in-ToMatch.is in
-    let step = match_step s c.args.number c.args.job.now c.peek-word.result c.calls.share c.peek-word.ensures.called c.matched.ensures in (
+    let step = match_step s c.args.number c.args.job.now c.peek-word.result c.calls.share c.peek-word.new.log c.peek-word.ensures.logged c.matched.ensures in (
       ap (λ (h : HeadSeat). h.table) c.peek-word.ensures.seen ∙ c.calls.invariant.0,
       step.follows.ready,
       λ before w. walks_on s c.args.number c.args.job.now at (c.calls.invariant.2 before w) step,
@@ -120,8 +120,8 @@ calls-preserved-in-ToList-1 g c =
     ∙ ap (λ (n : ℕ). if nat_lt n 64 then ToList (record { items = words.items }) else ToAnswer (Listed words.items)) c.list.ensures.listed.all) in (
       c.list.ensures.heads ∙ c.calls.invariant.0,
       subst (λ (x : Stage). IsReady c.args.job.now x) (sym next) tt,
-      λ before w. subst (λ (x : Stage). Walked s c.args.number c.args.job.now x before c.calls.share) (sym next)
-          (lists_on s c.args.number c.args.job.now room.seen words.items at c.list.ensures.listed (c.calls.invariant.2 before w)),
+      λ before w. subst (λ (x : Stage). Walked s c.args.number c.args.job.now x before (record c.calls.share { log = c.list.new.log })) (sym next)
+          (lists_on s c.args.number c.args.job.now room.seen words.items c.list.new.log at c.list.ensures.listed (c.calls.invariant.2 before w)),
       c.calls.invariant.3,
     )
 
