@@ -133,7 +133,8 @@ impl Requests {
         }
     }
 
-    // Lets go of the oldest, which has this key.
+    // Lets go of the oldest, which has this key. It isn't made a part of its caller, which mostly finds that none is too old.
+    #[inline(never)]
     fn pop(&mut self, key: Key)
         requires { option_map (λ o. o.key) (slice_get self.old 0) ≡ Some key }
         ensures { self.new ≡ drop 1 self.old }
