@@ -33,7 +33,7 @@ fn served<'a>(asking: Asking<()>, request: Request<'a>) -> Asking<Request<'a>>
     match asking {
         Asking::Serve(()) => Asking::Serve(request),
         Asking::Refuse(code) => Asking::Refuse(code),
-        Asking::Silent => Asking::Silent,
+        _ => Asking::Silent,
     }
 }
 
