@@ -144,9 +144,9 @@ resent_over : (m now k : ℕ) (p : Phase) → is_out_in m k p ≡ false → is_o
 resent_over m now k (Outstanding sent_at timeout n bytes) over = refl
 resent_over m now k other over = over
 
-notified_over : (m k now id serial random : ℕ) (bytes : ArrayVec ℕ) (o : Entry) (b : Bool) → is_out_in m k (notified_by b now id serial random bytes o).phase ≡ false
-notified_over m k now id serial random bytes o true = refl
-notified_over m k now id serial random bytes o false = refl
+pub notified_in : (m k now id serial random : ℕ) (bytes : ArrayVec ℕ) (o : Entry) (b : Bool) → is_out_in m k (notified_by b now id serial random bytes o).phase ≡ false
+notified_in m k now id serial random bytes o true = refl
+notified_in m k now id serial random bytes o false = refl
 
 another : (turns k m : ℕ) → k < turns → is_out_in m k (TurnOut turns m false) ≡ false
 another turns k m lt =
@@ -156,7 +156,7 @@ another turns k m lt =
 changed_over : (c : ObserverCall) (t : ObserverList) (k : ℕ) (o : Entry) → k < t.turns → is_out_in t.moment k o.phase ≡ false → is_out_in (moment_after c t) k (changed_by c t o).phase ≡ false
 changed_over (NextDue now noticed) t k o lt over = another t.turns k (max t.moment now) lt
 changed_over (Miss turn) t k o lt over = missed_over t.moment k o.phase over
-changed_over (Notify now turn id serial random bytes) t k o lt over = notified_over (max t.moment now) k (max t.moment now) id serial random bytes o (must_confirm (max t.moment now) o)
+changed_over (Notify now turn id serial random bytes) t k o lt over = notified_in (max t.moment now) k (max t.moment now) id serial random bytes o (must_confirm (max t.moment now) o)
 changed_over (GiveUp turn now) t k o lt over = refl
 changed_over (Acknowledge to id) t k o lt over = acknowledged_over t.moment k o.phase over
 changed_over (Tick now) t k o lt over = resent_over (max t.moment now) (max t.moment now) k o.phase (stays_over t.moment (max t.moment now) k o.phase (omega arith) over)

@@ -56,7 +56,7 @@ endpoint_so to =
     let port : (to.port == to.port) ≡ true = eq-eqb to.port to.port refl in
     λ i. ip i && port i
 
-endpoint_is : (from to : Endpoint) → same_endpoint from to ≡ true → from ≡ to
+pub endpoint_is : (from to : Endpoint) → same_endpoint from to ≡ true → from ≡ to
 endpoint_is from to e =
     let v = and_parts (pointwise nat_eq from.ip to.ip) (from.port == to.port) e in
     let ip = (bytes_decides from.ip to.ip).0 v.0 in

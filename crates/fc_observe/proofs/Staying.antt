@@ -1,9 +1,9 @@
 -- Which calls take an entry of an endpoint and token from the list.
 use Rattle.std.proofs.Common.{◌≡◌, ℕ, List, [], ◌∷◌, ◌++◌, suc, Bool, true, false, cond, Option, Some, None, refl, sym, ap, ◌∙◌, ◌⊎◌, inl, inr, ⊎_elim, arith}
-use Rattle.std.specs.Prelude.{find, max, nat_eq, not, ◌==◌, ◌&&◌, ◌||◌}
+use Rattle.std.specs.Prelude.{find, max, nat_eq, not, ◌&&◌, ◌||◌}
 use Rattle.std.specs.Cmp.Lexicographic.{pointwise, bytes_decides}
 use Rattle.std.specs.List.{Contains, list_any}
-use Rattle.std.proofs.lemmas.Bool.{and_parts, eqb-true}
+use Rattle.std.proofs.lemmas.Bool.{and_parts}
 use Rattle.std.proofs.lemmas.List.Folds.{list_any-append}
 use Rattle.coap_msg.specs.declared.types.Emission.{Emission}
 use Rattle.coap_msg.specs.declared.types.Endpoint.{Endpoint}
@@ -16,6 +16,7 @@ use Rattle.fc_observe.specs.Entries.{acknowledged, changed_if, given_up, has_las
 use Rattle.fc_observe.specs.Observers.{ObserverList, at_each, at_first, at_moment, entered_by, entry_out, gives_turn, is_out, late_entry, registration, turn_given_by, without_those}
 use Rattle.fc_observe.proofs.Counting.{kept_key}
 use Rattle.fc_observe.proofs.Hearing.{all_fail}
+use Rattle.fc_observe.proofs.Resets.{endpoint_is}
 
 -- ---- an entry that passes is there still, or it is the one that gives way
 
@@ -105,13 +106,6 @@ module _ (p q : Entry → Bool) where
   without_stays (o ∷ os) some = filtered o os (q o) (kept_by o os (p o) (q o) refl refl some (without_stays os))
 
 -- ---- keys
-
-endpoint_is : (a b : Endpoint) → same_endpoint a b ≡ true → a ≡ b
-endpoint_is a b e =
-    let w = and_parts (pointwise nat_eq a.ip b.ip) (a.port == b.port) e in
-    let ip = (bytes_decides a.ip b.ip).0 w.0 in
-    let port = eqb-true a.port b.port w.1 in
-    λ i. record { ip = ip i; port = port i }
 
 -- an entry of two keys shows that they are equal
 two_keys : (to from : Endpoint) (token own : List ℕ) (o : Entry) → is_entry_of to token o ≡ true → is_entry_of from own o ≡ true → (same_endpoint from to && pointwise nat_eq own token) ≡ true

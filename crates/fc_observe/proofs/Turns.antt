@@ -19,6 +19,7 @@ use Rattle.fc_observe.specs.Laws.{has_number, has_number_in}
 use Rattle.fc_observe.specs.Observers.{ObserverList, at_first, at_moment, entered_by, entry_out, gives_turn, is_out, registration, turn_given_by, without_those}
 use Rattle.fc_observe.proofs.Counting.{IfAdds, sum_after, sum_first, sum_left, unit}
 use Rattle.fc_observe.proofs.Serials.{all_below}
+use Rattle.fc_observe.proofs.Hearing.{notified_in}
 
 -- 1 for an entry whose turn has the number
 abbrev pub turns_of : ℕ → Entry → ℕ
@@ -155,10 +156,6 @@ out_numbered m k other true = omega arith
 
 one_out : (turn : Turn) (slot m : ℕ) (os : List Entry) → count_by (has_number turn.number) os ≤ 1 → count_by (has_turn slot m turn) os ≤ 1
 one_out turn slot m os le = let fewer = sum_by-le-sum_by (λ (o : Entry). unit (has_turn slot m turn o)) (turns_of turn.number) os (λ o. out_numbered m turn.number o.phase (turn.slot == slot)) in omega (arith, fewer, le)
-
-notified_in : (m k now id serial random : ℕ) (bytes : ArrayVec ℕ) (o : Entry) (b : Bool) → is_out_in m k (notified_by b now id serial random bytes o).phase ≡ false
-notified_in m k now id serial random bytes o true = refl
-notified_in m k now id serial random bytes o false = refl
 
 pub notified_over : (slot now id serial random : ℕ) (turn : Turn) (bytes : ArrayVec ℕ) (h : List ObserverCall) → entry_out turn (observers slot (Notify now turn id serial random bytes ∷ h)) ≡ None
 notified_over slot now id serial random turn bytes h =
