@@ -1,37 +1,16 @@
 -- Resources and their paths give one another.
-use Rattle.std.proofs.Common.{◌≡◌, ℕ, ◌+◌, ◌-◌, ◌*◌, ◌/◌, ◌%◌, ◌<◌, ◌≤◌, ◌&&◌, Bool, true, false, nat_lt, nat_le, if◌then◌else◌, List, [], ◌∷◌, ◌++◌, Option, Some, None, codes, refl, sym, ◌∙◌, ap, subst, arith, inl, inr}
+use Rattle.std.proofs.Common.{◌≡◌, ℕ, ◌+◌, ◌-◌, ◌*◌, ◌/◌, ◌%◌, ◌<◌, ◌≤◌, ◌&&◌, Bool, true, false, nat_lt, nat_le, if◌then◌else◌, List, [], ◌∷◌, ◌++◌, Some, None, codes, refl, sym, ◌∙◌, ap, subst, arith, inl, inr}
 use Rattle.std.specs.Str.{bytes_eq}
 use Rattle.std.specs.Fmt.{decimal}
 use Rattle.std.proofs.lemmas.Bool.{ltb-true, leb-true, lt-ltb, le-leb, and_from, and_parts, cases_lt}
 use Rattle.std.proofs.lemmas.Fmt.{decimal_digit, decimal_step}
 use Rattle.std.proofs.lemmas.Slice.Eq.{bytes_eq-Decides}
-use Rattle.coap_msg.specs.Reading.{◌>>=◌, guard}
+use Rattle.coap_msg.specs.Reading.{◌>>=◌}
 use Rattle.coap_opts.specs.declared.request.Resource.{Resource}
 use Rattle.coap_opts.specs.declared.request.Resource.TheVariants.{Run, Program, Core}
 use Rattle.coap_opts.specs.Path.{digit, slot_named, resource_of}
 use Rattle.coap_opts.specs.Fields.{IsResource, path_of}
-
--- a value that comes in two steps
-record Came {A B : Type 0} (o : Option A) (f : A → Option B) (y : B) : Type 0 where
-  value : A
-  first : o ≡ Some value
-  second : f value ≡ Some y
-
-came : {A B : Type 0} (o : Option A) (f : A → Option B) (y : B) → (o >>= f) ≡ Some y → Came o f y
-came None f y e = absurd (cc e)
-came (Some x) f y e = record { value = x; first = refl; second = e }
-
--- a value after a test
-record Passed {A : Type 0} (b : Bool) (x y : A) : Type 0 where
-  test : b ≡ true
-  same : x ≡ y
-
-passed : {A : Type 0} (b : Bool) (x y : A) → guard b x ≡ Some y → Passed b x y
-passed false x y e = absurd (cc e)
-passed true x y e = record { test = refl; same = cc e }
-
-passes : {A : Type 0} (b : Bool) (x : A) → b ≡ true → guard b x ≡ Some x
-passes b x e = rw e refl
+use Rattle.coap_msg.proofs.Steps.{came, passed, passes}
 
 -- ---- the slot
 

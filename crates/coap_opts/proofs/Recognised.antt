@@ -6,7 +6,7 @@ use Rattle.coap_msg.specs.declared.code.Code.{Code}
 use Rattle.coap_opts.specs.declared.served.Row.{Row}
 use Rattle.coap_opts.specs.Checks.{IsUnnamed}
 use Rattle.coap_opts.specs.Recognition.{fits, is_defined_for, is_repeat, row_of}
-use Rattle.coap_opts.specs.Served.{once, repeatable, rows}
+use Rattle.coap_opts.specs.Served.{once, rows}
 
 -- what an option of a row is recognised by
 pub record Fits (r : Row) (code count : ℕ) (before : Option ℕ) : Type 0 where

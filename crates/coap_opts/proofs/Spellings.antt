@@ -19,7 +19,7 @@ without_zeros-shorter [] = omega arith
 without_zeros-shorter (zero ∷ bytes) = omega (arith, without_zeros-shorter bytes)
 without_zeros-shorter (suc b ∷ bytes) = omega arith
 
-whole : (n : ℕ) → n < 2 ^ 64 → uint_value (to_be_bytes w64 n) ≡ n
+pub whole : (n : ℕ) → n < 2 ^ 64 → uint_value (to_be_bytes w64 n) ≡ n
 whole n h = omega (arith, from_be_bytes-to_be_bytes_8 n h)
 
 pub uint_again : (n : ℕ) → n < 2 ^ 64 → uint_value (uint_bytes n) ≡ n
