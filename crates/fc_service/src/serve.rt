@@ -70,7 +70,7 @@ pub fn serve<R: Threads + Wait + Clock + Net + Sync, L: Log, E: Write, Z: Sensor
     extent: Extent,
 ) -> Status
     ensures status { (result ≡ Done) ⊎ (result ≡ Failed) }
-    ensures served { result ≡ Done → (replies : Counts) × IsServed Z.are_sensed (λ emission out. ⊤) extent None None replies }
+    ensures served { result ≡ Done → (replies : Counts) × IsServed Z.are_sensed (λ emission out before after. ⊤) extent None None replies }
 {
     let address = listening.address;
     match open(rt, address) {
