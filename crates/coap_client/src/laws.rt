@@ -1,8 +1,10 @@
 //! Laws of what the definitions say: the function is a law, and its contract says it.
-ghost use Rattle.std.specs.Prelude.{◌≡◌, ◌+◌, ◌*◌, ◌%◌, ◌<◌, ◌≤◌, ◌⊎◌, ℕ, List, [], ◌∷◌, Option, Some, None, drop, false, length, take, true};
+ghost use Rattle.std.specs.Prelude.{◌≡◌, ◌+◌, ◌*◌, ◌%◌, ◌<◌, ◌≤◌, ◌⊎◌, ℕ, Bool, List, [], ◌∷◌, Option, Some, None, drop, false, length, take, true};
 ghost use Rattle.coap_msg.specs.Wire.{Message, message_bytes};
 ghost use Rattle.coap_opts.specs.Values.{block_bytes};
 ghost use Rattle.coap_opts.specs.declared.request.Method.TheVariants.{Put};
+ghost use Rattle.coap_client.specs.Listening.{is_passed_over};
+ghost use Rattle.coap_client.specs.declared.transmission.Reception.TheVariants as reception;
 ghost use Rattle.coap_client.specs.declared.errand.Errand.{Errand};
 ghost use Rattle.coap_client.specs.declared.part.Part.{Part};
 ghost use Rattle.coap_client.specs.declared.part.Part.TheVariants.{Body, Whole};
@@ -131,4 +133,14 @@ pub fn observers_are_sent_by_the_schedule()
         ⊎ AwaitsResponse (message_bytes (observe_request o.errand.now Register o.token o.id)) (schedule calls) }
     ensures deregistration { (o : Observer) (calls : List PeerCall) → IsDeregistration o calls
         → BeginsSchedule (message_bytes (observe_request o.errand.now Deregister o.token ((o.id + 1) % 65536))) (schedule calls) }
+{}
+
+/// While a request may still be acknowledged, its acknowledgement ends the wait, and a response in a message of its own is passed over; once it was acknowledged,
+/// it is the other way round (RFC 7252, 5.2.2). A response in the acknowledgement and a Reset message always end it; one that came before and what is none of these never do.
+pub fn waits_pass_over_what_does_not_answer()
+    ensures acknowledged { (is_passed_over false reception.Acknowledged ≡ false) × (is_passed_over true reception.Acknowledged ≡ true) }
+    ensures separate { (is_passed_over false reception.Separate ≡ true) × (is_passed_over true reception.Separate ≡ false) }
+    ensures answers { (awaited : Bool) → is_passed_over awaited reception.Reply ≡ false }
+    ensures rejected { (awaited : Bool) → is_passed_over awaited reception.Rejected ≡ false }
+    ensures others { (awaited : Bool) → (is_passed_over awaited reception.Repeat ≡ true) × (is_passed_over awaited reception.Other ≡ true) }
 {}
