@@ -2,3 +2,4 @@ pub mod Words
 pub mod Arithmetic
 pub mod Instructions
 pub mod Comparison
+pub mod Relations

@@ -15,15 +15,18 @@
 //!
 //! # What is proved
 //!
-//! - Each arithmetic operation and each comparison, at 32 and at 64 bits, gives what whole numbers, powers of two and remainders say. Rows
-//!   that are worked out from the standard, and not from the definitions, are tests (`alu_tests` in fctests).
+//! - Each arithmetic operation and each comparison, at 32 and at 64 bits, gives the value that whole numbers, powers of two and remainders
+//!   define.
+//! - For every operation and comparison, at both widths and at the ends of its range, `laws` has values in literals. They were worked out
+//!   from the standard's sentences, and not from the definitions.
 //!
-//! By the contracts of `alu`, `truth`.
+//! By the contracts of `alu`, `truth`, `laws`.
 #![tactic(auto)]
 
 pub mod byte_order;
 pub mod comparison;
 pub mod instruction;
+pub mod laws;
 pub mod operation;
 pub mod sign_extension;
 

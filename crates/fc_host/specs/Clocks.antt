@@ -2,6 +2,7 @@
 use Rattle.std.specs.Prelude.{◌≡◌, ℕ, ◌-◌, ◌≤◌, List, ◌++◌, length, replicate, Option}
 use Rattle.std.specs.Int.{w64, to_le_bytes}
 use Rattle.std.specs.Io.KnownBytes.{Consumes}
+use Rattle.fc_workers.specs.declared.call_log.CallLog.{CallLog}
 
 -- where there are no sensors
 abbrev pub no_sensors : List ℕ
@@ -11,9 +12,10 @@ no_sensors = replicate 56 0
 abbrev pub device_readings : ℕ → List ℕ → List ℕ
 device_readings now sensed = to_le_bytes w64 now ++ sensed
 
--- readings of a moment that was told, and of what sensors said
-abbrev pub AreReadAt : (ℕ → Type 0) → (List ℕ → Type 0) → List ℕ → Type 0
-AreReadAt IsMoment AreSensed readings = (now : ℕ) × (sensed : List ℕ) × IsMoment now × AreSensed sensed × (readings ≡ device_readings now sensed)
+-- the moment was asked for, and these readings are of it and of what sensors said
+abbrev pub AreReadAt : (ℕ → CallLog → CallLog → Type 0) → (List ℕ → Type 0) → List ℕ → CallLog → CallLog → Type 0
+AreReadAt IsMoment AreSensed readings before after =
+    (now : ℕ) × (sensed : List ℕ) × IsMoment now before after × AreSensed sensed × (readings ≡ device_readings now sensed)
 
 abbrev pub clock_readings : ℕ → List ℕ
 clock_readings now = device_readings now no_sensors

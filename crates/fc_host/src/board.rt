@@ -79,8 +79,9 @@ impl Wire for Board {
 }
 
 impl Moments for Board {
-    fn now<R: Wait>(&self, rt: &R) -> u64 {
+    fn now<R: Wait>(&self, rt: &R, log: &mut CallLog) -> u64 {
         let _ = rt;
+        let _ = log;
         self.now.load(Ordering::SeqCst)
     }
 
@@ -92,7 +93,8 @@ impl Moments for Board {
 }
 
 impl Device for Board {
-    fn readings<R: Wait>(&self, rt: &R) -> Readings {
+    fn readings<R: Wait>(&self, rt: &R, log: &mut CallLog) -> Readings {
+        let _ = log;
         let work = self.work.lock(rt);
         work.readings
     }

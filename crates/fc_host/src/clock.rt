@@ -4,7 +4,7 @@ ghost use Rattle.fc_host.specs.Clocks.{AreReadAt, device_readings};
 
 use crate::sensors::{Sensed, Sensors};
 use fc_help::{NO_READINGS, Readings};
-use fc_workers::{Device, Moments};
+use fc_workers::{CallLog, Device, Moments};
 use std::io;
 use std::sync::Wait;
 use std::time::{Clock, Instant};
@@ -28,20 +28,29 @@ impl<'a, R: Clock> Elapsed<'a, R> {
         let start = Instant::now(clock)?;
         Ok(Elapsed { clock, start })
     }
-}
 
-impl<'a, C: Clock> Moments for Elapsed<'a, C> {
-    fn now<R: Wait>(&self, rt: &R) -> u64 {
-        let _ = rt;
+    // Returns the milliseconds since the start, or 0 if the clock can't be read.
+    fn milliseconds(&self) -> u64 {
         match self.start.elapsed(self.clock) {
             Ok(elapsed) => u64::try_from(elapsed.as_millis()).unwrap_or(u64::MAX),
             Err(_) => 0,
         }
     }
+}
+
+impl<'a, C: Clock> Moments for Elapsed<'a, C> {
+    ghost is_moment = { λ now before after. after ≡ before };
+
+    fn now<R: Wait>(&self, rt: &R, log: &mut CallLog) -> u64 {
+        let _ = rt;
+        let _ = log;
+        self.milliseconds()
+    }
 
     // The clock's low bits.
     fn random<R: Wait>(&self, rt: &R) -> u16 {
-        (self.now(rt) % 0x1_0000) as u16
+        let _ = rt;
+        (self.milliseconds() % 0x1_0000) as u16
     }
 }
 
@@ -55,8 +64,8 @@ pub struct SensingDevice<'a, M: Moments, Z: Sensors> {
 impl<'a, M: Moments, Z: Sensors> Device for SensingDevice<'a, M, Z> {
     ghost are_readings = { AreReadAt M.is_moment Z.are_sensed };
 
-    fn readings<R: Wait>(&self, rt: &R) -> Readings {
-        let now = self.moments.now(rt);
+    fn readings<R: Wait>(&self, rt: &R, log: &mut CallLog) -> Readings {
+        let now = self.moments.now(rt, log);
         device_readings(now, &self.sensors.sense(rt, now))
     }
 }

@@ -3,7 +3,7 @@ ghost use Rattle.std.specs.Prelude.{◌≡◌, ◌<◌, ℕ, ◌∷◌, List, le
 ghost use Rattle.coap_msg.specs.Wire.{Message, SpellsMessage};
 ghost use Rattle.fc_host.specs.Clocks.{device_readings, no_sensors};
 
-use crate::socket::BUFFER;
+use crate::socket::{BUFFER, SHORTEST_WAIT};
 
 /// The readings of a device have 64 bytes: the moment in milliseconds in eight bytes, the least first, and the 56 that its sensors say, zeros where it has none.
 pub fn readings_are_the_clock_and_the_sensors()
@@ -17,4 +17,9 @@ pub fn readings_are_the_clock_and_the_sensors()
 pub fn cut_datagrams_spell_no_message()
     ensures buffer { BUFFER ≡ 1281 }
     ensures filled { (bytes : List ℕ) (m : Message) → SpellsMessage bytes m → length bytes < BUFFER }
+{}
+
+/// The shortest time that a server waits for a datagram is 100 ms.
+pub fn shortest_wait_is_100_ms()
+    ensures { SHORTEST_WAIT ≡ 100 }
 {}

@@ -3,6 +3,7 @@
 //! ```rust
 //! use coap_msg::Endpoint;
 //! use fc_host::socket::{BUFFER, Receiving, SHORTEST_WAIT, Source, open};
+//! use fc_workers::CallLog;
 //! use std::io;
 //! use std::net::{Net, SocketAddrV4};
 //!
@@ -10,7 +11,7 @@
 //! fn first_sender<R: Net>(rt: &R, address: SocketAddrV4) -> io::Result<Option<Endpoint>> {
 //!     let socket = open(rt, address)?;
 //!     let mut buffer = [0; BUFFER];
-//!     match Receiving::new(&socket).receive(Some(SHORTEST_WAIT), &mut buffer) {
+//!     match Receiving::new(&socket).receive(Some(SHORTEST_WAIT), &mut buffer, &mut CallLog::new()) {
 //!         Some((_count, from)) => Ok(Some(from)),
 //!         None => Ok(None),
 //!     }
@@ -23,12 +24,13 @@
 //!   file is what one call of its reader gave, 56 bytes at most, and zeros behind.
 //! - **A datagram** that is received lies at the start of its buffer, which has 1,281 bytes, one more than it may have (`laws`). A source whose
 //!   receives are known says of each how long it was to wait, and what came; those of a socket of the system aren't.
+//! - **An endpoint** has the address and the port of the socket address that a datagram came from, and a reply goes to the address and the port of its endpoint.
 //! - **A reply** that a wire of workers sends is handed to its sink, once, with the log that the wire is handed; the sink tells whether it
 //!   went out. Where a job ends, nothing is.
-//! - Not claimed: that a moment is the clock's and a random word its low bits, that a file is read anew, what a socket sends and how long it waits, and that a
-//!   board gives the reply that was sent and the readings that were set.
+//! - Not claimed, but tested: that a moment is the clock's and a random word its low bits, that a file is read anew, at which address and port a socket is opened, what it sends and
+//!   how long it waits. Not claimed: that a board gives the reply that was sent and the readings that were set.
 //!
-//! By the contracts of `clock::SensingDevice`, `sensors::NoSensors`, `read_sensed`, `socket::Source`, `Replying`, `laws`.
+//! By the contracts of `clock::SensingDevice`, `sensors::NoSensors`, `read_sensed`, `socket::Source`, `endpoint_of`, `address_of`, `Replying`, `laws`.
 #![tactic(auto)]
 
 pub mod board;

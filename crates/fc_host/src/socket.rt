@@ -1,5 +1,7 @@
 //! Where a server's datagrams come from and go: a socket, or what a test puts in its place.
-ghost use Rattle.std.specs.Prelude.{◌≤◌, ⊤, [], ◌∷◌, Bool, IfSome, List, None, Option, length};
+ghost use Rattle.std.specs.Net.Addr.{ipv4_octets};
+ghost use Rattle.std.specs.Net.Socket.{v4_ip, v4_port};
+ghost use Rattle.std.specs.Prelude.{◌≡◌, ◌≤◌, ⊤, [], ◌∷◌, Bool, IfSome, List, None, Option, length};
 ghost use Rattle.coap_msg.specs.declared.types.Emission.{Emission};
 ghost use Rattle.fc_host.specs.Sockets.{Comes, IsHanded, Receive, incoming_in};
 ghost use Rattle.fc_workers.specs.declared.call_log.CallLog.{CallLog as Log};
@@ -26,11 +28,20 @@ pub trait Source {
     // Its receives so far, where they are known: how long each was to wait, and of the datagram that came what fitted the buffer.
     ghost came: { Self → Option (List Receive) } = { λ _. None };
 
+    // Which receives it was asked for, each from one state of the caller's log to the next.
+    ghost received: { Receive → Log → Log → Type 0 } = { λ receive before after. ⊤ };
+
     /// Waits for a datagram, so many milliseconds or, for `None`, without end: how many bytes at the start of the buffer it is, and who sent it. What doesn't fit the
     /// buffer is lost. `None` where nothing came in time, or it couldn't be received.
-    fn receive(&mut self, wait: Option<u64>, buffer: &mut Buffer) -> Option<(usize, Endpoint)>
+    fn receive(
+        &mut self,
+        wait: Option<u64>,
+        buffer: &mut Buffer,
+        log: &mut CallLog,
+    ) -> Option<(usize, Endpoint)>
         ensures fits { IfSome result (λ r. r.0 ≤ length buffer.new) }
-        ensures given { Comes (came self.old) (came self.new) (record { wait = wait; came = incoming_in buffer.new result } ∷ []) };
+        ensures given { Comes (came self.old) (came self.new) (record { wait = wait; came = incoming_in buffer.new result } ∷ []) }
+        ensures logged { received (record { wait = wait; came = incoming_in buffer.new result }) log.old log.new };
 }
 
 /// Where datagrams go.
@@ -74,7 +85,15 @@ impl<'a> Receiving<'a> {
 
 /// What came to a socket of the system isn't known.
 impl<'a> Source for Receiving<'a> {
-    fn receive(&mut self, wait: Option<u64>, buffer: &mut Buffer) -> Option<(usize, Endpoint)> {
+    ghost received = { λ receive before after. after ≡ before };
+
+    fn receive(
+        &mut self,
+        wait: Option<u64>,
+        buffer: &mut Buffer,
+        log: &mut CallLog,
+    ) -> Option<(usize, Endpoint)> {
+        let _ = log;
         self.set_wait(wait);
         match self.socket.recv_from(buffer) {
             Ok((count, SocketAddr::V4(from))) => Some((count, endpoint_of(&from))),
@@ -101,14 +120,18 @@ pub fn open<R: Net>(rt: &R, address: SocketAddrV4) -> io::Result<UdpSocket> {
     Ok(socket)
 }
 
-fn endpoint_of(address: &SocketAddrV4) -> Endpoint {
+fn endpoint_of(address: &SocketAddrV4) -> Endpoint
+    ensures { (result.ip ≡ ipv4_octets (v4_ip address.now)) × (result.port ≡ v4_port address.now) }
+{
     Endpoint {
         ip: address.ip().octets(),
         port: address.port(),
     }
 }
 
-fn address_of(endpoint: Endpoint) -> SocketAddrV4 {
+fn address_of(endpoint: Endpoint) -> SocketAddrV4
+    ensures { (ipv4_octets (v4_ip result) ≡ endpoint.ip) × (v4_port result ≡ endpoint.port) }
+{
     let [a, b, c, d] = endpoint.ip;
     SocketAddrV4::new(Ipv4Addr::new(a, b, c, d), endpoint.port)
 }

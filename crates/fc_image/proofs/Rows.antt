@@ -1,4 +1,4 @@
--- Worked programs: what the rules of the control flow say of each; and the numbers that a header may have.
+-- Worked programs: what the rules of the control flow say of each; and the bytes that a header begins with.
 use Rattle.std.proofs.Common.{◌≡◌, List, ℕ, true, false, [], ◌∷◌, Some, None, refl}
 use Rattle.std.specs.Prelude.{pos, negsuc, take}
 use Rattle.fc_isa.specs.declared.insn.Insn.{Insn}
@@ -7,10 +7,10 @@ use Rattle.fc_isa.specs.declared.insn.AluOp.TheVariants.{Mov}
 use Rattle.fc_isa.specs.declared.insn.Relation.TheVariants.{Gt}
 use Rattle.fc_isa.specs.declared.insn.Width.TheVariants.{W64}
 use Rattle.fc_isa.specs.declared.insn.Operand.TheVariants.{Imm}
-use Rattle.fc_isa.specs.declared.rule.Rule.TheVariants.{JumpTarget, BackwardJump, Boundary, BackwardCall, FrameDepth, Cost, Helper}
+use Rattle.fc_isa.specs.declared.rule.Rule.TheVariants.{JumpTarget, BackwardJump, Boundary, BackwardCall, Cost, Helper}
 use Rattle.fc_isa.specs.declared.version.ImageVersion.{ImageVersion}
 use Rattle.fc_isa.specs.declared.version.ImageVersion.TheVariants.{One, Two}
-use Rattle.fc_image.specs.Head.{Head, has_magic, is_bad_size, is_bad_count, is_bad_budget, stated}
+use Rattle.fc_image.specs.Head.{Head}
 use Rattle.fc_image.specs.Written.{head_bytes}
 use Rattle.fc_image.specs.Functions.{is_start, frames}
 use Rattle.fc_image.specs.Loops.{loops_of}
@@ -43,26 +43,6 @@ callee_counts_twice = refl
 twice_is_above_six : shape_fault (head One 6) (CallLocal (pos 2) ∷ CallLocal (pos 1) ∷ Exit ∷ mov ∷ Exit ∷ []) ≡ Some (0, Cost)
 unfolding shape_fault breaks_shape longest cost_in loops_of costs is_start frames
 twice_is_above_six = refl
-
-four_frames : shape_fault (head One 8) (caller ∷ Exit ∷ caller ∷ Exit ∷ caller ∷ Exit ∷ mov ∷ Exit ∷ []) ≡ None
-unfolding shape_fault breaks_shape longest cost_in loops_of costs is_start frames
-four_frames = refl
-
-five_frames : shape_fault (head One 10) (caller ∷ Exit ∷ caller ∷ Exit ∷ caller ∷ Exit ∷ caller ∷ Exit ∷ mov ∷ Exit ∷ []) ≡ Some (0, FrameDepth)
-unfolding shape_fault breaks_shape longest cost_in loops_of costs is_start frames
-five_frames = refl
-
--- the second version allows eight frames
-five_frames_in_two : shape_fault (head Two 10) (caller ∷ Exit ∷ caller ∷ Exit ∷ caller ∷ Exit ∷ caller ∷ Exit ∷ mov ∷ Exit ∷ []) ≡ None
-unfolding shape_fault breaks_shape longest cost_in loops_of costs is_start frames
-five_frames_in_two = refl
-
-eight_calls : List Insn
-eight_calls = caller ∷ Exit ∷ caller ∷ Exit ∷ caller ∷ Exit ∷ caller ∷ Exit ∷ caller ∷ Exit ∷ caller ∷ Exit ∷ caller ∷ Exit ∷ mov ∷ Exit ∷ []
-
-eight_frames : (shape_fault (head Two 16) eight_calls ≡ None) × (shape_fault (head Two 18) (caller ∷ Exit ∷ eight_calls) ≡ Some (0, FrameDepth))
-unfolding shape_fault breaks_shape longest cost_in loops_of costs is_start frames eight_calls
-eight_frames = (refl, refl)
 
 call_back : shape_fault (head One 8) (caller ∷ Exit ∷ CallLocal (negsuc 2) ∷ Exit ∷ []) ≡ Some (2, BackwardCall)
 unfolding shape_fault breaks_shape longest cost_in loops_of costs is_start frames
@@ -102,30 +82,12 @@ cost_before_helper : shape_fault (head One 2) (CallHelper (pos 8) ∷ mov ∷ Ex
 unfolding shape_fault breaks_shape longest cost_in loops_of costs is_start frames
 cost_before_helper = refl
 
--- ---- the helpers' numbers, and the header's limits
+-- ---- the helpers' numbers
 
 helpers_are_seven : (is_helper (pos 0) ≡ false) × (is_helper (pos 1) ≡ true) × (is_helper (pos 7) ≡ true) × (is_helper (pos 8) ≡ false) × (is_helper (negsuc 0) ≡ false)
 helpers_are_seven = (refl, refl, refl, refl, refl)
 
--- words of eight bytes, up to 256 bytes
-sizes_are_words : (is_bad_size 0 ≡ false) × (is_bad_size 4 ≡ true) × (is_bad_size 8 ≡ false) × (is_bad_size 12 ≡ true) × (is_bad_size 250 ≡ true) × (is_bad_size 256 ≡ false) × (is_bad_size 264 ≡ true)
-sizes_are_words = (refl, refl, refl, refl, refl, refl, refl)
-
-ends_of_counts : (is_bad_count One 0 ≡ true) × (is_bad_count One 1 ≡ false) × (is_bad_count One 512 ≡ false) × (is_bad_count One 513 ≡ true)
-    × (is_bad_count Two 0 ≡ true) × (is_bad_count Two 1024 ≡ false) × (is_bad_count Two 1025 ≡ true)
-ends_of_counts = (refl, refl, refl, refl, refl, refl, refl)
-
-ends_of_budgets : (is_bad_budget 0 ≡ true) × (is_bad_budget 1 ≡ false) × (is_bad_budget 65536 ≡ false) × (is_bad_budget 65537 ≡ true)
-ends_of_budgets = (refl, refl, refl, refl)
-
 -- ---- the magic
-
--- `FCB1` and `FCB2`, and neither `FCB0` nor `FCB3`
-magics : (has_magic (70 ∷ 67 ∷ 66 ∷ 49 ∷ []) ≡ true) × (has_magic (70 ∷ 67 ∷ 66 ∷ 50 ∷ []) ≡ true) × (has_magic (70 ∷ 67 ∷ 66 ∷ 48 ∷ []) ≡ false) × (has_magic (70 ∷ 67 ∷ 66 ∷ 51 ∷ []) ≡ false)
-magics = (refl, refl, refl, refl)
-
-magics_name_versions : ((stated (70 ∷ 67 ∷ 66 ∷ 49 ∷ [])).version ≡ One) × ((stated (70 ∷ 67 ∷ 66 ∷ 50 ∷ [])).version ≡ Two)
-magics_name_versions = (refl, refl)
 
 versions_have_magics : (take 4 (head_bytes (head One 1)) ≡ 70 ∷ 67 ∷ 66 ∷ 49 ∷ []) × (take 4 (head_bytes (head Two 1)) ≡ 70 ∷ 67 ∷ 66 ∷ 50 ∷ [])
 versions_have_magics = (refl, refl)

@@ -13,3 +13,4 @@ pub mod Judged
 pub mod Laws
 pub mod LoopLaws
 pub mod CountingLaws
+pub mod VersionLaws

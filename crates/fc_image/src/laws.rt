@@ -1,15 +1,17 @@
 //! What headers and the shape of a program say, for the crates above: each function is a law, and its contract says it.
 ghost use Rattle.std.specs.Prelude.{List, None, Some, [], drop, false, length, map, suc, true, ℕ, ◌*◌, ◌++◌, ◌<◌, ◌≡◌, ◌≢◌, ◌↔◌, ◌∷◌};
+ghost use Rattle.fc_isa.specs.declared.rule.Rule.TheVariants.{BackwardJump, Budget, Cost, FrameDepth, SlotCount, VarsSize};
 ghost use Rattle.fc_isa.specs.Rules.{number_of};
 ghost use Rattle.fc_isa.specs.declared.insn.Insn.{Insn};
 ghost use Rattle.fc_isa.specs.declared.insn.Insn.TheVariants.{Exit, JumpIf};
 ghost use Rattle.fc_isa.specs.declared.insn.Jump.{Jump};
 ghost use Rattle.fc_isa.specs.Writes.{writes};
 ghost use Rattle.fc_isa.specs.declared.version.ImageVersion.{ImageVersion};
+ghost use Rattle.fc_isa.specs.declared.version.ImageVersion.TheVariants.{One, Two};
 ghost use Rattle.fc_isa.specs.Program.{is_program};
 ghost use Rattle.fc_image.specs.CountingLaws.{CountsUp, IsInBody, IsOutside, LeavesLoop};
-ghost use Rattle.fc_image.specs.Head.{Head, head_fault, head_rules, stated};
-ghost use Rattle.fc_image.specs.Written.{IsHead, KeepsHead, head_bytes};
+ghost use Rattle.fc_image.specs.Head.{Head, has_magic, head_fault, head_rules, stated};
+ghost use Rattle.fc_image.specs.Written.{IsHead, KeepsHead, head_bytes, head_of, limit_fault};
 ghost use Rattle.fc_image.specs.Laws.{FirstShapeFaultIsFound, ShapeFaultIsFirst, ShapeFaultIsLow};
 ghost use Rattle.fc_image.specs.LoopLaws.{LoopsHaveLongestPaths, ShapedLoopsAreLoops};
 ghost use Rattle.fc_image.specs.Loops.{disturbs, loop_at};
@@ -19,6 +21,7 @@ ghost use Rattle.fc_image.specs.declared.uncounted.Disturbance.TheVariants.{Ente
 ghost use Rattle.fc_image.specs.Paths.{IsLongest, longest};
 ghost use Rattle.fc_image.specs.ShapeRules.{IsShaped, flow_rules, shape_fault};
 ghost use Rattle.fc_image.specs.Laws.{KeepsLimits};
+ghost use Rattle.fc_image.specs.VersionLaws.{call_chain, counted_to};
 
 /// An image whose header breaks no rule is the header and its slots, with numbers within their limits.
 pub fn faultless_head_is_kept(image: &[u8])
@@ -96,4 +99,48 @@ pub fn disturbances_are_what_they_say()
     ensures leaves { (l : Loop) (k t : ℕ) → crosses_by Leave l k (Some t) ≡ true → IsInBody l k × IsOutside l t }
     ensures enters { (l : Loop) (k t : ℕ) → crosses_by Enter l k (Some t) ≡ true → IsOutside l k × IsInBody l t }
     ensures skips { (l : Loop) (k t : ℕ) → crosses_by Skip l k (Some t) ≡ true → t ≡ l.last }
+{}
+
+/// A header is its magic, three numbers with the least byte first, and four zeros.
+/// The size of the variables is in bytes 4 and 5, the count of slots in 6 and 7, the budget in 8 to
+/// 11. Here they are 24, 258 and 65,536.
+pub fn header_bytes_have_their_places()
+    ensures written { head_bytes (head_of 24 258 65536 Two) ≡ 70 ∷ 67 ∷ 66 ∷ 50 ∷ 24 ∷ 0 ∷ 2 ∷ 1 ∷ 0 ∷ 0 ∷ 1 ∷ 0 ∷ 0 ∷ 0 ∷ 0 ∷ 0 ∷ [] }
+    ensures read { stated (70 ∷ 67 ∷ 66 ∷ 50 ∷ 24 ∷ 0 ∷ 2 ∷ 1 ∷ 0 ∷ 0 ∷ 1 ∷ 0 ∷ 0 ∷ 0 ∷ 0 ∷ 0 ∷ []) ≡ head_of 24 258 65536 Two }
+{}
+
+/// The numbers of a header have limits, which rules 2, 3 and 4 check.
+/// A program of version 1 has 1 to 512 slots, and one of version 2 has 1 to 1,024. Its variables
+/// have at most 256 bytes, in words of 8. Its budget is 1 to 65,536 steps.
+pub fn headers_have_limits()
+    ensures slots_of_one { (limit_fault (head_of 0 1 1 One) ≡ None) × (limit_fault (head_of 0 512 1 One) ≡ None)
+        × (limit_fault (head_of 0 0 1 One) ≡ Some SlotCount) × (limit_fault (head_of 0 513 1 One) ≡ Some SlotCount) }
+    ensures slots_of_two { (limit_fault (head_of 0 1 1 Two) ≡ None) × (limit_fault (head_of 0 1024 1 Two) ≡ None)
+        × (limit_fault (head_of 0 0 1 Two) ≡ Some SlotCount) × (limit_fault (head_of 0 1025 1 Two) ≡ Some SlotCount) }
+    ensures variables { (limit_fault (head_of 8 1 1 One) ≡ None) × (limit_fault (head_of 256 1 1 One) ≡ None)
+        × (limit_fault (head_of 12 1 1 One) ≡ Some VarsSize) × (limit_fault (head_of 264 1 1 One) ≡ Some VarsSize) }
+    ensures budgets { (limit_fault (head_of 0 1 65536 One) ≡ None) × (limit_fault (head_of 0 1 0 One) ≡ Some Budget)
+        × (limit_fault (head_of 0 1 65537 One) ≡ Some Budget) }
+{}
+
+#[tactic(auto, unfolding(crate::specs::ShapeRules::shape_fault, crate::specs::ShapeRules::breaks_shape, crate::specs::Paths::longest, crate::specs::Paths::cost_in, crate::specs::Paths::costs, crate::specs::Loops::loops_of, crate::specs::Functions::is_start, crate::specs::Functions::frames))]
+/// Version 1 has 4 stack frames and no loops; version 2 has 8, and counted loops.
+/// `FCB1` begins an image of version 1, and `FCB2` one of version 2. A call that nests deeper
+/// breaks rule 15. In version 1 every jump back breaks rule 12. In version 2 a counted loop has a
+/// bound of 1 to 1,024, and the steps of its body count once for each iteration.
+pub fn versions_have_frames_and_loops()
+    ensures magic { ((stated (70 ∷ 67 ∷ 66 ∷ 49 ∷ [])).version ≡ One) × ((stated (70 ∷ 67 ∷ 66 ∷ 50 ∷ [])).version ≡ Two) }
+    ensures magics { (has_magic (70 ∷ 67 ∷ 66 ∷ 49 ∷ []) ≡ true) × (has_magic (70 ∷ 67 ∷ 66 ∷ 50 ∷ []) ≡ true) }
+    ensures no_other_magic { (has_magic (70 ∷ 67 ∷ 66 ∷ 48 ∷ []) ≡ false) × (has_magic (70 ∷ 67 ∷ 66 ∷ 51 ∷ []) ≡ false) }
+    ensures frames_of_one { (shape_fault (head_of 0 8 64 One) (call_chain 4) ≡ None)
+        × (shape_fault (head_of 0 10 64 One) (call_chain 5) ≡ Some (0, FrameDepth)) }
+    ensures frames_of_two { (shape_fault (head_of 0 16 64 Two) (call_chain 8) ≡ None)
+        × (shape_fault (head_of 0 18 64 Two) (call_chain 9) ≡ Some (0, FrameDepth)) }
+    ensures no_loops_of_one { shape_fault (head_of 0 5 65536 One) (counted_to 10) ≡ Some (2, BackwardJump) }
+    ensures loops_of_two { (shape_fault (head_of 0 5 65536 Two) (counted_to 1) ≡ None)
+        × (shape_fault (head_of 0 5 65536 Two) (counted_to 1024) ≡ None) }
+    ensures bounds_of_loops { (shape_fault (head_of 0 5 65536 Two) (counted_to 0) ≡ Some (2, BackwardJump))
+        × (shape_fault (head_of 0 5 65536 Two) (counted_to 1025) ≡ Some (2, BackwardJump)) }
+    ensures steps { (shape_fault (head_of 0 5 23 Two) (counted_to 10) ≡ None)
+        × (shape_fault (head_of 0 5 22 Two) (counted_to 10) ≡ Some (0, Cost)) }
 {}

@@ -14,6 +14,7 @@
 //!
 //! - The header's rules come in their order, by the limits of the version that its magic names: 512 slots and four frames, or 1,024 and
 //!   eight (`slots_allowed`, `frames_allowed`).
+//! - The limits of each version, in literals: slots, stack frames, loops and their bounds.
 //! - The bytes of a header are read as that header, and a header that is read is written again as it stood.
 //! - Of all instructions, calls among them, the rules of the control flow come in their order, in the second version with counted loops.
 //!   The cost is the greatest number of steps on any path from slot 0 to the exit, which goes through a body as often as its loop turns.

@@ -1,6 +1,6 @@
 -- Worked rows of what instructions and helpers do, and of what programs mean.
 use Rattle.std.proofs.Common.{◌≡◌, ℕ, Bool, true, false, List, [], ◌∷◌, ◌++◌, Option, None, Some, refl}
-use Rattle.std.specs.Prelude.{ℤ, pos, negsuc, map, filter, take, drop, replicate, is_some}
+use Rattle.std.specs.Prelude.{ℤ, pos, negsuc, filter, take, drop, replicate, is_some}
 use Rattle.fc_isa.specs.declared.insn.AluOp.{AluOp}
 use Rattle.fc_isa.specs.declared.insn.AluOp.TheVariants.{Add, Sub, Mov}
 use Rattle.fc_isa.specs.declared.insn.Width.{Width}
@@ -30,7 +30,7 @@ use Rattle.fc_kinds.specs.Values.{Value, Number, Pointer, Unset, Frame, Asked, V
 use Rattle.fc_kinds.specs.Operations.{result_of}
 use Rattle.fc_kinds.specs.Execution.{Config, act, helped, loaded_number, step}
 use Rattle.fc_isa.specs.declared.version.ImageVersion.TheVariants.{One, Two}
-use Rattle.fc_kinds.specs.Meaning.{Meaning, input_with, meant, reply_code, start}
+use Rattle.fc_kinds.specs.Meaning.{Meaning, input_with, meant, start}
 use Rattle.fc_kinds.proofs.Rows.{operations}
 
 abbrev says : List ℕ → Request
@@ -99,18 +99,7 @@ frames_are_fresh = refl
 
 -- ---- the code of the reply
 
--- 0 is success, and so is the method's own; 4.00, 4.03 and 4.04 are let through
-answers_are_let_through : (map (reply_code Get) (0 ∷ 69 ∷ 128 ∷ 131 ∷ 132 ∷ []) ≡ 69 ∷ 69 ∷ 128 ∷ 131 ∷ 132 ∷ []) × (map (reply_code Post) (0 ∷ 68 ∷ 128 ∷ 131 ∷ 132 ∷ []) ≡ 68 ∷ 68 ∷ 128 ∷ 131 ∷ 132 ∷ [])
-answers_are_let_through = (refl, refl)
-
--- the other codes, and numbers that are no code
-abbrev no_answers : List ℕ
-no_answers = 1 ∷ 64 ∷ 65 ∷ 66 ∷ 67 ∷ 70 ∷ 95 ∷ 127 ∷ 129 ∷ 130 ∷ 133 ∷ 134 ∷ 136 ∷ 141 ∷ 159 ∷ 160 ∷ 161 ∷ 163 ∷ 165 ∷ 255 ∷ 256 ∷ 324 ∷ 18446744073709551615 ∷ []
-
-all_else_is_an_error : (map (reply_code Get) (68 ∷ no_answers) ≡ replicate 24 160) × (map (reply_code Post) (69 ∷ no_answers) ≡ replicate 24 160)
-all_else_is_an_error = (refl, refl)
-
--- so too in a program: 133 (4.05) is no answer
+-- 133 (4.05) is no answer
 method_not_allowed_is_no_answer : (means (set 0 (pos 133) ∷ Exit ∷ []) [] none).code ≡ 160
 unfolding meant step act helped result_of computed_at computed
 method_not_allowed_is_no_answer = refl

@@ -1,19 +1,24 @@
 //! Laws of kinds, for the crates above: each function is a law, and its contract says it.
-ghost use Rattle.std.specs.Prelude.{List, Some, true, ℕ, ◌≡◌, ◌≤◌};
+ghost use Rattle.std.specs.List.{list_any};
+ghost use Rattle.std.specs.Prelude.{List, Some, [], false, length, map, pos, true, ℕ, ◌==◌, ◌∷◌, ◌≡◌, ◌≤◌};
 ghost use Rattle.fc_isa.specs.Program.{IsInsn};
 ghost use Rattle.fc_isa.specs.declared.insn.Insn.{Insn};
+ghost use Rattle.fc_isa.specs.declared.version.ImageVersion.TheVariants.{One, Two};
 ghost use Rattle.fc_help.specs.declared.request.Method.{Method};
+ghost use Rattle.fc_help.specs.declared.request.Method.TheVariants.{Get, Post};
+ghost use Rattle.fc_kinds.specs.Entry.{entry};
 ghost use Rattle.fc_kinds.specs.Kinds.{Within};
 ghost use Rattle.fc_kinds.specs.Containing.{Holds};
 ghost use Rattle.fc_kinds.specs.Lattice.{joined};
 ghost use Rattle.fc_kinds.specs.Containing.{AreKinds};
 ghost use Rattle.fc_kinds.specs.Laws.{CallsContainTheStep, EffectsAreMonotone, EffectsContainTheStep, ExitsContainTheStep, RefinementIsMonotone, RefinementKeepsWhatTakesTheWay, WaysRaiseByOne};
-ghost use Rattle.fc_kinds.specs.Meaning.{Input, Meaning, Means, Program, meant, reply_code};
+ghost use Rattle.fc_kinds.specs.Meaning.{Input, Meaning, Means, Program, meant, reply_code, start};
 ghost use Rattle.fc_kinds.specs.Runnable.{is_reply_code};
 ghost use Rattle.fc_kinds.specs.Transfer.{enter, transfer};
 ghost use Rattle.fc_kinds.specs.Containing.{AreShallow};
-ghost use Rattle.fc_kinds.specs.Values.{Value};
+ghost use Rattle.fc_kinds.specs.Values.{Asked, Frame, Number, Pointer, Readings, Unset as NoValue, Value, Variables};
 ghost use Rattle.fc_kinds.specs.declared.kind.Kind.{Kind as What};
+ghost use Rattle.fc_kinds.specs.declared.kind.Kind.TheVariants.{Dev, Num, Req, Stack, Unset, Vars};
 
 /// Containment of states is reflexive and transitive, and what a state contains each wider one does.
 pub fn containment_is_an_order()
@@ -93,4 +98,34 @@ pub fn programs_mean_what_runs_show()
 /// or 5.00.
 pub fn reply_codes_are_known()
     ensures { (method : Method) (n : ℕ) → is_reply_code method (reply_code method n) ≡ true }
+{}
+
+/// A program answers with one of four codes, and every other number is 5.00.
+/// R0 at the exit is the code: 2.05 (Content), 69, to a GET, or 2.04 (Changed), 68, to a POST;
+/// 4.00 (Bad Request), 128, 4.03 (Forbidden), 131, or 4.04 (Not Found), 132, to both. 0 stands for
+/// the method's success. Any other number gives 5.00 (Internal Server Error), 160 (RFC 7252,
+/// section 12.1.2).
+pub fn answers_are_let_through()
+    ensures success { (reply_code Get 0 ≡ 69) × (reply_code Post 0 ≡ 68) }
+    ensures to_a_get { map (reply_code Get) (69 ∷ 128 ∷ 131 ∷ 132 ∷ []) ≡ 69 ∷ 128 ∷ 131 ∷ 132 ∷ [] }
+    ensures to_a_post { map (reply_code Post) (68 ∷ 128 ∷ 131 ∷ 132 ∷ []) ≡ 68 ∷ 128 ∷ 131 ∷ 132 ∷ [] }
+    ensures no_others_to_a_get { (n : ℕ) → list_any (λ code. n == code) (0 ∷ 69 ∷ 128 ∷ 131 ∷ 132 ∷ []) ≡ false → reply_code Get n ≡ 160 }
+    ensures no_others_to_a_post { (n : ℕ) → list_any (λ code. n == code) (0 ∷ 68 ∷ 128 ∷ 131 ∷ 132 ∷ []) ≡ false → reply_code Post n ≡ 160 }
+{}
+
+/// At the entry R1, R2, R3 and R10 are set, and in version 2 R4 is set too.
+/// R1 points to the request, R2 to the variables, R10 to the end of a stack frame of 256 bytes,
+/// and R4 to the readings. R3 is the length of the payload, 0 to 1,024. All other registers are
+/// unset.
+pub fn registers_are_known_at_the_entry()
+    ensures one { entry One ≡ Unset ∷ Req (pos 0) (pos 0) ∷ Vars (pos 0) (pos 0) ∷ Num 0 1024 ∷ Unset ∷ Unset
+        ∷ Unset ∷ Unset ∷ Unset ∷ Unset ∷ Stack 0 (pos 256) (pos 256) ∷ [] }
+    ensures two { entry Two ≡ Unset ∷ Req (pos 0) (pos 0) ∷ Vars (pos 0) (pos 0) ∷ Num 0 1024 ∷ Dev (pos 0) (pos 0) ∷ Unset
+        ∷ Unset ∷ Unset ∷ Unset ∷ Unset ∷ Stack 0 (pos 256) (pos 256) ∷ [] }
+    ensures runs_of_one { (input : Input) → (start One input).regs ≡ NoValue ∷ Pointer Asked (pos 0) ∷ Pointer Variables (pos 0)
+        ∷ Number (length input.request.payload) ∷ NoValue ∷ NoValue
+        ∷ NoValue ∷ NoValue ∷ NoValue ∷ NoValue ∷ Pointer (Frame 0) (pos 256) ∷ [] }
+    ensures runs_of_two { (input : Input) → (start Two input).regs ≡ NoValue ∷ Pointer Asked (pos 0) ∷ Pointer Variables (pos 0)
+        ∷ Number (length input.request.payload) ∷ Pointer Readings (pos 0) ∷ NoValue
+        ∷ NoValue ∷ NoValue ∷ NoValue ∷ NoValue ∷ Pointer (Frame 0) (pos 256) ∷ [] }
 {}

@@ -18,8 +18,9 @@
 //! - Of every instruction: the registers' kinds after it, and on each way of a jump.
 //! - Joins are least. Effects, refinement and what a call hands on are monotone, and contain what the machine's step gives.
 //! - A run has at most one meaning; where it comes to its exit within the budget, that is what its program means. Its reply's code is its
-//!   method's success, 4.00, 4.03, 4.04 or 5.00.
-//! - At the entry R4 is unset in version 1, and points in version 2 to the readings, which are read and never written.
+//!   method's success, 4.00, 4.03, 4.04 or 5.00, by which numbers in R0 is said in literals.
+//! - What each register holds at the entry, in literals. R4 is unset in version 1, and points in version 2 to the readings, which are read
+//!   and never written.
 //!
 //! By the contracts of `after`, `refine`, `join`, `enter`, `entry`, `laws`.
 #![tactic(auto)]

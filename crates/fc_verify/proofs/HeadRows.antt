@@ -63,11 +63,6 @@ sum_budget : (shape_fault (head Two 26) (sum 1 4) ≡ None) × (shape_fault (hea
 unfolding shape_fault breaks_shape longest cost_in loops_of costs is_start frames
 sum_budget = (refl, refl)
 
--- in the first version no jump goes back
-sum_in_one : shape_fault (head One 65536) (sum 1 4) ≡ Some (6, BackwardJump)
-unfolding shape_fault breaks_shape longest cost_in loops_of costs is_start frames
-sum_in_one = refl
-
 -- a bound of 0 or 1,025, and a jump to itself
 form_of_jumps : breaks_form (sum 1 0) × breaks_form (sum 1 1025) × breaks_form (sum_over 0 (put 6 0) (Alu Add W64 7 (Reg 0)) 1 4)
 unfolding shape_fault breaks_shape longest cost_in loops_of costs is_start frames

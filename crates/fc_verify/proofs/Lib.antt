@@ -25,3 +25,4 @@ mod Rows
 mod HeadRows
 pub mod Lowered
 mod Pairing
+mod EntryTyping

@@ -54,13 +54,6 @@ thirteenth : (is_typable One 0 (joins (Alu Mov W64 0 (Imm (pos 0)))) ≡ true) �
 unfolding transfer when alu_kind interval_of alu_interval refined settled pass_from costs cost_in loops_of longest
 thirteenth = (refl, refl, refl)
 
-abbrev payload : ℤ → List Insn
-payload offset = Alu Mov W64 4 (Reg 1) ∷ Alu Add W64 4 (Reg 3) ∷ Load (Unsigned Byte) 0 4 offset ∷ Exit ∷ []
-
-fifth : (is_typable One 0 (payload (pos 80)) ≡ false) × (is_typable One 0 (payload (pos 79)) ≡ true)
-unfolding transfer when alu_kind interval_of alu_interval refined settled pass_from costs cost_in loops_of longest
-fifth = (refl, refl)
-
 -- ---- calls
 
 abbrev types : List Insn → Bool
@@ -112,14 +105,3 @@ frames_of offset = moves 1 10 ∷ CallLocal (pos 1) ∷ Exit ∷ StoreImm Byte 1
 frames_are_apart : (types (frames_of (negsuc 255)) ≡ true) × (types (frames_of (negsuc 256)) ≡ false) × (types (frames_of (pos 0)) ≡ false)
 unfolding transfer when alu_kind interval_of alu_interval refined settled pass_from costs cost_in loops_of longest
 frames_are_apart = (refl, refl, refl)
-
--- in the second version R4 points to the readings, which may be read; in the first it is unset
-abbrev reads_at : ℤ → List Insn
-reads_at offset = Load (Unsigned DoubleWord) 0 4 offset ∷ Exit ∷ []
-
-abbrev types_in : ImageVersion → List Insn → Bool
-types_in version code = is_typable version 0 code
-
-readings_are_read : (types_in Two (reads_at (pos 56)) ≡ true) × (types_in Two (reads_at (pos 57)) ≡ false) × (types_in One (reads_at (pos 56)) ≡ false) × (types_in Two (StoreImm Byte 4 (pos 0) (pos 1) ∷ reads_at (pos 0)) ≡ false)
-unfolding transfer when alu_kind interval_of alu_interval refined settled pass_from costs cost_in loops_of longest
-readings_are_read = (refl, refl, refl, refl)

@@ -9,3 +9,4 @@ pub mod Runs
 pub mod Verified
 pub mod Ops
 pub mod Pairs
+pub mod EntryRows

@@ -19,6 +19,7 @@
 //! - An image is judged acceptable exactly where it keeps every rule of its version, costs no more than its budget and has some typing, which at the
 //!   head of a counted loop holds in each turn, and in which R4 at the entry is unset in version 1. In version 2 it points to the readings
 //!   there: a store through that pointer is refused, and a load within its 64 bytes is not.
+//! - Which registers a program may use at its entry, and how far it may read and write from each, is said of short programs.
 //! - What is accepted is acceptable. Each refusal names the rule that is broken first and its slot, or that memory was refused, of an image
 //!   whose header keeps its rules. Where only the typing is missing it names some slot of the program, and `pass::typed` tells what the
 //!   pass knows of the registers there and the demand that isn't met: the instruction's own, a number in a loop's body, or a
@@ -29,7 +30,7 @@
 //!   next isn't the first of another.
 //!
 //! By the contracts of `verify`, `pass::typed`, `Verified::ops`, `laws::judgement_is_right`, `laws::judgement_is_only`, `laws::typings_are_found`,
-//! `laws::accepted_programs_run`, `laws::typed_programs_end`, `laws::pairs_are_these`.
+//! `laws::accepted_programs_run`, `laws::typed_programs_end`, `laws::pairs_are_these`, `laws::programs_reach_what_the_entry_holds`.
 #![tactic(auto)]
 
 pub mod laws;

@@ -1,0 +1,80 @@
+//! Whether a database is empty, or has just the table of slots.
+ghost use Rattle.std.specs.Prelude.{◌≡◌, true, []};
+ghost use Rattle.sqlite.specs.Collation.TheVariants.{Binary};
+ghost use Rattle.sqlite.specs.declared.types.Value.TheVariants.{Null};
+ghost use Rattle.fc_sql.specs.Table.{no_schema, slot_schema, slot_table};
+
+use sqlite_schema::schema::{Column, Kind, Schema, Table};
+use sqlite_value::keys::Collation;
+use sqlite_value::value::Value;
+
+// Returns whether the database has no table, index or view.
+pub(crate) fn is_empty(schema: &Schema) -> bool
+    ensures { result ≡ true → schema.now ≡ no_schema }
+{
+    schema.tables.as_slice().is_empty()
+        && schema.indexes.as_slice().is_empty()
+        && schema.views.as_slice().is_empty()
+}
+
+// Returns whether the database has just the table of slots.
+pub(crate) fn has_slots(schema: &Schema) -> bool
+    ensures { result ≡ true → schema.now ≡ slot_schema }
+{
+    match schema.tables.as_slice() {
+        [table] => schema.indexes.as_slice().is_empty()
+            && schema.views.as_slice().is_empty()
+            && is_slot_table(table),
+        _ => false,
+    }
+}
+
+fn is_slot_table(table: &Table) -> bool
+    ensures { result ≡ true → table.now ≡ slot_table }
+{
+    table.name.as_slice() == b"slot".as_slice()
+        && table.tree == 0
+        && table.key == Some(0)
+        && table.primary.as_slice() == [0].as_slice()
+        && !table.is_counted
+        && has_slot_columns(table.columns.as_slice())
+        && has_no_rules(table)
+}
+
+fn has_slot_columns(columns: &[Column]) -> bool
+    ensures { result ≡ true → columns.now ≡ slot_table.columns }
+{
+    match columns {
+        [number, serial, version, image, vars] => is_column(number, b"number", Kind::Integer, false)
+            && is_column(serial, b"serial", Kind::Integer, true)
+            && is_column(version, b"version", Kind::Integer, false)
+            && is_column(image, b"image", Kind::Blob, false)
+            && is_column(vars, b"vars", Kind::Blob, false),
+        _ => false,
+    }
+}
+
+fn is_column(column: &Column, name: &[u8], kind: Kind, not_null: bool) -> bool
+    ensures { result ≡ true → column.now ≡ record { name = name.now; kind = kind; is_strict = true; not_null = not_null; default = Null; collation = Binary } }
+{
+    column.name.as_slice() == name
+        && column.kind == kind
+        && column.is_strict
+        && column.not_null == not_null
+        && matches!(column.default, Value::Null)
+        && column.collation == Collation::Binary
+}
+
+// Returns whether the table has no other key, check, reference or default.
+fn has_no_rules(table: &Table) -> bool
+    ensures { result ≡ true → table.now ≡ record table.now { uniques = []; orders = []; checks = []; references = []; computed = []; stamps = record { places = []; terms = []; formats = [] } } }
+{
+    table.uniques.as_slice().is_empty()
+        && table.orders.as_slice().is_empty()
+        && table.checks.roots.as_slice().is_empty()
+        && table.references.as_slice().is_empty()
+        && table.computed.as_slice().is_empty()
+        && table.stamps.places.as_slice().is_empty()
+        && table.stamps.terms.roots.as_slice().is_empty()
+        && table.stamps.formats.as_slice().is_empty()
+}

@@ -1,0 +1,74 @@
+//! A store in a database.
+ghost use Rattle.std.specs.Prelude.{◌≡◌, true, length, IsTrue};
+ghost use Rattle.sqlite.specs.State.{HasCleanDisk};
+ghost use Rattle.sqlite.specs.Held.{state};
+ghost use Rattle.sqlite.specs.Tree.{Trees};
+ghost use Rattle.fc_store.specs.Updates.{AreSameSlots};
+ghost use Rattle.fc_store.specs.Stored.{stored_in};
+ghost use Rattle.fc_sql.specs.Table.{IsMirrored, slots_of};
+
+use crate::error::OpenError;
+use crate::load::load;
+use crate::table::write;
+use fc_store::{SlotUpdate, Store, StoredSlot};
+use sqlite::{Alter, Connection};
+use std::alloc::Global;
+
+/// A store in a database: its connection, and a copy of the stored slots in memory.
+#[derive(Drop)]
+pub struct SqlStore<S: Alter + Drop> {
+    alloc: Global,
+    conn: Connection<S>,
+    slots: Vec<StoredSlot>,
+    ghost size: { length slots.items ≡ 64 },
+}
+
+impl<S: Alter + Drop> SqlStore<S> {
+    /// Makes a store of a database: an empty one gets the table of slots.
+    ///
+    /// # Errors
+    /// Returns why the database isn't a store of slots. See [`load`].
+    pub fn over(alloc: Global, mut conn: Connection<S>) -> Result<SqlStore<S>, OpenError> {
+        let slots = load(alloc, &mut conn)?;
+        Ok(SqlStore { alloc, conn, slots })
+    }
+
+    /// Returns the stored slots, by their numbers.
+    pub fn slots(&self) -> &[StoredSlot]
+        ensures { result.now ≡ self.now.slots.items }
+    {
+        &self.slots
+    }
+}
+
+impl<S: Alter + Drop> Store for SqlStore<S> {
+    ghost persistent = { λ _. true };
+
+    ghost stored = { λ s. stored_in s.slots.items };
+
+    ghost is_clean = { λ s. HasCleanDisk (state S.Store s.conn) };
+
+    ghost is_ready = { λ s. IsMirrored (state S.Store s.conn) (stored_in s.slots.items) };
+
+    ghost is_open = { λ s. IsTrue (state S.Store s.conn).is_open };
+
+    ghost may_recover = { λ s found. (db : Trees) × S.Store.recovers s.conn.store db × AreSameSlots found (slots_of (db 0)) };
+
+    fn is_persistent(&self) -> bool {
+        true
+    }
+
+    fn save(&mut self, update: &SlotUpdate<'_>) -> bool {
+        let slot = usize::from(update.slot);
+        match self.slots[slot].after(self.alloc, update) {
+            Ok(stored) => {
+                if !write(&mut self.conn, update.slot, &stored) {
+                    return false;
+                }
+                self.slots[slot] = stored;
+                true
+            }
+            Err(_) => false,
+        }
+    }
+}

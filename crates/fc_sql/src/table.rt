@@ -1,0 +1,117 @@
+//! The table of slots, and the statement that writes a row.
+ghost use Rattle.std.specs.Prelude.{◌≡◌, ◌⊎◌, ◌<◌, ◌^◌, if◌then◌else◌, pos, true, IsTrue, Some, None};
+ghost use Rattle.sqlite.specs.Tree.{Trees};
+ghost use Rattle.sqlite.specs.State.{CommitsBy, HasCleanDisk, Survives};
+ghost use Rattle.sqlite.specs.Held.{state};
+ghost use Rattle.fc_store.specs.Updates.{AreSameSlots};
+ghost use Rattle.fc_store.specs.Stored.{StoredSlots};
+ghost use Rattle.fc_sql.specs.Table.{AreStorable, IsMirrored, Puts, put_text, row_values, slots_of, with_stored_slot};
+
+use fc_store::{StoredProgram, StoredSlot};
+use sqlite::types::{ToSql, ValueRef};
+use sqlite::{Alter, Connection, params};
+
+/// Creates the table: a row for each slot that was ever updated.
+///
+/// A slot without a program has no version, no image and no variables.
+pub const TABLE: &str =
+    "CREATE TABLE slot (number INTEGER PRIMARY KEY, serial INTEGER NOT NULL, version INTEGER, image BLOB, vars BLOB) STRICT";
+
+/// Writes the row of a slot, in place of the one that it has.
+pub const PUT: &str =
+    "INSERT OR REPLACE INTO slot (number, serial, version, image, vars) VALUES (?1, ?2, ?3, ?4, ?5)";
+
+// The greatest integer of the table.
+const GREATEST: u64 = 9_223_372_036_854_775_807;
+
+/// Writes the row of `slot`. Returns whether the row is written and committed.
+///
+/// Returns `false` if the serial or the version is above the greatest integer of SQLite, 2^63 - 1, or
+/// if the statement fails.
+pub fn write<S: Alter>(conn: &mut Connection<S>, slot: u8, stored: &StoredSlot) -> bool
+    ensures stored { (before : StoredSlots) → IsMirrored (state S.Store conn.old) before → IsTrue (state S.Store conn.old).is_open
+        → IsMirrored (state S.Store conn.new) (if result then with_stored_slot slot stored.now before else before) }
+    ensures clean { HasCleanDisk (state S.Store conn.new) → HasCleanDisk (state S.Store conn.old) }
+    ensures open { (before : StoredSlots) → IsMirrored (state S.Store conn.old) before → IsTrue (state S.Store conn.old).is_open → HasCleanDisk (state S.Store conn.new)
+        → result ≡ true → IsTrue (state S.Store conn.new).is_open }
+    ensures crash { (before : StoredSlots) → IsMirrored (state S.Store conn.old) before → IsTrue (state S.Store conn.old).is_open → HasCleanDisk (state S.Store conn.new)
+        → (db : Trees) → S.Store.recovers conn.new.store db
+        → S.Store.recovers conn.old.store db ⊎ AreSameSlots (slots_of (db 0)) (with_stored_slot slot stored.now before) }
+{
+    fits(stored) && put(conn, slot, stored)
+}
+
+// Writes the row of a slot whose numbers are integers of SQLite.
+fn put<S: Alter>(conn: &mut Connection<S>, slot: u8, stored: &StoredSlot) -> bool
+    requires storable { AreStorable stored.now }
+    ensures runs { HasCleanDisk (state S.Store conn.new) → Puts slot stored.now (state S.Store conn.old) (state S.Store conn.new) result }
+    ensures survives { Survives (state S.Store conn.old) (state S.Store conn.new)
+        (CommitsBy put_text (row_values slot stored.now) (state S.Store conn.old)) }
+{
+    match &stored.program {
+        Some(program) => put_program(conn, slot, stored.serial, program),
+        None => put_none(conn, slot, stored.serial),
+    }
+}
+
+fn put_program<S: Alter>(
+    conn: &mut Connection<S>,
+    slot: u8,
+    serial: u64,
+    program: &StoredProgram,
+) -> bool
+    requires serial { serial < 2 ^ 63 }
+    requires version { program.now.version < 2 ^ 63 }
+    ensures runs { HasCleanDisk (state S.Store conn.new)
+        → Puts slot (record { serial = serial; program = Some program.now }) (state S.Store conn.old) (state S.Store conn.new) result }
+    ensures survives { Survives (state S.Store conn.old) (state S.Store conn.new)
+        (CommitsBy put_text (row_values slot (record { serial = serial; program = Some program.now })) (state S.Store conn.old)) }
+{
+    let (serial, version) = (int(serial), int(program.version));
+    let image = program.image.as_slice();
+    let vars = program.vars.as_slice();
+    let row = conn.execute(PUT, params![i64::from(slot), serial, version, image, vars]);
+    row.is_ok()
+}
+
+fn put_none<S: Alter>(conn: &mut Connection<S>, slot: u8, serial: u64) -> bool
+    requires serial { serial < 2 ^ 63 }
+    ensures runs { HasCleanDisk (state S.Store conn.new)
+        → Puts slot (record { serial = serial; program = None }) (state S.Store conn.old) (state S.Store conn.new) result }
+    ensures survives { Survives (state S.Store conn.old) (state S.Store conn.new)
+        (CommitsBy put_text (row_values slot (record { serial = serial; program = None })) (state S.Store conn.old)) }
+{
+    let serial = int(serial);
+    let none = ValueRef::Null;
+    let row = conn.execute(
+        PUT,
+        &[
+            ValueRef::Int(i64::from(slot)),
+            ValueRef::Int(serial),
+            none,
+            none,
+            none,
+        ],
+    );
+    row.is_ok()
+}
+
+fn int(n: u64) -> i64
+    requires { n < 2 ^ 63 }
+    ensures { result ≡ pos n }
+{
+    n as i64
+}
+
+// Returns whether the serial and the version are integers of SQLite.
+fn fits(stored: &StoredSlot) -> bool
+    ensures { result ≡ true → AreStorable stored.now }
+{
+    if stored.serial > GREATEST {
+        return false;
+    }
+    match &stored.program {
+        Some(program) => program.version <= GREATEST,
+        None => true,
+    }
+}

@@ -1,0 +1,40 @@
+//! Persistent state of the slots: the trait of a store, and what a crash leaves in it.
+//!
+//! A server saves an update of a slot before it makes the change: [`Store::save`] gets a [`SlotUpdate`],
+//! the slot's next serial and the change of its program. If it returns `true`, each start after a later
+//! crash finds the update, until the next one is saved. If it returns `false`, the stored slots are as
+//! before and the server must not make the change; a crash may then leave either.
+//!
+//! ```rust
+//! use fc_store::{ProgramUpdate, SlotUpdate, Store};
+//!
+//! /// Returns whether the server may remove the program of slot 3, at serial 8.
+//! fn may_remove<S: Store>(store: &mut S) -> bool {
+//!     let update = SlotUpdate {
+//!         slot: 3,
+//!         serial: 8,
+//!         program: ProgramUpdate::Remove,
+//!     };
+//!     !store.is_persistent() || store.save(&update)
+//! }
+//! ```
+//!
+//! # What is proved
+//!
+//! - A save that returns `true` stores just its update, of its slot alone. One that returns `false` leaves
+//!   all stored slots as they were.
+//! - While the medium returns what was written to it, a start after a crash finds just the stored slots
+//!   if the last save returned `true`. If it returned `false`, a start finds what it could find before
+//!   the call, or the slots with that update.
+//! - A store in memory and an optional store meet these clauses.
+//!
+//! By the contracts of `StoredSlot::after`, `MemoryStore::new`, the clauses of `Store`.
+#![tactic(auto)]
+
+pub mod memory;
+pub mod store;
+pub mod stored;
+
+pub use memory::{MemoryStore, SLOTS, blank_slots};
+pub use store::{ProgramUpdate, SlotUpdate, Store};
+pub use stored::{StoredProgram, StoredSlot};

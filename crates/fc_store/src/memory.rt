@@ -1,0 +1,84 @@
+//! A store in memory, for tests: it doesn't outlast the process, and can be made to refuse updates.
+ghost use Rattle.std.specs.Prelude.{◌≡◌, ◌<◌, ℕ, true, false, length, replicate, IfOk};
+ghost use Rattle.fc_store.specs.Updates.{AreSameSlots};
+ghost use Rattle.fc_store.specs.Stored.{blank_slot, stored_in};
+
+use crate::store::{SlotUpdate, Store};
+use crate::stored::StoredSlot;
+use std::alloc::{AllocError, Global};
+
+/// The number of slots of a server.
+pub const SLOTS: usize = 64;
+
+/// A store in memory, which refuses each update while `refuses` is set.
+#[derive(Drop)]
+pub struct MemoryStore {
+    alloc: Global,
+    slots: Vec<StoredSlot>,
+    pub refuses: bool,
+    ghost size: { length slots.items ≡ 64 },
+}
+
+impl MemoryStore {
+    /// Makes a store of 64 blank slots.
+    ///
+    /// # Errors
+    /// Returns `AllocError` if memory can't be allocated.
+    pub fn new(alloc: Global) -> Result<MemoryStore, AllocError>
+        ensures slots { IfOk result (λ s. s.slots.items ≡ replicate 64 blank_slot) }
+        ensures refuses { IfOk result (λ s. s.refuses ≡ false) }
+    {
+        Ok(MemoryStore {
+            alloc,
+            slots: blank_slots(alloc)?,
+            refuses: false,
+        })
+    }
+
+    /// Returns the stored slots, by their numbers.
+    pub fn slots(&self) -> &[StoredSlot]
+        ensures { result.now ≡ self.now.slots.items }
+    {
+        &self.slots
+    }
+}
+
+/// Makes a list of 64 blank slots.
+///
+/// # Errors
+/// Returns `AllocError` if memory can't be allocated.
+pub fn blank_slots(alloc: Global) -> Result<Vec<StoredSlot>, AllocError>
+    ensures { IfOk result (λ v. v.items ≡ replicate 64 blank_slot) }
+{
+    let mut slots = Vec::with_capacity(alloc, SLOTS)?;
+    for _slot in 0..SLOTS {
+        slots.push(StoredSlot::blank())?;
+    }
+    Ok(slots)
+}
+
+impl Store for MemoryStore {
+    ghost persistent = { λ _. true };
+
+    ghost stored = { λ s. stored_in s.slots.items };
+
+    ghost may_recover = { λ s found. AreSameSlots found (stored_in s.slots.items) };
+
+    fn is_persistent(&self) -> bool {
+        true
+    }
+
+    fn save(&mut self, update: &SlotUpdate<'_>) -> bool {
+        if self.refuses {
+            return false;
+        }
+        let slot = usize::from(update.slot);
+        match self.slots[slot].after(self.alloc, update) {
+            Ok(stored) => {
+                self.slots[slot] = stored;
+                true
+            }
+            Err(_) => false,
+        }
+    }
+}
