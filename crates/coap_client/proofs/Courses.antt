@@ -136,6 +136,33 @@ pub leads_on : (went came : List ℕ → Type 0) (before between after : List Pe
 leads_on went came before between after e first known old new m step state u a s is =
     one_more went came before between after e first known old.id old.earlier.items old.part old.body.items old.etag.items m new.id new.earlier.items state u a is s.id s.earlier
 
+-- and there are as many replies
+abbrev pub HasCounted : (List ℕ → Type 0) → (List ℕ → Type 0) → (List PeerCall → Type 0) → (List PeerCall → Type 0) → Errand → ℕ → List ℕ → ℕ → List ℕ → State → ℕ → Type 0
+HasCounted went came before now e first known id earlier state n = (u : IsFetching went came before now e first known id earlier state) × (n ≤ length u.replies)
+
+longer : (went came : List ℕ → Type 0) (before between after : List PeerCall → Type 0) (e : Errand) (first : ℕ) (known : List ℕ) (old new : Course) (m : Message) (step : Step) (state : State) →
+    (u : IsFetching went came before between e first known old.id old.earlier.items (Out old.part old.body.items old.etag.items)) →
+    (a : IsExchanged went came between after e old.id old.earlier.items old.part m) → (s : IsStepOf (length e.payload.now) m old new step) →
+    (is : after_reply (length e.payload.now) m (Out old.part old.body.items old.etag.items) ≡ state) →
+    (leads_on went came before between after e first known old new m step state u a s is).replies ≡ m ∷ u.replies
+unfolding leads_on one_more
+longer went came before between after e first known old new m step state u a s is = refl
+
+pub counts_on : (went came : List ℕ → Type 0) (before between after : List PeerCall → Type 0) (e : Errand) (first : ℕ) (known : List ℕ) (old new : Course) (m : Message) (step : Step) (state : State) (n : ℕ) →
+    HasCounted went came before between e first known old.id old.earlier.items (Out old.part old.body.items old.etag.items) n →
+    IsExchanged went came between after e old.id old.earlier.items old.part m → IsStepOf (length e.payload.now) m old new step →
+    after_reply (length e.payload.now) m (Out old.part old.body.items old.etag.items) ≡ state →
+    HasCounted went came before after e first known new.id new.earlier.items state (n + 1)
+counts_on went came before between after e first known old new m step state n h a s is =
+    let many = h.1 in
+    let one = ap length (longer went came before between after e first known old new m step state h.0 a s is) in
+    (leads_on went came before between after e first known old new m step state h.0 a s is, omega (arith, many, one))
+
+pub begins_counted : (went came : List ℕ → Type 0) (now : List PeerCall → Type 0) (e : Errand) (first : ℕ) (known : List ℕ) (part : Part) (body etag : List ℕ) →
+    first < 65536 → part ≡ first_part e.method (length e.payload.now) → body ≡ [] → etag ≡ [] →
+    HasCounted went came now now e first known first known (Out part body etag) 0
+begins_counted went came now e first known part body etag below p b t = (begins went came now e first known part body etag below p b t, omega arith)
+
 -- replies behind those whose last one was outdated
 pub leads_again : (went came : List ℕ → Type 0) (before between after : List PeerCall → Type 0) (e : Errand) (first next : ℕ) (known : List ℕ) (state : State) → e.method ≡ Get →
     IsFetching went came before between e first [] next known Outdated →

@@ -1,5 +1,7 @@
 pub mod Transmitting
+pub mod Failing
 pub mod Courses
+pub mod Stopping
 pub mod NextParts
 pub mod Sizes
 pub mod Splitting
@@ -7,6 +9,7 @@ pub mod SentBodies
 mod JoinedAnswers
 mod TakenBlocks
 pub mod Scheduled
+pub mod Resets
 pub mod Observes
 pub mod ObserverCalls
 pub mod Watching

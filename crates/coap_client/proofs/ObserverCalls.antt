@@ -11,8 +11,8 @@ use Rattle.coap_client.specs.Heard.{IsReadAs}
 use Rattle.coap_client.specs.Listening.{ArePassedOver, EndsOn, IsOver, IsPassedOver, acknowledges, is_passed_over}
 use Rattle.coap_client.specs.Notes.{HasArrived, HasOwnResponse, IsAcknowledgementOf, IsResponseWith, TellsObserver}
 use Rattle.coap_client.specs.Notices.{IsOwnResponse, notice_after}
-use Rattle.coap_client.specs.ObserverCalls.{AcknowledgesNotification, AreObserverSteps, AwaitsNotification, IsAnsweredRegistration, IsAcknowledgedLeaving, IsNoNotification, IsNoticed, IsObservation, IsObserverStep, IsObserving, IsOlderNotification, IsPassedOverLeaving, IsPassedOverWatching}
-use Rattle.coap_client.specs.PeerCalls.{Adds, PeerCall, Receives, Waits}
+use Rattle.coap_client.specs.ObserverCalls.{AcknowledgesNotification, AreObserverSteps, AwaitsNotification, Dated, IsDatedRegistration, IsAcknowledgedLeaving, IsNoNotification, IsNoticed, IsObservation, IsObserverStep, IsObserving, IsOlderNotification, IsPassedOverLeaving, IsPassedOverWatching, dates}
+use Rattle.coap_client.specs.PeerCalls.{Adds, PeerCall, Reads, Receives, Waits}
 use Rattle.coap_client.specs.Replies.{IsReset}
 use Rattle.coap_client.specs.declared.observing.Observer.{Observer}
 use Rattle.coap_client.specs.Transmissions.{MakesCalls}
@@ -67,10 +67,19 @@ pub no_notification : (token bytes : List ℕ) (now : Calls) → (IsReadAs bytes
 no_notification token bytes now other = does now now (IsNoNotification token bytes) [] (λ calls h. h) (other, refl)
 
 -- a notification came, and was acknowledged
-pub noticed : (token : List ℕ) (passes : Passes) (bytes : List ℕ) (before between after : Calls) → IsReadAs bytes (IsOwnResponse token) → MakesCalls before between (EndsOn passes bytes)
-    → Adds between after (acknowledges bytes) → MakesCalls before after (IsNoticed token passes bytes)
-noticed token passes bytes before between after own one adds =
-    does_then before between after (EndsOn passes bytes) (IsNoticed token passes bytes) (acknowledges bytes) one adds (λ heard h. record { own = own; heard = heard; ends = h; is = refl })
+pub record EndsAcknowledged (passes : Passes) (bytes : List ℕ) (calls : List PeerCall) : Type 0 where
+  pub heard : List PeerCall
+  pub ends : EndsOn passes bytes heard
+  pub is : calls ≡ acknowledges bytes ++ heard
+
+-- and then the clock was read
+pub noticed : (token : List ℕ) (passes : Passes) (bytes : List ℕ) (moment : ℕ) (before between acknowledged after : Calls) → IsReadAs bytes (IsOwnResponse token)
+    → MakesCalls before between (EndsOn passes bytes) → Adds between acknowledged (acknowledges bytes) → Adds acknowledged after (Reads moment ∷ [])
+    → MakesCalls before after (IsNoticed token passes bytes moment)
+noticed token passes bytes moment before between acknowledged after own one adds reads =
+    does_then before acknowledged after (EndsAcknowledged passes bytes) (IsNoticed token passes bytes moment) (Reads moment ∷ [])
+    (does_then before between acknowledged (EndsOn passes bytes) (EndsAcknowledged passes bytes) (acknowledges bytes) one adds (λ heard h. record { heard = heard; ends = h; is = refl })) reads
+    (λ calls h. record { own = own; heard = h.heard; ends = h.ends; is = ap (λ (x : List PeerCall). Reads moment ∷ x) h.is })
 
 -- others are passed over behind these
 passed_behind : (other passes : Passes) → ((bytes : List ℕ) (sent : List PeerCall) → other bytes sent → passes bytes sent) → (m n : ℕ) (newer older : List PeerCall)
@@ -101,7 +110,7 @@ enough_passed passes least before after full one =
     does_of before after (HasPassed passes least) (IsOver passes) one
     (λ heard h. record { n = h.n; older = heard; before = h.are; is = inr (refl, (let m = h.many in omega (arith, m, full))) })
 
-awaits_behind : (token : List ℕ) (other passes : Passes) → ((bytes : List ℕ) (sent : List PeerCall) → other bytes sent → passes bytes sent) → (least : ℕ) (older newer : List PeerCall) (answer : Option (List ℕ))
+awaits_behind : (token : List ℕ) (other passes : Passes) → ((bytes : List ℕ) (sent : List PeerCall) → other bytes sent → passes bytes sent) → (least : ℕ) (older newer : List PeerCall) (answer : Option Dated)
     → HasPassed passes least older → AwaitsNotification token other answer newer → AwaitsNotification token passes answer (newer ++ older)
 awaits_behind token other passes turns least older newer None a b = record {
   n = b.n + a.n;
@@ -112,7 +121,7 @@ awaits_behind token other passes turns least older newer None a b = record {
     | inr full ↦ inr (ap (λ (x : List PeerCall). x ++ older) full.0, (let m = full.1 in omega (arith, m)))
   ];
 }
-awaits_behind token other passes turns least older newer (Some bytes) a b =
+awaits_behind token other passes turns least older newer (Some (bytes, moment)) a b =
     let ends = b.ends in
     record {
       own = b.own;
@@ -123,14 +132,14 @@ awaits_behind token other passes turns least older newer (Some bytes) a b =
         before = passed_behind other passes turns ends.n a.n ends.older older ends.before a.are;
         is = ap (λ (x : List PeerCall). x ++ older) ends.is;
       };
-      is = ap (λ (x : List PeerCall). x ++ older) b.is ∙ append_assoc (acknowledges bytes) b.heard older;
+      is = ap (λ (x : List PeerCall). x ++ older) b.is ∙ append_assoc (dates bytes moment) b.heard older;
     }
 
 watching : (told : ℕ → Type 0) (token : List ℕ) (w : Watch) (bytes : List ℕ) (sent : List PeerCall) → IsNoNotification token bytes sent → IsPassedOverWatching told token w bytes sent
 watching told token w bytes sent none = inr none
 
 -- the next notification that comes is shown, or the wait is over
-pub awaits_next : (told : ℕ → Type 0) (token : List ℕ) (w : Watch) (least : ℕ) (answer : Option (List ℕ)) (before between after : Calls)
+pub awaits_next : (told : ℕ → Type 0) (token : List ℕ) (w : Watch) (least : ℕ) (answer : Option Dated) (before between after : Calls)
     → MakesCalls before between (HasPassed (IsPassedOverWatching told token w) least) → MakesCalls between after (AwaitsNotification token (IsNoNotification token) answer)
     → MakesCalls before after (AwaitsNotification token (IsPassedOverWatching told token w) answer)
 awaits_next told token w least answer before between after one other =
@@ -139,12 +148,13 @@ awaits_next told token w least answer before between after one other =
     (λ older newer a b. awaits_behind token (IsNoNotification token) passes (watching told token w) least older newer answer a b)
 
 -- or it is passed over
-pub older_passed : (told : ℕ → Type 0) (token : List ℕ) (w : Watch) (least : ℕ) (bytes : List ℕ) (before between after : Calls) → IsOlderNotification told token w bytes
-    → MakesCalls before between (HasPassed (IsPassedOverWatching told token w) least) → MakesCalls between after (AwaitsNotification token (IsNoNotification token) (Some bytes))
+pub older_passed : (told : ℕ → Type 0) (token : List ℕ) (w : Watch) (least : ℕ) (bytes : List ℕ) (moment : ℕ) (before between after : Calls)
+    → IsOlderNotification told token w bytes (dates bytes moment) → MakesCalls before between (HasPassed (IsPassedOverWatching told token w) least)
+    → MakesCalls between after (AwaitsNotification token (IsNoNotification token) (Some (bytes, moment)))
     → MakesCalls before after (HasPassed (IsPassedOverWatching told token w) (least + 1))
-older_passed told token w least bytes before between after is_older one other =
+older_passed told token w least bytes moment before between after is_older one other =
     let passes = IsPassedOverWatching told token w in
-    does_both before between after (HasPassed passes least) (IsNoticed token (IsNoNotification token) bytes) (HasPassed passes (least + 1)) one other
+    does_both before between after (HasPassed passes least) (IsNoticed token (IsNoNotification token) bytes moment) (HasPassed passes (least + 1)) one other
     (λ older newer a b.
     let ends = b.ends in
     let many : least ≤ a.n = a.many in
@@ -155,15 +165,15 @@ older_passed told token w least bytes before between after is_older one other =
         older = ends.older ++ older;
         before = passed_behind (IsNoNotification token) passes (watching told token w) ends.n a.n ends.older older ends.before a.are;
         bytes = bytes;
-        sent = acknowledges bytes;
-        passed = inl (is_older, refl);
-        is = ap (λ (x : List PeerCall). x ++ older) b.is ∙ append_assoc (acknowledges bytes) b.heard older ∙ ap (λ (x : List PeerCall). acknowledges bytes ++ (x ++ older)) ends.is;
+        sent = dates bytes moment;
+        passed = inl is_older;
+        is = ap (λ (x : List PeerCall). x ++ older) b.is ∙ append_assoc (dates bytes moment) b.heard older ∙ ap (λ (x : List PeerCall). dates bytes moment ++ (x ++ older)) ends.is;
       };
     })
 
 -- what is told to be older is
 pub is_older : (went came : List ℕ → Type 0) (told : ℕ → Type 0) (token bytes : List ℕ) (w now : Watch) (m : Message) (moment at : ℕ) (notice : Notice) → HasOwnResponse went came token bytes
-    → reading_of bytes ≡ Ok m → told moment → now ≡ w → at ≡ max now.at moment → notice ≡ notice_after now at m → notice ≡ Older → IsOlderNotification told token w bytes
+    → reading_of bytes ≡ Ok m → told moment → now ≡ w → at ≡ max now.at moment → notice ≡ notice_after now at m → notice ≡ Older → IsOlderNotification told token w bytes (dates bytes moment)
 is_older went came told token bytes w now m moment at notice own read told_is same is_at is older =
     let spelled : own.message ≡ m = cc (own.heard.read_is, read) in
     record {
@@ -173,6 +183,7 @@ is_older went came told token bytes w now m moment at notice own read told_is sa
       moment = moment;
       told_is = told_is;
       older = subst (λ (x : Watch). notice_after x (max x.at moment) m ≡ Older) same (subst (λ (x : ℕ). notice_after now x m ≡ Older) is_at (sym is ∙ older));
+      sent_is = refl;
     }
 
 -- ---- while it is registered
@@ -180,35 +191,49 @@ is_older went came told token bytes w now m moment at notice own read told_is sa
 one_more_step : (token : List ℕ) (older step : List PeerCall) → IsObserverStep token step → IsObserving token older → IsObserving token (step ++ older)
 one_more_step token older step is_step steps = (suc steps.0, record { older = older; before = steps.1; step = step; is_step = is_step; is = refl })
 
+-- a wait is begun
+pub waiting_step : (token : List ℕ) (seconds : ℕ) (older : List PeerCall) → IsObserving token older → IsObserving token (Waits seconds ∷ older)
+waiting_step token seconds older steps = one_more_step token older (Waits seconds ∷ []) (inl (seconds, refl)) steps
+
+-- the clock is read
+pub reading_step : (token : List ℕ) (moment : ℕ) (older : List PeerCall) → IsObserving token older → IsObserving token (Reads moment ∷ older)
+reading_step token moment older steps = one_more_step token older (Reads moment ∷ []) (inr (inr (inl (moment, refl)))) steps
+
 -- a datagram came
 step_of : (token bytes : List ℕ) (sent older : List PeerCall) → AcknowledgesNotification token bytes sent → IsObserving token older → IsObserving token (sent ++ Receives (Some bytes) ∷ older)
 step_of token bytes sent older acknowledged steps =
     subst (IsObserving token) (append_assoc sent (Receives (Some bytes) ∷ []) older)
-    (one_more_step token older (sent ++ Receives (Some bytes) ∷ []) (inr (inr (record { bytes = bytes; sent = sent; acknowledged = acknowledged; is = refl }))) steps)
+    (one_more_step token older (sent ++ Receives (Some bytes) ∷ []) (inr (inr (inr (record { bytes = bytes; sent = sent; acknowledged = acknowledged; is = refl })))) steps)
 
-passed_steps : (token : List ℕ) (passes : Passes) → ((bytes : List ℕ) (sent : List PeerCall) → passes bytes sent → AcknowledgesNotification token bytes sent) → (n : ℕ) (calls : List PeerCall)
-    → ArePassedOver passes n calls → IsObserving token calls
-passed_steps token passes turns zero calls none = (0, none)
-passed_steps token passes turns (suc n) calls one =
-    subst (IsObserving token) (sym one.is) (step_of token one.bytes one.sent one.older (turns one.bytes one.sent one.passed) (passed_steps token passes turns n one.older one.before))
+-- it was a notification, and the clock is read
+dated_step : (token bytes : List ℕ) (moment : ℕ) (older : List PeerCall) → IsReadAs bytes (IsOwnResponse token) → IsObserving token older
+    → IsObserving token (dates bytes moment ++ Receives (Some bytes) ∷ older)
+dated_step token bytes moment older own steps = reading_step token moment (acknowledges bytes ++ Receives (Some bytes) ∷ older) (step_of token bytes (acknowledges bytes) older (inl (own, refl)) steps)
 
-watched : (told : ℕ → Type 0) (token : List ℕ) (w : Watch) (bytes : List ℕ) (sent : List PeerCall) → IsPassedOverWatching told token w bytes sent → AcknowledgesNotification token bytes sent
-watched told token w bytes sent (inl older) = inl (record { message = older.0.message; read_is = older.0.read_is; holds = older.0.own }, older.1)
-watched told token w bytes sent (inr none) = inr none
+watched : (told : ℕ → Type 0) (token : List ℕ) (w : Watch) (bytes : List ℕ) (sent older : List PeerCall) → IsPassedOverWatching told token w bytes sent → IsObserving token older
+    → IsObserving token (sent ++ Receives (Some bytes) ∷ older)
+watched told token w bytes sent older (inl n) steps =
+    subst (λ (x : List PeerCall). IsObserving token (x ++ Receives (Some bytes) ∷ older)) (sym n.sent_is)
+    (dated_step token bytes n.moment older (record { message = n.message; read_is = n.read_is; holds = n.own }) steps)
+watched told token w bytes sent older (inr none) steps = step_of token bytes sent older (inr none) steps
 
-awaited_steps : (told : ℕ → Type 0) (token : List ℕ) (w : Watch) (answer : Option (List ℕ)) (calls : List PeerCall) → AwaitsNotification token (IsPassedOverWatching told token w) answer calls
+passed_steps : (told : ℕ → Type 0) (token : List ℕ) (w : Watch) (n : ℕ) (calls : List PeerCall) → ArePassedOver (IsPassedOverWatching told token w) n calls → IsObserving token calls
+passed_steps told token w zero calls none = (0, none)
+passed_steps told token w (suc n) calls one =
+    subst (IsObserving token) (sym one.is) (watched told token w one.bytes one.sent one.older one.passed (passed_steps told token w n one.older one.before))
+
+pub awaited_steps : (told : ℕ → Type 0) (token : List ℕ) (w : Watch) (answer : Option Dated) (calls : List PeerCall) → AwaitsNotification token (IsPassedOverWatching told token w) answer calls
     → IsObserving token calls
 awaited_steps told token w None calls o =
-    let steps = passed_steps token (IsPassedOverWatching told token w) (watched told token w) o.n o.older o.before in
+    let steps = passed_steps told token w o.n o.older o.before in
     elim o.is as (λ _. IsObserving token calls) [
       | inl timed ↦ subst (IsObserving token) (sym timed) (one_more_step token o.older (Receives None ∷ []) (inr (inl refl)) steps)
       | inr full ↦ subst (IsObserving token) (sym full.0) steps
     ]
-awaited_steps told token w (Some bytes) calls x =
+awaited_steps told token w (Some (bytes, moment)) calls x =
     let ends = x.ends in
-    let steps = passed_steps token (IsPassedOverWatching told token w) (watched told token w) ends.n ends.older ends.before in
-    subst (IsObserving token) (sym (x.is ∙ ap (λ (l : List PeerCall). acknowledges bytes ++ l) ends.is))
-    (step_of token bytes (acknowledges bytes) ends.older (inl (x.own, refl)) steps)
+    let steps = passed_steps told token w ends.n ends.older ends.before in
+    subst (IsObserving token) (sym (x.is ∙ ap (λ (l : List PeerCall). dates bytes moment ++ l) ends.is)) (dated_step token bytes moment ends.older x.own steps)
 
 steps_behind : (token : List ℕ) (m n : ℕ) (newer older : List PeerCall) → AreObserverSteps token m newer → AreObserverSteps token n older → AreObserverSteps token (m + n) (newer ++ older)
 steps_behind token zero n newer older none are =
@@ -222,7 +247,7 @@ steps_behind token (suc m) n newer older one are =
       is = ap (λ (x : List PeerCall). x ++ older) one.is ∙ append_assoc one.step one.older older;
     })
 
-observed : (token : List ℕ) (newer older : List PeerCall) → IsObserving token newer → IsObserving token older → IsObserving token (newer ++ older)
+pub observed : (token : List ℕ) (newer older : List PeerCall) → IsObserving token newer → IsObserving token older → IsObserving token (newer ++ older)
 observed token newer older a b = (a.0 + b.0, steps_behind token a.0 b.0 newer older a.1 b.1)
 
 -- nothing came so far
@@ -230,7 +255,7 @@ pub observes_nothing : (token : List ℕ) (now : Calls) → MakesCalls now now (
 observes_nothing token now = does_nothing now (IsObserving token) (0, refl)
 
 -- a notification is awaited, as the watch does
-pub awaits_observing : (told : ℕ → Type 0) (token : List ℕ) (w : Watch) (answer : Option (List ℕ)) (before between after : Calls) → MakesCalls before between (IsObserving token)
+pub awaits_observing : (told : ℕ → Type 0) (token : List ℕ) (w : Watch) (answer : Option Dated) (before between after : Calls) → MakesCalls before between (IsObserving token)
     → MakesCalls between after (AwaitsNotification token (IsPassedOverWatching told token w) answer) → MakesCalls before after (IsObserving token)
 awaits_observing told token w answer before between after one other =
     does_both before between after (IsObserving token) (AwaitsNotification token (IsPassedOverWatching told token w) answer) (IsObserving token) one other
@@ -241,12 +266,12 @@ pub waits_observing : (token : List ℕ) (seconds : ℕ) (before between after :
     → MakesCalls before after (IsObserving token)
 waits_observing token seconds before between after one adds =
     does_then before between after (IsObserving token) (IsObserving token) (Waits seconds ∷ []) one adds
-    (λ older steps. one_more_step token older (Waits seconds ∷ []) (inl (seconds, refl)) steps)
+    (λ older steps. waiting_step token seconds older steps)
 
 -- it is registered, and observes
-pub registered : (o : Observer) (before after : Calls) → MakesCalls before after (IsAnsweredRegistration o) → MakesCalls before after (IsObservation o)
+pub registered : (o : Observer) (before after : Calls) → MakesCalls before after (IsDatedRegistration o) → MakesCalls before after (IsObservation o)
 registered o before after one =
-    does_of before after (IsAnsweredRegistration o) (IsObservation o) one (λ calls a. record { older = calls; first = a; newer = []; then = (0, refl); is = refl })
+    does_of before after (IsDatedRegistration o) (IsObservation o) one (λ calls a. record { older = calls; first = a; newer = []; then = (0, refl); is = refl })
 
 pub observes : (o : Observer) (before between after : Calls) → MakesCalls before between (IsObservation o) → MakesCalls between after (IsObserving o.token) → MakesCalls before after (IsObservation o)
 observes o before between after one other =

@@ -1,8 +1,9 @@
 -- The schedule of a request that is transmitted.
 use Rattle.std.proofs.Common.{◌≡◌, ℕ, zero, suc, ◌+◌, ◌-◌, ◌*◌, ◌<◌, ◌⊎◌, inl, inr, Bool, true, false, List, [], ◌∷◌, ◌++◌, Result, Ok, Err, Option, Some, None, refl, sym, ap, subst, ◌∙◌, append_assoc, arith, cond}
-use Rattle.std.specs.Prelude.{◌==◌, drop, not}
+use Rattle.std.specs.Prelude.{◌==◌, ◌≤◌, drop, not, sum_by}
 use Rattle.std.proofs.lemmas.Bool.{eqb-true, false_from_ne_true}
 use Rattle.std.proofs.lemmas.List.Elements.{filter-append}
+use Rattle.std.proofs.lemmas.List.Sums.{sum_by-cons}
 use Rattle.coap_msg.specs.Reading.{reading_of}
 use Rattle.coap_msg.specs.Wire.{Message, message_bytes}
 use Rattle.coap_msg.specs.declared.types.Bad.{Bad}
@@ -12,8 +13,10 @@ use Rattle.coap_client.specs.declared.transmission.Reception.{Reception}
 use Rattle.coap_client.specs.declared.transmission.Reception.TheVariants.{Reply, Separate, Repeat, Acknowledged, Rejected, Other}
 use Rattle.coap_client.specs.Listening.{ArePassedOver, EndsOn, IsOver, IsPassedOver, acknowledges, acknowledges_kind, acknowledges_read, sent_behind}
 use Rattle.coap_client.specs.PeerCalls.{PeerCall, Sends, Waits, Receives}
-use Rattle.coap_client.specs.ObserverCalls.{IsAcknowledgedLeaving, IsPassedOverLeaving}
-use Rattle.coap_client.specs.Schedules.{AwaitsResponse, BeginsSchedule, full_schedule, has_code, is_scheduled, schedule}
+use Rattle.coap_client.specs.ObserverCalls.{AwaitsNotification, IsAcknowledgedLeaving, IsPassedOverLeaving, IsPassedOverWatching, Dated, dates}
+use Rattle.coap_client.specs.declared.watch.Watch.{Watch}
+use Rattle.coap_client.specs.Faults.{EndsRejected, IsRejectedLeaving, IsRejection}
+use Rattle.coap_client.specs.Schedules.{AwaitsResponse, BeginsSchedule, full_schedule, has_code, is_scheduled, schedule, seconds_in, seconds_of}
 use Rattle.coap_client.specs.Transmissions.{ack_timeout, acknowledges_answer, AreInVain, EndsAnswered, EndsAwaited, IsAcknowledgedFirst, IsLastSending, IsSending, IsTransmission}
 
 -- what is called one after the other
@@ -59,6 +62,10 @@ leaving_is_quiet token id bytes sent p = elim p.notification as (λ _. schedule 
   | inr other ↦ ap schedule other.1
 ]
 
+watching_is_quiet : (told : ℕ → Type 0) (token : List ℕ) (w : Watch) → IsQuiet (IsPassedOverWatching told token w)
+watching_is_quiet told token w bytes sent (inl older) = ap schedule older.sent_is ∙ acknowledgement bytes
+watching_is_quiet told token w bytes sent (inr none) = ap schedule none.1
+
 -- while a wait lasts nothing is scheduled
 passed : (passes : List ℕ → List PeerCall → Type 0) → IsQuiet passes → (n : ℕ) (calls : List PeerCall) → ArePassedOver passes n calls → schedule calls ≡ []
 passed passes quiet zero calls none = ap schedule none
@@ -74,6 +81,14 @@ over passes quiet calls o = elim o.is as (λ _. schedule calls ≡ []) [
 
 ended : (passes : List ℕ → List PeerCall → Type 0) → IsQuiet passes → (bytes : List ℕ) (calls : List PeerCall) → EndsOn passes bytes calls → schedule calls ≡ []
 ended passes quiet bytes calls e = ap schedule e.is ∙ passed passes quiet e.n e.older e.before
+
+-- nor while the next notification is awaited
+pub noted_quietly : (told : ℕ → Type 0) (token : List ℕ) (w : Watch) (answer : Option Dated) (calls : List PeerCall) → AwaitsNotification token (IsPassedOverWatching told token w) answer calls
+    → schedule calls ≡ []
+noted_quietly told token w None calls o = over (IsPassedOverWatching told token w) (watching_is_quiet told token w) calls o
+noted_quietly told token w (Some (bytes, moment)) calls x =
+    ap schedule x.is
+    ∙ both (dates bytes moment) x.heard [] [] (acknowledgement bytes) (ended (IsPassedOverWatching told token w) (watching_is_quiet told token w) bytes x.heard x.ends)
 
 -- an answer is awaited
 awaited : (tells : List ℕ → Reception → Type 0) (answer : Option (List ℕ)) (heard : List PeerCall) → EndsAwaited tells answer heard → schedule heard ≡ []
@@ -189,3 +204,41 @@ module _ (m : Message) (coded : m.code ≡ 0 → ⊥) where
       let passes = IsPassedOverLeaving token id in
       let quiet = leaving_is_quiet token id in
       begun passes quiet (IsAcknowledgedLeaving token id) calls s (ended passes quiet s.sending.ends.bytes s.sending.heard s.sending.ends.ends)
+
+  -- ---- rejections and silence
+
+  rejected_at : (tells : List ℕ → Reception → Type 0) (heard : List PeerCall) → EndsRejected tells heard → (schedule heard ≡ []) ⊎ (schedule heard ≡ Waits 93 ∷ [])
+  rejected_at tells heard (inl at_once) = inl (ended (IsPassedOver tells false) (request_is_quiet tells false) at_once.0 heard at_once.2)
+  rejected_at tells heard (inr later) = inr (
+      ap schedule later.is
+      ∙ both later.more (Waits 93 ∷ later.first) [] (Waits 93 ∷ [])
+      (ended (IsPassedOver tells true) (request_is_quiet tells true) later.rejected.0 later.more later.rejected.2)
+      (ap (λ (l : List PeerCall). Waits 93 ∷ l) (ended (IsPassedOver tells false) (request_is_quiet tells false) later.acknowledged.0 later.first later.acknowledged.2)))
+
+  pub rejected : (tells : List ℕ → Reception → Type 0) (calls : List PeerCall) → IsRejection true tells request calls
+      → BeginsSchedule request (schedule calls) ⊎ AwaitsResponse request (schedule calls)
+  rejected tells calls s =
+      let passes = IsPassedOver tells false in
+      let quiet = request_is_quiet tells false in
+      elim (rejected_at tells s.sending.heard s.sending.ends) as (λ _. BeginsSchedule request (schedule calls) ⊎ AwaitsResponse request (schedule calls)) [
+        | inl at_once ↦ inl (begun passes quiet (EndsRejected tells) calls s at_once)
+        | inr later ↦ inr (begun_later passes quiet (EndsRejected tells) calls s later)
+      ]
+
+  pub silent_leaving : (token : List ℕ) (id : ℕ) (calls : List PeerCall) → AreInVain (IsPassedOverLeaving token id) request 5 calls → schedule calls ≡ full_schedule request
+  silent_leaving token id calls all = in_vain (IsPassedOverLeaving token id) (leaving_is_quiet token id) 5 calls (omega arith) all
+
+  pub rejected_leaving : (token : List ℕ) (id : ℕ) (calls : List PeerCall) → IsLastSending (IsPassedOverLeaving token id) request (IsRejectedLeaving token id) calls
+      → BeginsSchedule request (schedule calls)
+  rejected_leaving token id calls s =
+      let passes = IsPassedOverLeaving token id in
+      let quiet = leaving_is_quiet token id in
+      begun passes quiet (IsRejectedLeaving token id) calls s (ended passes quiet s.sending.ends.bytes s.sending.heard s.sending.ends.ends)
+
+  -- 62 seconds, or 93 behind an acknowledgement
+  pub waited_for : (calls : List PeerCall) → (schedule calls ≡ full_schedule request) ⊎ AwaitsResponse request (schedule calls) → 62 ≤ seconds_in calls
+  waited_for calls (inl all) = let seconds : seconds_in calls ≡ 62 = ap (λ (l : List PeerCall). sum_by seconds_of l) all in omega (arith, seconds)
+  waited_for calls (inr later) =
+      let seconds : seconds_in calls ≡ 93 + sum_by seconds_of later.0 =
+      ap (λ (l : List PeerCall). sum_by seconds_of l) later.2 ∙ sum_by-cons seconds_of (Waits 93) later.0 in
+      omega (arith, seconds)

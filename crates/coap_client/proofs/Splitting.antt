@@ -1,13 +1,13 @@
 -- A path is cut in one way, so what its cuts don't say it doesn't say.
-use Rattle.std.proofs.Common.{◌≡◌, ◌≢◌, ℕ, List, [], ◌∷◌, ◌++◌, length, refl, sym, ◌∙◌, ap, subst, arith}
-use Rattle.std.proofs.lemmas.List.{append_assoc, append-nil, map_push}
+use Rattle.std.proofs.Common.{◌≡◌, ◌≢◌, ◌⊎◌, ◌+◌, ◌<◌, ℕ, inl, inr, List, [], ◌∷◌, ◌++◌, codes, length, length-append, refl, sym, ◌∙◌, ap, subst, arith}
+use Rattle.std.proofs.lemmas.List.{append_assoc, append-nil, length-map, map_push}
 use Rattle.std.specs.List.{All}
 use Rattle.std.proofs.lemmas.List.Elements.{All-head, All-tail, All-nil, All-cons, All-append}
 use Rattle.std.specs.Prelude.{◌==◌, false}
 use Rattle.std.specs.Borrow.{Bor}
 use Rattle.coap_client.specs.declared.path.PathError.{PathError}
 use Rattle.coap_client.specs.declared.path.PathError.TheVariants.{NoSlash, Empty, Long, NoMemory}
-use Rattle.coap_client.specs.PathErrors.{IsUnfit, TellsNoPath}
+use Rattle.coap_client.specs.PathErrors.{IsFirstUnfit, IsPathFault, IsUnfit, TellsNoPath}
 use Rattle.coap_client.specs.Paths.{slices_in, slash, IsSegment, path_text, IsSlashed, IsNoPath, IsRest, IsFirstSegment, HasNoSlash}
 
 abbrev pub IsUnsplit : List ℕ → Type 0
@@ -24,9 +24,10 @@ pub record IsCutTo (text : List ℕ) (done : List (List ℕ)) (rest : List ℕ) 
   pub text_is : text ≡ path_text done ++ rest
   pub are : All IsSegment done
   pub only : (whole : List (List ℕ)) → IsSlashed text whole → IsAcknowledgedLeaving whole done rest
+  pub tail : (done ≡ []) ⊎ IsRest rest
 
 pub uncut : (text : List ℕ) → IsCutTo text [] text
-uncut text = record { text_is = refl; are = All-nil IsSegment; only = λ whole p. record { left = whole; whole_is = refl; rest_is = p } }
+uncut text = record { text_is = refl; are = All-nil IsSegment; only = λ whole p. record { left = whole; whole_is = refl; rest_is = p }; tail = inl refl }
 
 -- the same text, cut before its first slash
 pub record AreSame (a b a' b' : List ℕ) : Type 0 where
@@ -80,6 +81,7 @@ cut_more text done rest after segment next more c e f own m = subst (λ d. IsCut
       let l = c.only whole p in
       let b = behind after segment next l.left f (subst (λ r. IsSlashed r l.left) e l.rest_is) in
       record { left = b.others; whole_is = l.whole_is ∙ cc (b.left_is, append_assoc done (segment ∷ []) b.others); rest_is = b.next_is };
+  tail = inr f.rest_is;
 })
 
 -- a segment that is none, and no path
@@ -112,14 +114,86 @@ pub pushed : (old new : List (Bor (List ℕ))) (s : Bor (List ℕ)) → new ≡ 
 pushed old new s e = ap slices_in e ∙ map_push (λ x. x.now) old s
 
 -- a segment of no byte, or of more than 255, is none
-pub unfit : (segment : List ℕ) (e : PathError) → IsUnfit segment e → IsSegment segment → ⊥
-unfit segment NoSlash u own = absurd u
-unfit segment (Empty n) u own = let none = ap length u in omega (arith, none, own.some)
-unfit segment (Long n) u own = omega (arith, u, own.short)
-unfit segment NoMemory u own = absurd u
+pub unfit : (segment : List ℕ) (number : ℕ) (e : PathError) → IsUnfit segment number e → IsSegment segment → ⊥
+unfit segment number NoSlash u own = absurd u
+unfit segment number (Empty n) u own = let none = ap length u.0 in omega (arith, none, own.some)
+unfit segment number (Long n) u own = let long = u.0 in omega (arith, long, own.short)
+unfit segment number NoMemory u own = absurd u
+
+-- so many segments are before the next one
+pub counted : (items : List (Bor (List ℕ))) (n told : ℕ) → n ≡ length items → told ≡ n + 1 → told ≡ length (slices_in items) + 1
+counted items n told is next = next ∙ ap (λ (k : ℕ). k + 1) (is ∙ sym (length-map items (λ (s : Bor (List ℕ)). s.now)))
+
+first_unfit : (text : List ℕ) (done : List (List ℕ)) (rest after segment next : List ℕ) (number told : ℕ) (Unfit : List ℕ → Type 0) → IsCutTo text done rest → rest ≡ slash ∷ after →
+    IsFirstSegment after segment next → number ≡ length done + 1 → told ≡ number → Unfit segment → IsFirstUnfit text told Unfit
+first_unfit text done rest after segment next number told Unfit c e f numbered same none = record {
+  before = done;
+  are = c.are;
+  number_is = same ∙ numbered;
+  after = after;
+  text_is = c.text_is ∙ ap (λ r. path_text done ++ r) e;
+  segment = segment;
+  rest = next;
+  cut = f;
+  unfit = none;
+}
+
+-- the first segment that is none is told
+pub segment_fault : (text : List ℕ) (done : List (List ℕ)) (rest after segment next : List ℕ) (number : ℕ) (e : PathError) → IsCutTo text done rest → rest ≡ slash ∷ after →
+    IsFirstSegment after segment next → number ≡ length done + 1 → IsUnfit segment number e → IsPathFault text e
+segment_fault text done rest after segment next number NoSlash c is f numbered u = absurd u
+segment_fault text done rest after segment next number (Empty told) c is f numbered u =
+    first_unfit text done rest after segment next number told (λ s. s ≡ []) c is f numbered u.1 u.0
+segment_fault text done rest after segment next number (Long told) c is f numbered u =
+    first_unfit text done rest after segment next number told (λ s. 255 < length s) c is f numbered u.1 u.0
+segment_fault text done rest after segment next number NoMemory c is f numbered u = absurd u
+
+no_rest : (rest : List ℕ) → IsRest rest → (rest ≡ [] → ⊥) → HasNoSlash rest → ⊥
+no_rest [] r some none = some refl
+no_rest (b ∷ rest) r some none = none.none rest (ap (λ (x : ℕ). x ∷ rest) r)
+
+-- the text begins with no slash
+pub slash_fault : (text : List ℕ) (done : List (List ℕ)) (rest : List ℕ) → IsCutTo text done rest → (rest ≡ [] → ⊥) → HasNoSlash rest → IsPathFault text NoSlash
+slash_fault text done rest c some none = elim c.tail as (λ _. IsPathFault text NoSlash) [
+  | inl first ↦
+      let same : text ≡ rest = c.text_is ∙ ap (λ (d : List (List ℕ)). path_text d ++ rest) first in
+      (λ e. some (sym same ∙ e), subst HasNoSlash (sym same) none)
+  | inr r ↦ absurd (no_rest rest r some none)
+]
+
+-- ---- where the first segment is empty
+
+-- no segment is before it
+pub begins_empty : (tail : List ℕ) (before : List (List ℕ)) (after : List ℕ) → IsRest tail → All IsSegment before → slash ∷ tail ≡ path_text before ++ slash ∷ after → before ≡ []
+begins_empty tail [] after r are e = refl
+begins_empty tail ([] ∷ before) after r are e = let own = All-head IsSegment [] before are in let some : 0 < 0 = own.some in absurd (omega (arith, some))
+begins_empty tail ((b ∷ s) ∷ before) after r are e =
+    let own = All-head IsSegment (b ∷ s) before are in
+    let tail_is : tail ≡ b ∷ (s ++ path_text before ++ slash ∷ after) = cc e in
+    absurd (All-head (λ y. y ≢ slash) b s own.unsplit (subst IsRest tail_is r))
 
 pub tells : (text : List ℕ) (e : PathError) → IsNoPath text → TellsNoPath text e
 tells text NoSlash none = none
 tells text (Empty n) none = none
 tells text (Long n) none = none
 tells text NoMemory none = tt
+
+long_path : (s : List ℕ) (segments : List (List ℕ)) → length (path_text (s ∷ segments)) ≡ length s + length (path_text segments) + 1
+long_path s segments = let all = length-append s (path_text segments) in omega (arith, all)
+
+-- one segment is before it in `/a/`
+pub one_before : (before : List (List ℕ)) (after rest : List ℕ) → All IsSegment before → codes "/a/" ≡ path_text before ++ slash ∷ after → after ≡ rest → IsRest rest → length before ≡ 1
+one_before [] after rest are e same r =
+    let after_is : codes "a/" ≡ after = cc e in
+    let bad : 97 ≡ 47 = subst IsRest (sym (after_is ∙ same)) r in
+    absurd (omega (arith, bad))
+one_before (s ∷ []) after rest are e same r = refl
+one_before (s ∷ t ∷ before) after rest are e same r =
+    let first = All-head IsSegment s (t ∷ before) are in
+    let second = All-head IsSegment t before (All-tail IsSegment s (t ∷ before) are) in
+    let some : 0 < length s = first.some in
+    let more : 0 < length t = second.some in
+    let all : 3 ≡ length (path_text (s ∷ t ∷ before)) + length (slash ∷ after) = ap length e ∙ length-append (path_text (s ∷ t ∷ before)) (slash ∷ after) in
+    let longer = long_path s (t ∷ before) in
+    let long = long_path t before in
+    absurd (omega (arith, some, more, all, longer, long))

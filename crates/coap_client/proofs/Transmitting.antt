@@ -261,5 +261,5 @@ pub both : (before between after P Q : Calls) → MakesCalls before between P �
 both before between after P Q one other =
     does_both before between after P Q (AreBehind P Q) one other (λ older newer a b. record { older = older; first = a; newer = newer; then = b; is = refl })
 
-pub some_of : (o : Option ℕ) (n : ℕ) (P : ℕ → Type 0) → o ≡ Some n → IfSome o P → P n
-some_of o n P some h = subst (λ (x : Option ℕ). IfSome x P) some h
+pub some_of : {A : Type 0} (o : Option A) (n : A) (P : A → Type 0) → o ≡ Some n → IfSome o P → P n
+some_of {A} o n P some h = subst (λ (x : Option A). IfSome x P) some h

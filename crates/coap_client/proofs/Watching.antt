@@ -159,15 +159,15 @@ next_shown_as w n x is other fits =
     let fresh = not_older (is_shown_again w.marks.items n.message.id n.at) (by_age w n.at (notice_of n.message)) x is other in
     shown_as n.message x (aged w n.at (notice_of n.message) x fresh.1 other).0 fits
 
-noted : (went came : List ℕ → Type 0) (told : ℕ → Type 0) (token : List ℕ) (id : ℕ) (latest : Note) (older : List Note) (bytes : List ℕ) (old new : Watch) (last : Bool) →
-    IsWatching went came told token id latest older old → (x : IsNextNote went came told token bytes old new last) →
-    can_be_shown x.message ≡ true → IsNoteOf went came told token id (record { message = x.message; at = max old.at x.moment })
-noted went came told token id latest older bytes old new last watching x whole = record {
+noted : (went came : List ℕ → Type 0) (told : ℕ → Type 0) (token : List ℕ) (id : ℕ) (latest : Note) (older : List Note) (bytes : List ℕ) (moment : ℕ) (old new : Watch) (last : Bool) →
+    IsWatching went came told token id latest older old → (x : IsNextNote went came told token bytes moment old new last) →
+    can_be_shown x.message ≡ true → IsNoteOf went came told token id (record { message = x.message; at = max old.at moment })
+noted went came told token id latest older bytes moment old new last watching x whole = record {
   bytes = bytes;
   heard = x.heard;
   own = inr x.own;
   whole = whole;
-  moment = told_later told old.at x.moment (subst told (sym watching.moment) watching.are.1.moment) x.told_is;
+  moment = told_later told old.at moment (subst told (sym watching.moment) watching.are.1.moment) x.told_is;
 }
 
 remembers : (marks : List ShownMark) (was : ℕ) (n : Note) (ns : List Note) → was ≤ n.at → All (IsRemembered marks was) ns → All (IsRemembered (marked marks n.message.id n.at) n.at) (n ∷ ns)
@@ -176,22 +176,22 @@ remembers marks was n ns later all =
     (λ k d below. remembered_on marks was n.message.id n.at (slice_index_or ns k d) later (all k d below))
 
 -- what is noted next
-pub next_note : (went came : List ℕ → Type 0) (told : ℕ → Type 0) (token : List ℕ) (id : ℕ) (latest : Note) (older : List Note) (bytes : List ℕ) (old new : Watch) (last : Bool) →
-    IsWatching went came told token id latest older old → IsNextNote went came told token bytes old new last → HasNext went came told token id latest older bytes new last
-next_note went came told token id latest older bytes old new true watching x =
-    let n : Note = record { message = x.message; at = max old.at x.moment } in
+pub next_note : (went came : List ℕ → Type 0) (told : ℕ → Type 0) (token : List ℕ) (id : ℕ) (latest : Note) (older : List Note) (bytes : List ℕ) (moment : ℕ) (old new : Watch) (last : Bool) →
+    IsWatching went came told token id latest older old → IsNextNote went came told token bytes moment old new last → HasNext went came told token id latest older bytes new last
+next_note went came told token id latest older bytes moment old new true watching x =
+    let n : Note = record { message = x.message; at = max old.at moment } in
     let after = follows went came told token id latest older old n Last watching x.own (omega arith) x.shown (λ e. cc e) in
     record {
       note = n;
       read = x.heard.read_is;
-      are = (watching.are, noted went came told token id latest older bytes old new true watching x (next_shown_as old n Last x.shown (λ e. cc e) (λ e. cc e)), after);
+      are = (watching.are, noted went came told token id latest older bytes moment old new true watching x (next_shown_as old n Last x.shown (λ e. cc e) (λ e. cc e)), after);
       goes_on = λ e. absurd (cc e);
       none = λ _. last_is old n x.shown;
     }
-next_note went came told token id latest older bytes old new false watching x =
-    let n : Note = record { message = x.message; at = max old.at x.moment } in
+next_note went came told token id latest older bytes moment old new false watching x =
+    let n : Note = record { message = x.message; at = max old.at moment } in
     let after = follows went came told token id latest older old n (State new.sequence) watching x.own (omega arith) x.shown.notice (λ e. cc e) in
-    let are : AreNotes went came told token id (n ∷ latest ∷ older) = (watching.are, noted went came told token id latest older bytes old new false watching x (next_shown_as old n (State new.sequence) x.shown.notice (λ e. cc e) (λ e. cc e)), after) in
+    let are : AreNotes went came told token id (n ∷ latest ∷ older) = (watching.are, noted went came told token id latest older bytes moment old new false watching x (next_shown_as old n (State new.sequence) x.shown.notice (λ e. cc e) (λ e. cc e)), after) in
     record {
       note = n;
       read = x.heard.read_is;

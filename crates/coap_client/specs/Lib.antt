@@ -5,6 +5,7 @@ pub mod Requests
 pub mod Replies
 pub mod Heard
 pub mod PeerCalls
+pub mod Clocks
 pub mod Listening
 pub mod Transmissions
 pub mod Fetching
@@ -13,3 +14,4 @@ pub mod Notices
 pub mod Notes
 pub mod ObserverCalls
 pub mod Schedules
+pub mod Faults

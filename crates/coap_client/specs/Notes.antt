@@ -148,9 +148,8 @@ abbrev pub IsShownAs : Bool → Watch → Watch → ℕ → Message → Type 0
 IsShownAs true old new at m = notice_after old at m ≡ Last
 IsShownAs false old new at m = IsKept old new at m
 
-pub record IsNextNote (went came : List ℕ → Type 0) (told : ℕ → Type 0) (token bytes : List ℕ) (old new : Watch) (last : Bool) : Type 0 where
+pub record IsNextNote (went came : List ℕ → Type 0) (told : ℕ → Type 0) (token bytes : List ℕ) (moment : ℕ) (old new : Watch) (last : Bool) : Type 0 where
   pub message : Message
-  pub moment : ℕ
   pub told_is : told moment
   pub heard : IsHeardFrom went came bytes message
   pub own : IsOwnResponse token message
@@ -160,7 +159,7 @@ pub record IsNextNote (went came : List ℕ → Type 0) (told : ℕ → Type 0) 
 abbrev pub Watches : (List ℕ → Type 0) → (List ℕ → Type 0) → (ℕ → Type 0) → List ℕ → List ℕ → Watch → Watch → Option NotedMessage → Type 0
 Watches went came told token buffer old new None = new ≡ old
 Watches went came told token buffer old new (Some noted) =
-    (noted.count ≤ length buffer) × IsNextNote went came told token (take noted.count buffer) old new noted.last
+    (noted.count ≤ length buffer) × IsNextNote went came told token (take noted.count buffer) noted.moment old new noted.last
 
 -- a notification came, and was acknowledged where it asks for that
 pub record HasOwnResponse (went came : List ℕ → Type 0) (token bytes : List ℕ) : Type 0 where

@@ -4,6 +4,7 @@ use Rattle.coap_msg.specs.Reading.{reading_of}
 use Rattle.coap_msg.specs.Wire.{Message, message_bytes}
 use Rattle.coap_client.specs.declared.notice.Interest.TheVariants.{Register, Deregister}
 use Rattle.coap_client.specs.declared.notice.Notice.TheVariants.{Older}
+use Rattle.coap_client.specs.declared.observing.DatedMessage.{DatedMessage}
 use Rattle.coap_client.specs.declared.observing.NotedMessage.{NotedMessage}
 use Rattle.coap_client.specs.declared.observing.Observer.{Observer}
 use Rattle.coap_client.specs.declared.watch.Watch.{Watch}
@@ -11,7 +12,7 @@ use Rattle.coap_client.specs.Heard.{IsReadAs}
 use Rattle.coap_client.specs.Listening.{EndsOn, IsOver, acknowledges}
 use Rattle.coap_client.specs.Notes.{IsAcknowledgementOf, TellsObserver}
 use Rattle.coap_client.specs.Notices.{IsOwnResponse, notice_after, observe_request}
-use Rattle.coap_client.specs.PeerCalls.{PeerCall, Receives, Waits}
+use Rattle.coap_client.specs.PeerCalls.{PeerCall, Reads, Receives, Waits}
 use Rattle.coap_client.specs.Replies.{IsReset}
 use Rattle.coap_client.specs.Transmissions.{AreBehind, IsLastSending, IsTransmission}
 
@@ -25,6 +26,13 @@ IsRegistration o answer calls =
 abbrev pub IsAnsweredRegistration : Observer → List PeerCall → Type 0
 IsAnsweredRegistration o calls = (answer : List ℕ) × IsRegistration o answer calls
 
+-- and then the clock is read
+pub record IsDatedRegistration (o : Observer) (calls : List PeerCall) : Type 0 where
+  pub older : List PeerCall
+  pub answered : IsAnsweredRegistration o older
+  pub moment : ℕ
+  pub is : calls ≡ Reads moment ∷ older
+
 -- ---- notifications
 
 -- what is none is passed over
@@ -35,34 +43,47 @@ IsNoNotification token bytes sent = (IsReadAs bytes (IsOwnResponse token) → �
 abbrev pub AcknowledgesNotification : List ℕ → List ℕ → List PeerCall → Type 0
 AcknowledgesNotification token bytes sent = (IsReadAs bytes (IsOwnResponse token) × (sent ≡ acknowledges bytes)) ⊎ IsNoNotification token bytes sent
 
--- one that isn't shown: it repeats what was, or is no newer, at a moment that was told
-pub record IsOlderNotification (told : ℕ → Type 0) (token : List ℕ) (w : Watch) (bytes : List ℕ) : Type 0 where
+-- a notification is acknowledged, where it asks for that, and then the clock is read
+abbrev pub dates : List ℕ → ℕ → List PeerCall
+dates bytes moment = Reads moment ∷ acknowledges bytes
+
+-- one that isn't shown: it repeats what was, or is no newer, at the moment that the clock says then
+pub record IsOlderNotification (told : ℕ → Type 0) (token : List ℕ) (w : Watch) (bytes : List ℕ) (sent : List PeerCall) : Type 0 where
   pub message : Message
   pub read_is : reading_of bytes ≡ Ok message
   pub own : IsOwnResponse token message
   pub moment : ℕ
   pub told_is : told moment
   pub older : notice_after w (max w.at moment) message ≡ Older
+  pub sent_is : sent ≡ dates bytes moment
 
--- that is passed over as well, and acknowledged
+-- that is passed over as well
 abbrev pub IsPassedOverWatching : (ℕ → Type 0) → List ℕ → Watch → List ℕ → List PeerCall → Type 0
-IsPassedOverWatching told token w bytes sent = (IsOlderNotification told token w bytes × (sent ≡ acknowledges bytes)) ⊎ IsNoNotification token bytes sent
+IsPassedOverWatching told token w bytes sent = IsOlderNotification told token w bytes sent ⊎ IsNoNotification token bytes sent
 
--- this one came, and was acknowledged
-pub record IsNoticed (token : List ℕ) (passes : List ℕ → List PeerCall → Type 0) (bytes : List ℕ) (calls : List PeerCall) : Type 0 where
+-- this one came, and was acknowledged; then the clock said this moment
+pub record IsNoticed (token : List ℕ) (passes : List ℕ → List PeerCall → Type 0) (bytes : List ℕ) (moment : ℕ) (calls : List PeerCall) : Type 0 where
   pub own : IsReadAs bytes (IsOwnResponse token)
   pub heard : List PeerCall
   pub ends : EndsOn passes bytes heard
-  pub is : calls ≡ acknowledges bytes ++ heard
+  pub is : calls ≡ dates bytes moment ++ heard
+
+-- a notification, and the moment that the clock says behind it
+abbrev pub Dated : Type 0
+Dated = List ℕ × ℕ
 
 -- or none, and the wait is over
-abbrev pub AwaitsNotification : List ℕ → (List ℕ → List PeerCall → Type 0) → Option (List ℕ) → List PeerCall → Type 0
+abbrev pub AwaitsNotification : List ℕ → (List ℕ → List PeerCall → Type 0) → Option Dated → List PeerCall → Type 0
 AwaitsNotification token passes None calls = IsOver passes calls
-AwaitsNotification token passes (Some bytes) calls = IsNoticed token passes bytes calls
+AwaitsNotification token passes (Some (bytes, moment)) calls = IsNoticed token passes bytes moment calls
 
--- the notification at the start of the buffer, if one is to be shown
-abbrev pub noted_in : List ℕ → Option NotedMessage → Option (List ℕ)
-noted_in buffer noted = option_map (λ x. take x.count buffer) noted
+-- the notification at the start of the buffer, if one came
+abbrev pub dated_in : List ℕ → Option DatedMessage → Option Dated
+dated_in buffer came = option_map (λ x. (take x.count buffer, x.moment)) came
+
+-- if one is to be shown
+abbrev pub noted_in : List ℕ → Option NotedMessage → Option Dated
+noted_in buffer noted = option_map (λ x. (take x.count buffer, x.moment)) noted
 
 -- ---- while it is registered
 
@@ -73,9 +94,10 @@ pub record ComesToObserver (token : List ℕ) (step : List PeerCall) : Type 0 wh
   pub acknowledged : AcknowledgesNotification token bytes sent
   pub is : step ≡ sent ++ Receives (Some bytes) ∷ []
 
--- or a wait is begun, or over
+-- or a wait is begun, or over, or the clock is read
 abbrev pub IsObserverStep : List ℕ → List PeerCall → Type 0
-IsObserverStep token step = ((seconds : ℕ) × (step ≡ Waits seconds ∷ [])) ⊎ ((step ≡ Receives None ∷ []) ⊎ ComesToObserver token step)
+IsObserverStep token step =
+    ((seconds : ℕ) × (step ≡ Waits seconds ∷ [])) ⊎ ((step ≡ Receives None ∷ []) ⊎ (((moment : ℕ) × (step ≡ Reads moment ∷ [])) ⊎ ComesToObserver token step))
 
 pub record IsOneMoreStep (Before : List PeerCall → Type 0) (token : List ℕ) (calls : List PeerCall) : Type 0 where
   pub older : List PeerCall
@@ -93,7 +115,7 @@ IsObserving token calls = (n : ℕ) × AreObserverSteps token n calls
 
 -- it registers, and observes
 abbrev pub IsObservation : Observer → List PeerCall → Type 0
-IsObservation o calls = AreBehind (IsAnsweredRegistration o) (IsObserving o.token) calls
+IsObservation o calls = AreBehind (IsDatedRegistration o) (IsObserving o.token) calls
 
 -- ---- the deregistration
 

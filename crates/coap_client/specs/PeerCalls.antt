@@ -1,6 +1,14 @@
 -- What a client calls on a peer. Of a list of calls the newest stands first.
 use Rattle.std.specs.Prelude.{ℕ, List, ◌++◌, take, Option}
+use Rattle.std.specs.IoError.{error_kind}
 use Rattle.std.specs.Option.{option_map}
+
+abbrev domain_of : {A B : Type 0} → (A → B) → Type 0
+domain_of {A = A} f = A
+
+-- an error of a peer: the library names the type of an `io::Error` by its functions alone
+abbrev pub PeerError : Type 0
+PeerError = domain_of error_kind
 
 pub data PeerCall : Type 0 where
   -- a datagram is sent
@@ -9,6 +17,8 @@ pub data PeerCall : Type 0 where
   Waits : (seconds : ℕ) → PeerCall
   -- a datagram comes while the wait lasts; or none, since it is over
   Receives : (bytes : Option (List ℕ)) → PeerCall
+  -- the clock is read: it is this moment, in milliseconds
+  Reads : (moment : ℕ) → PeerCall
 
 -- these calls are added to those before
 abbrev pub Adds : (List PeerCall → Type 0) → (List PeerCall → Type 0) → List PeerCall → Type 0

@@ -1,24 +1,23 @@
 //! The fetch itself: requests go out one after the other, each when the one before it was answered.
-ghost use Rattle.std.specs.Prelude.{◌≡◌, ℕ, ◌+◌, ◌++◌, ◌%◌, [], IfOk, OnOk, if◌then◌else◌, length};
+ghost use Rattle.std.specs.Prelude.{◌≡◌, ℕ, ◌+◌, ◌++◌, ◌%◌, [], IfErr, IfOk, OnOk, if◌then◌else◌, length};
 ghost use Rattle.coap_client.specs.Requests.{IsPartOf};
 ghost use Rattle.coap_client.specs.Replies.{begins_exchange};
 ghost use Rattle.coap_client.specs.Joined.{SendsWhole};
+ghost use Rattle.coap_client.specs.Faults.{IsAttemptFault, IsFetchFault};
+ghost use Rattle.coap_client.specs.Transmissions.{MakesCalls};
+ghost use Rattle.coap_client.specs.declared.fetcher.FetchFault.TheVariants.{Memory, Socket};
 ghost use Rattle.coap_client.specs.Fetching.{IsAttempt, IsFetched, IsSameAnswer, IsStepOf, Out, going_on, with_taken_id};
 
 use crate::errand::Errand;
 use crate::part::Part;
-use crate::peer::Peer;
+use crate::peer::{BUFFER, Peer};
 use crate::reply::{Next, begins_exchange, etag_of, next_of};
 use crate::transmission::{SentRequest, ask};
-use coap_msg::types::DATAGRAM;
 use coap_msg::{Code, Datagram, Message, read};
 use coap_opts::Method;
 use std::alloc::{AllocError, Global};
 use std::io;
 use thiserror::Error;
-
-/// One byte more than a datagram may have: a longer one is seen to be too long.
-const BUFFER: usize = DATAGRAM + 1;
 
 /// More requests than there are blocks of a body and of an answer.
 const REQUESTS: u32 = 1 << 22;
@@ -44,10 +43,26 @@ pub enum FetchFault {
     Part,
     /// Sending or receiving failed.
     #[error("UDP: {0}")]
-    Socket(#[from] io::Error),
+    Socket(#[source] io::Error),
     /// There was no memory for a request or for the answer.
     #[error("{0}")]
-    Memory(#[from] AllocError),
+    Memory(#[source] AllocError),
+}
+
+impl From<io::Error> for FetchFault {
+    ghost from_gives = { λ error fault. fault ≡ Socket error };
+
+    fn from(error: io::Error) -> FetchFault {
+        FetchFault::Socket(error)
+    }
+}
+
+impl From<AllocError> for FetchFault {
+    ghost from_gives = { λ error fault. fault ≡ Memory error };
+
+    fn from(error: AllocError) -> FetchFault {
+        FetchFault::Memory(error)
+    }
 }
 
 /// What a fetch brings.
@@ -86,6 +101,8 @@ pub fn fetch<P: Peer>(
     ensures fetched { IfOk result (λ f. IsFetched P.went P.came (P.called peer.old) (P.called peer.new) errand.now first_id
         f.code.byte f.body.items) }
     ensures whole { IfOk result (λ f. SendsWhole P.went errand.now f.code.byte) }
+    ensures fault { IfErr result (IsFetchFault P.went P.came P.is_error (MakesCalls (P.called peer.old) (P.called peer.new))
+        errand.now first_id) }
 {
     match fetch_once(alloc, peer, errand, first_id, Vec::new(alloc))? {
         Attempt::Ended(fetched) => Ok(fetched),
@@ -109,7 +126,9 @@ fn fetch_once<P: Peer>(
     first_id: u16,
     earlier: Vec<u16>,
 ) -> Result<Attempt, FetchFault>
-    ensures { IfOk result (IsAttempt P.went P.came (P.called peer.old) (P.called peer.new) errand.now first_id earlier.items) }
+    ensures attempt { IfOk result (IsAttempt P.went P.came (P.called peer.old) (P.called peer.new) errand.now first_id earlier.items) }
+    ensures fault { IfErr result (IsAttemptFault P.went P.came P.is_error (MakesCalls (P.called peer.old) (P.called peer.new))
+        errand.now first_id earlier.items) }
 {
     let mut course = Course {
         id: first_id,

@@ -1,6 +1,6 @@
 //! Laws of what the definitions say: the function is a law, and its contract says it.
-ghost use Rattle.std.specs.Prelude.{◌≡◌, ◌+◌, ◌*◌, ◌%◌, ◌<◌, ◌≤◌, ◌⊎◌, ℕ, Bool, List, [], ◌∷◌, Option, Some, None, drop, false, length, take, true};
-ghost use Rattle.coap_msg.specs.Wire.{Message, message_bytes};
+ghost use Rattle.std.specs.Prelude.{◌≡◌, ◌+◌, ◌*◌, ◌%◌, ◌<◌, ◌≤◌, ◌⊎◌, ℕ, Bool, List, [], ◌∷◌, Option, Some, None, codes, drop, false, length, take, true};
+ghost use Rattle.coap_msg.specs.Wire.{Message, SpellsMessage, message_bytes};
 ghost use Rattle.coap_opts.specs.Values.{block_bytes};
 ghost use Rattle.coap_opts.specs.declared.request.Method.TheVariants.{Put};
 ghost use Rattle.coap_client.specs.Listening.{is_passed_over};
@@ -15,13 +15,19 @@ ghost use Rattle.coap_client.specs.Heard.{Tells};
 ghost use Rattle.coap_client.specs.Notices.{can_be_shown, is_newer, notice_of, observe_request};
 ghost use Rattle.coap_client.specs.Parts.{first_part, part_options, part_payload};
 ghost use Rattle.coap_client.specs.PeerCalls.{PeerCall, Sends, Waits};
-ghost use Rattle.coap_client.specs.Schedules.{AwaitsResponse, BeginsSchedule, full_schedule, schedule};
-ghost use Rattle.coap_client.specs.ObserverCalls.{IsDeregistration, IsRegistration};
-ghost use Rattle.coap_client.specs.Transmissions.{IsTransmission};
+ghost use Rattle.coap_client.specs.Faults.{IsRejectedLeaving, IsRejection, IsSilence, deregistration_of, leaving_id, registration_of};
+ghost use Rattle.coap_client.specs.Notes.{TellsObserver};
+ghost use Rattle.coap_client.specs.Schedules.{AwaitsResponse, BeginsSchedule, EndsByReset, full_schedule, schedule, seconds_in};
+ghost use Rattle.coap_client.specs.ObserverCalls.{IsDeregistration, IsPassedOverLeaving, IsRegistration};
+ghost use Rattle.coap_client.specs.Transmissions.{AreInVain, IsLastSending, IsTransmission};
 ghost use Rattle.coap_client.specs.Fetching.{Ended, Out, after_reply, state_after};
 ghost use Rattle.coap_client.specs.Joined.{IsOneAnswer, SaysTaken};
 ghost use Rattle.coap_client.specs.Replies.{first_or_none, is_success};
 ghost use Rattle.coap_msg.specs.Values.{values_in};
+ghost use Rattle.coap_client.specs.PathErrors.{IsPathFault};
+ghost use Rattle.coap_client.specs.declared.path.PathError.TheVariants.{Empty};
+
+use crate::peer::BUFFER;
 
 /// A block of the body is followed by another one only where its answer is a success that says that it was taken.
 pub fn the_next_block_goes_behind_one_that_was_taken()
@@ -99,6 +105,12 @@ pub fn registers_by_0_and_deregisters_by_1()
         → take 1 (observe_request e Deregister token id).options ≡ (6, 1 ∷ []) ∷ [] }
 {}
 
+/// A deregistration has the message id after that of the registration, of 16 bits (RFC 7252, 3).
+pub fn deregisters_by_the_next_id()
+    ensures next { (o : Observer) → o.id ≡ 7 → leaving_id o ≡ 8 }
+    ensures first { (o : Observer) → o.id ≡ 65535 → leaving_id o ≡ 0 }
+{}
+
 /// A PUT's body of more than 1,024 bytes goes in blocks of 1,024, from the first on (RFC 7959, 2.5): block n is that part of it, and is sent with the Block1
 /// option, 27, that says whether more are behind it. A body of up to 1,024 bytes goes whole.
 pub fn bodies_go_in_blocks()
@@ -135,6 +147,43 @@ pub fn observers_are_sent_by_the_schedule()
         → BeginsSchedule (message_bytes (observe_request o.errand.now Deregister o.token ((o.id + 1) % 65536))) (schedule calls) }
 {}
 
+/// An observer's registration that isn't answered is sent five times and waited for so, or acknowledged, and its deregistration that isn't acknowledged is sent five
+/// times; where one is rejected it was sent by that schedule before.
+pub fn observers_give_up_by_the_schedule()
+    ensures unanswered { (o : Observer) (calls : List PeerCall) → IsSilence true (TellsObserver o.token o.id) (registration_of o) calls
+        → (schedule calls ≡ full_schedule (registration_of o)) ⊎ AwaitsResponse (registration_of o) (schedule calls) }
+    ensures unacknowledged { (o : Observer) (calls : List PeerCall) → AreInVain (IsPassedOverLeaving o.token (leaving_id o)) (deregistration_of o) 5 calls
+        → schedule calls ≡ full_schedule (deregistration_of o) }
+    ensures rejected { (o : Observer) (calls : List PeerCall) → IsRejection true (TellsObserver o.token o.id) (registration_of o) calls
+        → BeginsSchedule (registration_of o) (schedule calls) ⊎ AwaitsResponse (registration_of o) (schedule calls) }
+    ensures leaving { (o : Observer) (calls : List PeerCall)
+        → IsLastSending (IsPassedOverLeaving o.token (leaving_id o)) (deregistration_of o) (IsRejectedLeaving o.token (leaving_id o)) calls
+        → BeginsSchedule (deregistration_of o) (schedule calls) }
+{}
+
+/// A confirmable request is given up after 62 seconds at least: MAX_TRANSMIT_WAIT without its random part (RFC 7252, 4.8.2). A non-confirmable one is waited for
+/// 32 seconds, which is this client's own number.
+pub fn no_answer_is_told_too_soon()
+    ensures confirmable { (id : ℕ) (earlier : List ℕ) (m : Message) (calls : List PeerCall) → (m.code ≡ 0 → ⊥)
+        → IsSilence true (Tells true id earlier) (message_bytes m) calls → 62 ≤ seconds_in calls }
+    ensures non_confirmable { (id : ℕ) (earlier : List ℕ) (m : Message) (calls : List PeerCall) → (m.code ≡ 0 → ⊥)
+        → IsSilence false (Tells false id earlier) (message_bytes m) calls → seconds_in calls ≡ 32 }
+{}
+
+/// A request is rejected by a Reset message of its id alone, the last datagram that came (RFC 7252, 4.2), and is sent by the same schedule until then; so too an
+/// observer's registration, and its deregistration, which has the next id.
+pub fn requests_are_rejected_by_a_reset()
+    ensures reset { (confirmable : Bool) (id : ℕ) (earlier request : List ℕ) (calls : List PeerCall)
+        → IsRejection confirmable (Tells confirmable id earlier) request calls → EndsByReset id calls }
+    ensures schedule { (id : ℕ) (earlier : List ℕ) (m : Message) (calls : List PeerCall) → (m.code ≡ 0 → ⊥)
+        → IsRejection true (Tells true id earlier) (message_bytes m) calls
+        → BeginsSchedule (message_bytes m) (schedule calls) ⊎ AwaitsResponse (message_bytes m) (schedule calls) }
+    ensures registration { (token : List ℕ) (id : ℕ) (request : List ℕ) (calls : List PeerCall) → IsRejection true (TellsObserver token id) request calls
+        → EndsByReset id calls }
+    ensures deregistration { (token : List ℕ) (id : ℕ) (request : List ℕ) (calls : List PeerCall)
+        → IsLastSending (IsPassedOverLeaving token id) request (IsRejectedLeaving token id) calls → EndsByReset id calls }
+{}
+
 /// While a request may still be acknowledged, its acknowledgement ends the wait, and a response in a message of its own is passed over; once it was acknowledged,
 /// it is the other way round (RFC 7252, 5.2.2). A response in the acknowledgement and a Reset message always end it; one that came before and what is none of these never do.
 pub fn waits_pass_over_what_does_not_answer()
@@ -143,4 +192,17 @@ pub fn waits_pass_over_what_does_not_answer()
     ensures answers { (awaited : Bool) → is_passed_over awaited reception.Reply ≡ false }
     ensures rejected { (awaited : Bool) → is_passed_over awaited reception.Rejected ≡ false }
     ensures others { (awaited : Bool) → (is_passed_over awaited reception.Repeat ≡ true) × (is_passed_over awaited reception.Other ≡ true) }
+{}
+
+/// A datagram is received into 1,281 bytes, one more than a message has at most: each message leaves room in the buffer, and what fills it is none.
+pub fn messages_leave_room_in_the_buffer()
+    ensures buffer { BUFFER ≡ 1281 }
+    ensures message { (bytes : List ℕ) (m : Message) → SpellsMessage bytes m → length bytes < 1281 }
+{}
+
+/// A path's segments are counted from 1: in `/` and `//a` segment 1 is empty.
+pub fn segments_are_counted_from_one()
+    ensures alone { (number : ℕ) → IsPathFault (codes "/") (Empty number) → number ≡ 1 }
+    ensures first { (number : ℕ) → IsPathFault (codes "//a") (Empty number) → number ≡ 1 }
+    ensures second { (number : ℕ) → IsPathFault (codes "/a/") (Empty number) → number ≡ 2 }
 {}

@@ -2,7 +2,9 @@
 //!
 //! # What is proved
 //!
-//! - A text is a path exactly where it is a slash before each segment of 1 to 255 bytes.
+//! - A text is a path exactly where it is a slash before each segment of 1 to 255 bytes. If it is none, the number of its first segment that is empty or too long,
+//!   counted from 1, and which of these it is; or it begins with no slash.
+//! - A datagram is received into 1,281 bytes, one more than a message has at most; one that fills them may be cut, and is passed over.
 //! - Each request of an errand is a message that fits a datagram, of the whole body, a block of it, or a block option that asks for a
 //!   further block of the answer, in the size that the server named last.
 //! - A datagram answers a request in its acknowledgement or in a message of its own, acknowledges it, rejects it, or none of these. What
@@ -16,12 +18,16 @@
 //!   the same bytes, when a wait is over, of 2, 4, 8 and 16 seconds, so five times at most; once it is acknowledged it isn't, and 93 seconds
 //!   more are waited. Another is sent once, and waited for 32 seconds. The first datagram that answers, acknowledges or rejects a request ends
 //!   its wait; a separate response answers only where one is awaited, and one of an id that has answered before doesn't. Beside requests nothing
-//!   is sent but the acknowledgements of answers and of those, each where it is confirmable, once. `transmission::ask` tells that no answer came
-//!   only where the request was sent five times, or acknowledged, and each wait was over, or 2^64 - 1 datagrams came in one.
-//! - An answer that doesn't fit what was asked ends the fetch, by a clause. Where a fetch ends by a success, requests that were handed over
-//!   bring the whole body, joined; each block of it goes behind a success that says that the one before was taken; and the answer is the
-//!   payloads of blocks of one ETag, or of none, each of which begins where the ones before it end, and behind the last of which there is
-//!   none. What a result rests on is begun again once at most, and only for a GET.
+//!   is sent but the acknowledgements of answers and of those, each where it is confirmable, once.
+//! - Why a fetch fails, by what it called. *No answer*: after requests that were answered, the last one was sent by that whole schedule. Its
+//!   waits are 62 seconds together at least, or 32 for a non-confirmable request; or 2^64 - 1 datagrams came in one wait. *Rejected*: the last
+//!   datagram that came is a Reset message with the request's id (RFC 7252, 4.2). *An answer that doesn't fit*: the replies lead to one, or
+//!   there are 2^22 of them. *Changed*: a further block has another ETag, for the second time; or for the first time where the method isn't
+//!   GET. *Out of memory*: each request that was sent was answered; no clause says that there was none. *UDP*: a call of the peer returned that
+//!   error; what was called before it isn't in a clause. There is no other error.
+//! - Where a fetch ends by a success, requests that were handed over bring the whole body, joined; each block of it goes behind a success
+//!   that says that the one before was taken; and the answer is the payloads of blocks of one ETag, or of none, each of which begins where the
+//!   ones before it end, and behind the last of which there is none. What a result rests on is begun again once at most, and only for a GET.
 //! - An observer's registration and deregistration are messages that fit a datagram, with its token, and are sent again as a confirmable
 //!   request of a fetch is, until one is answered, the other acknowledged; while the one is out its answer alone is acknowledged, while the
 //!   other is each confirmable notification. What a response is to it, exactly, by
@@ -31,13 +37,21 @@
 //!   is confirmable, and is a state newer than what was shown last, at a moment that the peer told, or the last, of which no clause says
 //!   that it is newer. What it passes over is no notification, or is no newer, or repeats what was shown, and nothing is sent but the
 //!   acknowledgement of each confirmable notification. A deregistration that ends well was sent and acknowledged.
+//! - Why an observer fails. A registration isn't answered, or a deregistration isn't acknowledged: it was sent by the whole schedule. One is
+//!   rejected: the last datagram that came is a Reset message with its id. Out of memory: nothing was called. While it waits: the last
+//!   notification can't be shown, or is a newer state that there was no memory for; so an older one never ends the observation. Or a call of the
+//!   peer returned an error. `deregister_by` asks the peer to send its request, whatever comes of it.
 //! - Of that comparison: that 0 is newer than 16,777,215, that what is ahead by 8,388,607 is newer, and what is behind by 8,388,609, of two
 //!   8,388,608 apart neither within 128 s, nor the same number, and any 128,001 ms later; that of two at one moment at most one is newer; and
 //!   that what can be shown is the last where it has no Observe, or one of four bytes, and a success with one of three a state. A registration
 //!   has Observe 0, a deregistration Observe 1.
+//! - A wait of [`UdpPeer`] ends so many seconds after a reading of its clock, and its moments are the milliseconds from its start to a reading. An observer reads the
+//!   clock after the receive of each notification, and its acknowledgement.
 //!
 //! By the contracts of `Path::parse`, `Errand::new`, `Errand::write`, `is_reply`, `is_separate`, `next_of`, `fetch`, `laws`;
-//! `Observer::register`, `deregister`, `notice_of`, `is_newer`, `Watch::notice_of`, `keep`, `next`.
+//! `Observer::register`, `deregister`, `deregister_by`, `notice_of`, `is_newer`, `Watch::notice_of`, `keep`, `next`; `UdpPeer`.
+//!
+//! Of [`UdpPeer`] no public clause says what its socket sends and hears, or how long a receive waits: tests try that over a socket.
 #![tactic(auto)]
 
 pub mod errand;

@@ -1,7 +1,8 @@
 //! An observer: it registers, hears what it is notified of, and deregisters (RFC 7641).
-ghost use Rattle.std.specs.Prelude.{◌≡◌, ◌↔◌, ◌∷◌, ◌≤◌, IfOk, IfSome, IsTrue, OnOk, length, take};
+ghost use Rattle.std.specs.Prelude.{◌≡◌, ◌↔◌, ◌∷◌, ◌≤◌, IfErr, IfOk, IfSome, IsTrue, OnOk, length, take, true};
 ghost use Rattle.coap_msg.specs.Wire.{message_bytes};
 ghost use Rattle.coap_msg.specs.Writing.{options_in};
+ghost use Rattle.coap_client.specs.Faults.{IsDeregistrationFault, IsLeavingFault, IsNotificationFault, IsOfPeer, IsRegistrationFault, IsRejectedBy, IsRejectedLeaving, IsRejection, deregistration_of};
 ghost use Rattle.coap_client.specs.Heard.{IsReadAs};
 ghost use Rattle.coap_client.specs.Notes.{HasAcknowledgement, HasArrived, HasDeregistered, HearsAnswer, IsAcknowledgementOf, IsHeardBy, HasOwnResponse, IsRegistered, IsResponseWith, TellsObserver, Watches};
 ghost use Rattle.coap_client.specs.Notices.{IsOwnResponse, observe_request, observe_value};
@@ -9,7 +10,7 @@ ghost use Rattle.coap_client.specs.Replies.{IsReset};
 ghost use Rattle.coap_opts.specs.Values.{uint_bytes};
 ghost use Rattle.coap_client.specs.Listening.{IsHeard};
 ghost use Rattle.coap_client.specs.PeerCalls.{received_bytes};
-ghost use Rattle.coap_client.specs.ObserverCalls.{AcknowledgesNotification, AwaitsNotification, IsDeregistration, IsNoNotification, IsOverUnlessLeft, IsPassedOverWatching, IsRegistration, noted_in};
+ghost use Rattle.coap_client.specs.ObserverCalls.{AcknowledgesNotification, AwaitsNotification, IsDeregistration, IsNoNotification, IsOverUnlessLeft, IsPassedOverWatching, IsRegistration, dated_in, noted_in};
 ghost use Rattle.coap_client.specs.Transmissions.{MakesCalls, IsAskedAgain, EndsAwaited};
 ghost use Rattle.std.specs.Bool.{OnTrue};
 ghost use Rattle.coap_client.specs.Parts.{resource_options};
@@ -18,7 +19,7 @@ ghost use Rattle.coap_client.specs.Paths.{slices_in};
 use crate::errand::{Errand, push_options};
 use crate::fetcher::FetchFault;
 use crate::notice::{Interest, Notice, is_notification, is_reply_with};
-use crate::peer::Peer;
+use crate::peer::{Buffer, Peer};
 use crate::reply::{is_empty_acknowledgement, is_reset};
 use crate::transmission::{
     Listened, Reception, SENDINGS, SEPARATE_WAIT, ack_timeout, acknowledge, is_passed_over, send,
@@ -41,10 +42,18 @@ pub struct Observer<'a> {
     pub id: u16,
 }
 
-/// A notification that is shown: how many bytes at the start of the buffer it is, and whether none comes behind it.
+/// A notification that came: how many bytes at the start of the buffer it is, and at which moment, in milliseconds.
+#[derive(Clone, Copy, PartialEq, Eq)]
+pub struct DatedMessage {
+    pub count: usize,
+    pub moment: u64,
+}
+
+/// A notification that is shown: how many bytes at the start of the buffer it is, at which moment it came, in milliseconds, and whether none comes behind it.
 #[derive(Clone, Copy, PartialEq, Eq)]
 pub struct NotedMessage {
     pub count: usize,
+    pub moment: u64,
     pub last: bool,
 }
 
@@ -58,12 +67,13 @@ impl<'a> Observer<'a> {
         &self,
         alloc: Global,
         peer: &mut P,
-        buffer: &mut [u8],
+        buffer: &mut Buffer,
     ) -> Result<usize, FetchFault>
         ensures registered { IfOk result (λ count. (count ≤ length buffer.new)
             × IsRegistered P.went P.came self.now (take count buffer.new)) }
         ensures called { IfOk result (λ count. MakesCalls (P.called peer.old) (P.called peer.new)
             (IsRegistration self.now (take count buffer.new))) }
+        ensures fault { IfErr result (IsRegistrationFault P.is_error (MakesCalls (P.called peer.old) (P.called peer.new)) self.now) }
     {
         let mut datagram = Datagram::new();
         write_request(
@@ -86,12 +96,14 @@ impl<'a> Observer<'a> {
         &self,
         peer: &mut P,
         datagram: &Datagram,
-        buffer: &mut [u8],
+        buffer: &mut Buffer,
     ) -> Result<Option<usize>, FetchFault>
         ensures answer { IfOk result (λ r. IfSome r (λ count. (count ≤ length buffer.new) × P.went datagram.now.items
             × HasArrived P.came (IsResponseWith self.now.token self.now.id) (take count buffer.new))) }
         ensures called { IfOk result (λ r. MakesCalls (P.called peer.old) (P.called peer.new)
             (IsAskedAgain (TellsObserver self.now.token self.now.id) datagram.now.items (received_bytes buffer.new r))) }
+        ensures fault { IfErr result (IsOfPeer P.is_error (MakesCalls (P.called peer.old) (P.called peer.new)
+            (IsRejection true (TellsObserver self.now.token self.now.id) datagram.now.items))) }
     {
         for sendings in 0..SENDINGS {
             send(peer, datagram, ack_timeout(sendings))?;
@@ -111,12 +123,14 @@ impl<'a> Observer<'a> {
     fn await_answer<P: Peer>(
         &self,
         peer: &mut P,
-        buffer: &mut [u8],
+        buffer: &mut Buffer,
     ) -> Result<Option<usize>, FetchFault>
         ensures answer { IfOk result (λ r. IfSome r (λ count. (count ≤ length buffer.new)
             × HasArrived P.came (IsResponseWith self.now.token self.now.id) (take count buffer.new))) }
         ensures called { IfOk result (λ r. MakesCalls (P.called peer.old) (P.called peer.new)
             (EndsAwaited (TellsObserver self.now.token self.now.id) (received_bytes buffer.new r))) }
+        ensures fault { IfErr result (IsOfPeer P.is_error (MakesCalls (P.called peer.old) (P.called peer.new)
+            (IsRejectedBy (TellsObserver self.now.token self.now.id) true))) }
     {
         match self.listen(peer, true, buffer)? {
             Listened::Answer(count) => Ok(Some(count)),
@@ -129,11 +143,13 @@ impl<'a> Observer<'a> {
         &self,
         peer: &mut P,
         awaited: bool,
-        buffer: &mut [u8],
+        buffer: &mut Buffer,
     ) -> Result<Listened, FetchFault>
         ensures listened { IfOk result (HearsAnswer P.came self.now.token self.now.id buffer.new) }
         ensures called { IfOk result (λ x. MakesCalls (P.called peer.old) (P.called peer.new)
             (IsHeard (TellsObserver self.now.token self.now.id) awaited buffer.new x)) }
+        ensures fault { IfErr result (IsOfPeer P.is_error (MakesCalls (P.called peer.old) (P.called peer.new)
+            (IsRejectedBy (TellsObserver self.now.token self.now.id) awaited))) }
     {
         for received in 0..u64::MAX {
             let Some(count) = peer.receive(buffer)? else {
@@ -158,23 +174,54 @@ impl<'a> Observer<'a> {
         &self,
         alloc: Global,
         peer: &mut P,
-        buffer: &mut [u8],
+        buffer: &mut Buffer,
     ) -> Result<(), FetchFault>
         ensures deregistered { OnOk result (HasDeregistered P.went P.came self.now) }
         ensures called { OnOk result (MakesCalls (P.called peer.old) (P.called peer.new) (IsDeregistration self.now)) }
+        ensures fault { IfErr result (IsDeregistrationFault P.is_error (MakesCalls (P.called peer.old) (P.called peer.new)) self.now) }
     {
-        let id = self.id.wrapping_add(1);
+        let datagram = self.deregistration(alloc)?;
+        self.deregister_by(peer, &datagram, buffer)
+    }
+
+    /// Returns the request by which it deregisters.
+    ///
+    /// # Errors
+    /// There was no memory for its options.
+    pub fn deregistration(&self, alloc: Global) -> Result<Datagram, AllocError>
+        ensures { IfOk result (λ d. d.items ≡ deregistration_of self.now) }
+    {
         let mut datagram = Datagram::new();
         write_request(
             alloc,
             self.errand,
             Interest::Deregister,
             &self.token,
-            id,
+            self.id.wrapping_add(1),
             &mut datagram,
         )?;
+        Ok(datagram)
+    }
+
+    /// Deregisters as [`Observer::deregister`] does, by the request that [`Observer::deregistration`] returned, and needs no memory.
+    ///
+    /// # Errors
+    /// No acknowledgement came, the request was rejected, or sending or receiving failed. The peer was asked to send it all the same.
+    pub fn deregister_by<P: Peer>(
+        &self,
+        peer: &mut P,
+        request: &Datagram,
+        buffer: &mut Buffer,
+    ) -> Result<(), FetchFault>
+        requires { request.now.items ≡ deregistration_of self.now }
+        ensures tried { P.tried (deregistration_of self.now) }
+        ensures deregistered { OnOk result (HasDeregistered P.went P.came self.now) }
+        ensures called { OnOk result (MakesCalls (P.called peer.old) (P.called peer.new) (IsDeregistration self.now)) }
+        ensures fault { IfErr result (IsLeavingFault P.is_error (MakesCalls (P.called peer.old) (P.called peer.new)) self.now) }
+    {
+        let id = self.id.wrapping_add(1);
         for sendings in 0..SENDINGS {
-            send(peer, &datagram, ack_timeout(sendings))?;
+            send(peer, request, ack_timeout(sendings))?;
             if is_acknowledged(peer, &self.token, id, buffer)? {
                 return Ok(());
             }
@@ -193,26 +240,38 @@ impl Watch {
         &mut self,
         peer: &mut P,
         token: &[u8],
-        buffer: &mut [u8],
+        buffer: &mut Buffer,
     ) -> Result<Option<NotedMessage>, FetchFault>
         ensures watched { IfOk result (Watches P.went P.came P.is_moment token.now buffer.new self.old self.new) }
         ensures called { IfOk result (λ r. MakesCalls (P.called peer.old) (P.called peer.new)
             (AwaitsNotification token.now (IsPassedOverWatching P.is_moment token.now self.old) (noted_in buffer.new r))) }
+        ensures fault { IfErr result (IsNotificationFault P.came P.is_error (MakesCalls (P.called peer.old) (P.called peer.new))
+            P.is_moment token.now self.old) }
     {
         for _ in 0..u64::MAX {
-            let Some(count) = hear(peer, token, buffer)? else {
+            let Some(came) = hear(peer, token, buffer)? else {
                 return Ok(None);
             };
-            let Ok(message) = read(&buffer[..count]) else {
+            let Ok(message) = read(&buffer[..came.count]) else {
                 unreachable!();
             };
-            let at = self.at.max(peer.now()?);
+            let at = self.at.max(came.moment);
             match self.notice_of(at, &message) {
                 Notice::State(sequence) => {
                     self.keep(sequence, at, message.id())?;
-                    return Ok(Some(NotedMessage { count, last: false }));
+                    return Ok(Some(NotedMessage {
+                        count: came.count,
+                        moment: came.moment,
+                        last: false,
+                    }));
                 }
-                Notice::Last => return Ok(Some(NotedMessage { count, last: true })),
+                Notice::Last => {
+                    return Ok(Some(NotedMessage {
+                        count: came.count,
+                        moment: came.moment,
+                        last: true,
+                    }));
+                }
                 Notice::Misfit => return Err(FetchFault::Part),
                 Notice::Older => {}
             }
@@ -221,12 +280,18 @@ impl Watch {
     }
 }
 
-// The next notification that comes while a wait lasts. A confirmable one is acknowledged.
-fn hear<P: Peer>(peer: &mut P, token: &[u8], buffer: &mut [u8]) -> Result<Option<usize>, FetchFault>
-    ensures heard { IfOk result (λ r. IfSome r (λ count. (count ≤ length buffer.new)
-        × HasOwnResponse P.went P.came token.now (take count buffer.new))) }
+// The next notification that comes while a wait lasts, and the moment that it is then. A confirmable one is acknowledged.
+fn hear<P: Peer>(
+    peer: &mut P,
+    token: &[u8],
+    buffer: &mut Buffer,
+) -> Result<Option<DatedMessage>, FetchFault>
+    ensures heard { IfOk result (λ r. IfSome r (λ x. (x.count ≤ length buffer.new)
+        × HasOwnResponse P.went P.came token.now (take x.count buffer.new))) }
+    ensures moment { IfOk result (λ r. IfSome r (λ x. P.is_moment x.moment)) }
     ensures called { IfOk result (λ r. MakesCalls (P.called peer.old) (P.called peer.new)
-        (AwaitsNotification token.now (IsNoNotification token.now) (received_bytes buffer.new r))) }
+        (AwaitsNotification token.now (IsNoNotification token.now) (dated_in buffer.new r))) }
+    ensures fault { IfErr result (IsOfPeer P.is_error ⊥) }
 {
     for _ in 0..u64::MAX {
         let Some(count) = peer.receive(buffer)? else {
@@ -234,7 +299,8 @@ fn hear<P: Peer>(peer: &mut P, token: &[u8], buffer: &mut [u8]) -> Result<Option
         };
         if tells_notification(token, &buffer[..count]) {
             acknowledge(peer, &buffer[..count])?;
-            return Ok(Some(count));
+            let moment = peer.now()?;
+            return Ok(Some(DatedMessage { count, moment }));
         }
     }
     Ok(None)
@@ -280,10 +346,12 @@ fn is_acknowledged<P: Peer>(
     peer: &mut P,
     token: &[u8],
     id: u16,
-    buffer: &mut [u8],
+    buffer: &mut Buffer,
 ) -> Result<bool, FetchFault>
     ensures acknowledged { IfOk result (λ is. OnTrue is (HasAcknowledgement P.came id)) }
     ensures called { IfOk result (λ is. MakesCalls (P.called peer.old) (P.called peer.new) (IsOverUnlessLeft token.now id is)) }
+    ensures fault { IfErr result (IsOfPeer P.is_error (MakesCalls (P.called peer.old) (P.called peer.new)
+        (IsRejectedLeaving token.now id))) }
 {
     for received in 0..u64::MAX {
         let Some(count) = peer.receive(buffer)? else {
@@ -307,7 +375,8 @@ fn acknowledge_notification<P: Peer>(
     token: &[u8],
     bytes: &[u8],
 ) -> Result<(), FetchFault>
-    ensures { OnOk result (MakesCalls (P.called peer.old) (P.called peer.new) (AcknowledgesNotification token.now bytes.now)) }
+    ensures called { OnOk result (MakesCalls (P.called peer.old) (P.called peer.new) (AcknowledgesNotification token.now bytes.now)) }
+    ensures fault { IfErr result (IsOfPeer P.is_error ⊥) }
 {
     if !tells_notification(token, bytes) {
         return Ok(());

@@ -2,7 +2,7 @@
 ghost use Rattle.std.specs.Prelude.{◌≡◌, ◌∷◌, ◌<◌, ◌≤◌, IfErr, IfOk, MatchOption, length};
 ghost use Rattle.std.specs.List.{All};
 ghost use Rattle.coap_client.specs.Paths.{HasNoSlash, IsFirstSegment, IsSlashed, IsSegment, slices_in, slash};
-ghost use Rattle.coap_client.specs.PathErrors.{IsUnfit, TellsNoPath};
+ghost use Rattle.coap_client.specs.PathErrors.{IsPathFault, IsUnfit, TellsNoPath};
 
 use std::alloc::Global;
 use thiserror::Error;
@@ -42,6 +42,7 @@ impl<'a> Path<'a> {
     pub fn parse(alloc: Global, text: &'a [u8]) -> Result<Path<'a>, PathError>
         ensures path { IfOk result (λ p. IsSlashed text.entry.now (slices_in p.segments.items)) }
         ensures none { IfErr result (TellsNoPath text.entry.now) }
+        ensures fault { IfErr result (IsPathFault text.entry.now) }
     {
         let mut segments = Vec::new(alloc);
         let mut rest = text;
@@ -65,7 +66,7 @@ impl<'a> Path<'a> {
 
 // What is wrong with the segment of this number, which has 1 to 255 bytes where nothing is.
 fn fault_of(segment: &[u8], number: usize) -> Option<PathError>
-    ensures { MatchOption result ((0 < length segment.now) × (length segment.now ≤ 255)) (IsUnfit segment.now) }
+    ensures { MatchOption result ((0 < length segment.now) × (length segment.now ≤ 255)) (IsUnfit segment.now number) }
 {
     if segment.is_empty() {
         Some(PathError::Empty(number))

@@ -1,9 +1,10 @@
 //! What comes from the server: a request goes out, and again until it is answered or acknowledged.
-ghost use Rattle.std.specs.Prelude.{◌≡◌, ◌<◌, ◌≤◌, [], ◌∷◌, IfOk, IfSome, OnOk, false, length, take, true};
+ghost use Rattle.std.specs.Prelude.{◌≡◌, ◌<◌, ◌≤◌, [], ◌∷◌, IfErr, IfOk, IfSome, OnOk, false, length, take, true};
 ghost use Rattle.coap_msg.specs.Wire.{message_bytes};
 ghost use Rattle.coap_msg.specs.Reading.{reading_of};
 ghost use Rattle.coap_msg.specs.Wire as wire;
 ghost use Rattle.coap_msg.specs.declared.types.MessageType.TheVariants.{Confirmable};
+ghost use Rattle.coap_client.specs.Faults.{IsOfPeer, IsRejectedBy, IsRejection};
 ghost use Rattle.coap_client.specs.Heard.{AcknowledgesRepeat, Listens, HasTakenResponse, HasResponse, IsAwaitedAnswer, IsHeardAs, TellsSent};
 ghost use Rattle.coap_client.specs.Listening.{IsHeard, acknowledges, is_passed_over, sent_behind};
 ghost use Rattle.coap_client.specs.PeerCalls.{Adds, Sends, Waits, received_bytes};
@@ -12,7 +13,7 @@ ghost use Rattle.coap_client.specs.Transmissions.{ack_timeout, most_sendings, no
 ghost use Rattle.coap_client.specs.Requests.{acknowledgement};
 
 use crate::fetcher::FetchFault;
-use crate::peer::Peer;
+use crate::peer::{Buffer, Peer};
 use crate::reply::{is_empty_acknowledgement, is_reply, is_reset, is_separate};
 use coap_msg::{Code, Datagram, Message, MessageType, Outgoing, read, write};
 
@@ -84,12 +85,14 @@ pub(crate) fn ack_timeout(sendings: u32) -> u64
 pub fn ask<P: Peer>(
     peer: &mut P,
     request: &SentRequest<'_>,
-    buffer: &mut [u8],
+    buffer: &mut Buffer,
 ) -> Result<Option<usize>, FetchFault>
     ensures response { IfOk result (λ r. IfSome r (λ count. (count ≤ length buffer.new)
         × HasTakenResponse P.went P.came request.now (take count buffer.new))) }
     ensures called { IfOk result (λ r. MakesCalls (P.called peer.old) (P.called peer.new)
         (IsTransmission request.now.confirmable (TellsSent request.now) request.now.datagram.now.items (received_bytes buffer.new r))) }
+    ensures fault { IfErr result (IsOfPeer P.is_error (MakesCalls (P.called peer.old) (P.called peer.new)
+        (IsRejection request.now.confirmable (TellsSent request.now) request.now.datagram.now.items))) }
 {
     let Some(count) = transmit(peer, request, buffer)? else {
         return Ok(None);
@@ -102,12 +105,14 @@ pub fn ask<P: Peer>(
 fn transmit<P: Peer>(
     peer: &mut P,
     request: &SentRequest<'_>,
-    buffer: &mut [u8],
+    buffer: &mut Buffer,
 ) -> Result<Option<usize>, FetchFault>
     ensures response { IfOk result (λ r. IfSome r (λ count. (count ≤ length buffer.new)
         × HasResponse P.went P.came request.now (take count buffer.new))) }
     ensures called { IfOk result (λ r. MakesCalls (P.called peer.old) (P.called peer.new)
         (IsTransmitted request.now.confirmable (TellsSent request.now) request.now.datagram.now.items (received_bytes buffer.new r))) }
+    ensures fault { IfErr result (IsOfPeer P.is_error (MakesCalls (P.called peer.old) (P.called peer.new)
+        (IsRejection request.now.confirmable (TellsSent request.now) request.now.datagram.now.items))) }
 {
     if request.confirmable {
         ask_again(peer, request, buffer)
@@ -120,12 +125,14 @@ fn transmit<P: Peer>(
 fn ask_again<P: Peer>(
     peer: &mut P,
     request: &SentRequest<'_>,
-    buffer: &mut [u8],
+    buffer: &mut Buffer,
 ) -> Result<Option<usize>, FetchFault>
     ensures response { IfOk result (λ r. IfSome r (λ count. (count ≤ length buffer.new)
         × HasResponse P.went P.came request.now (take count buffer.new))) }
     ensures called { IfOk result (λ r. MakesCalls (P.called peer.old) (P.called peer.new)
         (IsAskedAgain (TellsSent request.now) request.now.datagram.now.items (received_bytes buffer.new r))) }
+    ensures fault { IfErr result (IsOfPeer P.is_error (MakesCalls (P.called peer.old) (P.called peer.new)
+        (IsRejection true (TellsSent request.now) request.now.datagram.now.items))) }
 {
     for sendings in 0..SENDINGS {
         send(peer, request.datagram, ack_timeout(sendings))?;
@@ -145,13 +152,15 @@ fn ask_again<P: Peer>(
 fn ask_once<P: Peer>(
     peer: &mut P,
     request: &SentRequest<'_>,
-    buffer: &mut [u8],
+    buffer: &mut Buffer,
 ) -> Result<Option<usize>, FetchFault>
     requires { request.now.confirmable ≡ false }
     ensures response { IfOk result (λ r. IfSome r (λ count. (count ≤ length buffer.new)
         × HasResponse P.went P.came request.now (take count buffer.new))) }
     ensures called { IfOk result (λ r. MakesCalls (P.called peer.old) (P.called peer.new)
         (IsSending request.now.datagram.now.items non_wait (EndsAwaited (TellsSent request.now) (received_bytes buffer.new r)))) }
+    ensures fault { IfErr result (IsOfPeer P.is_error (MakesCalls (P.called peer.old) (P.called peer.new)
+        (IsRejection false (TellsSent request.now) request.now.datagram.now.items))) }
 {
     send(peer, request.datagram, NON_WAIT)?;
     await_separate(peer, request, buffer)
@@ -164,7 +173,9 @@ pub(crate) fn send<P: Peer>(
     seconds: u64,
 ) -> Result<(), FetchFault>
     ensures went { OnOk result (P.went request.now.items) }
+    ensures tried { P.tried request.now.items }
     ensures called { OnOk result (Adds (P.called peer.old) (P.called peer.new) (Waits seconds ∷ Sends request.now.items ∷ [])) }
+    ensures fault { IfErr result (IsOfPeer P.is_error ⊥) }
 {
     peer.send(request)?;
     peer.begin_wait(seconds)?;
@@ -175,12 +186,14 @@ pub(crate) fn send<P: Peer>(
 fn await_separate<P: Peer>(
     peer: &mut P,
     request: &SentRequest<'_>,
-    buffer: &mut [u8],
+    buffer: &mut Buffer,
 ) -> Result<Option<usize>, FetchFault>
     ensures answer { IfOk result (λ r. IfSome r (λ count. (count ≤ length buffer.new)
         × IsAwaitedAnswer P.came request.now true (take count buffer.new))) }
     ensures called { IfOk result (λ r. MakesCalls (P.called peer.old) (P.called peer.new)
         (EndsAwaited (TellsSent request.now) (received_bytes buffer.new r))) }
+    ensures fault { IfErr result (IsOfPeer P.is_error (MakesCalls (P.called peer.old) (P.called peer.new)
+        (IsRejectedBy (TellsSent request.now) true))) }
 {
     match listen(peer, request, true, buffer)? {
         Listened::Answer(count) => Ok(Some(count)),
@@ -193,11 +206,13 @@ fn listen<P: Peer>(
     peer: &mut P,
     request: &SentRequest<'_>,
     awaited: bool,
-    buffer: &mut [u8],
+    buffer: &mut Buffer,
 ) -> Result<Listened, FetchFault>
     ensures listened { IfOk result (Listens P.came request.now awaited buffer.new) }
     ensures called { IfOk result (λ x. MakesCalls (P.called peer.old) (P.called peer.new)
         (IsHeard (TellsSent request.now) awaited buffer.new x)) }
+    ensures fault { IfErr result (IsOfPeer P.is_error (MakesCalls (P.called peer.old) (P.called peer.new)
+        (IsRejectedBy (TellsSent request.now) awaited))) }
 {
     for received in 0..u64::MAX {
         let Some(count) = peer.receive(buffer)? else {
@@ -236,6 +251,7 @@ fn hear_from<P: Peer>(
     ensures heard { IfOk result (TellsSent request.now bytes.now) }
     ensures repeat { IfOk result (AcknowledgesRepeat P.went bytes.now) }
     ensures called { IfOk result (λ heard. Adds (P.called peer.old) (P.called peer.new) (sent_behind heard bytes.now)) }
+    ensures fault { IfErr result (IsOfPeer P.is_error ⊥) }
 {
     let heard = hear_datagram(request, bytes);
     if heard == Reception::Repeat {
@@ -277,6 +293,7 @@ pub(crate) fn acknowledge<P: Peer>(peer: &mut P, bytes: &[u8]) -> Result<(), Fet
     ensures went { OnOk result ((m : wire.Message) → reading_of bytes.now ≡ Ok m → m.kind ≡ Confirmable
         → P.went (message_bytes (acknowledgement m.id))) }
     ensures called { OnOk result (Adds (P.called peer.old) (P.called peer.new) (acknowledges bytes.now)) }
+    ensures fault { IfErr result (IsOfPeer P.is_error ⊥) }
 {
     match read(bytes) {
         Ok(message) if message.kind() == MessageType::Confirmable => {

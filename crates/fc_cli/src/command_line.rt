@@ -12,8 +12,8 @@ use std::io::Write;
 use std::process::ExitCode;
 use std::rt::Runtime;
 
-/// The version that `--version` tells, and by which kit it is proved.
-pub const VERSION: &str = "0.1.0, proved with rattle-kit-13f logic dac8208d650f15bf";
+/// The version that `--version` tells, and the kit that proves its sources, whatever built the program.
+pub const VERSION: &str = "0.1.0, of sources that rattle-kit-13f logic dac8208d650f15bf proves";
 
 /// Reads the words of the command line. `None` where one of them isn't UTF-8, which `err` is told.
 ///

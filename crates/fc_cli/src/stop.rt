@@ -1,5 +1,5 @@
 //! Why a program that reads lines stops.
-ghost use Rattle.std.specs.Prelude.{◌≡◌, ◌≢◌};
+ghost use Rattle.std.specs.Prelude.{◌≡◌, ◌≢◌, ℕ};
 ghost use Rattle.std.specs.IoError.{error_kind};
 ghost use Rattle.fc_cli.specs.Stops.{status_of};
 
@@ -31,6 +31,7 @@ impl Stop {
     pub fn at_line(error: io::Error, number: u64) -> Stop
         ensures bad { error_kind error ≡ ErrorKind.InvalidData → result ≡ Stop.BadLine number }
         ensures failed { error_kind error ≢ ErrorKind.InvalidData → result ≡ Stop.Input error }
+        ensures numbered { (line : ℕ) → result ≡ Stop.BadLine line → line ≡ number }
     {
         match error.kind() {
             ErrorKind::InvalidData => Stop::BadLine(number),

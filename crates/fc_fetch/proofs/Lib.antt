@@ -1,3 +1,6 @@
 pub mod Segments
 pub mod Texts
 pub mod Lines
+pub mod Timing
+pub mod Failures
+pub mod Asked

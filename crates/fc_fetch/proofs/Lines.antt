@@ -1,5 +1,5 @@
 -- What an observer's program has printed, line by line.
-use Rattle.std.proofs.Common.{◌≡◌, Bool, true, false, ℕ, ◌+◌, List, [], ◌∷◌, ◌++◌, Option, Some, None, Ok, refl, sym, ap, subst, ◌∙◌, arith}
+use Rattle.std.proofs.Common.{◌≡◌, Bool, true, false, ℕ, ◌+◌, ◌<◌, ◌≤◌, List, [], ◌∷◌, ◌++◌, Option, Some, None, Ok, refl, sym, ap, subst, ◌∙◌, arith}
 use Rattle.std.specs.Io.KnownBytes.{Appends}
 use Rattle.std.proofs.lemmas.List.{append_assoc}
 use Rattle.coap_msg.specs.Reading.{reading_of}
@@ -11,10 +11,10 @@ use Rattle.coap_client.specs.declared.notice.Notice.TheVariants as notice
 use Rattle.coap_client.specs.declared.observing.Observer.{Observer}
 use Rattle.coap_client.specs.declared.watch.Watch.{Watch}
 use Rattle.coap_msg.specs.declared.code.Code.{Code}
-use Rattle.fc_fetch.specs.declared.observer.ObservationEnd.TheVariants.{Counted, Last}
+use Rattle.fc_fetch.specs.declared.observer.ObservationEnd.TheVariants.{Counted, Over, Last}
 use Rattle.fc_fetch.specs.declared.observer.First.TheVariants.{State, Only}
 use Rattle.fc_fetch.specs.declared.printer.Shown.{Shown}
-use Rattle.fc_fetch.specs.Observing.{HasShown, IsFirstShown, IsShowing, IsState, note_text, notes_text}
+use Rattle.fc_fetch.specs.Observing.{HasShown, IsFirstShown, IsShowing, IsState, lines_wanted, note_text, notes_text}
 
 appended : (a b c : Option (List ℕ)) (x y : List ℕ) → Appends a b x → Appends b c y → Appends a c (x ++ y)
 appended None b c x y v w = tt
@@ -39,21 +39,21 @@ first_shown went came told o shown bytes before after m at w registered read mom
 pub only_shown : (went came : List ℕ → Type 0) (told : ℕ → Type 0) (o : Observer) (shown : Shown) (bytes : List ℕ) (before after : Option (List ℕ)) (m : Message) (at : ℕ) (code : Code) →
     IsRegistered went came o bytes → reading_of bytes ≡ Ok m → told at → notice_of m ≡ notice.Last → code.byte ≡ m.code →
     Appends before after (note_text shown m.code m.payload) → IsFirstShown went came told o shown before after (Only code)
-only_shown went came told o shown bytes before after m at code registered read moment last same appends = λ limit. record {
+only_shown went came told o shown bytes before after m at code registered read moment last same appends = λ limit some. record {
   asked = registered.asked;
   latest = record { message = m; at = at };
   older = [];
   are = only_note went came told o bytes m at registered read moment last;
   printed = appends;
-  ends = (sym same, last);
+  ends = (some, sym same, last);
 }
 
 -- a state behind it
-pub next_shown : (went came : List ℕ → Type 0) (told : ℕ → Type 0) (o : Observer) (shown : Shown) (bytes : List ℕ) (before now after : Option (List ℕ)) (m : Message) (lines : ℕ) (old new : Watch) (last : Bool) →
-    IsShowing went came told o shown before now lines old → IsNextNote went came told o.token bytes old new last → last ≡ false → reading_of bytes ≡ Ok m →
+pub next_shown : (went came : List ℕ → Type 0) (told : ℕ → Type 0) (o : Observer) (shown : Shown) (bytes : List ℕ) (moment : ℕ) (before now after : Option (List ℕ)) (m : Message) (lines : ℕ) (old new : Watch) (last : Bool) →
+    IsShowing went came told o shown before now lines old → IsNextNote went came told o.token bytes moment old new last → last ≡ false → reading_of bytes ≡ Ok m →
     Appends now after (note_text shown m.code m.payload) → IsShowing went came told o shown before after (lines + 1) new
-next_shown went came told o shown bytes before now after m lines old new last s x goes read appends =
-    let next = next_note went came told o.token o.id s.latest s.older bytes old new last s.watching x in
+next_shown went came told o shown bytes moment before now after m lines old new last s x goes read appends =
+    let next = next_note went came told o.token o.id s.latest s.older bytes moment old new last s.watching x in
     let spelled : m ≡ next.note.message = cc (read, next.read) in
     record {
       asked = s.asked;
@@ -66,11 +66,11 @@ next_shown went came told o shown bytes before now after m lines old new last s 
     }
 
 -- the last one behind it
-pub last_shown : (went came : List ℕ → Type 0) (told : ℕ → Type 0) (o : Observer) (shown : Shown) (bytes : List ℕ) (before now after : Option (List ℕ)) (m : Message) (lines limit : ℕ) (old new : Watch) (last : Bool) (code : Code) →
-    IsShowing went came told o shown before now lines old → IsNextNote went came told o.token bytes old new last → last ≡ true → reading_of bytes ≡ Ok m → code.byte ≡ m.code →
-    Appends now after (note_text shown m.code m.payload) → HasShown went came told o shown limit before after (Last code)
-last_shown went came told o shown bytes before now after m lines limit old new last code s x ends read same appends =
-    let next = next_note went came told o.token o.id s.latest s.older bytes old new last s.watching x in
+pub last_shown : (went came : List ℕ → Type 0) (told : ℕ → Type 0) (o : Observer) (shown : Shown) (bytes : List ℕ) (moment : ℕ) (before now after : Option (List ℕ)) (m : Message) (lines limit : ℕ) (old new : Watch) (last : Bool) (code : Code) →
+    IsShowing went came told o shown before now lines old → IsNextNote went came told o.token bytes moment old new last → last ≡ true → reading_of bytes ≡ Ok m → code.byte ≡ m.code →
+    Appends now after (note_text shown m.code m.payload) → lines < limit → HasShown went came told o shown limit before after (Last code)
+last_shown went came told o shown bytes moment before now after m lines limit old new last code s x ends read same appends fewer =
+    let next = next_note went came told o.token o.id s.latest s.older bytes moment old new last s.watching x in
     let spelled : m ≡ next.note.message = cc (read, next.read) in
     record {
       asked = s.asked;
@@ -79,7 +79,7 @@ last_shown went came told o shown bytes before now after m lines limit old new l
       are = next.are;
       printed = appended before now after (notes_text shown (s.latest ∷ s.older)) (note_text shown next.note.message.code next.note.message.payload) s.printed
           (subst (λ n. Appends now after (note_text shown n.code n.payload)) spelled appends);
-      ends = (ap (λ n. n.code) (sym spelled) ∙ sym same, next.none ends);
+      ends = (omega (arith, s.count, fewer), ap (λ n. n.code) (sym spelled) ∙ sym same, next.none ends);
     }
 
 -- as many as are wanted
@@ -93,3 +93,20 @@ all_shown went came told o shown before now lines limit w s same = record {
   printed = s.printed;
   ends = (s.count ∙ same, subst IsState (sym s.watching.state) tt);
 }
+
+-- the time is over before that
+pub over_shown : (went came : List ℕ → Type 0) (told : ℕ → Type 0) (o : Observer) (shown : Shown) (before now : Option (List ℕ)) (lines limit : ℕ) (w : Watch) →
+    IsShowing went came told o shown before now lines w → lines < limit → HasShown went came told o shown limit before now Over
+over_shown went came told o shown before now lines limit w s fewer = record {
+  asked = s.asked;
+  latest = s.latest;
+  older = s.older;
+  are = s.watching.are;
+  printed = s.printed;
+  ends = (omega (arith, s.count, fewer), subst IsState (sym s.watching.state) tt);
+}
+
+-- one line is wanted at least
+pub some_line : (count : Option ℕ) → 1 ≤ lines_wanted count
+some_line None = omega arith
+some_line (Some count) = omega arith

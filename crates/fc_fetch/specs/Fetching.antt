@@ -1,8 +1,31 @@
 -- What a client prints of an answer, and how it ends.
-use Rattle.std.specs.Prelude.{ℕ, ◌/◌, ◌==◌, if◌then◌else◌, List, [], ◌∷◌, ◌++◌}
+use Rattle.std.specs.Io.KnownBytes.{Appends}
+use Rattle.std.specs.Prelude.{◌≡◌, ◌⊎◌, ℕ, ◌/◌, ◌==◌, if◌then◌else◌, List, [], ◌∷◌, ◌++◌, Option, IfSome}
+use Rattle.std.specs.declared.net.socket_addr.SocketAddrV4.{SocketAddrV4}
+use Rattle.coap_client.specs.Faults.{IsFetchFault}
+use Rattle.coap_client.specs.Fetching.{IsFetched}
+use Rattle.coap_client.specs.Joined.{SendsWhole}
+use Rattle.coap_client.specs.Parts.{FitsDatagrams}
+use Rattle.coap_client.specs.Paths.{slices_in}
+use Rattle.coap_opts.specs.declared.request.Method.{Method}
+use Rattle.coap_client.specs.PeerCalls.{PeerCall, PeerError}
+use Rattle.coap_client.specs.declared.errand.Errand.{Errand}
+use Rattle.coap_client.specs.declared.errand.RequestTarget.{RequestTarget}
+use Rattle.coap_client.specs.declared.fetcher.FetchFault.{FetchFault}
 use Rattle.coap_msg.specs.Codes.{code_text}
 use Rattle.fc_cli.specs.declared.status.Status.{Status}
-use Rattle.fc_cli.specs.declared.status.Status.TheVariants.{Done, Refused}
+use Rattle.fc_cli.specs.declared.status.Status.TheVariants.{Done, Refused, Bad, Failed}
+use Rattle.fc_fetch.specs.Addresses.{IsAddress}
+use Rattle.fc_fetch.specs.Connecting.{IsDrawnId}
+use Rattle.fc_fetch.specs.Resources.{IsResourceOf}
+use Rattle.fc_fetch.specs.declared.address.Address.{Address}
+use Rattle.fc_fetch.specs.declared.address.AddressError.{AddressError}
+use Rattle.fc_fetch.specs.declared.address.AddressError.TheVariants as address_error
+use Rattle.fc_fetch.specs.declared.client.FetchStop.{FetchStop}
+use Rattle.fc_fetch.specs.declared.client.FetchStop.TheVariants as stop
+use Rattle.coap_client.specs.declared.path.PathError.{PathError}
+use Rattle.coap_client.specs.declared.path.PathError.TheVariants as path_error
+use Rattle.fc_fetch.specs.declared.client.FetchOptions.{FetchOptions}
 use Rattle.fc_fetch.specs.declared.printer.Shown.{Shown}
 use Rattle.fc_fetch.specs.Printing.{shown_bytes}
 
@@ -18,3 +41,82 @@ answer_text shown code (b ∷ body) = ended_line (code_text code) ++ ended_line 
 -- a code of success (RFC 7252, 5.9.1) is what was wanted
 abbrev pub ending_of : ℕ → Status
 ending_of code = if code / 32 == 2 then Done else Refused
+
+-- an answer of this code and body was printed, and its code says how the client ends
+pub record IsPrinted (shown : Shown) (code : ℕ) (answer : List ℕ) (before after : Option (List ℕ)) (status : Status) : Type 0 where
+  pub text : Appends before after (answer_text shown code answer)
+  pub status_is : status ≡ ending_of code
+
+-- ---- why nothing is asked, or no answer is had: a command line that is bad, or a failure
+
+abbrev pub address_status : AddressError → Status
+address_status address_error.NoMemory = Failed
+address_status other = Bad
+
+abbrev pub path_status : PathError → Status
+path_status path_error.NoMemory = Failed
+path_status other = Bad
+
+abbrev pub stop_status : FetchStop → Status
+stop_status (stop.Address error) = address_status error
+stop_status (stop.Path error) = path_status error
+stop_status stop.Argument = Bad
+stop_status stop.Room = Bad
+stop_status other = Failed
+
+-- ---- what is asked
+
+-- the errand has the method and the type of message that are asked for, this resource and this body
+pub record IsAsking (asking : FetchOptions) (target : RequestTarget) (body : List ℕ) (e : Errand) : Type 0 where
+  pub confirmable : e.confirmable ≡ asking.confirmable
+  pub method : e.method ≡ asking.method
+  pub target_is : e.target ≡ target
+  pub body_is : e.payload.now ≡ body
+
+-- a fetch of such an errand, by requests whose ids begin with this one, ends so
+pub record IsFetchedBy (went came : List ℕ → Type 0) (before after : List PeerCall → Type 0) (asking : FetchOptions) (target : RequestTarget) (body : List ℕ) (first code : ℕ)
+    (answer : List ℕ) : Type 0 where
+  pub errand : Errand
+  pub asks : IsAsking asking target body errand
+  pub fetched : IsFetched went came before after errand first code answer
+  pub whole : SendsWhole went errand code
+
+-- or fails by this fault
+pub record IsFaultOf (went came : List ℕ → Type 0) (is_error : PeerError → Type 0) (Makes : (List PeerCall → Type 0) → Type 0) (asking : FetchOptions) (target : RequestTarget)
+    (body : List ℕ) (first : ℕ) (fault : FetchFault) : Type 0 where
+  pub errand : Errand
+  pub asks : IsAsking asking target body errand
+  pub stops : IsFetchFault went came is_error Makes errand first fault
+
+-- a request of this has no room in a datagram, and nothing is called
+pub record HasNoRoom (Makes : (List PeerCall → Type 0) → Type 0) (method : Method) (target : RequestTarget) (body : List ℕ) : Type 0 where
+  pub unfit : FitsDatagrams method (slices_in target.path.segments.items) (slices_in target.query.items) body → ⊥
+  pub called : Makes (λ calls. calls ≡ [])
+
+-- a client that asks for this, and whose input is known to have these bytes, has this answer: it connected to the server at the address of its target, and asked it for that resource, by the bytes
+-- of its input and by message IDs from one on that it drew
+pub record IsAnswerTo {S : Type 0} (connected : S → SocketAddrV4 → Type 0) (drawn went came : List ℕ → Type 0) (called : S → List PeerCall → Type 0) (asking : FetchOptions)
+    (input : Option (List ℕ)) (code : ℕ) (answer : List ℕ) : Type 0 where
+  pub address : Address
+  pub address_is : IsAddress asking.target.now asking.port address
+  pub target : RequestTarget
+  pub target_is : IsResourceOf address target
+  pub body : List ℕ
+  pub body_is : IfSome input (λ bytes. body ≡ bytes)
+  pub id : ℕ
+  pub id_is : IsDrawnId drawn id
+  pub opened : S
+  pub opened_is : connected opened address.server
+  pub ended : S
+  pub fetched : IsFetchedBy went came (called opened) (called ended) asking target body id code answer
+
+-- an answer of this kind was had and printed
+pub record IsAnswerShown (Has : ℕ → List ℕ → Type 0) (shown : Shown) (before after : Option (List ℕ)) (status : Status) : Type 0 where
+  pub code : ℕ
+  pub answer : List ℕ
+  pub has : Has code answer
+  pub printed : IsPrinted shown code answer before after status
+
+-- or the client ends as a bad command line or a failure does
+abbrev pub IsAnswered : (ℕ → List ℕ → Type 0) → Shown → Option (List ℕ) → Option (List ℕ) → Status → Type 0
+IsAnswered Has shown before after status = IsAnswerShown Has shown before after status ⊎ ((status ≡ Bad) ⊎ (status ≡ Failed))

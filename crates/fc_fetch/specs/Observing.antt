@@ -1,10 +1,13 @@
 -- What an observer's program prints, and how it ends.
-use Rattle.std.specs.Prelude.{◌≡◌, ℕ, ◌++◌, max, List, [], ◌∷◌, length, Option, Some, None, codes}
+use Rattle.std.specs.Prelude.{◌≡◌, ℕ, ◌+◌, ◌<◌, ◌≤◌, ◌^◌, ◌⊎◌, ◌++◌, max, Bool, true, false, List, [], ◌∷◌, length, Option, Some, None, is_some, codes}
+use Rattle.std.specs.List.{All}
 use Rattle.std.specs.Io.KnownBytes.{Appends}
-use Rattle.coap_client.specs.Notes.{AreNotes, HasDeregistered, IsWatching, Note}
+use Rattle.coap_client.specs.Faults.{IsLeavingFault, IsRejection, IsSilence, UnfitCame, deregistration_of, registration_of}
+use Rattle.coap_client.specs.Notes.{AreNotes, HasDeregistered, IsWatching, Note, TellsObserver}
 use Rattle.coap_client.specs.Notices.{notice_of, observe_request}
-use Rattle.coap_client.specs.ObserverCalls.{IsDeregistration, IsObservation}
-use Rattle.coap_client.specs.PeerCalls.{PeerCall}
+use Rattle.coap_client.specs.ObserverCalls.{IsDatedRegistration, IsDeregistration, IsObserving}
+use Rattle.coap_client.specs.PeerCalls.{PeerCall, PeerError, Receives, Waits}
+use Rattle.coap_client.specs.Schedules.{schedule}
 use Rattle.coap_client.specs.Transmissions.{AreBehind}
 use Rattle.coap_client.specs.declared.notice.Interest.TheVariants.{Register}
 use Rattle.coap_client.specs.declared.notice.Notice.{Notice}
@@ -14,7 +17,19 @@ use Rattle.coap_client.specs.declared.watch.Watch.{Watch}
 use Rattle.coap_msg.specs.Codes.{code_text}
 use Rattle.coap_msg.specs.Wire.{message_bytes}
 use Rattle.fc_cli.specs.declared.status.Status.{Status}
-use Rattle.fc_cli.specs.declared.status.Status.TheVariants.{Done, Refused}
+use Rattle.fc_cli.specs.declared.status.Status.TheVariants.{Done, Refused, Bad, Failed}
+use Rattle.coap_client.specs.declared.fetcher.FetchFault.{FetchFault}
+use Rattle.coap_client.specs.declared.fetcher.FetchFault.TheVariants as fault
+use Rattle.std.specs.declared.net.socket_addr.SocketAddrV4.{SocketAddrV4}
+use Rattle.coap_client.specs.Transmissions.{MakesCalls}
+use Rattle.coap_client.specs.declared.errand.Errand.{Errand}
+use Rattle.fc_fetch.specs.Addresses.{IsAddress}
+use Rattle.fc_fetch.specs.Connecting.{IsDrawnId}
+use Rattle.fc_fetch.specs.Resources.{IsResourceOf}
+use Rattle.fc_fetch.specs.declared.address.Address.{Address}
+use Rattle.fc_fetch.specs.declared.observer.Observing.{Observing}
+use Rattle.fc_fetch.specs.declared.observer.NotesError.{NotesError}
+use Rattle.fc_fetch.specs.declared.observer.NotesError.TheVariants as notes_error
 use Rattle.fc_fetch.specs.declared.observer.ObservationEnd.{ObservationEnd}
 use Rattle.fc_fetch.specs.declared.observer.ObservationEnd.TheVariants.{Counted, Over, Last}
 use Rattle.fc_fetch.specs.declared.observer.First.{First}
@@ -42,11 +57,56 @@ abbrev pub IsState : Notice → Type 0
 IsState (notice.State sequence) = Unit {0}
 IsState other = ⊥
 
--- why no more is shown: as many were as are wanted, or the time is over, and each is a state; or the last one has this code, and none comes behind it
+-- why no more is shown: as many were as are wanted, or the time is over before that, and each is a state; or the last one has this code, and none comes behind it
 abbrev pub IsEnd : ℕ → ObservationEnd → Note → List Note → Type 0
 IsEnd limit Counted latest older = (length (latest ∷ older) ≡ limit) × IsState (notice_of latest.message)
-IsEnd limit Over latest older = IsState (notice_of latest.message)
-IsEnd limit (Last code) latest older = (latest.message.code ≡ code.byte) × (notice_of latest.message ≡ notice.Last)
+IsEnd limit Over latest older = (length (latest ∷ older) < limit) × IsState (notice_of latest.message)
+IsEnd limit (Last code) latest older = (length (latest ∷ older) ≤ limit) × (latest.message.code ≡ code.byte) × (notice_of latest.message ≡ notice.Last)
+
+-- ---- for how long
+
+-- a wait without an end is begun in days of 86,400 s
+abbrev pub is_day : PeerCall → Type 0
+is_day call = call ≡ Waits 86400
+
+-- how many seconds the first wait lasts
+abbrev pub first_wait : Option ℕ → ℕ
+first_wait None = 86400
+first_wait (Some seconds) = seconds
+
+-- then none is begun where the time ends, and else a day whenever one is over
+abbrev pub IsAwaitedIn : Bool → List PeerCall → Type 0
+IsAwaitedIn true calls = schedule calls ≡ []
+IsAwaitedIn false calls = All is_day (schedule calls)
+
+-- the first wait is begun, and no other but such a day
+pub record IsWaitedFor (seconds : Option ℕ) (calls : List PeerCall) : Type 0 where
+  pub heard : List PeerCall
+  pub awaited : IsAwaitedIn (is_some seconds) heard
+  pub is : calls ≡ heard ++ Waits (first_wait seconds) ∷ []
+
+-- the wait is over: the last receive says so; or 2^64 - 1 datagrams came, so that no more are listened to
+abbrev pub IsOverAtLast : List PeerCall → Type 0
+IsOverAtLast calls = ((older : List PeerCall) × (calls ≡ Receives None ∷ older)) ⊎ (2 ^ 64 ≤ length calls + 1)
+
+-- the time is over: the wait is, or without an end 2^64 - 1 days are
+abbrev pub IsTimeOver : Option ℕ → List PeerCall → Type 0
+IsTimeOver (Some seconds) calls = IsOverAtLast calls
+IsTimeOver None calls = 2 ^ 64 ≤ length (schedule calls) + 1
+
+abbrev pub EndsInTime : Option ℕ → ObservationEnd → List PeerCall → Type 0
+EndsInTime seconds Over calls = IsTimeOver seconds calls
+EndsInTime seconds other calls = Unit {0}
+
+-- it registers, and observes for so long; nothing is called behind a first answer that is the last
+pub record IsTimedObservation (o : Observer) (seconds : Option ℕ) (end : ObservationEnd) (calls : List PeerCall) : Type 0 where
+  pub older : List PeerCall
+  pub registered : IsDatedRegistration o older
+  pub newer : List PeerCall
+  pub observing : IsObserving o.token newer
+  pub waited : (newer ≡ []) ⊎ IsWaitedFor seconds newer
+  pub ends : EndsInTime seconds end newer
+  pub is : calls ≡ newer ++ older
 
 -- the deregistration was sent and acknowledged, where the server would notify further
 abbrev pub HasLeft : (List ℕ → Type 0) → (List ℕ → Type 0) → Observer → ObservationEnd → Type 0
@@ -58,8 +118,8 @@ abbrev pub IsLeaving : Observer → ObservationEnd → List PeerCall → Type 0
 IsLeaving o (Last code) calls = calls ≡ []
 IsLeaving o other calls = IsDeregistration o calls
 
-abbrev pub ObservesToEnd : Observer → ObservationEnd → List PeerCall → Type 0
-ObservesToEnd o end calls = AreBehind (IsObservation o) (IsLeaving o end) calls
+abbrev pub ObservesToEnd : Observer → Option ℕ → ObservationEnd → List PeerCall → Type 0
+ObservesToEnd o seconds end calls = AreBehind (IsTimedObservation o seconds end) (IsLeaving o end) calls
 
 -- the registration was sent; its answer and notifications were printed, a line each: each came, is newer than the one before it, and was printed once
 pub record HasShown (went came : List ℕ → Type 0) (told : ℕ → Type 0) (o : Observer) (shown : Shown) (limit : ℕ) (before after : Option (List ℕ)) (end : ObservationEnd) : Type 0 where
@@ -75,6 +135,86 @@ abbrev pub end_status : ObservationEnd → Status
 end_status (Last code) = Refused
 end_status other = Done
 
+-- ---- from the target on
+
+-- an observer of an errand, by a token and a message ID that were drawn, observed at the server of this address that was connected to, and ended so
+pub record IsObservedAt {S : Type 0} (connected : S → SocketAddrV4 → Type 0) (drawn went came : List ℕ → Type 0) (told : ℕ → Type 0) (called : S → List PeerCall → Type 0) (observing : Observing)
+    (e : Errand) (server : SocketAddrV4) (before after : Option (List ℕ)) (end : ObservationEnd) : Type 0 where
+  pub observer : Observer
+  pub errand_is : observer.errand.now ≡ e
+  pub token_is : drawn observer.token
+  pub id_is : IsDrawnId drawn observer.id
+  pub opened : S
+  pub opened_is : connected opened server
+  pub ended : S
+  pub shown : HasShown went came told observer observing.shown (lines_wanted observing.extent.count) before after end
+  pub left : HasLeft went came observer end
+  pub called_is : MakesCalls (called opened) (called ended) (ObservesToEnd observer observing.extent.seconds end)
+
+-- the resource of the target was observed so
+pub record IsObservedIn {S : Type 0} (connected : S → SocketAddrV4 → Type 0) (drawn went came : List ℕ → Type 0) (told : ℕ → Type 0) (called : S → List PeerCall → Type 0) (observing : Observing)
+    (before after : Option (List ℕ)) (end : ObservationEnd) : Type 0 where
+  pub address : Address
+  pub address_is : IsAddress observing.target.now observing.port address
+  pub errand : Errand
+  pub target_is : IsResourceOf address errand.target
+  pub observed : IsObservedAt connected drawn went came told called observing errand address.server before after end
+
+-- the program has observed to such an end, which says its status; or it ends as a bad command line or a failure does
+pub record HasObservedTo (Ends : ObservationEnd → Type 0) (status : Status) : Type 0 where
+  pub end : ObservationEnd
+  pub ends : Ends end
+  pub status_is : status ≡ end_status end
+
+abbrev pub HasEnded : (ObservationEnd → Type 0) → Status → Type 0
+HasEnded Ends status = HasObservedTo Ends status ⊎ ((status ≡ Bad) ⊎ (status ≡ Failed))
+
+-- ---- where it fails
+
+-- the registration was rejected, or not answered: the server doesn't have the observer
+abbrev pub IsUnregistered : ((List PeerCall → Type 0) → Type 0) → Observer → Type 0
+IsUnregistered Makes o = Makes (IsRejection true (TellsObserver o.token o.id) (registration_of o)) ⊎ Makes (IsSilence true (TellsObserver o.token o.id) (registration_of o))
+
+-- from some state of the peer on it deregistered: by requests that are sent until one is acknowledged, or until that fails as a deregistration does
+pub record DeregistersFrom {S : Type 0} (called : S → List PeerCall → Type 0) (is_error : PeerError → Type 0) (o : Observer) (after : S) : Type 0 where
+  pub from : S
+  pub ends : MakesCalls (called from) (called after) (IsDeregistration o) ⊎ ((f : FetchFault) × IsLeavingFault is_error (MakesCalls (called from) (called after)) o f)
+
+-- the deregistration was handed over, and by its schedule, unless nothing was called, or the server doesn't have the observer
+abbrev pub LeavesAtFault : {S : Type 0} → (S → List PeerCall → Type 0) → (PeerError → Type 0) → (List ℕ → Type 0) → S → S → Observer → Type 0
+LeavesAtFault called is_error tried before after o =
+    (tried (deregistration_of o) × DeregistersFrom called is_error o after)
+    ⊎ (MakesCalls (called before) (called after) (λ calls. calls ≡ []) ⊎ IsUnregistered (MakesCalls (called before) (called after)) o)
+
+-- a server may have the observer after this error: not if it rejected the registration, or if no answer to it came
+abbrev pub may_notify : NotesError → Bool
+may_notify (notes_error.Fault fault.Silence) = false
+may_notify (notes_error.Fault fault.Rejected) = false
+may_notify other = true
+
+-- what the wait for the next note fails by: a notification came that can't be shown, there was no memory for one, or the peer returned an error
+abbrev pub IsAwaitFault : (List ℕ → Type 0) → (PeerError → Type 0) → Observer → FetchFault → Type 0
+IsAwaitFault came is_error o fault.Part = UnfitCame came o.token o.id
+IsAwaitFault came is_error o (fault.Socket error) = is_error error
+IsAwaitFault came is_error o (fault.Memory error) = Unit {0}
+IsAwaitFault came is_error o other = ⊥
+
+-- what printing notes fails by: the registration does, what came can't be shown or printed, or the peer returned an error
+abbrev pub IsNotesFault : (List ℕ → Type 0) → (PeerError → Type 0) → ((List PeerCall → Type 0) → Type 0) → Observer → NotesError → Type 0
+IsNotesFault came is_error Makes o (notes_error.Fault fault.Silence) = Makes (IsSilence true (TellsObserver o.token o.id) (registration_of o))
+IsNotesFault came is_error Makes o (notes_error.Fault fault.Rejected) = Makes (IsRejection true (TellsObserver o.token o.id) (registration_of o))
+IsNotesFault came is_error Makes o (notes_error.Fault other) = IsAwaitFault came is_error o other
+IsNotesFault came is_error Makes o other = Unit {0}
+
+-- the observation ended, and its deregistration fails by this
+pub record IsLeftInVain (is_error : PeerError → Type 0) (Makes : (List PeerCall → Type 0) → Type 0) (o : Observer) (seconds : Option ℕ) (f : FetchFault) : Type 0 where
+  pub end : ObservationEnd
+  pub fails : IsLeavingFault is_error (λ Calls. Makes (AreBehind (IsTimedObservation o seconds end) Calls)) o f
+
+abbrev pub IsEndFault : (List ℕ → Type 0) → (PeerError → Type 0) → ((List PeerCall → Type 0) → Type 0) → Observer → Option ℕ → NotesError → Type 0
+IsEndFault came is_error Makes o seconds (notes_error.Fault f) = IsNotesFault came is_error Makes o (notes_error.Fault f) ⊎ IsLeftInVain is_error Makes o seconds f
+IsEndFault came is_error Makes o seconds other = Unit {0}
+
 -- ---- step by step
 
 -- the notes so far were printed, so many lines, and the watch has them
@@ -89,4 +229,14 @@ pub record IsShowing (went came : List ℕ → Type 0) (told : ℕ → Type 0) (
 -- the answer to the registration was printed: a state, or the last one
 abbrev pub IsFirstShown : (List ℕ → Type 0) → (List ℕ → Type 0) → (ℕ → Type 0) → Observer → Shown → Option (List ℕ) → Option (List ℕ) → First → Type 0
 IsFirstShown went came told o shown before after (State w) = IsShowing went came told o shown before after 1 w
-IsFirstShown went came told o shown before after (Only code) = (limit : ℕ) → HasShown went came told o shown limit before after (Last code)
+IsFirstShown went came told o shown before after (Only code) = (limit : ℕ) → 1 ≤ limit → HasShown went came told o shown limit before after (Last code)
+
+-- the time is over while the next note is awaited
+abbrev pub IsOverIn : Bool → List PeerCall → Type 0
+IsOverIn true calls = IsOverAtLast calls
+IsOverIn false calls = 2 ^ 64 ≤ length (schedule calls) + 1
+
+pub record AwaitsNote (token : List ℕ) (ends none : Bool) (calls : List PeerCall) : Type 0 where
+  pub observing : IsObserving token calls
+  pub awaited : IsAwaitedIn ends calls
+  pub over : none ≡ true → IsOverIn ends calls

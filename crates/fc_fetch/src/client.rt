@@ -1,28 +1,29 @@
 //! A client's request: what is asked, and the printed answer.
-ghost use Rattle.std.specs.Prelude.{◌≡◌, ◌⊎◌};
-ghost use Rattle.fc_fetch.specs.Fetching.{ending_of};
-ghost use Rattle.fc_cli.specs.declared.status.Status.TheVariants.{Failed};
+ghost use Rattle.std.specs.Prelude.{◌≡◌, ◌⊎◌, IfErr, IfNone, IfOk, IfSome};
+ghost use Rattle.coap_client.specs.Transmissions.{MakesCalls};
+ghost use Rattle.fc_fetch.specs.Connecting.{IsDrawnId};
+ghost use Rattle.fc_fetch.specs.Fetching.{HasNoRoom, IsAnswerTo, IsAnswered, IsFaultOf, IsFetchedBy, IsPrinted, stop_status};
+ghost use Rattle.fc_cli.specs.Ending.{IsEnding};
+ghost use Rattle.fc_cli.specs.declared.status.Status.TheVariants.{Bad, Failed};
 
 use crate::address::{Address, AddressError};
+use crate::connector::{Connector, System};
 use crate::observer::NotesError;
 use crate::printer::{Shown, write_answer};
-use coap_client::{Errand, FetchFault, Fetched, Path, PathError, RequestTarget, UdpPeer};
+use crate::resource::{ResourceError, resource_of};
+use coap_client::{Errand, FetchFault, Fetched, PathError, Peer, RequestTarget};
 use coap_opts::Method;
-use fc_cli::message_id::random_id;
 use fc_cli::status::{Status, tell};
 use std::alloc::{AllocError, Global};
 use std::io;
 use std::io::{Read, Write};
-use std::net::Net;
+use std::net::{Net, SocketAddrV4};
 use std::random::RandomSource;
 use std::time::Clock;
 use thiserror::Error;
 
 /// The class of the codes of success (RFC 7252, 5.9.1).
 const SUCCESS: u8 = 2;
-
-/// The most bytes of an argument of a query (RFC 7252, 5.10).
-const ARGUMENT: usize = 255;
 
 /// What is asked for.
 #[derive(Clone, Copy)]
@@ -45,7 +46,7 @@ pub(crate) enum FetchStop<'a> {
     #[error("{0}")]
     Address(#[from] AddressError),
     #[error("{0}")]
-    Path(#[from] PathError),
+    Path(#[source] PathError),
     #[error("an argument of the query has more than 255 bytes")]
     Argument,
     #[error("the request has no room in a datagram: the path, the query and the body have at most 1262 bytes together, with 5 more for each segment and argument; only a PUT's body goes in blocks, 1024 bytes at once")]
@@ -62,8 +63,21 @@ pub(crate) enum FetchStop<'a> {
     Memory(#[from] AllocError),
 }
 
+impl<'a> From<ResourceError> for FetchStop<'a> {
+    fn from(error: ResourceError) -> FetchStop<'a> {
+        match error {
+            ResourceError::Path(fault) => FetchStop::Path(fault),
+            ResourceError::Argument => FetchStop::Argument,
+            ResourceError::NoMemory => FetchStop::Memory(AllocError),
+        }
+    }
+}
+
 impl<'a> FetchStop<'a> {
-    pub(crate) fn status(&self) -> Status {
+    // Returns how the program ends.
+    pub(crate) fn status(&self) -> Status
+        ensures { result ≡ stop_status self.now }
+    {
         match self {
             FetchStop::Address(AddressError::NoMemory) | FetchStop::Path(PathError::NoMemory) => {
                 Status::Failed
@@ -93,64 +107,111 @@ pub fn fetch<R: Net + Clock + RandomSource, I: Read, W: Write, E: Write>(
     err: &mut E,
     asking: &FetchOptions<'_>,
 ) -> Status {
-    match answer(rt, alloc, input, asking) {
+    fetch_by(&System { rt }, alloc, input, out, err, asking)
+}
+
+/// Asks as [`fetch`] does, a server that it connects to by `connector`.
+pub fn fetch_by<C: Connector, I: Read, W: Write, E: Write>(
+    connector: &C,
+    alloc: Global,
+    input: &mut I,
+    out: &mut W,
+    err: &mut E,
+    asking: &FetchOptions<'_>,
+) -> Status
+    ensures { IsAnswered (IsAnswerTo C.connected C.drawn C.Server.went C.Server.came C.Server.called asking.now (I.remaining input.old))
+        asking.now.shown (W.contents out.old) (W.contents out.new) result }
+{
+    match answer(connector, alloc, input, asking) {
         Ok(fetched) => print_answer(alloc, out, err, asking.shown, &fetched),
         Err(stop) => tell(err, &stop, stop.status()),
     }
 }
 
 // The answer of the server.
-fn answer<'a, R: Net + Clock + RandomSource, I: Read>(
-    rt: &R,
+fn answer<'a, C: Connector, I: Read>(
+    connector: &C,
     alloc: Global,
     input: &mut I,
     asking: &FetchOptions<'a>,
-) -> Result<Fetched, FetchStop<'a>> {
+) -> Result<Fetched, FetchStop<'a>>
+    ensures { IfOk result (λ f. IsAnswerTo C.connected C.drawn C.Server.went C.Server.came C.Server.called asking.now (I.remaining input.old)
+        f.code.byte f.body.items) }
+{
     let address = Address::parse(alloc, asking.target, asking.port)?;
-    let target = resource(alloc, &address)?;
-    let mut payload = Vec::new(alloc);
-    if let Err(error) = input.read_to_end(&mut payload) {
-        return Err(FetchStop::Input(asking.source, error));
+    let target = resource_of(alloc, &address)?;
+    let payload = body_of(alloc, input, asking.source)?;
+    let id = first_id(connector)?;
+    let mut server = connect(connector, address.server)?;
+    match fetch_from(alloc, &mut server, asking, target, &payload, id)? {
+        Some(fetched) => Ok(fetched),
+        None => Err(FetchStop::Room),
     }
-    let Some(errand) = Errand::new(asking.confirmable, asking.method, target, &payload) else {
-        return Err(FetchStop::Room);
-    };
-    let id = first_id(rt)?;
-    let mut server = UdpPeer::at(rt, rt, address.server).map_err(FetchFault::Socket)?;
-    Ok(coap_client::fetch(alloc, &mut server, &errand, id)?)
 }
 
-// A message id to begin with.
-pub(crate) fn first_id<'a, R: RandomSource>(rt: &R) -> Result<u16, FetchStop<'a>> {
-    match random_id(rt) {
-        Ok(id) => Ok(id),
+// The request's body: what is read to the end.
+fn body_of<'a, I: Read>(
+    alloc: Global,
+    input: &mut I,
+    source: &'a str,
+) -> Result<Vec<u8>, FetchStop<'a>>
+    ensures { IfOk result (λ body. IfSome (I.remaining input.old) (λ bytes. body.items ≡ bytes)) }
+{
+    let mut payload = Vec::new(alloc);
+    match input.read_to_end(&mut payload) {
+        Ok(_) => Ok(payload),
+        Err(error) => Err(FetchStop::Input(source, error)),
+    }
+}
+
+/// Asks a peer for a resource, by the method and the type of message that the options say, with this body, and by message ids from this one on. `None` if the
+/// request has no room in a datagram: then nothing is sent.
+///
+/// # Errors
+/// What [`coap_client::fetch`] says.
+pub fn fetch_from<P: Peer>(
+    alloc: Global,
+    peer: &mut P,
+    asking: &FetchOptions<'_>,
+    target: RequestTarget<'_>,
+    payload: &[u8],
+    id: u16,
+) -> Result<Option<Fetched>, FetchFault>
+    ensures asked { IfOk result (λ r. IfSome r (λ f. IsFetchedBy P.went P.came (P.called peer.old) (P.called peer.new)
+        asking.now target.entry payload.now id f.code.byte f.body.items)) }
+    ensures none { IfOk result (λ r. IfNone r (HasNoRoom (MakesCalls (P.called peer.old) (P.called peer.new))
+        asking.now.method target.entry payload.now)) }
+    ensures fault { IfErr result (IsFaultOf P.went P.came P.is_error (MakesCalls (P.called peer.old) (P.called peer.new))
+        asking.now target.entry payload.now id) }
+{
+    let Some(errand) = Errand::new(asking.confirmable, asking.method, target, payload) else {
+        return Ok(None);
+    };
+    Ok(Some(coap_client::fetch(alloc, peer, &errand, id)?))
+}
+
+// Connects to the server at this address.
+pub(crate) fn connect<'a, C: Connector>(
+    connector: &C,
+    address: SocketAddrV4,
+) -> Result<C::Server, FetchStop<'a>>
+    ensures { IfOk result (λ server. C.connected server address) }
+{
+    match connector.connect(address) {
+        Ok(server) => Ok(server),
+        Err(error) => Err(FetchStop::Fault(FetchFault::Socket(error))),
+    }
+}
+
+// A message ID to begin with, by two random bytes: none that is sent before tells it (RFC 7252, 4.4).
+pub(crate) fn first_id<'a, C: Connector>(connector: &C) -> Result<u16, FetchStop<'a>>
+    ensures { IfOk result (IsDrawnId C.drawn) }
+{
+    let mut bytes = [0; 2];
+    match connector.draw(&mut bytes) {
+        Ok(()) => Ok(u16::from_be_bytes(bytes)),
         Err(error) => Err(FetchStop::Random(error)),
     }
-}
-
-// The resource of an address.
-pub(crate) fn resource<'a, 'b>(
-    alloc: Global,
-    address: &'b Address,
-) -> Result<RequestTarget<'b>, FetchStop<'a>> {
-    Ok(RequestTarget {
-        path: Path::parse(alloc, &address.path)?,
-        query: arguments(alloc, &address.query)?,
-    })
-}
-
-// The arguments of a query, each of 255 bytes at most.
-fn arguments<'a, 'b>(alloc: Global, query: &'b [Vec<u8>]) -> Result<Vec<&'b [u8]>, FetchStop<'a>> {
-    let mut arguments = Vec::new(alloc);
-    for argument in query {
-        if argument.len() > ARGUMENT {
-            return Err(FetchStop::Argument);
-        }
-        arguments
-            .push(argument.as_slice())
-            .map_err(AllocError::from)?;
-    }
-    Ok(arguments)
 }
 
 // Prints an answer: how the client ends.
@@ -161,7 +222,7 @@ fn print_answer<W: Write, E: Write>(
     shown: Shown,
     fetched: &Fetched,
 ) -> Status
-    ensures { (result ≡ ending_of fetched.now.code.byte) ⊎ (result ≡ Failed) }
+    ensures { IsPrinted shown fetched.now.code.byte fetched.now.body.items (W.contents out.old) (W.contents out.new) result ⊎ (result ≡ Failed) }
 {
     match write_answer(alloc, out, shown, fetched) {
         Ok(()) if fetched.code.class() == SUCCESS => Status::Done,

@@ -1,20 +1,25 @@
 //! An observer's program: it registers, prints what it is notified of, a line each, and deregisters (RFC 7641).
-ghost use Rattle.std.specs.Prelude.{◌≡◌, ◌≤◌, ◌⊎◌, [], ◌∷◌, IfOk, OnOk};
+ghost use Rattle.std.specs.Prelude.{◌≡◌, ◌≤◌, ◌⊎◌, [], ◌∷◌, IfErr, IfOk, OnErr, OnOk, is_none};
+ghost use Rattle.coap_client.specs.Faults.{IsLeavingFault, IsOfPeer, deregistration_of};
 ghost use Rattle.coap_client.specs.Notes.{Watches};
-ghost use Rattle.coap_client.specs.ObserverCalls.{IsAnsweredRegistration, IsObservation, IsObserving};
-ghost use Rattle.coap_client.specs.PeerCalls.{Adds, Waits};
+ghost use Rattle.coap_client.specs.ObserverCalls.{IsDatedRegistration};
+ghost use Rattle.coap_client.specs.PeerCalls.{Adds, Reads, Waits};
 ghost use Rattle.coap_client.specs.Transmissions.{MakesCalls};
 ghost use Rattle.fc_cli.specs.declared.status.Status.TheVariants.{Failed};
-ghost use Rattle.fc_fetch.specs.Observing.{HasLeft, HasShown, IsFirstShown, IsLeaving, ObservesToEnd, end_status, lines_wanted};
+ghost use Rattle.fc_fetch.specs.Observing.{AwaitsNote, HasEnded, HasLeft, HasShown, IsAwaitFault, IsEndFault, IsFirstShown, IsLeaving, IsNotesFault, IsObservedAt, IsObservedIn, IsTimedObservation, LeavesAtFault, ObservesToEnd, end_status, first_wait, lines_wanted};
+ghost use Rattle.fc_fetch.specs.Observing as spec;
+ghost use Rattle.fc_fetch.specs.declared.observer.NotesError.TheVariants as notes_error;
 
 use crate::address::Address;
-use crate::client::{FetchStop, first_id, resource};
+use crate::client::{FetchStop, connect, first_id};
+use crate::connector::{Connector, System};
 use crate::printer::{PrintError, Shown, write_note};
+use crate::resource::resource_of;
 use coap_client::notice::notice_of;
 use coap_client::observing::TOKEN;
-use coap_client::{Errand, FetchFault, NotedMessage, Notice, Observer, Peer, UdpPeer, Watch};
-use coap_msg::types::DATAGRAM;
-use coap_msg::{Code, read};
+use coap_client::peer::{BUFFER, Buffer};
+use coap_client::{Errand, FetchFault, NotedMessage, Notice, Observer, Peer, Watch};
+use coap_msg::{Code, Datagram, read};
 use coap_opts::Method;
 use fc_cli::status::{Status, tell};
 use std::alloc::{AllocError, Global};
@@ -26,9 +31,6 @@ use thiserror::Error;
 
 /// The class of the codes of success (RFC 7252, 5.9.1).
 const SUCCESS: u8 = 2;
-
-/// One byte more than a datagram may have: a longer one is seen to be too long.
-const BUFFER: usize = DATAGRAM + 1;
 
 /// How long one wait lasts where there is no end to them, in seconds: a day.
 const DAY: u64 = 86_400;
@@ -67,13 +69,37 @@ pub enum ObservationEnd {
 pub enum NotesError {
     /// No answer came, or sending or receiving failed, or what came can't be shown.
     #[error("{0}")]
-    Fault(#[from] FetchFault),
+    Fault(#[source] FetchFault),
     /// A line can't be printed.
     #[error("{0}")]
-    Print(#[from] PrintError),
+    Print(#[source] PrintError),
     /// There was no memory for what was shown.
     #[error("{0}")]
-    Memory(#[from] AllocError),
+    Memory(#[source] AllocError),
+}
+
+impl From<FetchFault> for NotesError {
+    ghost from_gives = { λ fault error. error ≡ notes_error.Fault fault };
+
+    fn from(fault: FetchFault) -> NotesError {
+        NotesError::Fault(fault)
+    }
+}
+
+impl From<PrintError> for NotesError {
+    ghost from_gives = { λ fault error. error ≡ notes_error.Print fault };
+
+    fn from(fault: PrintError) -> NotesError {
+        NotesError::Print(fault)
+    }
+}
+
+impl From<AllocError> for NotesError {
+    ghost from_gives = { λ fault error. error ≡ notes_error.Memory fault };
+
+    fn from(fault: AllocError) -> NotesError {
+        NotesError::Memory(fault)
+    }
 }
 
 /// Observes a resource: registers, prints the answer, and then each notification that is newer than what was printed before it, each in a line, and deregisters.
@@ -88,7 +114,21 @@ pub fn observe<R: Net + Clock + RandomSource, W: Write, E: Write>(
     err: &mut E,
     observing: &Observing<'_>,
 ) -> Status {
-    match observe_to_end(rt, alloc, out, observing) {
+    observe_by(&System { rt }, alloc, out, err, observing)
+}
+
+/// Observes as [`observe`] does, at a server that it connects to by `connector`.
+pub fn observe_by<C: Connector, W: Write, E: Write>(
+    connector: &C,
+    alloc: Global,
+    out: &mut W,
+    err: &mut E,
+    observing: &Observing<'_>,
+) -> Status
+    ensures { HasEnded (IsObservedIn C.connected C.drawn C.Server.went C.Server.came C.Server.is_moment C.Server.called observing.now
+        (W.contents out.old) (W.contents out.new)) result }
+{
+    match observe_to_end(connector, alloc, out, observing) {
         Ok(end) => finish(err, end),
         Err(stop) => tell(err, &stop, stop.status()),
     }
@@ -110,39 +150,45 @@ fn finish<E: Write>(err: &mut E, end: ObservationEnd) -> Status
 }
 
 // Observes what a text names.
-fn observe_to_end<'a, R: Net + Clock + RandomSource, W: Write>(
-    rt: &R,
+fn observe_to_end<'a, C: Connector, W: Write>(
+    connector: &C,
     alloc: Global,
     out: &mut W,
     observing: &Observing<'a>,
-) -> Result<ObservationEnd, FetchStop<'a>> {
+) -> Result<ObservationEnd, FetchStop<'a>>
+    ensures { IfOk result (IsObservedIn C.connected C.drawn C.Server.went C.Server.came C.Server.is_moment C.Server.called observing.now
+        (W.contents out.old) (W.contents out.new)) }
+{
     let address = Address::parse(alloc, observing.target, observing.port)?;
-    let target = resource(alloc, &address)?;
+    let target = resource_of(alloc, &address)?;
     match Errand::new(true, Method::Get, target, &[]) {
-        Some(errand) => observe_errand(rt, alloc, out, observing, &errand, address.server),
+        Some(errand) => observe_errand(connector, alloc, out, observing, &errand, address.server),
         None => Err(FetchStop::Room),
     }
 }
 
 // Observes at the server of this address.
-fn observe_errand<'a, R: Net + Clock + RandomSource, W: Write>(
-    rt: &R,
+fn observe_errand<'a, C: Connector, W: Write>(
+    connector: &C,
     alloc: Global,
     out: &mut W,
     observing: &Observing<'a>,
     errand: &Errand<'_>,
     address: SocketAddrV4,
-) -> Result<ObservationEnd, FetchStop<'a>> {
+) -> Result<ObservationEnd, FetchStop<'a>>
+    ensures { IfOk result (IsObservedAt C.connected C.drawn C.Server.went C.Server.came C.Server.is_moment C.Server.called observing.now
+        errand.now address (W.contents out.old) (W.contents out.new)) }
+{
     let mut token = [0; TOKEN];
-    if let Err(error) = rt.fill_bytes(&mut token) {
+    if let Err(error) = connector.draw(&mut token) {
         return Err(FetchStop::Random(error));
     }
     let observer = Observer {
         errand,
         token,
-        id: first_id(rt)?,
+        id: first_id(connector)?,
     };
-    let mut server = UdpPeer::at(rt, rt, address).map_err(FetchFault::Socket)?;
+    let mut server = connect(connector, address)?;
     let mut buffer = [0; BUFFER];
     let (shown, extent) = (observing.shown, observing.extent);
     let end = print_to_end(
@@ -169,21 +215,26 @@ pub fn print_to_end<P: Peer, W: Write>(
     observer: &Observer<'_>,
     shown: Shown,
     extent: ObservationExtent,
-    buffer: &mut [u8],
+    buffer: &mut Buffer,
 ) -> Result<ObservationEnd, NotesError>
     ensures shown { IfOk result (HasShown P.went P.came P.is_moment observer.now shown
         (lines_wanted extent.count) (W.contents out.old) (W.contents out.new)) }
     ensures left { IfOk result (HasLeft P.went P.came observer.now) }
-    ensures called { IfOk result (λ end. MakesCalls (P.called peer.old) (P.called peer.new) (ObservesToEnd observer.now end)) }
+    ensures called { IfOk result (λ end. MakesCalls (P.called peer.old) (P.called peer.new)
+        (ObservesToEnd observer.now extent.seconds end)) }
+    ensures fault { IfErr result (IsEndFault P.came P.is_error (MakesCalls (P.called peer.old) (P.called peer.new))
+        observer.now extent.seconds) }
+    ensures leaves { OnErr result (LeavesAtFault P.called P.is_error P.tried peer.old peer.new observer.now) }
 {
+    let leaving = observer.deregistration(alloc)?;
     match print_notes(alloc, peer, out, observer, shown, extent, buffer) {
         Ok(end) => {
-            leave(alloc, peer, observer, end, buffer)?;
+            leave(peer, observer, &leaving, end, buffer)?;
             Ok(end)
         }
         Err(error) => {
             if may_notify(&error) {
-                let _ended = observer.deregister(alloc, peer, buffer);
+                let _ended = observer.deregister_by(peer, &leaving, buffer);
             }
             Err(error)
         }
@@ -192,23 +243,30 @@ pub fn print_to_end<P: Peer, W: Write>(
 
 // Deregisters, where the server may notify further.
 fn leave<P: Peer>(
-    alloc: Global,
     peer: &mut P,
     observer: &Observer<'_>,
+    leaving: &Datagram,
     end: ObservationEnd,
-    buffer: &mut [u8],
+    buffer: &mut Buffer,
 ) -> Result<(), FetchFault>
+    requires { leaving.now.items ≡ deregistration_of observer.now }
     ensures left { OnOk result (HasLeft P.went P.came observer.now end) }
     ensures called { OnOk result (MakesCalls (P.called peer.old) (P.called peer.new) (IsLeaving observer.now end)) }
+    ensures tried { OnErr result (P.tried (deregistration_of observer.now)) }
+    ensures fault { IfErr result (IsLeavingFault P.is_error (MakesCalls (P.called peer.old) (P.called peer.new)) observer.now) }
 {
     match end {
         ObservationEnd::Last(_) => Ok(()),
-        ObservationEnd::Counted | ObservationEnd::Over => observer.deregister(alloc, peer, buffer),
+        ObservationEnd::Counted | ObservationEnd::Over => {
+            observer.deregister_by(peer, leaving, buffer)
+        }
     }
 }
 
 // Whether a server may have the observer behind this error: not where it rejected the registration, or where no answer to it came.
-fn may_notify(error: &NotesError) -> bool {
+fn may_notify(error: &NotesError) -> bool
+    ensures { result ≡ spec.may_notify error.now }
+{
     !matches!(
         error,
         NotesError::Fault(FetchFault::Rejected | FetchFault::Silence)
@@ -227,18 +285,19 @@ pub fn print_notes<P: Peer, W: Write>(
     observer: &Observer<'_>,
     shown: Shown,
     extent: ObservationExtent,
-    buffer: &mut [u8],
+    buffer: &mut Buffer,
 ) -> Result<ObservationEnd, NotesError>
     ensures shown { IfOk result (HasShown P.went P.came P.is_moment observer.now shown
         (lines_wanted extent.count) (W.contents out.old) (W.contents out.new)) }
-    ensures called { OnOk result (MakesCalls (P.called peer.old) (P.called peer.new) (IsObservation observer.now)) }
+    ensures called { IfOk result (λ end. MakesCalls (P.called peer.old) (P.called peer.new)
+        (IsTimedObservation observer.now extent.seconds end)) }
+    ensures fault { IfErr result (IsNotesFault P.came P.is_error (MakesCalls (P.called peer.old) (P.called peer.new)) observer.now) }
 {
     let mut watch = match print_first(alloc, peer, out, observer, shown, buffer)? {
         First::State(watch) => watch,
         First::Only(code) => return Ok(ObservationEnd::Last(code)),
     };
-    let seconds = extent.seconds.map_or(DAY, u64::from);
-    begin_wait(peer, seconds)?;
+    begin_wait(peer, first_wait(extent.seconds))?;
     for _ in 1..lines_wanted(extent.count) {
         let ends = extent.seconds.is_some();
         let Some(noted) = await_note(peer, observer, &mut watch, ends, buffer)? else {
@@ -266,6 +325,16 @@ fn lines_wanted(count: Option<u32>) -> u64
     }
 }
 
+// How many seconds the first wait lasts, or the only one.
+fn first_wait(seconds: Option<u32>) -> u64
+    ensures { result ≡ first_wait seconds }
+{
+    match seconds {
+        Some(seconds) => u64::from(seconds),
+        None => DAY,
+    }
+}
+
 // What the answer to a registration is: a state, behind which notifications come, or the last one, of this code.
 #[derive(Drop)]
 enum First {
@@ -280,10 +349,11 @@ fn print_first<P: Peer, W: Write>(
     out: &mut W,
     observer: &Observer<'_>,
     shown: Shown,
-    buffer: &mut [u8],
+    buffer: &mut Buffer,
 ) -> Result<First, NotesError>
     ensures shown { IfOk result (IsFirstShown P.went P.came P.is_moment observer.now shown (W.contents out.old) (W.contents out.new)) }
-    ensures called { OnOk result (MakesCalls (P.called peer.old) (P.called peer.new) (IsAnsweredRegistration observer.now)) }
+    ensures called { OnOk result (MakesCalls (P.called peer.old) (P.called peer.new) (IsDatedRegistration observer.now)) }
+    ensures fault { IfErr result (IsNotesFault P.came P.is_error (MakesCalls (P.called peer.old) (P.called peer.new)) observer.now) }
 {
     let count = observer.register(alloc, peer, buffer)?;
     let Ok(message) = read(&buffer[..count]) else {
@@ -299,14 +369,17 @@ fn print_first<P: Peer, W: Write>(
     Ok(first)
 }
 
-fn moment<P: Peer>(peer: &P) -> Result<u64, FetchFault>
-    ensures { IfOk result P.is_moment }
+fn moment<P: Peer>(peer: &mut P) -> Result<u64, FetchFault>
+    ensures moment { IfOk result P.is_moment }
+    ensures called { IfOk result (λ moment. Adds (P.called peer.old) (P.called peer.new) (Reads moment ∷ [])) }
+    ensures fault { IfErr result (IsOfPeer P.is_error ⊥) }
 {
     Ok(peer.now()?)
 }
 
 fn begin_wait<P: Peer>(peer: &mut P, seconds: u64) -> Result<(), FetchFault>
-    ensures { OnOk result (Adds (P.called peer.old) (P.called peer.new) (Waits seconds ∷ [])) }
+    ensures called { OnOk result (Adds (P.called peer.old) (P.called peer.new) (Waits seconds ∷ [])) }
+    ensures fault { IfErr result (IsOfPeer P.is_error ⊥) }
 {
     Ok(peer.begin_wait(seconds)?)
 }
@@ -317,15 +390,18 @@ fn await_note<P: Peer>(
     observer: &Observer<'_>,
     watch: &mut Watch,
     ends: bool,
-    buffer: &mut [u8],
+    buffer: &mut Buffer,
 ) -> Result<Option<NotedMessage>, FetchFault>
     ensures watched { IfOk result (Watches P.went P.came P.is_moment observer.now.token buffer.new watch.old watch.new) }
-    ensures called { OnOk result (MakesCalls (P.called peer.old) (P.called peer.new) (IsObserving observer.now.token)) }
+    ensures called { IfOk result (λ noted. MakesCalls (P.called peer.old) (P.called peer.new)
+        (AwaitsNote observer.now.token ends (is_none noted))) }
+    ensures fault { IfErr result (IsAwaitFault P.came P.is_error observer.now) }
 {
     for _ in 0..u64::MAX {
         match watch.next(peer, &observer.token, buffer)? {
-            None if !ends => peer.begin_wait(DAY)?,
-            noted => return Ok(noted),
+            Some(noted) => return Ok(Some(noted)),
+            None if ends => return Ok(None),
+            None => peer.begin_wait(DAY)?,
         }
     }
     Ok(None)

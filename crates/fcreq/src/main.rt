@@ -1,12 +1,11 @@
 //! The client's `main`: it parses its command line, and asks a server.
 #![tactic(auto)]
 
-use clap::{Arg, ArgAction, ArgMatches, Command, Error, value_parser};
-use coap_opts::Method;
+use clap::{Arg, ArgAction, Command, Error, value_parser};
 use fc_cli::Status;
 use fc_cli::command_line::{VERSION, exit_code, parse, words};
-use fc_fetch::observer::ObservationExtent;
-use fc_fetch::{FetchOptions, Observing, Shown, fetch, observe};
+use fc_fetch::operation::{OBSERVE, Operation, operation_of};
+use fc_fetch::{FetchOptions, Observing, fetch, observe};
 use std::alloc::Global;
 use std::fs::File;
 use std::io;
@@ -44,9 +43,6 @@ more; 2 where the command line is bad, or the request has no room in a datagram;
 came, or one with a critical option that isn't known, or blocks that don't fit or, with `observe`,
 more than one; nobody listens at the port, the socket, reading or writing failed, or memory was
 refused.";
-
-/// The word that observes in place of asking once.
-const OBSERVE: &str = "observe";
 
 /// A file that takes the place of a standard stream that is closed.
 const NULL: &str = "/dev/null";
@@ -134,16 +130,6 @@ fn flag<'a>(alloc: Global, name: &'static str, help: &'static str) -> Arg<'a> {
         .help(help)
 }
 
-fn method_of(word: &str) -> Option<Method> {
-    match word {
-        "get" => Some(Method::Get),
-        "post" => Some(Method::Post),
-        "put" => Some(Method::Put),
-        "delete" => Some(Method::Delete),
-        _ => None,
-    }
-}
-
 fn run<R: Runtime + AllocGlobal + Net + RandomSource, E: Write>(
     rt: &R,
     err: &mut E,
@@ -164,21 +150,28 @@ fn obey<R: Runtime + AllocGlobal + Net + RandomSource, E: Write>(
         Ok(matches) => matches,
         Err(status) => return Ok(status),
     };
-    if let Some(why) = misfit(&matches) {
-        writeln!(err, "error: {why}")?;
-        return Ok(Status::Bad);
+    match operation_of(&matches) {
+        Ok(Operation::Fetch(asking, file)) => ask_by(rt, err, &asking, file),
+        Ok(Operation::Observe(observing)) => observe_by(rt, err, &observing),
+        Err(why) => {
+            writeln!(err, "error: {why}")?;
+            Ok(Status::Bad)
+        }
     }
-    if is_observed(&matches) {
-        return observe_by(rt, err, &matches);
-    }
-    let Some(asking) = asking_of(&matches) else {
-        return Ok(Status::Bad);
-    };
-    let Some(name) = matches.get_str("file") else {
-        return ask(rt, err, &mut rt.reader(), &asking);
+}
+
+// Asks by the bytes of a file, or of standard input.
+fn ask_by<R: Runtime + AllocGlobal + Net + RandomSource, E: Write>(
+    rt: &R,
+    err: &mut E,
+    asking: &FetchOptions<'_>,
+    file: Option<&str>,
+) -> anyhow::Result<Status> {
+    let Some(name) = file else {
+        return ask(rt, err, &mut rt.reader(), asking);
     };
     match File::open(rt, name) {
-        Ok(mut file) => ask(rt, err, &mut file, &asking),
+        Ok(mut file) => ask(rt, err, &mut file, asking),
         Err(error) => {
             writeln!(err, "{name}: {error}")?;
             Ok(Status::Failed)
@@ -186,68 +179,18 @@ fn obey<R: Runtime + AllocGlobal + Net + RandomSource, E: Write>(
     }
 }
 
-fn is_observed(matches: &ArgMatches<'_>) -> bool {
-    matches.get_str("method") == Some(OBSERVE)
-}
-
-// Why these words don't go together, where they don't.
-fn misfit(matches: &ArgMatches<'_>) -> Option<&'static str> {
-    let has_limit = matches.get_one::<u32>("count").is_some()
-        || matches.get_one::<u32>("seconds").is_some();
-    let has_other = matches.get_flag("non") || matches.get_str("file").is_some();
-    match (is_observed(matches), has_limit, has_other) {
-        (true, _, true) => Some(
-            "`observe` is a confirmable GET without a body: it takes neither `-N` nor `-f`",
-        ),
-        (false, true, _) => Some("`--count` and `--seconds` go with `observe`"),
-        _ => None,
-    }
-}
-
 // Observes what the command line says. Its socket is open while it prints: where a standard stream is closed, a file has its descriptor, and not the socket.
 fn observe_by<R: Runtime + AllocGlobal + Net + RandomSource, E: Write>(
     rt: &R,
     err: &mut E,
-    matches: &ArgMatches<'_>,
+    observing: &Observing<'_>,
 ) -> anyhow::Result<Status> {
-    let Some(target) = matches.get_str("target") else {
-        return Ok(Status::Bad);
-    };
-    let observing = Observing {
-        target,
-        port: matches.get_one::<u16>("port"),
-        shown: shown_by(matches),
-        extent: ObservationExtent {
-            count: matches.get_one::<u32>("count"),
-            seconds: matches.get_one::<u32>("seconds"),
-        },
-    };
     let alloc = rt.alloc();
     let mut out = BufWriter::new(alloc, io::writer(rt))?;
     let _first = File::open(rt, NULL)?;
     let _second = File::open(rt, NULL)?;
     let _third = File::open(rt, NULL)?;
-    Ok(observe(rt, alloc, &mut out, err, &observing))
-}
-
-fn shown_by(matches: &ArgMatches<'_>) -> Shown {
-    if matches.get_flag("text") {
-        Shown::Text
-    } else {
-        Shown::Hex
-    }
-}
-
-// What the command line asks for.
-fn asking_of<'a>(matches: &ArgMatches<'a>) -> Option<FetchOptions<'a>> {
-    Some(FetchOptions {
-        confirmable: !matches.get_flag("non"),
-        method: matches.get_str("method").and_then(method_of)?,
-        target: matches.get_str("target")?,
-        port: matches.get_one::<u16>("port"),
-        source: matches.get_str("file").unwrap_or("standard input"),
-        shown: shown_by(matches),
-    })
+    Ok(observe(rt, alloc, &mut out, err, observing))
 }
 
 fn ask<R: Runtime + AllocGlobal + Net + RandomSource, I: Read, E: Write>(

@@ -21,10 +21,11 @@ returns-in_default-clause-called g c =
 
 pub returns-then-tells_notification-clause-called : goal.returns-then-tells_notification-clause-called
 returns-then-tells_notification-clause-called g c =
-    noticed c.args.token.now (IsNoNotification c.args.token.now) (take c.in-Some.count c.receive.new.buffer) (g.P.Peer.called c.args.peer.now) (g.P.Peer.called c.receive.new.self) _
+    noticed c.args.token.now (IsNoNotification c.args.token.now) (take c.in-Some.count c.receive.new.buffer) c.in_ok-moment.moment (g.P.Peer.called c.args.peer.now) (g.P.Peer.called c.receive.new.self)
+    (g.P.Peer.called c.acknowledge.new.peer) (g.P.Peer.called c.now.new.self)
     (c.tells_notification.ensures.0 c.if-tells_notification.true)
     (ended (IsNoNotification c.args.token.now) c.loop.counter c.in-Some.count c.receive.new.buffer _ (g.P.Peer.called c.args.peer.now) (g.P.Peer.called c.loop.peer)
-    (g.P.Peer.called c.receive.new.self) c.in-Some.is c.loop.invariant c.in_ok-count.ensures.called) c.in_ok-acknowledge.ensures.called
+    (g.P.Peer.called c.receive.new.self) c.in-Some.is c.loop.invariant c.in_ok-count.ensures.called) c.in_ok-acknowledge.ensures.called c.in_ok-moment.ensures.called
 
 pub returns-clause-called : goal.returns-clause-called
 returns-clause-called g c =

@@ -1,6 +1,7 @@
 use Rattle.std.proofs.Common.{◌≤◌, length, take, sym, ◌∙◌, arith}
 use Rattle.coap_client.specs.Heard.{TellsSent}
 use Rattle.coap_client.specs.Listening.{IsPassedOver}
+use Rattle.coap_client.proofs.Failing.{rejection_came}
 use Rattle.coap_client.proofs.Transmitting.{acknowledgement_came, answer_came, awaited_answer, ended_by, flooded, none_come, one_comes, over, passed, some_of}
 use Rattle.coap_client.proofs.transmission.listen.Goals as goal
 
@@ -50,3 +51,12 @@ pub returns-clause-called : goal.returns-clause-called
 returns-clause-called g c =
     flooded (IsPassedOver (TellsSent c.args.request.now) c.args.awaited) c.loop-received.received (g.P.Peer.called c.args.peer.now) (g.P.Peer.called c.loop-received.peer)
     (let end = c.loop-received-test.false in omega (arith, end)) c.loop-received.invariant
+
+pub returns-in-Rejected-clause-fault : goal.returns-in-Rejected-clause-fault
+returns-in-Rejected-clause-fault g c =
+    let tells = TellsSent c.args.request.now in
+    let ends = sym c.is_passed_over.ensures ∙ c.if-is_passed_over.false in
+    rejection_came tells c.args.awaited (take c.in-Some.count c.receive.new.buffer) c.in_ok-heard.heard (g.P.Peer.called c.args.peer.now) (g.P.Peer.called c.hear_from.new.peer)
+    c.in_ok-heard.ensures.heard c.in-Rejected.is
+    (ended_by tells c.args.awaited c.loop-received.received c.in-Some.count c.receive.new.buffer _ c.in_ok-heard.heard (g.P.Peer.called c.args.peer.now) (g.P.Peer.called c.loop-received.peer)
+    (g.P.Peer.called c.receive.new.self) (g.P.Peer.called c.hear_from.new.peer) c.in-Some.is c.loop-received.invariant c.in_ok-count.ensures.called ends c.in_ok-heard.ensures.called)

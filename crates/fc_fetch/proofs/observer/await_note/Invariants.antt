@@ -1,8 +1,8 @@
 use Rattle.std.proofs.Common.{◌≡◌}
-use Rattle.coap_client.specs.ObserverCalls.{IsObserving}
 use Rattle.coap_client.specs.Transmissions.{MakesCalls}
+use Rattle.fc_fetch.proofs.Timing.{HasAwaited}
 use Rattle.fc_fetch.proofs.observer.await_note.Given as goal
 
 -- nothing was shown so far
 abbrev pub invariant-loop : goal.invariant-loop
-invariant-loop g l = (l.watch ≡ l.fn.watch) × MakesCalls (g.P.Peer.called l.fn.peer) (g.P.Peer.called l.peer) (IsObserving l.observer.token)
+invariant-loop g l = (l.watch ≡ l.fn.watch) × MakesCalls (g.P.Peer.called l.fn.peer) (g.P.Peer.called l.peer) (HasAwaited l.observer.token l.ends l.counter)

@@ -1,7 +1,9 @@
-use Rattle.std.proofs.Common.{ap, subst, sym, ◌∙◌}
+use Rattle.std.proofs.Common.{ap, take, subst, sym, ◌∙◌}
 use Rattle.coap_client.specs.declared.notice.Notice.TheVariants as notice
 use Rattle.fc_fetch.specs.Observing.{IsFirstShown}
+use Rattle.fc_fetch.proofs.Failures.{unfit_first}
 use Rattle.fc_fetch.proofs.Lines.{first_shown, only_shown}
+use Rattle.fc_fetch.proofs.Timing.{dated}
 use Rattle.fc_fetch.proofs.observer.print_first.Goals as goal
 use Rattle.fc_fetch.proofs.observer.print_first.Goals.{in-State+in_ok-first-in-State, in-Last}
 
@@ -9,7 +11,7 @@ pub returns-clause-shown : goal.returns-clause-shown
 returns-clause-shown g c =
     let registered = c.in_ok-count.ensures.registered.1 in
     let read = sym c.read.ensures.function ∙ c.in-Ok.is in
-    let told = c.in_ok-at.ensures in
+    let told = c.in_ok-at.ensures.moment in
     let appends = c.in_ok-write_note.ensures in
     let is = IsFirstShown g.P.Peer.went g.P.Peer.came g.P.Peer.is_moment c.args.observer.now c.args.shown (g.W.Write.contents c.args.out.now) (g.W.Write.contents c.write_note.new.out) in
     elim c.match-notice_of.branch [
@@ -19,3 +21,13 @@ returns-clause-shown g c =
           (first_shown _ _ _ _ _ _ _ _ _ _ f.field-0 registered read told (sym c.notice_of.ensures ∙ (w.in-State.is ∙ ap notice.State (sym f.ensures.shown.0))) f.ensures.shown.1 f.ensures.marks appends)
       | in-Last w ↦ subst is (sym w.first-is) (only_shown _ _ _ _ _ _ _ _ _ _ w.code.result registered read told (sym c.notice_of.ensures ∙ w.in-Last.is) w.code.ensures appends)
     ]
+
+pub returns-in-Older-clause-fault : goal.returns-in-Older-clause-fault
+returns-in-Older-clause-fault g c =
+    unfit_first g.P.Peer.went g.P.Peer.came c.args.observer.now _ c.in-Ok.message c.notice_of.result c.in_ok-count.ensures.registered.1 (sym c.read.ensures.function ∙ c.in-Ok.is)
+    c.notice_of.ensures c.in-Older.is
+
+pub returns-clause-called : goal.returns-clause-called
+returns-clause-called g c =
+    dated c.args.observer.now (take c.in_ok-count.count c.register.new.buffer) c.in_ok-at.at (g.P.Peer.called c.args.peer.now) (g.P.Peer.called c.register.new.peer)
+    (g.P.Peer.called c.moment.new.peer) c.in_ok-count.ensures.called c.in_ok-at.ensures.called

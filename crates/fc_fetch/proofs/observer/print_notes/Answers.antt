@@ -1,32 +1,42 @@
-use Rattle.std.proofs.Common.{subst, sym, ◌∙◌, arith}
+use Rattle.std.proofs.Common.{◌≡◌, ◌<◌, ℕ, is_none, subst, sym, ◌∙◌, arith}
 use Rattle.coap_client.specs.Notes.{Watches}
-use Rattle.coap_client.proofs.ObserverCalls.{observes, observes_waiting, registered}
-use Rattle.fc_fetch.specs.Observing.{IsFirstShown, lines_wanted}
-use Rattle.fc_fetch.proofs.Lines.{all_shown, last_shown, next_shown}
+use Rattle.coap_client.specs.Transmissions.{MakesCalls}
+use Rattle.fc_fetch.specs.Observing.{AwaitsNote, IsFirstShown, lines_wanted}
+use Rattle.fc_fetch.specs.declared.observer.ObservationEnd.TheVariants.{Counted, Last}
+use Rattle.fc_fetch.proofs.Timing.{ends_at_first, ends_in_time, ends_over, observes_on, waits_first}
+use Rattle.fc_fetch.proofs.Lines.{all_shown, last_shown, next_shown, over_shown, some_line}
 use Rattle.fc_fetch.proofs.observer.print_notes.Goals as goal
+
+below : (n end limit : ℕ) → n < end → end ≡ limit → n < limit
+below n end limit less is = omega (arith, less, is)
 
 pub returns-in-Only-clause-shown : goal.returns-in-Only-clause-shown
 returns-in-Only-clause-shown g c =
     subst (IsFirstShown g.P.Peer.went g.P.Peer.came g.P.Peer.is_moment c.args.observer.now c.args.shown (g.W.Write.contents c.args.out.now) (g.W.Write.contents c.print_first.new.out))
-    c.in-Only.is c.in_ok-watch.ensures.shown (lines_wanted c.args.extent.count)
+    c.in-Only.is c.in_ok-watch.ensures.shown (lines_wanted c.args.extent.count) (some_line c.args.extent.count)
 
 pub returns-then-noted-clause-shown : goal.returns-then-noted-clause-shown
 returns-then-noted-clause-shown g c =
     let noted = subst (Watches g.P.Peer.went g.P.Peer.came g.P.Peer.is_moment c.args.observer.now.token c.await_note.new.buffer c.loop.watch c.await_note.new.watch) c.in-Some.is c.in_ok-noted.ensures.watched in
-    last_shown _ _ _ _ _ _ _ _ _ _ _ _ _ _ _ c.code.result c.loop.invariant.0 noted.1 c.if-noted.true (sym c.read.ensures.function ∙ c.in-Ok.is) c.code.ensures c.in_ok-write_note.ensures
+    last_shown _ _ _ _ _ _ _ _ _ _ _ _ _ _ _ _ c.code.result c.loop.invariant.0 noted.1 c.if-noted.true (sym c.read.ensures.function ∙ c.in-Ok.is) c.code.ensures c.in_ok-write_note.ensures (below c.loop.counter _ _ c.loop-test.true c.lines_wanted-end.ensures.wanted)
+
+pub returns-in_default-clause-shown : goal.returns-in_default-clause-shown
+returns-in_default-clause-shown g c = over_shown _ _ _ _ _ _ _ _ _ _ c.loop.invariant.0 (below c.loop.counter _ _ c.loop-test.true c.lines_wanted-end.ensures.wanted)
 
 pub loop-preserved : goal.loop-preserved
 loop-preserved g c =
     let noted = subst (Watches g.P.Peer.went g.P.Peer.came g.P.Peer.is_moment c.args.observer.now.token c.await_note.new.buffer c.loop.watch c.await_note.new.watch) c.in-Some.is c.in_ok-noted.ensures.watched in (
-      next_shown _ _ _ _ _ _ _ _ _ _ _ _ _ _ c.loop.invariant.0 noted.1 c.if-noted.false (sym c.read.ensures.function ∙ c.in-Ok.is) c.in_ok-write_note.ensures,
-      observes c.args.observer.now (g.P.Peer.called c.args.peer.now) (g.P.Peer.called c.loop.peer) (g.P.Peer.called c.await_note.new.peer) c.loop.invariant.1 c.in_ok-noted.ensures.called,
+      next_shown _ _ _ _ _ _ _ _ _ _ _ _ _ _ _ c.loop.invariant.0 noted.1 c.if-noted.false (sym c.read.ensures.function ∙ c.in-Ok.is) c.in_ok-write_note.ensures,
+      observes_on c.args.observer.now c.args.extent.seconds c.is_some-ends.result _ (g.P.Peer.called c.args.peer.now) (g.P.Peer.called c.loop.peer) (g.P.Peer.called c.await_note.new.peer)
+          c.is_some-ends.ensures c.loop.invariant.1 c.in_ok-noted.ensures.called,
     )
 
 pub returns-clause-shown : goal.returns-clause-shown
 returns-clause-shown g c = all_shown _ _ _ _ _ _ _ _ _ _ c.loop.invariant.0 (omega (arith, c.loop-test.false, c.loop.auto.counter-end, c.lines_wanted-end.ensures.wanted, c.lines_wanted-end.ensures.some))
 
 pub returns-in-Only-clause-called : goal.returns-in-Only-clause-called
-returns-in-Only-clause-called g c = registered c.args.observer.now (g.P.Peer.called c.args.peer.now) (g.P.Peer.called c.print_first.new.peer) c.in_ok-watch.ensures.called
+returns-in-Only-clause-called g c =
+    ends_at_first c.args.observer.now c.args.extent.seconds (Last c.in-Only.code) (g.P.Peer.called c.args.peer.now) (g.P.Peer.called c.print_first.new.peer) tt c.in_ok-watch.ensures.called
 
 pub loop-init : goal.loop-init
 loop-init g c =
@@ -34,14 +44,27 @@ loop-init g c =
     let between = g.P.Peer.called c.print_first.new.peer in (
       subst (IsFirstShown g.P.Peer.went g.P.Peer.came g.P.Peer.is_moment c.args.observer.now c.args.shown (g.W.Write.contents c.args.out.now) (g.W.Write.contents c.print_first.new.out))
           c.in-State.is c.in_ok-watch.ensures.shown,
-      observes_waiting c.args.observer.now c.map_or-seconds.result before between (g.P.Peer.called c.begin_wait.new.peer)
-          (registered c.args.observer.now before between c.in_ok-watch.ensures.called) c.in_ok-begin_wait.ensures,
+      waits_first c.args.observer.now c.args.extent.seconds c.first_wait.result before between (g.P.Peer.called c.begin_wait.new.peer) c.first_wait.ensures c.in_ok-watch.ensures.called
+          c.in_ok-begin_wait.ensures.called,
     )
 
 pub returns-in_default-clause-called : goal.returns-in_default-clause-called
 returns-in_default-clause-called g c =
-    observes c.args.observer.now (g.P.Peer.called c.args.peer.now) (g.P.Peer.called c.loop.peer) (g.P.Peer.called c.await_note.new.peer) c.loop.invariant.1 c.in_ok-noted.ensures.called
+    let o = c.args.observer.now in
+    let between = g.P.Peer.called c.loop.peer in
+    let after = g.P.Peer.called c.await_note.new.peer in
+    ends_over o c.args.extent.seconds c.is_some-ends.result (g.P.Peer.called c.args.peer.now) between after c.is_some-ends.ensures c.loop.invariant.1
+    (subst (λ x. MakesCalls between after (AwaitsNote o.token c.is_some-ends.result (is_none x))) c.in_default.is c.in_ok-noted.ensures.called)
 
 pub returns-then-noted-clause-called : goal.returns-then-noted-clause-called
 returns-then-noted-clause-called g c =
-    observes c.args.observer.now (g.P.Peer.called c.args.peer.now) (g.P.Peer.called c.loop.peer) (g.P.Peer.called c.await_note.new.peer) c.loop.invariant.1 c.in_ok-noted.ensures.called
+    let o = c.args.observer.now in
+    let before = g.P.Peer.called c.args.peer.now in
+    let after = g.P.Peer.called c.await_note.new.peer in
+    ends_in_time o c.args.extent.seconds (Last c.code.result) before after
+    (observes_on o c.args.extent.seconds c.is_some-ends.result _ before (g.P.Peer.called c.loop.peer) after c.is_some-ends.ensures c.loop.invariant.1 c.in_ok-noted.ensures.called)
+    (λ calls. tt)
+
+pub returns-clause-called : goal.returns-clause-called
+returns-clause-called g c =
+    ends_in_time c.args.observer.now c.args.extent.seconds Counted (g.P.Peer.called c.args.peer.now) (g.P.Peer.called c.loop.peer) c.loop.invariant.1 (λ calls. tt)

@@ -2,6 +2,7 @@ use Rattle.std.proofs.Common.{◌≤◌, length, take, sym, ◌∙◌, arith}
 use Rattle.coap_client.specs.Listening.{IsPassedOver}
 use Rattle.coap_client.specs.Notes.{TellsObserver}
 use Rattle.coap_client.proofs.ObserverCalls.{arrived, passed_quietly}
+use Rattle.coap_client.proofs.Failing.{rejection_came}
 use Rattle.coap_client.proofs.Transmitting.{acknowledgement_came, answer_came, ended, flooded, none_come, one_comes, over, some_of}
 use Rattle.coap_client.proofs.observing.Observer.listen.Goals as goal
 
@@ -49,3 +50,11 @@ pub returns-clause-called : goal.returns-clause-called
 returns-clause-called g c =
     flooded (IsPassedOver (TellsObserver c.args.self.now.token c.args.self.now.id) c.args.awaited) c.loop-received.received (g.P.Peer.called c.args.peer.now) (g.P.Peer.called c.loop-received.peer)
     (let end = c.loop-received-test.false in omega (arith, end)) c.loop-received.invariant
+
+pub returns-in-Rejected-clause-fault : goal.returns-in-Rejected-clause-fault
+returns-in-Rejected-clause-fault g c =
+    let tells = TellsObserver c.args.self.now.token c.args.self.now.id in
+    rejection_came tells c.args.awaited (take c.in-Some.count c.receive.new.buffer) c.hear_datagram-heard.result (g.P.Peer.called c.args.peer.now) (g.P.Peer.called c.receive.new.self)
+    c.hear_datagram-heard.ensures c.in-Rejected.is
+    (ended (IsPassedOver tells c.args.awaited) c.loop-received.received c.in-Some.count c.receive.new.buffer _ (g.P.Peer.called c.args.peer.now) (g.P.Peer.called c.loop-received.peer)
+    (g.P.Peer.called c.receive.new.self) c.in-Some.is c.loop-received.invariant c.in_ok-count.ensures.called)

@@ -1,0 +1,220 @@
+-- Why a client fails, one call behind the other.
+use Rattle.std.proofs.Common.{◌≡◌, ℕ, ◌<◌, max, inl, inr, Bool, true, false, List, [], ◌∷◌, ◌++◌, Some, refl, sym, subst, append_assoc, Result, Ok, Err, IfErr, IsErrAnd, Option, None, ◌∙◌, if◌then◌else◌}
+use Rattle.coap_msg.specs.Reading.{reading_of}
+use Rattle.coap_msg.specs.Wire.{Message}
+use Rattle.coap_client.specs.declared.notice.Notice.{Notice}
+use Rattle.coap_client.specs.declared.notice.Notice.TheVariants as notice
+use Rattle.coap_client.specs.declared.observing.Observer.{Observer}
+use Rattle.coap_client.specs.declared.watch.Watch.{Watch}
+use Rattle.coap_client.specs.declared.fetcher.FetchFault.{FetchFault}
+use Rattle.coap_client.specs.declared.fetcher.FetchFault.TheVariants as fault
+use Rattle.coap_client.specs.declared.transmission.Reception.{Reception}
+use Rattle.coap_client.specs.declared.transmission.Reception.TheVariants.{Rejected}
+use Rattle.coap_client.specs.Faults.{EndsOnNotification, EndsRejected, IsDeregistrationFault, IsLeavingFault, IsNotificationFault, IsOfPeer, IsRegistrationFault, IsRejectedBy, IsRejectedLater, IsRejectedLeaving, IsRejection, deregistration_of, leaving_id, registration_of, UnfitCame}
+use Rattle.coap_client.specs.Listening.{EndsOn, IsAcknowledgedBy, IsPassedOver}
+use Rattle.coap_client.specs.Heard.{IsReadAs}
+use Rattle.coap_client.specs.Notes.{HasOwnResponse, TellsObserver}
+use Rattle.coap_client.specs.Notices.{IsOwnResponse, by_age, by_sequence, by_success, can_be_shown, is_newer, is_shown_again, notice_after, notice_of, sequence_of}
+use Rattle.coap_client.specs.ObserverCalls.{AwaitsNotification, IsPassedOverLeaving, IsPassedOverWatching}
+use Rattle.coap_client.specs.Replies.{IsReset, is_success}
+use Rattle.coap_client.specs.PeerCalls.{Adds, PeerError, Sends, Waits}
+use Rattle.coap_client.specs.Transmissions.{ack_timeout, most_sendings, non_wait, separate_wait, AreInVain, IsLastSending, MakesCalls}
+use Rattle.coap_client.proofs.Transmitting.{Calls, again, does_of, last_sending, sending}
+
+abbrev Told : Type 1
+Told = List ℕ → Reception → Type 0
+
+-- an error that `?` passes on
+pub raised : {A B : Type 0} (r : Result A B) (f : B) (P : B → Type 0) → IsErrAnd r (λ y. y ≡ f) → P f → IfErr r P
+raised (Ok x) f P is h = tt
+raised (Err y) f P is h = subst P (sym is) h
+
+-- a rejection of another kind
+pub of_peer : (is_error : PeerError → Type 0) (P Q : Type 0) (f : FetchFault) → (P → Q) → IsOfPeer is_error P f → IsOfPeer is_error Q f
+of_peer is_error P Q fault.Silence turns h = absurd h
+of_peer is_error P Q fault.Rejected turns h = turns h
+of_peer is_error P Q fault.Misfit turns h = absurd h
+of_peer is_error P Q fault.Changed turns h = absurd h
+of_peer is_error P Q fault.Part turns h = absurd h
+of_peer is_error P Q (fault.Socket error) turns h = h
+of_peer is_error P Q (fault.Memory error) turns h = absurd h
+
+-- none: it is an error of the peer
+pub of_socket : (is_error : PeerError → Type 0) (Q : Type 0) (f : FetchFault) → IsOfPeer is_error ⊥ f → IsOfPeer is_error Q f
+of_socket is_error Q f h = of_peer is_error ⊥ Q f (λ x. absurd x) h
+
+pub of_peer_result : {A : Type 0} (is_error : PeerError → Type 0) (P Q : Type 0) (r : Result A FetchFault) → (P → Q) → IfErr r (IsOfPeer is_error P) → IfErr r (IsOfPeer is_error Q)
+of_peer_result is_error P Q (Ok x) turns h = h
+of_peer_result is_error P Q (Err f) turns h = of_peer is_error P Q f turns h
+
+-- a Reset ended the wait
+pub rejection_came : (tells : Told) (awaited : Bool) (bytes : List ℕ) (heard : Reception) (before after : Calls) → tells bytes heard → heard ≡ Rejected
+    → MakesCalls before after (EndsOn (IsPassedOver tells awaited) bytes) → MakesCalls before after (IsRejectedBy tells awaited)
+rejection_came tells awaited bytes heard before after told is one =
+    does_of before after (EndsOn (IsPassedOver tells awaited) bytes) (IsRejectedBy tells awaited) one (λ calls h. (bytes, subst (tells bytes) is told, h))
+
+-- a confirmable request is rejected
+pub rejected : (tells : Told) (request : List ℕ) (n seconds : ℕ) (before between sent after : Calls) → n < most_sendings
+    → MakesCalls before between (AreInVain (IsPassedOver tells false) request n) → seconds ≡ ack_timeout n → Adds between sent (Waits seconds ∷ Sends request ∷ [])
+    → MakesCalls sent after (IsRejectedBy tells false) → MakesCalls before after (IsRejection true tells request)
+rejected tells request n seconds before between sent after few one twice adds came =
+    last_sending (IsPassedOver tells false) request n before between after (EndsRejected tells) few one
+    (again request n seconds between sent after (EndsRejected tells) twice adds
+    (does_of sent after (IsRejectedBy tells false) (EndsRejected tells) came (λ calls h. inl h)))
+
+-- it was acknowledged before
+later : (tells : Told) (before between begun after : Calls) → MakesCalls before between (IsAcknowledgedBy tells) → Adds between begun (Waits separate_wait ∷ [])
+    → MakesCalls begun after (IsRejectedBy tells true) → MakesCalls before after (IsRejectedLater tells)
+later tells before between begun after one adds other calls h =
+    let a = one calls h in
+    let b = other (Waits separate_wait ∷ a.more ++ calls) (adds (a.more ++ calls) a.is) in
+    record {
+      more = b.more ++ Waits separate_wait ∷ a.more;
+      are = record { first = a.more; acknowledged = a.are; more = b.more; rejected = b.are; is = refl };
+      is = subst after (sym (append_assoc b.more (Waits separate_wait ∷ a.more) calls)) b.is;
+    }
+
+pub rejected_later : (tells : Told) (request : List ℕ) (n seconds : ℕ) (before between sent heard begun after : Calls) → n < most_sendings
+    → MakesCalls before between (AreInVain (IsPassedOver tells false) request n) → seconds ≡ ack_timeout n → Adds between sent (Waits seconds ∷ Sends request ∷ [])
+    → MakesCalls sent heard (λ calls. (false ≡ false) × IsAcknowledgedBy tells calls) → Adds heard begun (Waits separate_wait ∷ [])
+    → MakesCalls begun after (IsRejectedBy tells true) → MakesCalls before after (IsRejection true tells request)
+rejected_later tells request n seconds before between sent heard begun after few one twice adds came waits other =
+    last_sending (IsPassedOver tells false) request n before between after (EndsRejected tells) few one
+    (again request n seconds between sent after (EndsRejected tells) twice adds
+    (does_of sent after (IsRejectedLater tells) (EndsRejected tells)
+    (later tells sent heard begun after (does_of sent heard (λ calls. (false ≡ false) × IsAcknowledgedBy tells calls) (IsAcknowledgedBy tells) came (λ calls h. h.1)) waits other)
+    (λ calls h. inr h)))
+
+-- another request is rejected
+pub rejected_once : (tells : Told) (request : List ℕ) (before between after : Calls) → Adds before between (Waits non_wait ∷ Sends request ∷ [])
+    → MakesCalls between after (IsRejectedBy tells true) → MakesCalls before after (IsRejection false tells request)
+rejected_once tells request before between after adds one = sending request non_wait before between after (IsRejectedBy tells true) adds one
+
+-- ---- an observer
+
+pub registration_fault : (is_error : PeerError → Type 0) (Makes : Calls → Type 0) (o : Observer) (f : FetchFault)
+    → IsOfPeer is_error (Makes (IsRejection true (TellsObserver o.token o.id) (registration_of o))) f → IsRegistrationFault is_error Makes o f
+registration_fault is_error Makes o fault.Silence h = absurd h
+registration_fault is_error Makes o fault.Rejected h = h
+registration_fault is_error Makes o fault.Misfit h = absurd h
+registration_fault is_error Makes o fault.Changed h = absurd h
+registration_fault is_error Makes o fault.Part h = absurd h
+registration_fault is_error Makes o (fault.Socket error) h = h
+registration_fault is_error Makes o (fault.Memory error) h = absurd h
+
+-- a Reset of the deregistration's id came
+pub reset_came : (token : List ℕ) (id : ℕ) (bytes : List ℕ) (before after : Calls) → IsReadAs bytes (IsReset id) → MakesCalls before after (EndsOn (IsPassedOverLeaving token id) bytes)
+    → MakesCalls before after (IsRejectedLeaving token id)
+reset_came token id bytes before after rejects one =
+    does_of before after (EndsOn (IsPassedOverLeaving token id) bytes) (IsRejectedLeaving token id) one (λ calls h. record { bytes = bytes; rejects = rejects; ends = h })
+
+pub rejected_leaving : (token : List ℕ) (id : ℕ) (request own : List ℕ) (n seconds : ℕ) (before between sent after : Calls) → n < most_sendings → request ≡ own
+    → MakesCalls before between (AreInVain (IsPassedOverLeaving token id) request n) → seconds ≡ ack_timeout n → Adds between sent (Waits seconds ∷ Sends request ∷ [])
+    → MakesCalls sent after (IsRejectedLeaving token id) → MakesCalls before after (IsLastSending (IsPassedOverLeaving token id) own (IsRejectedLeaving token id))
+rejected_leaving token id request own n seconds before between sent after few is one twice adds came =
+    subst (λ (x : List ℕ). MakesCalls before after (IsLastSending (IsPassedOverLeaving token id) x (IsRejectedLeaving token id))) is
+    (last_sending (IsPassedOverLeaving token id) request n before between after (IsRejectedLeaving token id) few one
+    (again request n seconds between sent after (IsRejectedLeaving token id) twice adds came))
+
+pub silent_leaving : (token : List ℕ) (id : ℕ) (request own : List ℕ) (n : ℕ) (before after : Calls) → n ≡ most_sendings → request ≡ own
+    → MakesCalls before after (AreInVain (IsPassedOverLeaving token id) request n) → MakesCalls before after (AreInVain (IsPassedOverLeaving token id) own most_sendings)
+silent_leaving token id request own n before after five is one =
+    subst (λ (x : List ℕ). MakesCalls before after (AreInVain (IsPassedOverLeaving token id) x most_sendings)) is
+    (subst (λ (k : ℕ). MakesCalls before after (AreInVain (IsPassedOverLeaving token id) request k)) five one)
+
+pub leaving_of : (is_error : PeerError → Type 0) (Makes : Calls → Type 0) (o : Observer) (Rejects : Type 0) (f : FetchFault)
+    → (Rejects → Makes (IsLastSending (IsPassedOverLeaving o.token (leaving_id o)) (deregistration_of o) (IsRejectedLeaving o.token (leaving_id o)))) → IsOfPeer is_error Rejects f
+    → IsLeavingFault is_error Makes o f
+leaving_of is_error Makes o Rejects fault.Silence turns h = absurd h
+leaving_of is_error Makes o Rejects fault.Rejected turns h = turns h
+leaving_of is_error Makes o Rejects fault.Misfit turns h = absurd h
+leaving_of is_error Makes o Rejects fault.Changed turns h = absurd h
+leaving_of is_error Makes o Rejects fault.Part turns h = absurd h
+leaving_of is_error Makes o Rejects (fault.Socket error) turns h = h
+leaving_of is_error Makes o Rejects (fault.Memory error) turns h = absurd h
+
+pub leaving_fault : (is_error : PeerError → Type 0) (Makes : Calls → Type 0) (o : Observer) (r : Result Unit FetchFault) → IfErr r (IsLeavingFault is_error Makes o)
+    → IfErr r (IsDeregistrationFault is_error Makes o)
+leaving_fault is_error Makes o (Ok x) h = h
+leaving_fault is_error Makes o (Err fault.Silence) h = h
+leaving_fault is_error Makes o (Err fault.Rejected) h = h
+leaving_fault is_error Makes o (Err fault.Misfit) h = h
+leaving_fault is_error Makes o (Err fault.Changed) h = h
+leaving_fault is_error Makes o (Err fault.Part) h = h
+leaving_fault is_error Makes o (Err (fault.Socket error)) h = h
+leaving_fault is_error Makes o (Err (fault.Memory error)) h = absurd h
+
+-- a success is a state or the last, and is shown
+shown_sequence : (o : Option ℕ) → by_sequence o ≡ notice.Misfit → ⊥
+shown_sequence None h = cc h
+shown_sequence (Some v) h = cc h
+
+shown : (m : Message) → by_success m ≡ notice.Misfit → ⊥
+shown m h = elim (is_success m.code) as (λ b. (if b then by_sequence (sequence_of m) else notice.Last) ≡ notice.Misfit → ⊥) [
+  | true ↦ λ x. shown_sequence (sequence_of m) x
+  | false ↦ λ x. cc x
+] h
+
+-- neither its age nor a repeat makes it unfit
+unfit_by_age : (w : Watch) (at : ℕ) (n : Notice) → by_age w at n ≡ notice.Misfit → n ≡ notice.Misfit
+unfit_by_age w at (notice.State v) h = absurd (elim (is_newer w.sequence w.at v at) as (λ b. (if b then notice.State v else notice.Older) ≡ notice.Misfit → ⊥) [
+  | true ↦ λ x. cc x
+  | false ↦ λ x. cc x
+] h)
+unfit_by_age w at notice.Older h = h
+unfit_by_age w at notice.Last h = h
+unfit_by_age w at notice.Misfit h = h
+
+unfit_after : (w : Watch) (at : ℕ) (m : Message) → notice_after w at m ≡ notice.Misfit → notice_of m ≡ notice.Misfit
+unfit_after w at m h = elim (is_shown_again w.marks.items m.id at) as (λ b. (if b then notice.Older else by_age w at (notice_of m)) ≡ notice.Misfit → notice_of m ≡ notice.Misfit) [
+  | true ↦ λ x. absurd (cc x)
+  | false ↦ λ x. unfit_by_age w at (notice_of m) x
+] h
+
+spelled : (bytes : List ℕ) (x m : Message) → reading_of bytes ≡ Ok x → reading_of bytes ≡ Ok m → x ≡ m
+spelled bytes x m a b = cc (a, b)
+
+-- what can't be shown is unfit
+pub unfit_notice : (m : Message) → notice_of m ≡ notice.Misfit → can_be_shown m ≡ false
+unfit_notice m is = elim (can_be_shown m) as (λ b. (if b then by_success m else notice.Misfit) ≡ notice.Misfit → b ≡ false) [
+  | true ↦ λ h. absurd (shown m h)
+  | false ↦ λ h. refl
+] is
+
+pub unfit_came : (went came : List ℕ → Type 0) (token bytes : List ℕ) (now : Watch) (m : Message) (at : ℕ) (n : Notice) (id : ℕ) → HasOwnResponse went came token bytes
+    → reading_of bytes ≡ Ok m → n ≡ notice_after now at m → n ≡ notice.Misfit → UnfitCame came token id
+unfit_came went came token bytes now m at n id own read is so = record {
+  bytes = bytes;
+  message = m;
+  came_is = own.heard.came_is;
+  read_is = read;
+  own = inr (subst (IsOwnResponse token) (spelled bytes own.message m own.heard.read_is read) own.own);
+  unfit = unfit_notice m (unfit_after now at m (sym is ∙ so));
+}
+
+-- a notification ends it
+pub ends_on : (went came : List ℕ → Type 0) (told : ℕ → Type 0) (token bytes : List ℕ) (w now : Watch) (m : Message) (moment at : ℕ) (n : Notice) (P : Notice → Type 0) (before after : Calls)
+    → HasOwnResponse went came token bytes → reading_of bytes ≡ Ok m → told moment → now ≡ w → at ≡ max now.at moment → n ≡ notice_after now at m → P n
+    → MakesCalls before after (AwaitsNotification token (IsPassedOverWatching told token w) (Some (bytes, moment))) → MakesCalls before after (EndsOnNotification told token w P)
+ends_on went came told token bytes w now m moment at n P before after own read told_is same is_at is so one =
+    does_of before after (AwaitsNotification token (IsPassedOverWatching told token w) (Some (bytes, moment))) (EndsOnNotification told token w P) one
+    (λ calls h. record {
+      bytes = bytes;
+      message = m;
+      read_is = read;
+      own = subst (IsOwnResponse token) (spelled bytes own.message m own.heard.read_is read) own.own;
+      moment = moment;
+      told_is = told_is;
+      so = subst (λ (x : Watch). P (notice_after x (max x.at moment) m)) same (subst (λ (x : ℕ). P (notice_after now x m)) is_at (subst P is so));
+      noticed = h;
+    })
+
+pub notification_fault : (came : List ℕ → Type 0) (is_error : PeerError → Type 0) (Makes : Calls → Type 0) (told : ℕ → Type 0) (token : List ℕ) (w : Watch) (f : FetchFault) → IsOfPeer is_error ⊥ f
+    → IsNotificationFault came is_error Makes told token w f
+notification_fault came is_error Makes told token w fault.Silence h = absurd h
+notification_fault came is_error Makes told token w fault.Rejected h = absurd h
+notification_fault came is_error Makes told token w fault.Misfit h = absurd h
+notification_fault came is_error Makes told token w fault.Changed h = absurd h
+notification_fault came is_error Makes told token w fault.Part h = absurd h
+notification_fault came is_error Makes told token w (fault.Socket error) h = h
+notification_fault came is_error Makes told token w (fault.Memory error) h = absurd h

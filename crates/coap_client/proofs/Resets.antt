@@ -1,0 +1,58 @@
+-- What a request is rejected by.
+use Rattle.std.proofs.Common.{◌≡◌, ℕ, Bool, true, false, List, ◌++◌, inl, inr, ap, ◌∙◌}
+use Rattle.coap_client.specs.declared.transmission.Reception.{Reception}
+use Rattle.coap_client.specs.declared.transmission.Reception.TheVariants.{Rejected}
+use Rattle.coap_client.specs.Faults.{EndsRejected, IsRejectedBy, IsRejectedLeaving, IsRejection}
+use Rattle.coap_client.specs.Heard.{IsReadAs, Tells}
+use Rattle.coap_client.specs.Listening.{EndsOn}
+use Rattle.coap_client.specs.Notes.{TellsObserver}
+use Rattle.coap_client.specs.ObserverCalls.{IsPassedOverLeaving}
+use Rattle.coap_client.specs.PeerCalls.{PeerCall}
+use Rattle.coap_client.specs.Replies.{IsReset}
+use Rattle.coap_client.specs.Schedules.{EndsByReset}
+use Rattle.coap_client.specs.Transmissions.{IsLastSending}
+
+-- what ends a wait is the newest call, behind whatever was called before
+ended_by_reset : (passes : List ℕ → List PeerCall → Type 0) (id : ℕ) (bytes : List ℕ) (heard : List PeerCall) → IsReadAs bytes (IsReset id) → EndsOn passes bytes heard → EndsByReset id heard
+ended_by_reset passes id bytes heard rejects e = record {
+  bytes = bytes;
+  older = e.older;
+  is = e.is;
+  message = rejects.message;
+  read_is = rejects.read_is;
+  rejects = rejects.holds;
+}
+
+behind : (id : ℕ) (newer older calls : List PeerCall) → EndsByReset id newer → calls ≡ newer ++ older → EndsByReset id calls
+behind id newer older calls r is = record {
+  bytes = r.bytes;
+  older = r.older ++ older;
+  is = is ∙ ap (λ (x : List PeerCall). x ++ older) r.is;
+  message = r.message;
+  read_is = r.read_is;
+  rejects = r.rejects;
+}
+
+-- where `tells` says of a rejection that it is a Reset of this id
+module _ (tells : List ℕ → Reception → Type 0) (id : ℕ) (resets : (bytes : List ℕ) → tells bytes Rejected → IsReadAs bytes (IsReset id)) where
+  rejected_by : (awaited : Bool) (heard : List PeerCall) → IsRejectedBy tells awaited heard → EndsByReset id heard
+  rejected_by awaited heard r = ended_by_reset _ id r.0 heard (resets r.0 r.1) r.2
+
+  ends_rejected : (heard : List PeerCall) → EndsRejected tells heard → EndsByReset id heard
+  ends_rejected heard (inl at_once) = rejected_by false heard at_once
+  ends_rejected heard (inr later) = behind id later.more _ heard (rejected_by true later.more later.rejected) later.is
+
+  pub reset_of : (confirmable : Bool) (request : List ℕ) (calls : List PeerCall) → IsRejection confirmable tells request calls → EndsByReset id calls
+  reset_of true request calls s = behind id s.last s.older calls (behind id s.sending.heard _ s.last (ends_rejected s.sending.heard s.sending.ends) s.sending.is) s.is
+  reset_of false request calls s = behind id s.heard _ calls (rejected_by true s.heard s.ends) s.is
+
+pub reset_requesting : (confirmable : Bool) (id : ℕ) (earlier request : List ℕ) (calls : List PeerCall) → IsRejection confirmable (Tells confirmable id earlier) request calls → EndsByReset id calls
+reset_requesting confirmable id earlier request calls s = reset_of (Tells confirmable id earlier) id (λ bytes told. told) confirmable request calls s
+
+pub reset_registering : (token : List ℕ) (id : ℕ) (request : List ℕ) (calls : List PeerCall) → IsRejection true (TellsObserver token id) request calls → EndsByReset id calls
+reset_registering token id request calls s = reset_of (TellsObserver token id) id (λ bytes told. told) true request calls s
+
+pub reset_leaving : (token : List ℕ) (id : ℕ) (request : List ℕ) (calls : List PeerCall) → IsLastSending (IsPassedOverLeaving token id) request (IsRejectedLeaving token id) calls → EndsByReset id calls
+reset_leaving token id request calls s =
+    let ends = s.sending.ends in
+    behind id s.last s.older calls (behind id s.sending.heard _ s.last (ended_by_reset _ id ends.bytes s.sending.heard ends.rejects ends.ends) s.sending.is) s.is

@@ -1,0 +1,10 @@
+use Rattle.std.proofs.Common.{◌<◌}
+use Rattle.coap_client.specs.Faults.{deregistration_of}
+use Rattle.coap_client.specs.ObserverCalls.{IsPassedOverLeaving}
+use Rattle.coap_client.specs.Transmissions.{AreInVain, MakesCalls}
+use Rattle.coap_client.proofs.observing.Observer.deregister_by.Given as goal
+
+-- the deregistration was sent as often in vain, and handed over if it was once
+abbrev pub invariant-loop-sendings : goal.invariant-loop-sendings
+invariant-loop-sendings g l = (0 < l.sendings → g.P.Peer.tried (deregistration_of l.self))
+    × MakesCalls (g.P.Peer.called l.fn.peer) (g.P.Peer.called l.peer) (AreInVain (IsPassedOverLeaving l.self.token l.id) l.request.items l.sendings)

@@ -1,0 +1,24 @@
+-- How long a client's socket waits, by the readings of its clock.
+use Rattle.std.specs.Prelude.{◌≡◌, ℕ, ◌+◌, ◌-◌, ◌*◌, ◌/◌, min}
+use Rattle.std.specs.Duration.{as_nanos}
+use Rattle.std.specs.Time.{FitsClock, instant_nanos}
+use Rattle.std.specs.declared.time.Duration.{Duration}
+use Rattle.std.specs.declared.time.Instant.{Instant}
+
+-- a wait of so many seconds that begins at a reading of the clock ends then
+pub record IsEndOfWait (is_read : Instant → Type 0) (seconds : ℕ) (until : Instant) : Type 0 where
+  pub now : Instant
+  pub read_is : is_read now
+  pub ends : FitsClock (instant_nanos now + seconds * 1_000_000_000) → instant_nanos until ≡ instant_nanos now + seconds * 1_000_000_000
+
+-- so much is left of a wait at a reading of the clock
+pub record IsLeftOf (is_read : Instant → Type 0) (until : Instant) (left : Duration) : Type 0 where
+  pub now : Instant
+  pub read_is : is_read now
+  pub left_is : as_nanos left ≡ instant_nanos until - instant_nanos now
+
+-- so many milliseconds are from the start to a reading of the clock, and 2^64 - 1 at most
+pub record IsMomentSince (is_read : Instant → Type 0) (start : Instant) (moment : ℕ) : Type 0 where
+  pub now : Instant
+  pub read_is : is_read now
+  pub moment_is : moment ≡ min ((instant_nanos now - instant_nanos start) / 1_000_000) 18446744073709551615

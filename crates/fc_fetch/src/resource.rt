@@ -1,0 +1,67 @@
+//! The resource that an address names, as requests name it.
+ghost use Rattle.std.specs.Prelude.{◌≡◌, ◌≤◌, IfErr, IfOk, length};
+ghost use Rattle.std.specs.List.{All};
+ghost use Rattle.coap_client.specs.Paths.{slices_in};
+ghost use Rattle.fc_fetch.specs.Addresses.{texts_in};
+ghost use Rattle.fc_fetch.specs.Resources.{HasLongArgument, IsNoResource, IsResourceOf};
+
+use crate::address::Address;
+use coap_client::{Path, PathError, RequestTarget};
+use std::alloc::{AllocError, Global};
+
+/// The most bytes of an argument of a query (RFC 7252, 5.10).
+const ARGUMENT: usize = 255;
+
+/// Why an address names no resource.
+#[derive(Clone, Copy, Debug, PartialEq, Eq)]
+pub enum ResourceError {
+    /// Its path is none.
+    Path(PathError),
+    /// An argument of its query has more than 255 bytes (RFC 7252, 5.10).
+    Argument,
+    /// There was no memory for the arguments of its query.
+    NoMemory,
+}
+
+impl From<PathError> for ResourceError {
+    ghost use Rattle.std.specs.Prelude.{◌≡◌};
+    ghost use Rattle.fc_fetch.specs.declared.resource.ResourceError.TheVariants as resource_error;
+
+    ghost from_gives = { λ fault error. error ≡ resource_error.Path fault };
+
+    fn from(fault: PathError) -> ResourceError {
+        ResourceError::Path(fault)
+    }
+}
+
+/// Returns the resource of an address: its path, a slash before each segment, and each argument of its query.
+///
+/// # Errors
+/// What [`ResourceError`] says.
+pub fn resource_of(alloc: Global, address: &Address) -> Result<RequestTarget<'_>, ResourceError>
+    ensures resource { IfOk result (IsResourceOf address.entry.now) }
+    ensures none { IfErr result (IsNoResource address.entry.now) }
+{
+    Ok(RequestTarget {
+        path: Path::parse(alloc, &address.path)?,
+        query: arguments_of(alloc, &address.query)?,
+    })
+}
+
+// The arguments of a query, each of 255 bytes at most.
+fn arguments_of(alloc: Global, query: &[Vec<u8>]) -> Result<Vec<&[u8]>, ResourceError>
+    ensures arguments { IfOk result (λ v. slices_in v.items ≡ texts_in query.entry.now) }
+    ensures short { IfOk result (λ v. All (λ argument. length argument ≤ 255) (texts_in query.entry.now)) }
+    ensures long { IfErr result (HasLongArgument query.entry.now) }
+{
+    let mut arguments = Vec::new(alloc);
+    for argument in query {
+        if argument.len() > ARGUMENT {
+            return Err(ResourceError::Argument);
+        }
+        if arguments.push(argument.as_slice()).is_err() {
+            return Err(ResourceError::NoMemory);
+        }
+    }
+    Ok(arguments)
+}
