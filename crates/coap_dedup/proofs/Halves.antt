@@ -18,10 +18,12 @@ pub record IsBetween (ks : List Key) (k : Key) (low high probes : ℕ) : Type 0 
   pub above : AreAbove ks k high
   pub order : low ≤ high
   pub within : high ≤ length ks
-  pub left : high - low ≤ left_after probes
-  pub few : probes ≤ 11
+  pub left : high - low ≤ left_after 65536 probes
+  pub few : probes ≤ 17
+  pub left_of_few : length ks ≤ 1024 → high - low ≤ left_after 1024 probes
+  pub fewer_of_few : length ks ≤ 1024 → probes ≤ 11
 
-pub start : (ks : List Key) (k : Key) → length ks ≤ 1024 → IsBetween ks k 0 (length ks) 0
+pub start : (ks : List Key) (k : Key) → length ks ≤ 65536 → IsBetween ks k 0 (length ks) 0
 start ks k few = record {
   below = λ j x lt is. absurd (omega (arith, lt));
   above = λ j x le is. let within = slice_get_within ks j x is in absurd (omega (arith, le, within));
@@ -29,24 +31,41 @@ start ks k few = record {
   within = omega arith;
   left = omega (arith, few);
   few = omega arith;
+  left_of_few = λ le. omega (arith, le);
+  fewer_of_few = λ le. omega arith;
 }
 
-at_most : (n : ℕ) → left_after n ≤ 1024
-at_most zero = omega arith
-at_most (suc n) = let le = at_most n in omega (arith, le)
+at_most : (most n : ℕ) → left_after most n ≤ most
+at_most most zero = omega arith
+at_most most (suc n) = let le = at_most most n in omega (arith, le)
 
-none_left : (n : ℕ) → left_after (suc (suc (suc (suc (suc (suc (suc (suc (suc (suc (suc n))))))))))) ≡ 0
-none_left n = let le = at_most n in omega (arith, le)
+none_left : (n : ℕ) → left_after 65536 (suc (suc (suc (suc (suc (suc (suc (suc (suc (suc (suc (suc (suc (suc (suc (suc (suc n))))))))))))))))) ≡ 0
+none_left n = let le = at_most 65536 n in omega (arith, le)
 
--- while a key is left, fewer than eleven were compared
-pub fewer : (ks : List Key) (k : Key) (low high probes : ℕ) → IsBetween ks k low high probes → low < high → probes < 11
+none_left_of_few : (n : ℕ) → left_after 1024 (suc (suc (suc (suc (suc (suc (suc (suc (suc (suc (suc n))))))))))) ≡ 0
+none_left_of_few n = let le = at_most 1024 n in omega (arith, le)
+
+-- while a key is left, fewer than seventeen were compared
+pub fewer : (ks : List Key) (k : Key) (low high probes : ℕ) → IsBetween ks k low high probes → low < high → probes < 17
 fewer ks k low high probes b lt =
     let left = b.left in
+    ⊎_elim
+    (λ (few : probes < 17). few)
+    (λ (many : 17 ≤ probes).
+    let all : probes ≡ suc (suc (suc (suc (suc (suc (suc (suc (suc (suc (suc (suc (suc (suc (suc (suc (suc (probes - 17))))))))))))))))) = omega (arith, many) in
+    let none = ap (left_after 65536) all ∙ none_left (probes - 17) in
+    absurd (omega (arith, left, lt, none)))
+    (cases_lt probes 17)
+
+-- of at most 1,024 keys fewer than eleven
+pub fewer_than_eleven : (ks : List Key) (k : Key) (low high probes : ℕ) → IsBetween ks k low high probes → low < high → length ks ≤ 1024 → probes < 11
+fewer_than_eleven ks k low high probes b lt small =
+    let left = b.left_of_few small in
     ⊎_elim
     (λ (few : probes < 11). few)
     (λ (many : 11 ≤ probes).
     let all : probes ≡ suc (suc (suc (suc (suc (suc (suc (suc (suc (suc (suc (probes - 11))))))))))) = omega (arith, many) in
-    let none = ap left_after all ∙ none_left (probes - 11) in
+    let none = ap (left_after 1024) all ∙ none_left_of_few (probes - 11) in
     absurd (omega (arith, left, lt, none)))
     (cases_lt probes 11)
 
@@ -67,6 +86,8 @@ upper es k x low high middle probes sorted b lt half is less =
       within = b.within;
       left = omega (arith, half, lt, left);
       few = omega (arith, few);
+      left_of_few = λ small. let some = b.left_of_few small in omega (arith, half, lt, some);
+      fewer_of_few = λ small. let some = fewer_than_eleven _ k low high probes b lt small in omega (arith, some);
     }
 
 pub lower : (es : List Entry) (k x : Key) (low high middle probes : ℕ) → T (entry_list.is_sorted key_cmp es) → IsBetween (map (λ e. e.0) es) k low high probes → low < high → middle ≡ low + (high - low) / 2 → slice_get (map (λ e. e.0) es) middle ≡ Some x → key_cmp x k ≡ Greater → IsBetween (map (λ e. e.0) es) k low middle (suc probes)
@@ -85,4 +106,6 @@ lower es k x low high middle probes sorted b lt half is greater =
       within = omega (arith, half, within, lt);
       left = omega (arith, half, lt, left);
       few = omega (arith, few);
+      left_of_few = λ small. let some = b.left_of_few small in omega (arith, half, lt, some);
+      fewer_of_few = λ small. let some = fewer_than_eleven _ k low high probes b lt small in omega (arith, some);
     }

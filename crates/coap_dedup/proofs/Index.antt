@@ -127,13 +127,13 @@ rises (e ∷ es) (suc i) (suc j) x y sorted lt at_i at_j = rises es i j x y (sec
 -- ---- the places of the requests
 
 abbrev place_of : ℕ → ℕ
-place_of n = n % 1024
+place_of n = n % 65536
 
 pub record IsAt (os : List Opened) (place i : ℕ) : Type 0 where
   pub request : Opened
   pub entry : slice_get (entries (by_key os)) i ≡ Some (request.key, request.number)
   pub found : find (has_key request.key) os ≡ Some request
-  pub place_is : place ≡ request.number % 1024
+  pub place_is : place ≡ request.number % 65536
   pub after : ℕ
   pub there : slice_get os after ≡ Some request
 
@@ -141,9 +141,9 @@ pub index_length : (os : List Opened) (places : List ℕ) → IsIndex os places 
 index_length os places is =
     ap length is.sorted ∙ (length-map (values (by_key os)) place_of ∙ (length-map (entries (by_key os)) (λ (e : Entry). e.1) ∙ (sym (len-entries (by_key os)) ∙ is.distinct)))
 
-value_at : (es : List Entry) (i : ℕ) (e : Entry) → slice_get es i ≡ Some e → slice_get (map place_of (map (λ e. e.1) es)) i ≡ Some (e.1 % 1024)
+value_at : (es : List Entry) (i : ℕ) (e : Entry) → slice_get es i ≡ Some e → slice_get (map place_of (map (λ e. e.1) es)) i ≡ Some (e.1 % 65536)
 value_at [] i e is = absurd (cc is)
-value_at (x ∷ es) zero e is = let same : x ≡ e = cc is in ap (λ (y : Entry). Some (y.1 % 1024)) same
+value_at (x ∷ es) zero e is = let same : x ≡ e = cc is in ap (λ (y : Entry). Some (y.1 % 65536)) same
 value_at (x ∷ es) (suc i) e is = value_at es i e is
 
 there_is : {X : Type 0} (xs : List X) (i : ℕ) → i < length xs → (x : X) × (slice_get xs i ≡ Some x)
@@ -160,7 +160,7 @@ at_entry os places i d e is entry =
       request = f.request;
       entry = entry ∙ (λ j. Some (sym f.key_is j, sym f.number_is j));
       found = ap (λ (k : Key). find (has_key k) os) f.key_is ∙ f.found;
-      place_is = get_or_from_slice_get places i (e.1 % 1024) d (ap (λ (ps : List ℕ). slice_get ps i) is.sorted ∙ value_at (entries (by_key os)) i e entry) ∙ ap place_of (sym f.number_is);
+      place_is = get_or_from_slice_get places i (e.1 % 65536) d (ap (λ (ps : List ℕ). slice_get ps i) is.sorted ∙ value_at (entries (by_key os)) i e entry) ∙ ap place_of (sym f.number_is);
       after = position_or_len (has_key e.0) os;
       there = sym (find_at (has_key e.0) os) ∙ f.found;
     }
@@ -178,8 +178,8 @@ numbered_at number since now zero (x ∷ os) o a is = let same : o ≡ x = cc is
 numbered_at number since now (suc i) (x ∷ os) o a is = let n = numbered_at (number + 1) x.at now i os o a.3 is in omega (arith, n)
 
 -- it is found in the ring, so many after the oldest
-pub found_after : (os : List Opened) (place i after : ℕ) (oldest : Opened) → InOrder os → length os ≤ 1024 → slice_get os 0 ≡ Some oldest → (a : IsAt os place i)
-    → ((number : ℕ) → oldest.number ≤ number → number < oldest.number + 1024 → number % 1024 ≡ place → oldest.number + after ≡ number) → slice_get os after ≡ Some a.request
+pub found_after : (os : List Opened) (place i after : ℕ) (oldest : Opened) → InOrder os → length os ≤ 65536 → slice_get os 0 ≡ Some oldest → (a : IsAt os place i)
+    → ((number : ℕ) → oldest.number ≤ number → number < oldest.number + 65536 → number % 65536 ≡ place → oldest.number + after ≡ number) → slice_get os after ≡ Some a.request
 found_after os place i after oldest order few front a counts =
     let first = numbered_at order.first 0 order.now 0 os oldest order.order front in
     let number = numbered_at order.first 0 order.now a.after os a.request order.order a.there in
@@ -194,12 +194,12 @@ pub record IsThere (os : List Opened) (i after : ℕ) : Type 0 where
   pub there : slice_get os after ≡ Some request
 
 pub at_place : (ring : Buffer Opened) (index : Vec ℕ) (i place after first : ℕ) → AreRequests ring index → i < length ring.items → place ≡ slice_index_or index.items i place → IsOldest ring.items first
-    → ((number : ℕ) → first ≤ number → number < first + 1024 → number % 1024 ≡ place → first + after ≡ number) → IsThere ring.items i after
+    → ((number : ℕ) → first ≤ number → number < first + 65536 → number % 65536 ≡ place → first + after ≡ number) → IsThere ring.items i after
 at_place ring index i place after first are lt is oldest counts =
     let a = subst (λ (p : ℕ). IsAt ring.items p i) (sym is) (at_index ring.items index.items i place are.is_index lt) in
     let o = there_is ring.items 0 (omega (arith, lt)) in
-    let from : (number : ℕ) → o.0.number ≤ number → number < o.0.number + 1024 → number % 1024 ≡ place → o.0.number + after ≡ number = subst (λ (n : ℕ). (number : ℕ) → n ≤ number → number < n + 1024 → number % 1024 ≡ place → n + after ≡ number) (oldest o.0 o.1) counts in
-    record { request = a.request; entry = a.entry; found = a.found; there = found_after ring.items place i after o.0 are.order are.few o.1 a from }
+    let from : (number : ℕ) → o.0.number ≤ number → number < o.0.number + 65536 → number % 65536 ≡ place → o.0.number + after ≡ number = subst (λ (n : ℕ). (number : ℕ) → n ≤ number → number < n + 65536 → number % 65536 ≡ place → n + after ≡ number) (oldest o.0 o.1) counts in
+    record { request = a.request; entry = a.entry; found = a.found; there = found_after ring.items place i after o.0 are.order (let few = are.few in let most = are.capacity in omega (arith, few, most)) o.1 a from }
 
 pub keys_length : (os : List Opened) (places : List ℕ) → IsIndex os places → length (keys (by_key os)) ≡ length os
 keys_length os places is = length-map (entries (by_key os)) (λ (e : Entry). e.0) ∙ (sym (len-entries (by_key os)) ∙ is.distinct)
@@ -224,6 +224,13 @@ keys_few (o ∷ os) =
     let more = len-insert key_total (by_key os) o.key o.number in
     let few = few_or_more (contains_key (by_key os) o.key) (len (by_key os)) (length os) (keys_few os) in
     subst (λ (n : ℕ). n ≤ suc (length os)) (sym more) few
+
+pub keys_at_most : (os : List Opened) → length (keys (by_key os)) ≤ length os
+keys_at_most os =
+    let long = length-map (entries (by_key os)) (λ (e : Entry). e.0) in
+    let same = len-entries (by_key os) in
+    let few = keys_few os in
+    omega (arith, long, same, few)
 
 pub key_within : (os : List Opened) (i : ℕ) (k : Key) → slice_get (keys (by_key os)) i ≡ Some k → i < length os
 key_within os i k at_i =
@@ -266,13 +273,13 @@ put_in_gap k n (e ∷ es) (suc i) gap =
     ap (λ (r : Ordering). entry_list.by_order r ((k, n) ∷ e ∷ es) ((e.0, n) ∷ es) (e ∷ entry_list.put key_cmp k n es)) (key_total.antisymm k e.0 ∙ ap ordering_reverse (gap.below 0 e.0 (omega arith) refl))
     ∙ ap (λ (l : List Entry). e ∷ l) (put_in_gap k n es i rest)
 
-inserted_places : (es : List Entry) (i : ℕ) (e : Entry) → map place_of (map (λ x. x.1) (insert es i e)) ≡ insert (map place_of (map (λ x. x.1) es)) i (e.1 % 1024)
+inserted_places : (es : List Entry) (i : ℕ) (e : Entry) → map place_of (map (λ x. x.1) (insert es i e)) ≡ insert (map place_of (map (λ x. x.1) es)) i (e.1 % 65536)
 inserted_places es zero e = refl
 inserted_places [] (suc i) e = refl
-inserted_places (x ∷ es) (suc i) e = ap (λ (l : List ℕ). x.1 % 1024 ∷ l) (inserted_places es i e)
+inserted_places (x ∷ es) (suc i) e = ap (λ (l : List ℕ). x.1 % 65536 ∷ l) (inserted_places es i e)
 
 -- the index after one more request
-pub pushed : (os : List Opened) (places : List ℕ) (o : Opened) (i : ℕ) → IsIndex os places → find (has_key o.key) os ≡ None → IsGap (keys (by_key os)) o.key i → IsIndex (os ++ o ∷ []) (insert places i (o.number % 1024))
+pub pushed : (os : List Opened) (places : List ℕ) (o : Opened) (i : ℕ) → IsIndex os places → find (has_key o.key) os ≡ None → IsGap (keys (by_key os)) o.key i → IsIndex (os ++ o ∷ []) (insert places i (o.number % 65536))
 pushed os places o i is new gap =
     let none : entry_list.find key_cmp o.key (map entry_of os) ≡ None = entry_found o.key os ∙ ap (option_map (λ x. x.number)) new in
     let added : by_key (os ++ o ∷ []) ≡ finmap.insert (by_key os) o.key o.number = ap (λ (l : List Entry). from_entries l) (map-append entry_of os (o ∷ [])) ∙ from_entries_push key_total key_antisymmetric (map entry_of os) o.key o.number none in
@@ -285,7 +292,7 @@ pushed os places o i is new gap =
     let listed : entries (by_key (os ++ o ∷ [])) ≡ insert es i (o.key, o.number) = ap (λ (m : FinMap key_cmp ℕ). entries m) added ∙ (entries-insert key_total (by_key os) o.key o.number ∙ put_in_gap o.key o.number es i gap) in
     record {
       distinct = omega (arith, longer, distinct, long);
-      sorted = ap (λ (ps : List ℕ). insert ps i (o.number % 1024)) is.sorted ∙ (sym (inserted_places es i (o.key, o.number)) ∙ sym (ap places_of listed));
+      sorted = ap (λ (ps : List ℕ). insert ps i (o.number % 65536)) is.sorted ∙ (sym (inserted_places es i (o.key, o.number)) ∙ sym (ap places_of listed));
     }
 
 not_first : (k : Key) (e : Entry) (es : List Entry) → entry_list.find key_cmp k (e ∷ es) ≡ None → eq_by_cmp key_cmp k e.0 ≡ false
@@ -322,7 +329,7 @@ removed_places : (es : List Entry) (i : ℕ) → map place_of (map (λ x. x.1) (
 removed_places [] zero = refl
 removed_places [] (suc i) = refl
 removed_places (x ∷ es) zero = refl
-removed_places (x ∷ es) (suc i) = ap (λ (l : List ℕ). x.1 % 1024 ∷ l) (removed_places es i)
+removed_places (x ∷ es) (suc i) = ap (λ (l : List ℕ). x.1 % 65536 ∷ l) (removed_places es i)
 
 not_among : (b : Bool) (n m : ℕ) → n ≤ m → cond b n (n + 1) ≡ suc m → (b ≡ false) × (n ≡ m)
 not_among true n m le is = absurd (omega (arith, le, is))
@@ -368,12 +375,14 @@ are_popped ring rest index fewer i k are front at_i is removed same =
     let shorter : length rest.items ≡ length (drop 1 ring.items) = ap length items in
     let long = length-drop 1 ring.items in
     let few = are.few in
+    let most = are.capacity in
+    let capacity : rest.capacity ≡ ring.capacity = ap (λ (b : Buffer Opened). b.capacity) is in
     let room = are.room in
     record {
-      capacity = ap (λ (b : Buffer Opened). b.capacity) is ∙ are.capacity;
-      few = omega (arith, shorter, long, few);
+      capacity = omega (arith, capacity, most);
+      few = omega (arith, shorter, long, few, capacity);
       order = subst InOrder (sym items) (next_in_order ring.items are.order);
-      room = omega (arith, room, same);
+      room = omega (arith, room, same, capacity);
       is_index = subst (λ (os : List Opened). IsIndex os fewer.items) (sym items) (subst (IsIndex (drop 1 ring.items)) (sym removed) (popped_front ring.items index.items i k front are.is_index at_i));
     }
 
@@ -382,31 +391,33 @@ no_entries [] none = refl
 no_entries (e ∷ es) none = absurd (omega (arith, none))
 
 -- the ring and the index at first
-pub none_indexed : (ring : Buffer Opened) (index : Vec ℕ) → ring ≡ buffer [] 1024 → index.items ≡ [] → 1024 ≤ vec_capacity index → AreRequests ring index
-none_indexed ring index is none room =
+pub none_indexed : (n : ℕ) (ring : Buffer Opened) (index : Vec ℕ) → n ≤ 65536 → ring ≡ buffer [] n → index.items ≡ [] → n ≤ vec_capacity index → AreRequests ring index
+none_indexed n ring index most is none room =
     let items : ring.items ≡ [] = ap (λ (b : Buffer Opened). b.items) is in
     let empty : length ring.items ≡ 0 = ap length items in
+    let capacity : ring.capacity ≡ n = ap (λ (b : Buffer Opened). b.capacity) is in
     record {
-      capacity = ap (λ (b : Buffer Opened). b.capacity) is;
+      capacity = omega (arith, capacity, most);
       few = omega (arith, empty);
       order = subst InOrder (sym items) (record { first = 0; now = 0; order = tt });
-      room = room;
+      room = omega (arith, room, capacity);
       is_index = subst (λ (os : List Opened). IsIndex os index.items) (sym items) (record { distinct = len-empty key_cmp ℕ; sorted = none ∙ no_entries (entries (by_key [])) (sym (len-entries (by_key [])) ∙ len-empty key_cmp ℕ) });
     }
 
 -- the ring and the index after one more request
-pub are_pushed : (ring more : Buffer Opened) (index longer : Vec ℕ) (o : Opened) (i : ℕ) → AreRequests ring index → length ring.items < 1024 → find (has_key o.key) ring.items ≡ None → InOrder (ring.items ++ o ∷ []) → IsGap (keys (by_key ring.items)) o.key i
-    → more ≡ buffer (keep_last ring.capacity (ring.items ++ o ∷ [])) ring.capacity → longer.items ≡ insert index.items i (o.number % 1024) → vec_capacity index ≤ vec_capacity longer → AreRequests more longer
+pub are_pushed : (ring more : Buffer Opened) (index longer : Vec ℕ) (o : Opened) (i : ℕ) → AreRequests ring index → length ring.items < ring.capacity → find (has_key o.key) ring.items ≡ None → InOrder (ring.items ++ o ∷ []) → IsGap (keys (by_key ring.items)) o.key i
+    → more ≡ buffer (keep_last ring.capacity (ring.items ++ o ∷ [])) ring.capacity → longer.items ≡ insert index.items i (o.number % 65536) → vec_capacity index ≤ vec_capacity longer → AreRequests more longer
 are_pushed ring more index longer o i are few new order gap is added roomy =
     let long = length-append ring.items (o ∷ []) in
-    let capacity = are.capacity in
+    let most = are.capacity in
+    let capacity : more.capacity ≡ ring.capacity = ap (λ (b : Buffer Opened). b.capacity) is in
     let room = are.room in
-    let items : more.items ≡ ring.items ++ o ∷ [] = ap (λ (b : Buffer Opened). b.items) is ∙ keeps_all ring.capacity (ring.items ++ o ∷ []) (omega (arith, long, few, capacity)) in
+    let items : more.items ≡ ring.items ++ o ∷ [] = ap (λ (b : Buffer Opened). b.items) is ∙ keeps_all ring.capacity (ring.items ++ o ∷ []) (omega (arith, long, few)) in
     let longer_ring : length more.items ≡ length (ring.items ++ o ∷ []) = ap length items in
     record {
-      capacity = ap (λ (b : Buffer Opened). b.capacity) is ∙ capacity;
-      few = omega (arith, longer_ring, long, few);
+      capacity = omega (arith, capacity, most);
+      few = omega (arith, longer_ring, long, few, capacity);
       order = subst InOrder (sym items) order;
-      room = omega (arith, room, roomy);
+      room = omega (arith, room, roomy, capacity);
       is_index = subst (λ (os : List Opened). IsIndex os longer.items) (sym items) (subst (IsIndex (ring.items ++ o ∷ [])) (sym added) (pushed ring.items index.items o i are.is_index new gap));
     }

@@ -2,4 +2,6 @@ pub mod Arrival
 pub mod Halves
 pub mod Index
 pub mod Keys
+pub mod Padding
 pub mod Places
+pub mod Shares

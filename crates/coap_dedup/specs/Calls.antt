@@ -8,11 +8,12 @@ use Rattle.coap_dedup.specs.Exchanges.{Exchange, Table, is_live, answered_if}
 
 -- what is a window old or more is let go
 abbrev pub expired : Table → ℕ → Table
-expired t now = record { now = now; opened = t.opened; held = filter (is_live now) t.held }
+expired t now = record { limits = t.limits; now = now; opened = t.opened; held = filter (is_live now) t.held }
 
 -- it is opened last, without an answer
 abbrev pub opened : Table → ℕ → Endpoint → ℕ → Bool → Table
 opened t now to id confirmable = record {
+  limits = t.limits;
   now = now;
   opened = t.opened + 1;
   held = t.held ++ record { endpoint = to; id = id; confirmable = confirmable; number = t.opened; at = now; answer = None } ∷ [];

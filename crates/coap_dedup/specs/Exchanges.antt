@@ -1,9 +1,13 @@
 -- The exchanges that are held (after RFC 7252, 4.5; the one window for all requests is this project's own).
-use Rattle.std.specs.Prelude.{ℕ, ◌==◌, ◌&&◌, Bool, true, false, nat_lt, List, length, find, Option, Some, None, if◌then◌else◌}
+use Rattle.std.specs.Prelude.{ℕ, ◌==◌, ◌&&◌, Bool, max, min, true, false, nat_eq, nat_lt, List, filter, length, find, Option, Some, None, if◌then◌else◌}
+use Rattle.std.specs.Cmp.Lexicographic.{pointwise}
 use Rattle.arrayvec.specs.ArrayVec.{ArrayVec}
 use Rattle.coap_msg.specs.declared.types.Endpoint.{Endpoint}
 use Rattle.coap_msg.specs.Endpoints.{same_endpoint}
 use Rattle.coap_msg.specs.Windows.{within_window}
+use Rattle.coap_dedup.specs.declared.exchange.Limits.{Limits}
+use Rattle.coap_dedup.specs.declared.exchanges.Room.{Room}
+use Rattle.coap_dedup.specs.declared.exchanges.Room.TheVariants.{Free, Full, OverShare}
 
 -- a request that was opened: whose it is, its message id, whether it is confirmable, its number and moment, and its answer,
 -- where it has one
@@ -15,8 +19,13 @@ pub record Exchange : Type 0 where
   pub at : ℕ
   pub answer : Option (ArrayVec ℕ)
 
--- the moment, how many exchanges were opened, and those that are held, in order of arrival
+-- how many exchanges are held at most: the limit, or the nearest of 1 to 65,536
+abbrev pub places_of : Limits → ℕ
+places_of l = max 1 (min l.exchanges 65536)
+
+-- the limits, the moment, how many exchanges were opened, and those that are held, in order of arrival
 pub record Table : Type 0 where
+  pub limits : Limits
   pub now : ℕ
   pub opened : ℕ
   pub held : List Exchange
@@ -29,18 +38,40 @@ is_live now e = within_window now e.at
 abbrev pub is_of : Endpoint → ℕ → Exchange → Bool
 is_of to id e = same_endpoint e.endpoint to && (e.id == id)
 
--- there is room where fewer than 1,024 are held, and their count isn't at its end
-abbrev pub has_room : ℕ → ℕ → Bool
-has_room held opened = nat_lt held 1024 && nat_lt opened 18446744073709551615
+-- it is of this address
+abbrev pub is_at : List ℕ → Exchange → Bool
+is_at ip e = pointwise nat_eq e.endpoint.ip ip
+
+-- how many of these are of this address
+abbrev pub share_of : List ℕ → List Exchange → ℕ
+share_of ip held = length (filter (is_at ip) held)
+
+-- a place is free, and the count of exchanges isn't at its end
+abbrev pub has_place : Table → Bool
+has_place t = nat_lt (length t.held) (places_of t.limits) && nat_lt t.opened 18446744073709551615
+
+-- fewer are held of an address than its share
+abbrev pub has_share : Table → List ℕ → Bool
+has_share t ip = nat_lt (share_of ip t.held) t.limits.share
+
+-- the room for one more exchange of an address: its share comes before the places
+abbrev pub room_by : Bool → Bool → Room
+room_by false place = OverShare
+room_by true false = Full
+room_by true true = Free
+
+abbrev pub room_at : Table → List ℕ → Room
+room_at t ip = room_by (has_share t ip) (has_place t)
 
 -- what a request is: new; a repeat of one in progress; of a confirmable one that was answered by these bytes; of a
--- non-confirmable one that was answered; or new without room
+-- non-confirmable one that was answered; new where no place is free; or new where its address has its whole share
 pub data Look : Type 0 where
   IsNew : Look
   IsBusy : Look
   IsAgain : (bytes : List ℕ) → Look
   IsSilent : Look
   IsFull : Look
+  IsOverShare : Look
 
 -- a repeat of this exchange
 abbrev pub repeated_by : Bool → Option (ArrayVec ℕ) → Look
@@ -50,13 +81,18 @@ repeated_by confirmable (Some bytes) = if confirmable then IsAgain bytes.items e
 abbrev pub repeat_of : Exchange → Look
 repeat_of e = repeated_by e.confirmable e.answer
 
-abbrev pub look_by : Option Exchange → Bool → Look
+abbrev pub new_by : Room → Look
+new_by Free = IsNew
+new_by Full = IsFull
+new_by OverShare = IsOverShare
+
+abbrev pub look_by : Option Exchange → Room → Look
 look_by (Some e) room = repeat_of e
-look_by None room = if room then IsNew else IsFull
+look_by None room = new_by room
 
 -- what a request of this endpoint and message id is, to what is held
 abbrev pub look_at : Table → Endpoint → ℕ → Look
-look_at t to id = look_by (find (is_of to id) t.held) (has_room (length t.held) t.opened)
+look_at t to id = look_by (find (is_of to id) t.held) (room_at t to.ip)
 
 abbrev pub answered_if : Bool → ArrayVec ℕ → Exchange → Exchange
 answered_if true bytes e = record e { answer = Some bytes }

@@ -1,11 +1,12 @@
 -- What a look tells, as it is seen.
 use Rattle.coap_dedup.specs.declared.exchanges.Looked.{Looked}
 use Rattle.coap_dedup.specs.declared.exchanges.Looked.TheVariants as looks
-use Rattle.coap_dedup.specs.Exchanges.{Look, IsNew, IsBusy, IsAgain, IsSilent, IsFull}
+use Rattle.coap_dedup.specs.declared.exchanges.Room.{Room}
+use Rattle.coap_dedup.specs.Exchanges.{Look, IsBusy, IsAgain, IsSilent, new_by}
 
-abbrev pub look_of : Looked → Look
-look_of looks.New = IsNew
-look_of looks.Busy = IsBusy
-look_of (looks.Again bytes) = IsAgain bytes.items
-look_of looks.Silent = IsSilent
-look_of looks.Full = IsFull
+-- where this is the room for a new request
+abbrev pub look_of : Looked → Room → Look
+look_of looks.New room = new_by room
+look_of looks.Busy room = IsBusy
+look_of (looks.Again bytes) room = IsAgain bytes.items
+look_of looks.Silent room = IsSilent

@@ -9,7 +9,7 @@ use Rattle.circular_buffer.specs.Buffer.{Buffer}
 use Rattle.coap_dedup.specs.declared.exchange.Opened.{Opened}
 use Rattle.coap_dedup.specs.declared.key.Key.{Key}
 use Rattle.coap_dedup.specs.declared.requests.Gap.{Gap}
-use Rattle.coap_dedup.specs.Keys.{key_cmp}
+use Rattle.coap_dedup.specs.Keys.{first_key, key_cmp}
 use Rattle.coap_dedup.specs.Views.{InOrder}
 
 -- it has this key
@@ -23,20 +23,20 @@ by_key os = from_entries (map (λ o. (o.key, o.number)) os)
 -- the places of these requests in the order of their keys, of which no two are the same
 pub record IsIndex (os : List Opened) (places : List ℕ) : Type 0 where
   pub distinct : len (by_key os) ≡ length os
-  pub sorted : places ≡ map (λ n. n % 1024) (values (by_key os))
+  pub sorted : places ≡ map (λ n. n % 65536) (values (by_key os))
 
--- a ring of 1,024 at most, in order of arrival, and its index, with room for as many
+-- a ring in order of arrival, of 65,536 at most, and its index, with room for as many
 pub record AreRequests (ring : Buffer Opened) (index : Vec ℕ) : Type 0 where
-  pub capacity : ring.capacity ≡ 1024
-  pub few : length ring.items ≤ 1024
+  pub capacity : ring.capacity ≤ 65536
+  pub few : length ring.items ≤ ring.capacity
   pub order : InOrder ring.items
-  pub room : 1024 ≤ vec_capacity index
+  pub room : ring.capacity ≤ vec_capacity index
   pub is_index : IsIndex ring.items index.items
 
--- how many keys are left after so many comparisons, of 1,024
-abbrev pub left_after : ℕ → ℕ
-left_after zero = 1024
-left_after (suc n) = left_after n / 2
+-- how many keys are left after so many comparisons, of this many
+abbrev pub left_after : ℕ → ℕ → ℕ
+left_after most zero = most
+left_after most (suc n) = left_after most n / 2
 
 -- the keys before this place come before the key
 abbrev pub AreBelow : List Key → Key → ℕ → Type 0
@@ -51,6 +51,12 @@ pub record IsGap (ks : List Key) (k : Key) (i : ℕ) : Type 0 where
   pub within : i ≤ length ks
   pub below : AreBelow ks k i
   pub above : AreAbove ks k i
+
+-- the keys of an address begin at this place, or would begin: those before it are less than each of them, and those from it on aren't
+pub record IsStart (ip : List ℕ) (ks : List Key) (i : ℕ) : Type 0 where
+  pub within : i ≤ length ks
+  pub below : (j : ℕ) (x : Key) → j < i → slice_get ks j ≡ Some x → x.number < (first_key ip).number
+  pub above : (j : ℕ) (x : Key) → i ≤ j → slice_get ks j ≡ Some x → (first_key ip).number ≤ x.number
 
 -- the key that is kept with a gap would be there, where one is kept
 abbrev pub HasGap : List Opened → Option Gap → Type 0

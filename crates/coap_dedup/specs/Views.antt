@@ -1,19 +1,26 @@
--- How what is held is seen: the requests in order of arrival, and their answers, each at its number modulo 1,024.
-use Rattle.std.specs.Prelude.{◌≡◌, ℕ, ◌+◌, ◌-◌, ◌%◌, ◌<◌, ◌≤◌, ◌==◌, ◌&&◌, Bool, true, false, List, [], ◌∷◌, length, slice_get, slice_index_or, slice_set, Option, Some, None}
+-- How what is held is seen: the requests in order of arrival, and their answers, each at its number modulo the number of places.
+use Rattle.std.specs.Prelude.{◌≡◌, ℕ, ◌+◌, ◌-◌, ◌%◌, ◌<◌, ◌≤◌, ◌==◌, ◌&&◌, Bool, true, false, nat_eq, List, [], ◌∷◌, ◌++◌, length, replicate, slice_get, slice_index_or, slice_set, Option, Some, None}
+use Rattle.std.specs.Cmp.Lexicographic.{pointwise}
 use Rattle.arrayvec.specs.ArrayVec.{ArrayVec}
 use Rattle.coap_msg.specs.declared.types.Endpoint.{Endpoint}
+use Rattle.circular_buffer.specs.Buffer.{Buffer}
 use Rattle.coap_dedup.specs.declared.exchange.Kept.{Kept}
+use Rattle.coap_dedup.specs.declared.exchange.Limits.{Limits}
 use Rattle.coap_dedup.specs.declared.exchange.Opened.{Opened}
 use Rattle.coap_msg.specs.Endpoints.{same_endpoint}
 use Rattle.coap_msg.specs.Windows.{within_window}
-use Rattle.coap_dedup.specs.Exchanges.{Exchange}
-use Rattle.coap_dedup.specs.Keys.{endpoint_of}
+use Rattle.coap_dedup.specs.Exchanges.{Exchange, places_of}
+use Rattle.coap_dedup.specs.Keys.{endpoint_of, id_of}
 
 abbrev pub no_answer : Kept
 no_answer = record { answered = false; bytes = record { items = [] } }
 
+-- all places, where only these were touched
+abbrev pub padded : ℕ → List Kept → List Kept
+padded places kept = kept ++ replicate (places - length kept) no_answer
+
 abbrev pub kept_at : List Kept → ℕ → Kept
-kept_at kept number = slice_index_or kept (number % 1024) no_answer
+kept_at kept number = slice_index_or kept (number % length kept) no_answer
 
 abbrev pub answer_if : Bool → ArrayVec ℕ → Option (ArrayVec ℕ)
 answer_if false bytes = None
@@ -21,7 +28,7 @@ answer_if true bytes = Some bytes
 
 -- an exchange, by what is kept at its place
 abbrev pub with_answer : Kept → Opened → Exchange
-with_answer k o = record { endpoint = endpoint_of o.key; id = o.key.id; confirmable = o.confirmable; number = o.number; at = o.at; answer = answer_if k.answered k.bytes }
+with_answer k o = record { endpoint = endpoint_of o.key; id = id_of o.key; confirmable = o.confirmable; number = o.number; at = o.at; answer = answer_if k.answered k.bytes }
 
 abbrev pub as_exchange : List Kept → Opened → Exchange
 as_exchange kept o = with_answer (kept_at kept o.number) o
@@ -29,8 +36,12 @@ as_exchange kept o = with_answer (kept_at kept o.number) o
 abbrev pub request_is_live : ℕ → Opened → Bool
 request_is_live now o = within_window now o.at
 
+-- it is of this address
+abbrev pub is_of_address : List ℕ → Opened → Bool
+is_of_address ip o = pointwise nat_eq (endpoint_of o.key).ip ip
+
 abbrev pub is_from : Endpoint → ℕ → Opened → Bool
-is_from to id o = same_endpoint (endpoint_of o.key) to && (o.key.id == id)
+is_from to id o = same_endpoint (endpoint_of o.key) to && (id_of o.key == id)
 
 -- consecutive numbers, and moments that never fall, up to this one
 abbrev pub Arrives : ℕ → ℕ → ℕ → List Opened → Type 0
@@ -59,15 +70,16 @@ pub record IsNumbered (os : List Opened) (opened number : ℕ) (o : Opened) : Ty
 abbrev pub IsGone : List Opened → ℕ → ℕ → Type 0
 IsGone os opened number = number < opened → number + length os < opened
 
--- there are 1,024 requests at most, in order of arrival, and 1,024 places for answers
-pub record AreExchanges (now opened : ℕ) (os : List Opened) (kept : List Kept) : Type 0 where
-  pub few : length os ≤ 1024
-  pub places : length kept ≡ 1024
-  pub arrived : IsArrived now opened os
+-- there are no more requests than the limit, in order of arrival, and a place for the answer of each
+pub record AreExchanges (limits : Limits) (now opened : ℕ) (ring : Buffer Opened) (kept : List Kept) : Type 0 where
+  pub capacity : ring.capacity ≡ places_of limits
+  pub few : length ring.items ≤ places_of limits
+  pub places : length kept ≡ places_of limits
+  pub arrived : IsArrived now opened ring.items
 
 -- the places, one of them without its answer, or with this one
 abbrev pub forgotten : List Kept → ℕ → List Kept
-forgotten kept number = slice_set kept (number % 1024) (record { answered = false; bytes = (kept_at kept number).bytes })
+forgotten kept number = slice_set kept (number % length kept) (record { answered = false; bytes = (kept_at kept number).bytes })
 
 abbrev pub answered_at : List Kept → ℕ → ArrayVec ℕ → List Kept
-answered_at kept number bytes = slice_set kept (number % 1024) (record { answered = true; bytes = bytes })
+answered_at kept number bytes = slice_set kept (number % length kept) (record { answered = true; bytes = bytes })

@@ -1,13 +1,40 @@
 //! One exchange.
-ghost use Rattle.std.specs.Prelude.{◌≡◌, ◌%◌, ◌<◌, length};
+ghost use Rattle.std.specs.Prelude.{◌≡◌, ◌%◌, ◌<◌, ◌≤◌};
 ghost use Rattle.coap_msg.specs.Windows.{within_window};
-ghost use Rattle.coap_dedup.specs.Views.{answered_at, forgotten, kept_at};
+ghost use Rattle.coap_dedup.specs.Exchanges.{places_of};
 
 use crate::key::Key;
 use coap_msg::{Datagram, WINDOW};
 
-/// How many exchanges are held at once.
+/// The default number of exchanges that are held at once.
 pub const EXCHANGES: usize = 1024;
+
+/// The most exchanges that can be held at once, since an index of them has numbers of 16 bits.
+pub const MOST_EXCHANGES: usize = 65_536;
+
+/// The most exchanges that are held at once, and the most of one IP address.
+#[derive(Clone, Copy, Debug, PartialEq, Eq)]
+pub struct Limits {
+    pub exchanges: usize,
+    pub share: usize,
+}
+
+impl Limits {
+    /// Returns how many exchanges are held at most: `exchanges`, or the nearest of 1 to 65,536.
+    pub fn places(&self) -> usize
+        ensures places { result ≡ places_of self.now }
+        ensures some { 1 ≤ result }
+        ensures most { result ≤ 65536 }
+    {
+        self.exchanges.min(MOST_EXCHANGES).max(1)
+    }
+}
+
+/// 1,024 exchanges, which may all be of one address.
+pub const DEFAULT_LIMITS: Limits = Limits {
+    exchanges: EXCHANGES,
+    share: MOST_EXCHANGES,
+};
 
 /// A request that was opened: its key, whether it is confirmable, its number and moment.
 #[derive(Clone, Copy)]
@@ -32,43 +59,17 @@ pub(crate) fn is_live(now: u64, opened: &Opened) -> bool
     now < opened.at || now - opened.at < WINDOW
 }
 
-// The place of the exchange of this number: no two that are held at once have the same.
-pub(crate) fn place(number: u64) -> u16
-    ensures place { result ≡ number % 1024 }
-    ensures below { result < 1024 }
+// The place of the exchange of this number, of `places`: no two that are held at once have the same.
+pub(crate) fn place(number: u64, places: usize) -> usize
+    requires { 0 < places }
+    ensures place { result ≡ number % places }
+    ensures below { result < places }
 {
-    (number % EXCHANGES as u64) as u16
-}
-
-// What is kept at the place of this number.
-pub(crate) fn answer_of(answers: &Vec<Kept>, number: u64) -> &Kept
-    requires { length answers.now.items ≡ 1024 }
-    ensures { result.now ≡ kept_at answers.now.items number }
-{
-    &answers[usize::from(place(number))]
-}
-
-// Makes the place of this number free of an answer.
-pub(crate) fn forget(answers: &mut Vec<Kept>, number: u64)
-    requires { length answers.old.items ≡ 1024 }
-    ensures { answers.new.items ≡ forgotten answers.old.items number }
-{
-    let kept = &mut answers[usize::from(place(number))];
-    kept.answered = false;
-}
-
-// Writes an answer to the place of this number.
-pub(crate) fn keep(answers: &mut Vec<Kept>, number: u64, bytes: &Datagram)
-    requires { length answers.old.items ≡ 1024 }
-    ensures { answers.new.items ≡ answered_at answers.old.items number bytes.now }
-{
-    let kept = &mut answers[usize::from(place(number))];
-    kept.answered = true;
-    write_over(&mut kept.bytes, bytes);
+    (number % places as u64) as usize
 }
 
 // Writes a datagram over another.
-fn write_over(written: &mut Datagram, bytes: &Datagram)
+pub(crate) fn write_over(written: &mut Datagram, bytes: &Datagram)
     ensures { written.new ≡ bytes.now }
 {
     written.clear();

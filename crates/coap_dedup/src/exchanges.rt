@@ -1,12 +1,13 @@
 //! The exchanges that are held.
-ghost use Rattle.std.specs.Prelude.{◌≡◌, ◌+◌, ◌<◌, ◌≤◌, [], length, map, IfOk, MatchOption, if◌then◌else◌};
+ghost use Rattle.std.specs.Prelude.{◌≡◌, ◌+◌, ◌<◌, ◌≤◌, [], length, map, option_map, IfOk, MatchOption};
 ghost use Rattle.std.specs.List.{list_any};
-ghost use Rattle.coap_dedup.specs.Exchanges.{look_at, has_room, repeated_by, IsNew, IsFull};
+ghost use Rattle.coap_dedup.specs.Exchanges.{look_at, places_of, has_place, has_share, repeated_by, room_at, IsNew};
 ghost use Rattle.coap_dedup.specs.Calls.{is_open, answered, expired, closing, opened};
 ghost use Rattle.coap_dedup.specs.Looks.{look_of};
-ghost use Rattle.coap_dedup.specs.Views.{IsGone, IsNumbered, answer_if};
+ghost use Rattle.coap_dedup.specs.Views.{IsGone, IsNumbered};
 
-use crate::exchange::{EXCHANGES, Kept, Opened, answer_of, copy, forget, is_live, keep};
+use crate::answers::Answers;
+use crate::exchange::{Limits, Opened, copy, is_live};
 use crate::key::{Key, Probes};
 use crate::requests::Requests;
 use coap_msg::{Datagram, Endpoint};
@@ -16,7 +17,7 @@ use std::marker::Model;
 /// What a request is to the exchanges that are held.
 #[derive(Drop)]
 pub enum Looked {
-    /// It is new, and there is room for it.
+    /// It is new. [`Exchanges::room`] returns whether there is room for it.
     New,
     /// It repeats one in progress.
     Busy,
@@ -24,8 +25,17 @@ pub enum Looked {
     Again(Datagram),
     /// It repeats a non-confirmable one that was answered.
     Silent,
-    /// It is new, and there is no room for it.
+}
+
+/// The room for a new request of an IP address.
+#[derive(Clone, Copy)]
+pub enum Room {
+    /// There is room for it.
+    Free,
+    /// As many exchanges are held as the limit, or 2^64 - 1 were ever opened.
     Full,
+    /// As many exchanges of the address are held as its share.
+    OverShare,
 }
 
 /// What becomes of an answer.
@@ -38,50 +48,50 @@ pub enum Closed {
 }
 
 /// The exchanges that are less than a window old, in order of arrival. Moments are in milliseconds.
-///
-/// The requests' answers lie apart, each at its exchange's number modulo 1,024, and are never moved.
 #[derive(Drop)]
 pub struct Exchanges {
+    limits: Limits,
     now: u64,
     opened: u64,
     requests: Requests,
-    answers: Vec<Kept>,
+    answers: Answers,
     probes: Probes,
 }
 
 impl Model for Exchanges {
     ghost use Rattle.std.specs.Prelude.{◌≤◌, map};
-    ghost use Rattle.coap_dedup.specs.Exchanges.{Table};
+    ghost use Rattle.coap_dedup.specs.Exchanges.{Table, places_of};
     ghost use Rattle.coap_dedup.specs.Views.{AreExchanges, as_exchange};
 
     ghost Value = { Table };
 
-    ghost view = { λ x. record { now = x.now; opened = x.opened; held = map (as_exchange x.answers.items) x.requests } };
+    ghost view = { λ x. record { limits = x.limits; now = x.now; opened = x.opened; held = map (as_exchange x.answers) x.requests.items } };
 
-    ghost invariant = { λ x. AreExchanges x.now x.opened x.requests x.answers.items × (x.probes ≤ 11) };
+    ghost invariant = { λ x. AreExchanges x.limits x.now x.opened x.requests x.answers × (x.probes ≤ 17) × (places_of x.limits ≤ 1024 → x.probes ≤ 11) };
 }
 
 impl Exchanges {
-    /// Makes a table of no exchange, with room for 1,024 (RFC 7252, 4.5).
+    /// Makes an empty table with as many places as `limits` says (RFC 7252, 4.5).
     ///
     /// # Errors
     /// There was no memory for them.
-    pub fn new(alloc: Global) -> Result<Exchanges, AllocError>
-        ensures { IfOk result (λ x. x ≡ record { now = 0; opened = 0; held = [] }) }
+    pub fn new(alloc: Global, limits: Limits) -> Result<Exchanges, AllocError>
+        ensures { IfOk result (λ x. x ≡ record { limits = limits; now = 0; opened = 0; held = [] }) }
     {
         Ok(Exchanges {
+            limits,
             now: 0,
             opened: 0,
-            requests: Requests::new(alloc)?,
-            answers: no_answers(alloc)?,
+            requests: Requests::new(alloc, limits.places())?,
+            answers: Answers::new(alloc, limits.places())?,
             probes: Probes::none(),
         })
     }
 
-    /// Lets go of what is a window old or more, and tells what a request of this endpoint and message id is.
+    /// Expires what is a window old or more, and returns what a request of this endpoint and message id is.
     pub fn look(&mut self, now: u64, endpoint: Endpoint, id: u16) -> Looked
         requires { self.old.now ≤ now }
-        ensures looked { look_of result ≡ look_at (expired self.old now) endpoint id }
+        ensures looked { look_of result (room_at (expired self.old now) endpoint.ip) ≡ look_at (expired self.old now) endpoint id }
         ensures after { self.new ≡ expired self.old now }
     {
         self.expire(now);
@@ -90,9 +100,38 @@ impl Exchanges {
             .requests
             .find(&Key::new(endpoint, id), &mut self.probes)
         {
-            Some(opened) => repeat(opened.confirmable, answer_of(&self.answers, opened.number)),
-            None => new_in(self.requests.len(), self.opened),
+            Some(opened) => repeat(opened.confirmable, self.answers.get(opened.number)),
+            None => Looked::New,
         }
+    }
+
+    /// Returns the room for a new request of an address. An address above its share has none, whatever else is held.
+    pub fn room(&self, ip: [u8; 4]) -> Room
+        ensures { result ≡ room_at self.entry.now ip }
+    {
+        match (self.has_share(ip), self.has_place()) {
+            (false, _) => Room::OverShare,
+            (true, false) => Room::Full,
+            (true, true) => Room::Free,
+        }
+    }
+
+    // Whether there is a place for one more exchange.
+    fn has_place(&self) -> bool
+        ensures { result ≡ has_place self.entry.now }
+    {
+        self.requests.len() < self.limits.places() && self.opened < u64::MAX
+    }
+
+    // Whether fewer are held of this address than its share. They are counted only where as many are held at all.
+    fn has_share(&self, ip: [u8; 4]) -> bool
+        ensures { result ≡ has_share self.entry.now ip }
+    {
+        let share = self.limits.share;
+        if self.requests.len() < share {
+            return true;
+        }
+        self.requests.are_fewer(ip, share)
     }
 
     /// Opens an exchange for a request that is new, and gives its number.
@@ -103,7 +142,7 @@ impl Exchanges {
         ensures after { self.new ≡ opened self.old now endpoint id confirmable }
     {
         let number = self.opened;
-        forget(&mut self.answers, number);
+        self.answers.forget(number);
         self.requests.push(Opened {
             key: Key::new(endpoint, id),
             confirmable,
@@ -122,7 +161,7 @@ impl Exchanges {
     {
         match numbered(&self.requests, self.opened, opening) {
             Some(opened) if is_live(now, &opened) => {
-                keep(&mut self.answers, opening, bytes);
+                self.answers.keep(opening, bytes);
                 Closed::Closed
             }
             _ => Closed::Late,
@@ -138,55 +177,30 @@ impl Exchanges {
         self.requests.expire(now);
     }
 
-    /// Counts the keys that the last [`Exchanges::look`] compared: 11 at most, and 0 before the first.
+    /// Counts the keys that the last [`Exchanges::look`] compared to find its request: 17 at most, 11 if there are at most 1,024 places, and 0 before the
+    /// first.
     pub fn probes(&self) -> u32
-        ensures { result ≤ 11 }
+        ensures most { result ≤ 17 }
+        ensures few { places_of self.entry.now.limits ≤ 1024 → result ≤ 11 }
     {
         self.probes.count()
     }
 }
 
-// 1,024 places without an answer.
-fn no_answers(alloc: Global) -> Result<Vec<Kept>, AllocError>
-    ensures { IfOk result (λ v. length v.items ≡ 1024) }
-{
-    let mut answers = Vec::with_capacity(alloc, EXCHANGES)?;
-    for _place in 0..EXCHANGES {
-        answers.push(Kept {
-            answered: false,
-            bytes: Datagram::new(),
-        })?;
-    }
-    Ok(answers)
-}
-
-// What a new request is, where so many are held, and so many were opened.
-fn new_in(held: usize, opened: u64) -> Looked
-    ensures { look_of result ≡ (if has_room held opened then IsNew else IsFull) }
-{
-    if held < EXCHANGES && opened < u64::MAX {
-        Looked::New
-    } else {
-        Looked::Full
-    }
-}
-
 // What a repeat of an exchange is, by its request and its answer.
-fn repeat(confirmable: bool, kept: &Kept) -> Looked
-    ensures { look_of result ≡ repeated_by confirmable (answer_if kept.now.answered kept.now.bytes) }
+fn repeat(confirmable: bool, answer: Option<&Datagram>) -> Looked
+    ensures { (room : Room) → look_of result room ≡ repeated_by confirmable (option_map (λ bytes. bytes.now) answer.entry) }
 {
-    if !kept.answered {
-        Looked::Busy
-    } else if confirmable {
-        Looked::Again(copy(&kept.bytes))
-    } else {
-        Looked::Silent
+    match answer {
+        None => Looked::Busy,
+        Some(bytes) if confirmable => Looked::Again(copy(bytes)),
+        Some(_) => Looked::Silent,
     }
 }
 
 // The request of this number, of those that are held, where so many were opened.
 fn numbered(requests: &Requests, opened: u64, number: u64) -> Option<Opened>
-    ensures { MatchOption result (IsGone requests.now opened number) (IsNumbered requests.now opened number) }
+    ensures { MatchOption result (IsGone requests.now.items opened number) (IsNumbered requests.now.items opened number) }
 {
     let held = requests.len() as u64;
     if opened <= number || held < opened - number {

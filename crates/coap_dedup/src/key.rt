@@ -1,6 +1,6 @@
 //! The key by which an exchange is found.
 ghost use Rattle.std.specs.Prelude.{◌≡◌, ◌+◌, ◌<◌};
-ghost use Rattle.coap_dedup.specs.Keys.{endpoint_cmp, key_cmp, key_of};
+ghost use Rattle.coap_dedup.specs.Keys.{AreBytes, IsPeer, first_key, is_key_at, key_cmp, key_of};
 
 use coap_msg::Endpoint;
 use std::cmp::Ordering;
@@ -35,43 +35,50 @@ impl Probes {
     }
 }
 
-/// Whose request it is, and its message id. Keys are in order of message id, then of port, then of address: most differ in
-/// the first.
+/// A request's address, port and message id, from the highest bits of a number to the lowest. So in the order of keys those of an address are next to each other,
+/// and one comparison of numbers compares all three.
 #[derive(Clone, Copy)]
 pub(crate) struct Key {
-    id: u16,
-    port: u16,
-    ip: [u8; 4],
+    number: u64,
 }
 
 impl Key {
     pub(crate) fn new(endpoint: Endpoint, id: u16) -> Key
-        ensures { result ≡ key_of endpoint id }
+        ensures key { result ≡ key_of endpoint id }
+        ensures peer { IsPeer endpoint id }
     {
         let Endpoint { ip, port } = endpoint;
-        Key { id, port, ip }
+        let Key { number: first } = Key::first_of(ip);
+        Key {
+            number: first + u64::from(port) * 65_536 + u64::from(id),
+        }
     }
 
-    // How it compares to another. No other call reads a key, and this one is counted.
+    // The first key that a request of this address can have.
+    pub(crate) fn first_of(ip: [u8; 4]) -> Key
+        ensures key { result ≡ first_key ip }
+        ensures bytes { AreBytes ip }
+    {
+        let [a, b, c, d] = ip;
+        Key {
+            number: u64::from(u32::from_be_bytes([a, b, c, d])) * 4_294_967_296,
+        }
+    }
+
+    // How it compares to another. No other call but `is_of` reads a key, and this one is counted.
     pub(crate) fn order(&self, other: &Key, probes: &mut Probes) -> Ordering
         requires { probes.old < 4294967295 }
         ensures order { result ≡ key_cmp self.now other.now }
         ensures counted { probes.new ≡ probes.old + 1 }
     {
         probes.count += 1;
-        match self.id.cmp(&other.id) {
-            Ordering::Equal => self.endpoint_order(other),
-            unequal => unequal,
-        }
+        self.number.cmp(&other.number)
     }
 
-    // How its endpoint compares to another's.
-    fn endpoint_order(&self, other: &Key) -> Ordering
-        ensures { result ≡ endpoint_cmp self.now other.now }
+    // Whether it is of this address.
+    pub(crate) fn is_of(&self, ip: [u8; 4]) -> bool
+        ensures { result ≡ is_key_at ip self.now }
     {
-        match self.port.cmp(&other.port) {
-            Ordering::Equal => self.ip.cmp(&other.ip),
-            unequal => unequal,
-        }
+        self.number / 4_294_967_296 == u64::from(u32::from_be_bytes(ip))
     }
 }

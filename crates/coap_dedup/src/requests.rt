@@ -1,10 +1,12 @@
 //! The requests of the exchanges that are held.
-ghost use Rattle.std.specs.Prelude.{◌≡◌, ◌+◌, ◌%◌, ◌<◌, ◌≤◌, [], ◌∷◌, ◌++◌, ℕ, None, Some, drop, filter, find, length, option_map, slice_get, IfOk, IfErr, IfSome};
+ghost use Rattle.std.specs.Prelude.{◌≡◌, ◌+◌, ◌%◌, ◌<◌, ◌≤◌, [], ◌∷◌, ◌++◌, ℕ, None, Some, drop, filter, find, length, nat_lt, option_map, slice_get, IfOk, IfErr, IfSome};
+ghost use Rattle.circular_buffer.specs.Buffer.{buffer};
 ghost use Rattle.std.specs.FinMap.{entries, keys};
-ghost use Rattle.coap_dedup.specs.Requests.{IsOldest, IsGap, by_key, has_key};
-ghost use Rattle.coap_dedup.specs.Views.{InOrder, request_is_live};
+ghost use Rattle.coap_dedup.specs.Keys.{AreBytes};
+ghost use Rattle.coap_dedup.specs.Requests.{IsOldest, IsGap, IsStart, by_key, has_key};
+ghost use Rattle.coap_dedup.specs.Views.{InOrder, is_of_address, request_is_live};
 
-use crate::exchange::{EXCHANGES, Opened, is_live, place};
+use crate::exchange::{Opened, is_live};
 use crate::key::{Key, Probes};
 use circular_buffer::HeapCircularBuffer;
 use std::alloc::{AllocError, Global};
@@ -30,49 +32,50 @@ pub(crate) struct Requests {
 }
 
 impl Model for Requests {
-    ghost use Rattle.std.specs.Prelude.{List};
+    ghost use Rattle.circular_buffer.specs.Buffer.{Buffer};
     ghost use Rattle.coap_dedup.specs.declared.exchange.Opened.{Opened};
     ghost use Rattle.coap_dedup.specs.Requests.{AreRequests, HasGap};
 
-    ghost Value = { List Opened };
+    ghost Value = { Buffer Opened };
 
-    ghost view = { λ x. x.ring.items };
+    ghost view = { λ x. x.ring };
 
     ghost invariant = { λ x. AreRequests x.ring x.index × HasGap x.ring.items x.gap };
 }
 
 impl Requests {
-    // None, and room for 1,024.
-    pub(crate) fn new(alloc: Global) -> Result<Requests, AllocError>
-        ensures { IfOk result (λ x. x ≡ []) }
+    // None, and room for `capacity`.
+    pub(crate) fn new(alloc: Global, capacity: usize) -> Result<Requests, AllocError>
+        requires { capacity ≤ 65536 }
+        ensures { IfOk result (λ x. x ≡ buffer [] capacity) }
     {
         Ok(Requests {
-            ring: HeapCircularBuffer::with_capacity(alloc, EXCHANGES)?,
-            index: Vec::with_capacity(alloc, EXCHANGES)?,
+            ring: HeapCircularBuffer::with_capacity(alloc, capacity)?,
+            index: Vec::with_capacity(alloc, capacity)?,
             gap: None,
         })
     }
 
     pub(crate) fn len(&self) -> usize
-        ensures len { result ≡ length self.now }
-        ensures few { result ≤ 1024 }
+        ensures { result ≡ length self.now.items }
     {
         self.ring.len()
     }
 
     // The request that arrived after so many of those that are held.
     pub(crate) fn get(&self, after: usize) -> Option<Opened>
-        ensures { result ≡ slice_get self.now after }
+        ensures { result ≡ slice_get self.now.items after }
     {
         self.ring.get(after).copied()
     }
 
-    // The request of this key, by at most eleven comparisons.
+    // The request of this key, by at most 17 comparisons, 11 of at most 1,024.
     pub(crate) fn find(&mut self, key: &Key, probes: &mut Probes) -> Option<Opened>
         requires { probes.old ≡ 0 }
-        ensures found { result ≡ find (has_key key.now) self.old }
+        ensures found { result ≡ find (has_key key.now) self.old.items }
         ensures same { self.new ≡ self.old }
-        ensures few { probes.new ≤ 11 }
+        ensures most { probes.new ≤ 17 }
+        ensures few { length self.old.items ≤ 1024 → probes.new ≤ 11 }
     {
         match self.search(key, probes) {
             Ok(index) => Some(*self.at(self.first(), index)),
@@ -85,21 +88,21 @@ impl Requests {
 
     // Takes one more in, which arrived last.
     pub(crate) fn push(&mut self, request: Opened)
-        requires room { length self.old < 1024 }
-        requires new { find (has_key request.key) self.old ≡ None }
-        requires order { InOrder (self.old ++ request ∷ []) }
-        ensures { self.new ≡ self.old ++ request ∷ [] }
+        requires room { length self.old.items < self.old.capacity }
+        requires new { find (has_key request.key) self.old.items ≡ None }
+        requires order { InOrder (self.old.items ++ request ∷ []) }
+        ensures { self.new ≡ buffer (self.old.items ++ request ∷ []) self.old.capacity }
     {
         let index = self.gap_for(&request.key);
         self.gap = None;
-        let _has_room = self.index.insert(index, place(request.number));
+        let _has_room = self.index.insert(index, low_bits(request.number));
         self.ring.push_back(request);
     }
 
     // Where a key that no request has would be in the order of keys: it was looked for last, mostly.
     fn gap_for(&self, key: &Key) -> usize
-        requires { find (has_key key.now) self.now ≡ None }
-        ensures { IsGap (keys (by_key self.now)) key.now result }
+        requires { find (has_key key.now) self.now.items ≡ None }
+        ensures { IsGap (keys (by_key self.now.items)) key.now result }
     {
         if let Some(index) = self.known_gap(key) {
             return index;
@@ -111,7 +114,7 @@ impl Requests {
 
     // The gap of the key that was last looked for in vain, where it is this one.
     fn known_gap(&self, key: &Key) -> Option<usize>
-        ensures { IfSome result (IsGap (keys (by_key self.now)) key.now) }
+        ensures { IfSome result (IsGap (keys (by_key self.now.items)) key.now) }
     {
         let gap = self.gap?;
         match gap.key.order(key, &mut Probes::none()) {
@@ -122,7 +125,7 @@ impl Requests {
 
     // Lets go of what is too old: the oldest, while they are.
     pub(crate) fn expire(&mut self, now: u64)
-        ensures { self.new ≡ filter (request_is_live now) self.old }
+        ensures { self.new ≡ buffer (filter (request_is_live now) self.old.items) self.old.capacity }
     {
         'oldest: while let Some(oldest) = self.ring.front() {
             if is_live(now, oldest) {
@@ -136,8 +139,8 @@ impl Requests {
     // Lets go of the oldest, which has this key. It isn't made a part of its caller, which mostly finds that none is too old.
     #[inline(never)]
     fn pop(&mut self, key: Key)
-        requires { option_map (λ o. o.key) (slice_get self.old 0) ≡ Some key }
-        ensures { self.new ≡ drop 1 self.old }
+        requires { option_map (λ o. o.key) (slice_get self.old.items 0) ≡ Some key }
+        ensures { self.new ≡ buffer (drop 1 self.old.items) self.old.capacity }
     {
         if let Ok(index) = self.search(&key, &mut Probes::none()) {
             self.index.remove(index);
@@ -149,9 +152,10 @@ impl Requests {
     // Where the request of this key is in the order of keys, or where it would be.
     fn search(&self, key: &Key, probes: &mut Probes) -> Result<usize, usize>
         requires { probes.old ≡ 0 }
-        ensures found { IfOk result (λ i. slice_get (keys (by_key self.now)) i ≡ Some key.now) }
-        ensures absent { IfErr result (IsGap (keys (by_key self.now)) key.now) }
-        ensures few { probes.new ≤ 11 }
+        ensures found { IfOk result (λ i. slice_get (keys (by_key self.now.items)) i ≡ Some key.now) }
+        ensures absent { IfErr result (IsGap (keys (by_key self.now.items)) key.now) }
+        ensures most { probes.new ≤ 17 }
+        ensures few { length self.now.items ≤ 1024 → probes.new ≤ 11 }
     {
         let first = self.first();
         let mut low = 0;
@@ -167,9 +171,35 @@ impl Requests {
         Err(low)
     }
 
+    // Whether fewer than `share` requests are of an address. In the order of keys they are next to each other, so the last one of a share tells. It isn't
+    // inlined: mostly its caller finds fewer held than a share, and doesn't ask.
+    #[inline(never)]
+    pub(crate) fn are_fewer(&self, ip: [u8; 4], share: usize) -> bool
+        ensures { result ≡ nat_lt (length (filter (is_of_address ip) self.now.items)) share }
+    {
+        if share == 0 {
+            return false;
+        }
+        let start = self.start_of(ip);
+        if self.index.len() - start < share {
+            return true;
+        }
+        !self.at(self.first(), start + (share - 1)).key.is_of(ip)
+    }
+
+    // Where the requests of an address begin in the order of keys, or would begin.
+    fn start_of(&self, ip: [u8; 4]) -> usize
+        ensures start { IsStart ip (keys (by_key self.now.items)) result }
+        ensures bytes { AreBytes ip }
+    {
+        match self.search(&Key::first_of(ip), &mut Probes::none()) {
+            Ok(index) | Err(index) => index,
+        }
+    }
+
     // The number of the oldest; 0 where none is held.
     fn first(&self) -> u64
-        ensures { IsOldest self.now result }
+        ensures { IsOldest self.now.items result }
     {
         match self.ring.front() {
             Some(oldest) => oldest.number,
@@ -179,10 +209,10 @@ impl Requests {
 
     // The request at this index, in the order of keys, where the oldest has this number.
     fn at(&self, first: u64, index: usize) -> &Opened
-        requires first { IsOldest self.now first }
-        requires index { index < length self.now }
-        ensures entry { slice_get (entries (by_key self.now)) index ≡ Some (result.now.key, result.now.number) }
-        ensures found { find (has_key result.now.key) self.now ≡ Some result.now }
+        requires first { IsOldest self.now.items first }
+        requires index { index < length self.now.items }
+        ensures entry { slice_get (entries (by_key self.now.items)) index ≡ Some (result.now.key, result.now.number) }
+        ensures found { find (has_key result.now.key) self.now.items ≡ Some result.now }
     {
         let Some(request) = self.ring.get(after(first, self.index[index])) else {
             unreachable!();
@@ -191,10 +221,16 @@ impl Requests {
     }
 }
 
-// After how many of those from this number on the one at this place arrived.
-fn after(first: u64, place: u16) -> usize
-    ensures { (number : ℕ) → first ≤ number → number < first + 1024 → number % 1024 ≡ place → first + result ≡ number }
+// The low 16 bits of a number: no two that are held at once have the same.
+fn low_bits(number: u64) -> u16
+    ensures { result ≡ number % 65536 }
 {
-    let held = EXCHANGES as u64;
-    ((u64::from(place) + held - first % held) % held) as usize
+    (number % 65_536) as u16
+}
+
+// After how many of those from this number on the one with these low bits arrived.
+fn after(first: u64, low: u16) -> usize
+    ensures { (number : ℕ) → first ≤ number → number < first + 65536 → number % 65536 ≡ low → first + result ≡ number }
+{
+    usize::from(low.wrapping_sub(low_bits(first)))
 }

@@ -98,7 +98,7 @@ notified_within now id serial random bytes o true w = w
 notified_within now id serial random bytes o false w = w
 
 changed_within : (c : ObserverCall) (t : ObserverList) (o : Entry) → EntryWithin o → EntryWithin (changed_by c t o)
-changed_within (Notify now turn id serial random bytes) t o w = notified_within (max t.moment now) id serial random bytes o (must_confirm (max t.moment now) o) w
+changed_within (Notify now turn id serial random bytes) t o w = notified_within (max t.moment now) id serial random bytes o (must_confirm t.confirm_after (max t.moment now) o) w
 changed_within other t o w = w
 
 new_within : (c : ObserverCall) (t : ObserverList) → CallWithin c → IfRegisters EntryWithin c t
@@ -174,11 +174,11 @@ module _ (s : Seen) (a : IsSoundlySeen s) where
       one_within (is_place_of (late_in s shard at) shard n) (TickObservers at) tt
   shard_within Calm n = tt
 
-  pub watched_after : (e : Event) (n : ℕ) → All EntryWithin (observers n (calls_named (names e) e s n ++ (calls_by (at_shard e) s n ++ s.calls n))).held
+  pub watched_after : (e : Event) (n : ℕ) → All EntryWithin (observers n s.policy.confirm_after (calls_named (names e) e s n ++ (calls_by (at_shard e) s n ++ s.calls n))).held
   watched_after e n =
       let named = calls_named (names e) e s n in
       let of_shard = calls_by (at_shard e) s n in
-      let is = after_append n named (of_shard ++ s.calls n) ∙ ap (after_calls named) (after_append n of_shard (s.calls n)) in
+      let is = after_append n s.policy.confirm_after named (of_shard ++ s.calls n) ∙ ap (after_calls named) (after_append n s.policy.confirm_after of_shard (s.calls n)) in
       subst (λ (t : ObserverList). All EntryWithin t.held) (sym is) (calls_within named (after_calls of_shard (watch s n)) (named_within e (names e) n) (calls_within of_shard (watch s n) (shard_within (at_shard e) n) (a.watched n)))
 
 -- ---- the job of a turn

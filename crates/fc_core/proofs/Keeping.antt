@@ -16,7 +16,7 @@ use Rattle.coap_opts.specs.declared.request.Resource.{Resource}
 use Rattle.coap_opts.specs.declared.request.Resource.TheVariants as resources
 use Rattle.coap_opts.specs.Verdict.{Asked, Verdict, IsAsked, IsRefused, IsSilent, IsReset, IsSignal, IsIgnored, verdict}
 use Rattle.coap_opts.proofs.Within.{asked_within}
-use Rattle.coap_dedup.specs.Exchanges.{Look, IsNew, IsBusy, IsAgain, IsSilent as IsAnsweredNon, IsFull}
+use Rattle.coap_dedup.specs.Exchanges.{Look, IsNew, IsBusy, IsAgain, IsSilent as IsAnsweredNon, IsFull, IsOverShare}
 use Rattle.fc_registry.specs.declared.job.Job.{Job}
 use Rattle.fc_registry.specs.declared.job.Opening.{Opening}
 use Rattle.fc_registry.specs.Slots.{Slot, new_slot}
@@ -29,8 +29,9 @@ use Rattle.fc_core.specs.declared.stage.Task.{Task}
 use Rattle.fc_core.specs.Exchanges.{FrontState}
 use Rattle.fc_core.specs.Fits.{FitsSlot, FitsStage}
 use Rattle.fc_core.specs.History.{AsksTurn, around, Entry, Seen, and_then, changes_after, front_at, job, no_task, scene, slot_at, stage, task_at, tasks_brought, tasks_moved, turns_by}
-use Rattle.fc_core.specs.Receiving.{AskWithin, JobWithin, Received, add_in, received_added, request_received, ask_by, brought, job_of, look_in, looked, next_opening, received, received_as, received_read, slot_of_resource}
+use Rattle.fc_core.specs.Receiving.{AskWithin, JobWithin, Received, add_in, received_added, received_if, request_received, ask_by, brought, is_confirmable, over_share, job_of, look_in, looked, next_opening, received, received_as, received_read, slot_of_resource}
 use Rattle.coap_block.specs.Uploads.{Add, Continues, IsWhole, IsIncomplete, IsBadLength, IsTooLarge, IsFull}
+use Rattle.fc_core.specs.Policies.{is_allowed}
 use Rattle.fc_core.specs.Receiving as x
 use Rattle.fc_core.specs.Sound.{AllSafe, IsSafelySeen, IsSoundlySeen}
 use Rattle.fc_core.specs.Stages.{new_task}
@@ -59,12 +60,17 @@ asked_job o to m r body w =
 abbrev AreWithin : Received → Opening → Endpoint → Type 0
 AreWithin x o to = Each JobWithin (brought x o to)
 
+over_within : (c : Bool) (m : Message) (o : Opening) (to : Endpoint) → AreWithin (over_share c m) o to
+over_within true m o to = tt
+over_within false m o to = tt
+
 looked_within : (l : Look) (m : Message) (new : Received) (o : Opening) (to : Endpoint) → AreWithin new o to → AreWithin (looked l m new) o to
 looked_within IsNew m new o to w = w
 looked_within IsBusy m new o to w = tt
 looked_within IsAnsweredNon m new o to w = tt
 looked_within (IsAgain bytes) m new o to w = tt
 looked_within IsFull m new o to w = tt
+looked_within IsOverShare m new o to w = over_within (is_confirmable m.kind) m o to
 
 added_within : (a : Add) (m : Message) (r : Asked) (o : Opening) (to : Endpoint) → IsAskedWithin m r → AreWithin (received_added a m r) o to
 added_within (IsWhole body) m r o to w = (asked_job o to m r body w, tt)
@@ -74,8 +80,12 @@ added_within IsBadLength m r o to w = tt
 added_within IsTooLarge m r o to w = tt
 added_within IsFull m r o to w = tt
 
+asked_if : (b : Bool) (f : FrontState) (m : Message) (r : Asked) (o : Opening) (to : Endpoint) → IsAskedWithin m r → AreWithin (received_if b f to m r) o to
+asked_if true f m r o to w = added_within (add_in f to r) m r o to w
+asked_if false f m r o to w = tt
+
 verdict_within : (f : FrontState) (m : Message) (v : Verdict) (o : Opening) (to : Endpoint) → verdict m ≡ v → AreWithin (received_as f to m v) o to
-verdict_within f m (IsAsked r) o to e = looked_within (look_in f to m) m (request_received f to m r) o to (added_within (add_in f to r) m r o to (asked_within m r e))
+verdict_within f m (IsAsked r) o to e = looked_within (look_in f to m) m (request_received f to m r) o to (asked_if (is_allowed f.managers to r.action) f m r o to (asked_within m r e))
 verdict_within f m (IsRefused answer) o to e = looked_within (look_in f to m) m (x.Refused m answer) o to tt
 verdict_within f m IsSilent o to e = looked_within (look_in f to m) m (x.Silenced m) o to tt
 verdict_within f m IsReset o to e = tt

@@ -10,3 +10,4 @@ pub mod Keeping
 pub mod OnShards
 pub mod Watches
 pub mod ByStep
+mod Authorizing

@@ -11,13 +11,13 @@ use Rattle.fc_core.specs.declared.event.Event.TheVariants.{Signal, ShardTick}
 use Rattle.fc_core.specs.History.{Seen, and_then, did, is_place_of, late_in, watch}
 
 -- the observers after more calls
-pub after_append : (n : ℕ) (cs ds : List ObserverCall) → observers n (cs ++ ds) ≡ after_calls cs (observers n ds)
-after_append n [] ds = refl
-after_append n (c ∷ cs) ds = ap (observers_after c) (after_append n cs ds)
+pub after_append : (n confirm_after : ℕ) (cs ds : List ObserverCall) → observers n confirm_after (cs ++ ds) ≡ after_calls cs (observers n confirm_after ds)
+after_append n confirm_after [] ds = refl
+after_append n confirm_after (c ∷ cs) ds = ap (observers_after c) (after_append n confirm_after cs ds)
 
 -- a call on the observers, or none
-pub called : (s : Seen) (n : ℕ) (c : ObserverCall) (b d : Bool) → b ≡ d → observers n ((if b then c ∷ [] else []) ++ s.calls n) ≡ observers n ((if d then c ∷ [] else []) ++ s.calls n)
-called s n c b d is = ap (λ (x : Bool). observers n ((if x then c ∷ [] else []) ++ s.calls n)) is
+pub called : (s : Seen) (n : ℕ) (c : ObserverCall) (b d : Bool) → b ≡ d → observers n s.policy.confirm_after ((if b then c ∷ [] else []) ++ s.calls n) ≡ observers n s.policy.confirm_after ((if d then c ∷ [] else []) ++ s.calls n)
+called s n c b d is = ap (λ (x : Bool). observers n s.policy.confirm_after ((if x then c ∷ [] else []) ++ s.calls n)) is
 
 pub reset_here : (s : Seen) (i n id : ℕ) (to : Endpoint) (o : Option Emission) → n % 8 ≡ i → watch (and_then (did (Signal i to id true) o) s) n ≡ after_reset to id (watch s n)
 reset_here s i n id to o is = called s n (signal_call true to id) ((n % 8) == i) true (eq-eqb (n % 8) i is)
@@ -29,8 +29,8 @@ pub signalled_elsewhere : (s : Seen) (i n id : ℕ) (to : Endpoint) (o : Option 
 signalled_elsewhere s i n id to o reset ne = called s n (signal_call reset to id) ((n % 8) == i) false (ne_eqb (n % 8) i ne)
 
 -- by the place that is late
-ticked_by : (s : Seen) (i n now : ℕ) (o p : Option ℕ) → o ≡ p → observers n ((if is_place_of o i n then TickObservers now ∷ [] else []) ++ s.calls n) ≡ observers n ((if is_place_of p i n then TickObservers now ∷ [] else []) ++ s.calls n)
-ticked_by s i n now o p is = ap (λ (x : Option ℕ). observers n ((if is_place_of x i n then TickObservers now ∷ [] else []) ++ s.calls n)) is
+ticked_by : (s : Seen) (i n now : ℕ) (o p : Option ℕ) → o ≡ p → observers n s.policy.confirm_after ((if is_place_of o i n then TickObservers now ∷ [] else []) ++ s.calls n) ≡ observers n s.policy.confirm_after ((if is_place_of p i n then TickObservers now ∷ [] else []) ++ s.calls n)
+ticked_by s i n now o p is = ap (λ (x : Option ℕ). observers n s.policy.confirm_after ((if is_place_of x i n then TickObservers now ∷ [] else []) ++ s.calls n)) is
 
 pub ticked_first : (s : Seen) (i k now : ℕ) (o : Option Emission) → late_in s i (max (s.shard_moment i) now) ≡ Some k → watch (and_then (did (ShardTick i now) o) s) (8 * k + i) ≡ after_tick (at_moment (max (s.shard_moment i) now) (watch s (8 * k + i)))
 ticked_first s i k now o is =

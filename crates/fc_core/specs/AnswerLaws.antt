@@ -154,7 +154,7 @@ moments_in other s = []
 
 -- the moments that were handed to the front, the newest first
 abbrev pub moments_of : History → List ℕ
-moments_of (Begins serial id) = []
+moments_of (Begins serial id policy) = []
 moments_of (Then h r) = moments_in r.event (seen h) ++ moments_of h
 
 -- the moment of a commit at its stage, of a turn that notifies, or of giving one up
@@ -178,7 +178,7 @@ own_moment other i = []
 -- the moments that were handed to a shard, the newest first: by its own events, and by the commits, the notifications and the givings up
 -- of its slots' jobs
 abbrev pub shard_moments_of : ℕ → History → List ℕ
-shard_moments_of i (Begins serial id) = []
+shard_moments_of i (Begins serial id policy) = []
 shard_moments_of i (Then h r) =
     own_moment r.event i
     ++ (if is_of_shard i (seen h) (names r.event)

@@ -1,6 +1,7 @@
 -- What is done about a request that is new, as it is seen.
-use Rattle.std.specs.Prelude.{◌≤◌, length}
+use Rattle.std.specs.Prelude.{◌≤◌, length, Bool, true, false}
 use Rattle.coap_msg.specs.Wire.{Message}
+use Rattle.coap_msg.specs.declared.code.TheConstants.Code as registered
 use Rattle.coap_opts.specs.declared.request.Asking.{Asking}
 use Rattle.coap_opts.specs.declared.request.Asking.TheVariants.{Serve, Refuse, Silent}
 use Rattle.coap_opts.specs.declared.request.Request.{Request}
@@ -20,6 +21,11 @@ new_request f to m Silent request = Silenced m
 -- what a request is to a front that has advanced to the moment
 abbrev pub asked_in : FrontState → Endpoint → Message → Asking (Unit {0}) → Request → Received
 asked_in f to m asking request = looked (look_in f to m) m (new_request f to m asking request)
+
+-- a request that would be served is refused by 4.03 Forbidden instead where its endpoint isn't allowed to send it
+abbrev pub authorized : Bool → Asking (Unit {0}) → Asking (Unit {0})
+authorized false (Serve done) = Refuse registered.FORBIDDEN
+authorized allowed asking = asking
 
 -- a request that is carried out names a resource that there is, and is within the limits of its query and its payload
 pub record IsServable (asked : Asked) : Type 0 where

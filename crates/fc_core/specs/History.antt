@@ -23,6 +23,8 @@ use Rattle.fc_core.specs.declared.stage.Task.{Task}
 use Rattle.fc_core.specs.Contents.{Content}
 use Rattle.fc_core.specs.Ids.{Ids, first_ids, drawn, drawn_for, free_id}
 use Rattle.fc_core.specs.Exchanges.{FrontState, opening_is_live}
+use Rattle.fc_core.specs.Policies.{default_policy}
+use Rattle.fc_core.specs.declared.policy.Policy.{Policy}
 use Rattle.fc_core.specs.Receiving.{Received, added_by, received, opened_by, kept_of, drawn_by, brought, next_opening}
 use Rattle.fc_core.specs.Heads.{no_words}
 use Rattle.fc_core.specs.Stages.{needs_id, new_task, content_at}
@@ -33,16 +35,17 @@ pub record Entry : Type 0 where
   pub event : Event
   pub emitted : Option Emission
 
--- a server begins with empty slots at a serial, and with a message id of its own that it will draw first
+-- a server begins with empty slots at a serial, with a message id of its own that it will draw first, and with a policy
 pub data History : Type 0 where
-  Begins : (serial : ℕ) (id : ℕ) → History
+  Begins : (serial : ℕ) (id : ℕ) (policy : Policy) → History
   Then : (before : History) (entry : Entry) → History
 
--- all that can be asked of a history: the serial at which the slots began, the greatest moment handed to the front, the
+-- all that can be asked of a history: the policy, the serial at which the slots began, the greatest moment handed to the front, the
 -- exchanges that were opened, the payloads of new requests, the newest first, the message ids of the server's own,
 -- the jobs that came, each at its stage, the changes of each slot, the newest first, the greatest moment handed to each shard,
 -- the calls on the observers of each slot, the newest first, and the head words. Exchanges and jobs are listed oldest first, since their places are their numbers.
 pub record Seen : Type 0 where
+  pub policy : Policy
   pub first_serial : ℕ
   pub moment : ℕ
   pub exchanges : List Exchange
@@ -54,8 +57,8 @@ pub record Seen : Type 0 where
   pub calls : ℕ → List ObserverCall
   pub words : List ℕ
 
-abbrev pub begun : ℕ → ℕ → Seen
-begun serial id = record { first_serial = serial; moment = 0; exchanges = []; additions = []; ids = first_ids id; tasks = []; changes = λ n. []; shard_moment = λ k. 0; calls = λ n. []; words = no_words }
+abbrev pub begun : ℕ → ℕ → Policy → Seen
+begun serial id policy = record { policy = policy; first_serial = serial; moment = 0; exchanges = []; additions = []; ids = first_ids id; tasks = []; changes = λ n. []; shard_moment = λ k. 0; calls = λ n. []; words = no_words }
 
 -- ---- slots and jobs
 
@@ -89,7 +92,7 @@ stage s k = (task_at s.tasks k).stage
 
 -- the observers of slot n
 abbrev pub watch : Seen → ℕ → ObserverList
-watch s n = observers n (s.calls n)
+watch s n = observers n s.policy.confirm_after (s.calls n)
 
 -- what is common to the jobs of all slots
 abbrev pub common : Seen → Common
@@ -107,7 +110,7 @@ scene s k = scene_at (task_at s.tasks k) (slot_at s (job s k).origin.slot) (arou
 
 -- the front at a moment: it holds the exchanges that were opened less than a window before
 abbrev pub front_in : Seen → ℕ → FrontState
-front_in s at = record { now = at; opened = length s.exchanges; held = filter (is_held at) s.exchanges; transfers = transfers s.additions; ids = s.ids }
+front_in s at = record { managers = s.policy.managers; limits = s.policy.limits; now = at; opened = length s.exchanges; held = filter (is_held at) s.exchanges; transfers = transfers s.additions; ids = s.ids }
 
 -- the front that is handed a moment: it never goes back
 abbrev pub front_at : Seen → ℕ → FrontState
@@ -276,6 +279,7 @@ calls_named (Some k) e s n = if (job s k).origin.slot == n then (row e (scene s 
 
 abbrev pub and_then : Entry → Seen → Seen
 and_then r s = record {
+  policy = s.policy;
   first_serial = s.first_serial;
   moment = moment_by (at_front r.event) s;
   exchanges = exchanges_by (at_front r.event) r.emitted s;
@@ -289,7 +293,7 @@ and_then r s = record {
 }
 
 unfoldable pub seen : History → Seen
-seen (Begins serial id) = begun serial id
+seen (Begins serial id policy) = begun serial id policy
 seen (Then h r) = and_then r (seen h)
 
 abbrev pub did : Event → Option Emission → Entry
@@ -301,6 +305,6 @@ history_after h [] os = h
 history_after h (e ∷ es) [] = h
 history_after h (e ∷ es) (o ∷ os) = history_after (Then h (did e o)) es os
 
--- of a server that begins at serial 0 and message id 0
+-- of a server that begins at serial 0 and message id 0, with the default policy
 abbrev pub history_of : List Event → List (Option Emission) → History
-history_of events emissions = history_after (Begins 0 0) events emissions
+history_of events emissions = history_after (Begins 0 0 default_policy) events emissions

@@ -104,7 +104,7 @@ gives other s changes = []
 
 -- the takings that gave a ticket to the job of this number, the newest first
 abbrev pub takings_of : History → ℕ → List Taking
-takings_of (Begins serial id) k = []
+takings_of (Begins serial id policy) k = []
 takings_of (Then h r) k =
     if is_named k r.event
     then gives r.event (scene (seen h) k) ((seen h).changes (slot_of (seen h) k)) ++ takings_of h k
@@ -149,7 +149,7 @@ is_answered other at = false
 
 -- how many times a job was answered
 abbrev pub answers_of : History → ℕ → ℕ
-answers_of (Begins serial id) k = 0
+answers_of (Begins serial id policy) k = 0
 answers_of (Then h r) k =
     if is_named k r.event
     then (if is_answered r.event (stage (seen h) k) then answers_of h k + 1 else answers_of h k)
@@ -159,7 +159,7 @@ answers_of (Then h r) k =
 
 -- how many times an event that named the job changed its slot
 abbrev pub changes_by : History → ℕ → ℕ
-changes_by (Begins serial id) k = 0
+changes_by (Begins serial id policy) k = 0
 changes_by (Then h r) k =
     if is_named k r.event
     then changes_by h k + (length ((seen (Then h r)).changes (slot_of (seen h) k)) - length ((seen h).changes (slot_of (seen h) k)))

@@ -67,7 +67,7 @@ Emits s e emitted = EmitsBy (at_front e) e s emitted
 
 -- each event emitted what it may
 abbrev pub IsLegal : History → Type 0
-IsLegal (Begins serial id) = Unit {0}
+IsLegal (Begins serial id policy) = Unit {0}
 IsLegal (Then h r) = Emits (seen h) r.event r.emitted × IsLegal h
 
 -- a ticket's program has a meaning for its request, and the variables and readings that were found: the run reaches its exit, in at most
@@ -93,5 +93,5 @@ TakesMeaning s (Take k memory readings) = FindsMeaning readings (scene s k) (sta
 TakesMeaning s other = Unit {0}
 
 abbrev pub AllMean : History → Type 0
-AllMean (Begins serial id) = Unit {0}
+AllMean (Begins serial id policy) = Unit {0}
 AllMean (Then h r) = TakesMeaning (seen h) r.event × AllMean h

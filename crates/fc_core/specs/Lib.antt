@@ -4,6 +4,7 @@ pub mod Heads
 pub mod Links
 pub mod Ends
 pub mod Replies
+pub mod Policies
 pub mod Exchanges
 pub mod Receiving
 pub mod Askings

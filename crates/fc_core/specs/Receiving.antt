@@ -16,7 +16,7 @@ use Rattle.coap_opts.specs.declared.request.Resource.TheVariants as resources
 use Rattle.coap_opts.specs.Served.{resource_in}
 use Rattle.coap_opts.specs.Verdict.{Asked, Verdict, IsAsked, IsRefused, IsSilent, IsReset, IsSignal, IsIgnored, verdict}
 use Rattle.coap_dedup.specs.Exchanges.{Exchange}
-use Rattle.coap_dedup.specs.Exchanges.{Look, IsNew, IsBusy, IsAgain, IsSilent as IsAnsweredNon, IsFull, look_at}
+use Rattle.coap_dedup.specs.Exchanges.{Look, IsNew, IsBusy, IsAgain, IsSilent as IsAnsweredNon, IsFull, IsOverShare, look_at}
 use Rattle.coap_dedup.specs.Calls.{answered}
 use Rattle.coap_opts.specs.Values.{Place}
 use Rattle.coap_block.specs.declared.transfer.Transfer.{Transfer}
@@ -38,6 +38,7 @@ use Rattle.fc_core.specs.declared.front.Heard.TheVariants as hearing
 use Rattle.coap_reply.specs.Responses.{Response, bare, reply_kind, sent_in, settled_by, reset_of}
 use Rattle.fc_core.specs.Ids.{Ids, free_id, reply_id, drawn_for}
 use Rattle.fc_core.specs.Exchanges.{FrontState}
+use Rattle.fc_core.specs.Policies.{is_allowed}
 
 -- ---- classification
 
@@ -47,11 +48,12 @@ pub data Received : Type 0 where
   Rejected : (id : ℕ) → Received
   -- an acknowledgement or a reset of the message that was sent with this id
   Signals : (id : ℕ) (reset : Bool) → Received
-  -- a repeat of a request in progress, or of a non-confirmable one that was answered
-  Repeated : Received
+  -- a request that gets no reply: a repeat of one in progress, or of a non-confirmable one that was answered; or a non-confirmable one above
+  -- its address' share
+  Unanswered : Received
   -- a repeat of a confirmable request that was answered by these bytes
   Again : (bytes : List ℕ) → Received
-  -- a new request, without room for its exchange
+  -- a new request, without room for its exchange, that is answered 5.03
   Full : (m : Message) → Received
   -- a new request that gets no answer, or that is refused by a code
   Silenced : (m : Message) → Received
@@ -84,19 +86,35 @@ received_added IsFull m r = Settled m r (bare (code 5 3))
 abbrev pub add_in : FrontState → Endpoint → Asked → Add
 add_in f to r = add_of f.transfers f.now to (slot_asked r.action) r.block1 r.payload
 
+-- a request that its endpoint isn't allowed to send is refused by 4.03 Forbidden, and its payload is added to no transfer
+abbrev pub received_if : Bool → FrontState → Endpoint → Message → Asked → Received
+received_if true f to m r = received_added (add_in f to r) m r
+received_if false f to m r = Refused m (code 4 3)
+
 abbrev pub request_received : FrontState → Endpoint → Message → Asked → Received
-request_received f to m r = received_added (add_in f to r) m r
+request_received f to m r = received_if (is_allowed f.managers to r.action) f to m r
+
+abbrev pub is_confirmable : MessageType → Bool
+is_confirmable Confirmable = true
+is_confirmable other = false
+
+-- a new request of an address that has its whole share: a reply to a non-confirmable one would take a message id of the server's own, so it is
+-- ignored (RFC 7252, 4.3)
+abbrev pub over_share : Bool → Message → Received
+over_share true m = Full m
+over_share false m = Unanswered
 
 -- a request by what it is to the exchanges that are held; the last argument is what it is where it is new
 abbrev pub looked : Look → Message → Received → Received
 looked IsNew m new = new
-looked IsBusy m new = Repeated
-looked IsAnsweredNon m new = Repeated
+looked IsBusy m new = Unanswered
+looked IsAnsweredNon m new = Unanswered
 looked (IsAgain bytes) m new = Again bytes
 looked IsFull m new = Full m
+looked IsOverShare m new = over_share (is_confirmable m.kind) m
 
 abbrev pub look_in : FrontState → Endpoint → Message → Look
-look_in f to m = look_at (record { now = f.now; opened = f.opened; held = f.held }) to m.id
+look_in f to m = look_at (record { limits = f.limits; now = f.now; opened = f.opened; held = f.held }) to m.id
 
 abbrev pub received_as : FrontState → Endpoint → Message → Verdict → Received
 received_as f to m (IsAsked asked) = looked (look_in f to m) m (request_received f to m asked)
@@ -116,10 +134,6 @@ unfoldable pub received : FrontState → Endpoint → List ℕ → Received
 received f to bytes = received_read f to (reading_of bytes)
 
 -- ---- the job that a request brings
-
-abbrev pub is_confirmable : MessageType → Bool
-is_confirmable Confirmable = true
-is_confirmable other = false
 
 -- the request that slot N's program is to answer
 abbrev pub request_asked : Verb → ℕ → Asked → Request

@@ -1,14 +1,15 @@
 //! The front: exchanges, and the way in and out.
-ghost use Rattle.std.specs.Prelude.{◌≡◌, ◌≤◌, [], false, IfOk, Some, length};
+ghost use Rattle.std.specs.Prelude.{◌≡◌, ◌≤◌, [], false, true, IfOk, Some, length};
 ghost use Rattle.coap_opts.specs.Verdict.{verdict};
 ghost use Rattle.coap_opts.specs.Classified.{asked_by};
 ghost use Rattle.coap_dedup.specs.Exchanges.{IsNew};
 ghost use Rattle.fc_core.specs.Answering.{AnswersIn, after_answered, emission_of, responded};
-ghost use Rattle.fc_core.specs.Askings.{IsAsking, IsServable, asked_in, new_request};
+ghost use Rattle.fc_core.specs.Askings.{IsAsking, IsServable, asked_in, new_request, authorized};
 ghost use Rattle.fc_core.specs.Contents.{IsOf};
 ghost use Rattle.fc_core.specs.Exchanges as spec;
 ghost use Rattle.fc_core.specs.Exchanges.{advanced, first_front, front_expired, handed};
 ghost use Rattle.fc_core.specs.Ids.{drawn_for, free_id};
+ghost use Rattle.fc_core.specs.Policies.{is_allowed};
 ghost use Rattle.coap_block.specs.Transfers.{after_addition};
 ghost use Rattle.coap_block.specs.Views.{add_seen};
 ghost use Rattle.fc_core.specs.Receiving.{add_in, addition_of, after_delivered, after_received, ask_by, emission_if, etags_by, handed_on, heard, heard_if, id_in, is_confirmable, job_of, look_in, next_opening, observes, opening_for, received_as, reply_or_nothing, request_asked, request_received, settled_front, told};
@@ -17,11 +18,12 @@ ghost use Rattle.coap_reply.specs.Responses.{reset_of, settled_by};
 
 use crate::answer::Answer;
 use crate::ids::MessageIds;
+use crate::policy::{Managers, Policy, changes_program, is_manager};
 use crate::reply;
 use crate::reply::settled;
 use arrayvec::ArrayVec;
 use coap_block::{Added, Body, Uploads};
-use coap_dedup::{Exchanges, Looked};
+use coap_dedup::{Exchanges, Looked, Room};
 use coap_msg::{
     Bad, Code, Datagram, Emission, Endpoint, Message, MessageType, Token, WINDOW, read,
 };
@@ -82,9 +84,11 @@ pub enum Responded {
     NoId,
 }
 
-/// The exchanges that are less than a window old, the transfers that are under way, the message ids of the server's own, and the greatest moment handed in.
+/// The managers' networks, the exchanges that are less than a window old, the transfers that are under way, the message ids of the server's own, and the
+/// greatest moment handed in.
 #[derive(Drop)]
 pub struct Front {
+    managers: Managers,
     now: u64,
     exchanges: Exchanges,
     uploads: Uploads,
@@ -97,22 +101,23 @@ impl Model for Front {
 
     ghost Value = { FrontState };
 
-    ghost view = { λ f. record { now = f.now; opened = f.exchanges.opened; held = f.exchanges.held; transfers = f.uploads; ids = f.ids } };
+    ghost view = { λ f. record { managers = f.managers; limits = f.exchanges.limits; now = f.now; opened = f.exchanges.opened; held = f.exchanges.held; transfers = f.uploads; ids = f.ids } };
 
     ghost invariant = { λ f. f.exchanges.now ≤ f.now };
 }
 
 impl Front {
-    /// Makes a front with no exchange. The first message id that it will draw is the argument.
+    /// Makes a front that has this policy, no exchange, and `first_id` as the message id that it draws first.
     ///
     /// # Errors
     /// There was no memory for its exchanges, transfers and message ids.
-    pub fn new(alloc: Global, first_id: u16) -> Result<Front, AllocError>
-        ensures { IfOk result (λ f. f ≡ first_front first_id) }
+    pub fn new(alloc: Global, policy: &Policy, first_id: u16) -> Result<Front, AllocError>
+        ensures { IfOk result (λ f. f ≡ first_front policy.now first_id) }
     {
         Ok(Front {
+            managers: policy.managers,
             now: 0,
-            exchanges: Exchanges::new(alloc)?,
+            exchanges: Exchanges::new(alloc, policy.limits)?,
             uploads: Uploads::new(alloc)?,
             ids: MessageIds::new(alloc, first_id)?,
         })
@@ -299,14 +304,17 @@ impl Front {
             self.new ≡ after_received (asked_in f endpoint message.now asking request.now) f endpoint }
     {
         match self.exchanges.look(self.now, endpoint, message.id()) {
-            Looked::New => self.open(endpoint, message, asking, request, job, reply),
+            Looked::New => match self.exchanges.room(endpoint.ip) {
+                Room::Free => self.open(endpoint, message, asking, request, job, reply),
+                Room::OverShare if message.kind() != MessageType::Confirmable => Heard::Nothing,
+                Room::Full | Room::OverShare => {
+                    replied(self.tell(endpoint, message, Code::SERVICE_UNAVAILABLE, None, reply))
+                }
+            },
             Looked::Again(bytes) => {
                 reply.to = endpoint;
                 reply.bytes = bytes;
                 Heard::Reply
-            }
-            Looked::Full => {
-                replied(self.tell(endpoint, message, Code::SERVICE_UNAVAILABLE, None, reply))
             }
             Looked::Busy | Looked::Silent => Heard::Nothing,
         }
@@ -329,7 +337,7 @@ impl Front {
         ensures after { let x = new_request self.old endpoint message.now asking request.now in
             self.new ≡ after_received x self.old endpoint }
     {
-        match asking {
+        match self.authorize(endpoint, asking, request.action) {
             Asking::Silent => {
                 self.open_exchange(endpoint, message);
                 Heard::Nothing
@@ -355,7 +363,7 @@ impl Front {
         }
     }
 
-    // Carries a new request out, or answers the block that it sends at once: its payload is joined to its transfer.
+    // Carries out a new request that its endpoint is allowed to send, or answers the block that it sends at once: its payload is joined to its transfer.
     fn serve(
         &mut self,
         endpoint: Endpoint,
@@ -366,6 +374,7 @@ impl Front {
     ) -> Heard
         requires new { look_in self.old endpoint message.now ≡ IsNew }
         requires limits { IsServable (asked_by request.now) }
+        requires allowed { is_allowed self.old.managers endpoint request.now.action ≡ true }
         ensures delivered { let x = request_received self.old endpoint message.now (asked_by request.now) in
             heard result job.new reply.new ≡ handed_on x self.old endpoint }
         ensures after { let x = request_received self.old endpoint message.now (asked_by request.now) in
@@ -379,6 +388,25 @@ impl Front {
             }
             Some(block) => self.serve_block(endpoint, message, request, block, job, reply),
         }
+    }
+
+    // Replaces a request that would be served by a refusal if its endpoint isn't allowed to send it.
+    fn authorize(&self, endpoint: Endpoint, asking: Asking<()>, action: Action) -> Asking<()>
+        ensures { result ≡ authorized (is_allowed self.entry.now.managers endpoint action) asking }
+    {
+        match asking {
+            Asking::Serve(()) if !self.is_allowed(endpoint, action) => Asking::Refuse(
+                Code::FORBIDDEN,
+            ),
+            _ => asking,
+        }
+    }
+
+    // Whether an endpoint is allowed an action: a manager each, the others what changes no program.
+    fn is_allowed(&self, endpoint: Endpoint, action: Action) -> bool
+        ensures { result ≡ is_allowed self.entry.now.managers endpoint action }
+    {
+        !changes_program(action) || is_manager(&self.managers, endpoint)
     }
 
     // Joins the payload of a new request, which sends this block, to its transfer: carries the request out, or answers it at once.
@@ -396,6 +424,7 @@ impl Front {
         requires new { look_in self.old endpoint message.now ≡ IsNew }
         requires limits { IsServable (asked_by request.now) }
         requires block { request.now.block1 ≡ Some block }
+        requires allowed { is_allowed self.old.managers endpoint request.now.action ≡ true }
         ensures delivered { let x = request_received self.old endpoint message.now (asked_by request.now) in
             heard result job.new reply.new ≡ handed_on x self.old endpoint }
         ensures after { let x = request_received self.old endpoint message.now (asked_by request.now) in

@@ -14,4 +14,8 @@ pub mod Kept
 pub mod Asking
 pub mod BlockCauses
 pub mod Room
+pub mod Managed
+pub mod Moving
+pub mod Shares
+pub mod Free
 pub mod AnswerCodes

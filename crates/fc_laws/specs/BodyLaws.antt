@@ -1,5 +1,5 @@
 -- What the laws of bodies that come in blocks speak of.
-use Rattle.std.specs.Prelude.{◌≡◌, ℕ, List, [], ◌∷◌, ◌++◌, max, Option, Some, None, Ok}
+use Rattle.std.specs.Prelude.{◌≡◌, ℕ, List, [], ◌∷◌, ◌++◌, max, true, Option, Some, None, Ok}
 use Rattle.coap_msg.specs.declared.types.Emission.{Emission}
 use Rattle.coap_msg.specs.declared.types.Endpoint.{Endpoint}
 use Rattle.coap_msg.specs.Codes.{code}
@@ -16,23 +16,25 @@ use Rattle.fc_core.specs.declared.event.Event.{Event}
 use Rattle.fc_core.specs.declared.event.Event.TheVariants.{Deliver}
 use Rattle.fc_laws.specs.ExchangeLaws.{IsOpening}
 use Rattle.fc_core.specs.History.{Entry, Seen, and_then, front_at}
-use Rattle.fc_core.specs.Receiving.{Received, Settled, addition_of, request_received, told}
+use Rattle.fc_core.specs.Receiving.{Received, Settled, add_in, addition_of, received_added, told}
+use Rattle.fc_core.specs.Policies.{is_allowed}
 use Rattle.coap_reply.specs.Responses.{Response, bare, settled_by}
 use Rattle.fc_core.specs.Stages.{new_task}
 
--- what a new request is to a server that is handed a moment
+-- what a new request that its endpoint is allowed to send is to a server that is handed a moment
 abbrev pub asked_at : Seen → ℕ → Endpoint → Message → Asked → Received
-asked_at s now to m r = request_received (front_at s now) to m r
+asked_at s now to m r = received_added (add_in (front_at s now) to r) m r
 
 -- the payload that it adds
 abbrev pub addition_at : Seen → ℕ → Endpoint → Asked → Addition
 addition_at s now to r = addition_of (max s.moment now) to r
 
--- the datagram is a request that is no repeat, and that passes every check of its options
+-- the datagram is a request that is no repeat, that passes every check of its options, and that its endpoint is allowed to send
 pub record IsAskedAnew (s : Seen) (now : ℕ) (to : Endpoint) (bytes : List ℕ) (m : Message) (r : Asked) : Type 0 where
   pub opens : IsOpening s now to bytes
   pub read : reading_of bytes ≡ Ok m
   pub asks : verdict m ≡ IsAsked r
+  pub allowed : is_allowed s.policy.managers to r.action ≡ true
 
 -- the event delivers such a request
 abbrev pub Asks : Seen → Event → Message → Asked → Type 0

@@ -7,7 +7,7 @@ use Rattle.coap_msg.specs.Reading.{reading_of}
 use Rattle.coap_msg.specs.Wire.{Message}
 use Rattle.coap_opts.specs.Verdict.{Verdict, IsAsked, IsRefused, IsSilent, verdict}
 use Rattle.coap_dedup.specs.Exchanges.{Exchange}
-use Rattle.coap_dedup.specs.Exchanges.{is_of}
+use Rattle.coap_dedup.specs.Exchanges.{is_of, places_of, share_of}
 use Rattle.fc_core.specs.declared.event.Event.{Event}
 use Rattle.fc_core.specs.declared.event.Event.TheVariants.{Deliver}
 use Rattle.coap_reply.specs.Responses.{bare}
@@ -43,22 +43,42 @@ abbrev pub again : Endpoint → Bool → Option (ArrayVec ℕ) → Option Emissi
 again to true (Some bytes) = Some (record { to = to; bytes = bytes })
 again to confirmable answer = None
 
--- the datagram is a request and no repeat, and there is room: fewer than 1,024 exchanges were opened in the last 247,000 ms,
--- and fewer than 2^64 - 1 ever
+-- the exchanges that were opened in the last 247,000 ms, and how many of them are of an address
+abbrev pub held_at : Seen → ℕ → List Exchange
+held_at s at = filter (is_within at) s.exchanges
+
+abbrev pub shared_at : Seen → ℕ → List ℕ → ℕ
+shared_at s at ip = share_of ip (held_at s at)
+
+-- the datagram is a request and no repeat, and there is room: in the last 247,000 ms fewer exchanges were opened than the policy's limit, and
+-- fewer of the address than its share; and fewer than 2^64 - 1 were ever opened
 pub record IsOpening (s : Seen) (now : ℕ) (to : Endpoint) (bytes : List ℕ) : Type 0 where
   pub message : Message
   pub read : reading_of bytes ≡ Ok message
   pub asks : IsOnRequest (verdict message)
   pub new : repeated s (max s.moment now) to message.id ≡ None
-  pub room : length (filter (is_within (max s.moment now)) s.exchanges) < 1024
+  pub room : length (held_at s (max s.moment now)) < (places_of s.policy.limits)
+  pub share : shared_at s (max s.moment now) to.ip < s.policy.limits.share
   pub numbers : length s.exchanges < 18446744073709551615
 
--- the datagram is a request and no repeat, and there is no room: 1,024 exchanges were opened in the last 247,000 ms, or 2^64 - 1 ever
+-- no place is free for one more exchange: as many were opened in the last 247,000 ms as the policy's limit, or 2^64 - 1 ever
+abbrev pub HasNoPlace : Seen → ℕ → Type 0
+HasNoPlace s at = (places_of s.policy.limits ≤ length (held_at s at)) ⊎ (18446744073709551615 ≤ length s.exchanges)
+
+-- the datagram is a request and no repeat, and no place is free, though its address is below its share
 pub record IsCrowdedOut (s : Seen) (now : ℕ) (to : Endpoint) (bytes : List ℕ) (m : Message) : Type 0 where
   pub read : reading_of bytes ≡ Ok m
   pub asks : IsOnRequest (verdict m)
   pub new : repeated s (max s.moment now) to m.id ≡ None
-  pub full : (1024 ≤ length (filter (is_within (max s.moment now)) s.exchanges)) ⊎ (18446744073709551615 ≤ length s.exchanges)
+  pub share : shared_at s (max s.moment now) to.ip < s.policy.limits.share
+  pub full : HasNoPlace s (max s.moment now)
+
+-- the datagram is a request and no repeat, and in the last 247,000 ms as many exchanges of its address were opened as its share
+pub record IsOverShare (s : Seen) (now : ℕ) (to : Endpoint) (bytes : List ℕ) (m : Message) : Type 0 where
+  pub read : reading_of bytes ≡ Ok m
+  pub asks : IsOnRequest (verdict m)
+  pub new : repeated s (max s.moment now) to m.id ≡ None
+  pub over : s.policy.limits.share ≤ shared_at s (max s.moment now) to.ip
 
 abbrev pub Repeats : Seen → Event → Exchange → Type 0
 Repeats s (Deliver now to bytes) e = IsRepeat s now to bytes.now e
@@ -73,10 +93,15 @@ abbrev pub Opens : Seen → Event → Type 0
 Opens s (Deliver now to bytes) = IsOpening s now to bytes.now
 Opens s other = ⊥
 
--- the event delivers a new request that there is no room for
+-- the event delivers a new request that no place is free for
 abbrev pub FindsNoExchange : Seen → Event → Message → Type 0
 FindsNoExchange s (Deliver now to bytes) m = IsCrowdedOut s now to bytes.now m
 FindsNoExchange s other m = ⊥
+
+-- the event delivers a new request of an address that has its whole share
+abbrev pub ExceedsShare : Seen → Event → Message → Type 0
+ExceedsShare s (Deliver now to bytes) m = IsOverShare s now to bytes.now m
+ExceedsShare s other m = ⊥
 
 -- the answer to a message at once, by this code alone
 abbrev pub bare_by : Seen → Event → Message → ℕ → Option Emission
@@ -127,12 +152,12 @@ draws_by false draw before = draw ∷ before
 
 -- the ids that were drawn, the newest first
 abbrev pub draws_of : History → List Draw
-draws_of (Begins serial id) = []
+draws_of (Begins serial id policy) = []
 draws_of (Then h r) = draws_by ((seen (Then h r)).ids.next == (seen h).ids.next) (record { id = (seen h).ids.next; at = (seen (Then h r)).moment }) (draws_of h)
 
 -- the id that a server begins with
 abbrev pub first_id : History → ℕ
-first_id (Begins serial id) = id
+first_id (Begins serial id policy) = id
 first_id (Then h r) = first_id h
 
 -- of the draws, the newest first, each is of the id after the one before it

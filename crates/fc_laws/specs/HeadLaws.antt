@@ -30,5 +30,5 @@ words_raised n other s = []
 
 -- the words that were raised for slot n, the newest first
 abbrev pub raises_of : ℕ → History → List ℕ
-raises_of n (Begins serial id) = []
+raises_of n (Begins serial id policy) = []
 raises_of n (Then h r) = words_raised n r.event (seen h) ++ raises_of n h

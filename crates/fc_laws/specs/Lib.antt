@@ -10,3 +10,4 @@ pub mod TurnLaws
 pub mod ReplyLaws
 pub mod RefusalLaws
 pub mod ShardLaws
+pub mod PolicyLaws

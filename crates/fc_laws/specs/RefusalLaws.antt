@@ -24,7 +24,7 @@ use Rattle.fc_core.specs.declared.event.Event.TheVariants.{Answer, Commit, Deliv
 use Rattle.fc_core.specs.Stage.{Stage}
 use Rattle.fc_core.specs.Stage.{ToAnswer, ToCommit, ToDescribe, ToInstall, ToRemove, ToTake, ToTell}
 use Rattle.fc_core.specs.TurnStage as turns
-use Rattle.fc_laws.specs.ExchangeLaws.{FindsNoExchange, IsOpening, OpensOne}
+use Rattle.fc_laws.specs.ExchangeLaws.{ExceedsShare, FindsNoExchange, IsOpening, OpensOne}
 use Rattle.fc_core.specs.History.{Entry, Seen, and_then, job, slot_at, stage, watch}
 use Rattle.fc_core.specs.Ids.{free_id}
 use Rattle.fc_core.specs.Laws.{slot_of}
@@ -34,7 +34,7 @@ use Rattle.fc_laws.specs.TurnLaws.{moment_at}
 
 -- ---- what is refused
 
--- a datagram that isn't a request is ignored, or rejected by a Reset message; or a request finds no room for its exchange
+-- a datagram that isn't a request is ignored, or rejected by a Reset message; or a request finds no place for its exchange, or its address above its share
 pub data IsTurnedDown (s : Seen) (e : Event) : Type 0 where
   IsNoMessage : (now : ℕ) (to : Endpoint) (bytes : Bor (List ℕ)) (event : e ≡ Deliver now to bytes) (read : reading_of bytes.now ≡ Err bad.Ignore)
       → IsTurnedDown s e
@@ -42,6 +42,7 @@ pub data IsTurnedDown (s : Seen) (e : Event) : Type 0 where
       (ignored : verdict m ≡ IsIgnored) → IsTurnedDown s e
   IsRejected : (to : Endpoint) (id : ℕ) (rejects : Rejects e to id) → IsTurnedDown s e
   FindsNoRoom : (m : Message) (crowded : FindsNoExchange s e m) → IsTurnedDown s e
+  IsAboveShare : (m : Message) (over : ExceedsShare s e m) → IsTurnedDown s e
 
 -- the call that the event is for job k is refused: no ticket, since the slot is empty or memory is refused; no commit, since the slot has
 -- changed or is at its last serial; no install, since the image isn't accepted, memory is refused or the slot is at its last serial;

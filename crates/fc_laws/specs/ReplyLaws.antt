@@ -1,5 +1,5 @@
 -- What the laws of refusals and of answers speak of.
-use Rattle.std.specs.Prelude.{◌≡◌, ℕ, ◌/◌, ◌%◌, ◌≤◌, ◌⊎◌, List, [], ◌∷◌, Ok, Err}
+use Rattle.std.specs.Prelude.{◌≡◌, ℕ, ◌/◌, ◌%◌, ◌≤◌, ◌⊎◌, false, List, [], ◌∷◌, Ok, Err}
 use Rattle.coap_msg.specs.declared.types.Bad.TheVariants as bad
 use Rattle.coap_msg.specs.declared.types.Emission.{Emission}
 use Rattle.coap_msg.specs.declared.types.Endpoint.{Endpoint}
@@ -7,7 +7,8 @@ use Rattle.coap_msg.specs.declared.types.MessageType.{MessageType}
 use Rattle.coap_msg.specs.declared.types.MessageType.TheVariants.{Confirmable}
 use Rattle.coap_msg.specs.Reading.{reading_of}
 use Rattle.coap_msg.specs.Wire.{Message}
-use Rattle.coap_opts.specs.Verdict.{IsRefused, verdict}
+use Rattle.coap_opts.specs.Verdict.{Asked, IsAsked, IsRefused, verdict}
+use Rattle.fc_core.specs.Policies.{is_allowed}
 use Rattle.coap_reply.specs.Responses.{Response, sent_in}
 use Rattle.fc_registry.specs.declared.job.Job.{Job}
 use Rattle.fc_core.specs.declared.event.Event.{Event}
@@ -19,11 +20,22 @@ use Rattle.fc_core.specs.Replies.{Says}
 
 -- ---- refusals
 
--- the datagram is a request and no repeat, there is room for its exchange, and a check of its options refuses it by this code
+-- a request that passes each check of its options asks for another program in a slot, or for none, and its endpoint is no manager: 4.03 Forbidden
+pub record IsForbidden (s : Seen) (to : Endpoint) (m : Message) (answer : ℕ) : Type 0 where
+  pub asked : Asked
+  pub asks : verdict m ≡ IsAsked asked
+  pub allowed : is_allowed s.policy.managers to asked.action ≡ false
+  pub answer_is : answer ≡ 131
+
+-- a check of its options refuses a request by this code, or its endpoint is not allowed to send it
+abbrev pub IsRefusal : Seen → Endpoint → Message → ℕ → Type 0
+IsRefusal s to m answer = (verdict m ≡ IsRefused answer) ⊎ IsForbidden s to m answer
+
+-- the datagram is a request and no repeat, there is room for its exchange, and it is refused by this code
 pub record IsRefusedAnew (s : Seen) (now : ℕ) (to : Endpoint) (bytes : List ℕ) (m : Message) (answer : ℕ) : Type 0 where
   pub opens : IsOpening s now to bytes
   pub read : reading_of bytes ≡ Ok m
-  pub refuses : verdict m ≡ IsRefused answer
+  pub refuses : IsRefusal s to m answer
 
 -- the event delivers such a request
 abbrev pub Refuses : Seen → Event → Message → ℕ → Type 0

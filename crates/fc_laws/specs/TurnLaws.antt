@@ -33,21 +33,25 @@ abbrev pub response_of : Ticket → Response
 response_of t = ran_response (meaning_at t).code (cut_for t.block (meaning_at t).reply) t.serial true
 
 -- the emission is a notification of the entry that has this turn out at a moment: it goes to that entry's endpoint, with its token,
--- and is confirmable where 24 hours passed since its last that was
-pub record Notifies (turn : Turn) (id at : ℕ) (w : ObserverList) (response : Response) (e : Emission) : Type 0 where
+-- and is confirmable if so many ms passed since its last that was
+pub record Notifies (turn : Turn) (id at confirm_after : ℕ) (w : ObserverList) (response : Response) (e : Emission) : Type 0 where
   pub entry : ObserverEntry
   pub held : Contains w.held entry
   pub out : entry_out turn (at_moment at w) ≡ Some entry
   pub is : e ≡ sent_in (record {
     to = entry.endpoint;
-    kind = if nat_le (entry.confirmed + 86400000) at then Confirmable else NonConfirmable;
+    kind = if nat_le (entry.confirmed + confirm_after) at then Confirmable else NonConfirmable;
     id = id;
     token = entry.token.items;
   }) response
 
--- of an observer of the slot of this job
+-- a message of this type to an observer
+abbrev pub note_as : MessageType → ℕ → ObserverEntry → Response → Emission
+note_as kind id entry response = sent_in (record { to = entry.endpoint; kind = kind; id = id; token = entry.token.items }) response
+
+-- of an observer of the slot of this job, by the policy
 abbrev pub NotifiesOf : Seen → ℕ → ℕ → Turn → ℕ → Response → Emission → Type 0
-NotifiesOf s k now turn id response e = Notifies turn id (moment_at s k now) (watch s (slot_of s k)) response e
+NotifiesOf s k now turn id response e = Notifies turn id (moment_at s k now) s.policy.confirm_after (watch s (slot_of s k)) response e
 
 -- its turn, if it is this one, was given a window of 247,000 ms before, or earlier
 abbrev pub HasLapsed : Turn → ℕ → ObserverEntry → Type 0

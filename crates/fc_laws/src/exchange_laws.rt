@@ -29,18 +29,18 @@ pub fn repeats_do_nothing()
         → r.emitted ≡ repeat_emits r.event e }
 {}
 
-/// An event opens an exchange exactly where it delivers a request that is no repeat, and there is room for it: fewer than
-/// 1,024 exchanges were opened less than 247,000 ms before. It is of the delivery's endpoint, message id and type, and opened at
-/// the front's moment; none is ever lost.
+/// An event opens an exchange exactly where it delivers a request that is no repeat, and there is room for it: fewer exchanges than the policy's
+/// limit were opened less than 247,000 ms before, and fewer of its address than a share. It is of the delivery's endpoint, message id and type, and
+/// opened at the front's moment; none is ever lost.
 pub fn new_requests_open_exchanges()
     ensures opens { (r : Entry) (s : Seen) → Opens s r.event → OpensOne r s }
     ensures others { (r : Entry) (s : Seen) → (Opens s r.event → ⊥)
         → arrivals (and_then r s) ≡ arrivals s }
 {}
 
-/// A request that is no repeat and that finds no room, since 1,024 exchanges were opened less than 247,000 ms before, is answered 5.03
-/// (Service Unavailable), whose byte is 163. It opens no exchange, so that nothing of it is kept, brings no job, and adds no payload to a
-/// transfer.
+/// A request that is no repeat and that finds no place, since as many exchanges as the policy's limit were opened less than 247,000 ms before, is
+/// answered 5.03 (Service Unavailable), whose byte is 163, if its address is below its share. It opens no exchange, so that nothing of it is kept, brings no
+/// job, and adds no payload to a transfer.
 pub fn requests_without_room_are_unavailable()
     ensures exchanges { (r : Entry) (s : Seen) (m : Message) → FindsNoExchange s r.event m
         → (and_then r s).exchanges ≡ s.exchanges }

@@ -33,8 +33,13 @@
 //! - The serials that one observer is sent rise. What is sent goes to who is in the list. An observer stays in it unless it cancels,
 //!   resets, acknowledges nothing or is told anything but a 2.05, which removes it.
 //!
+//! - Only managers install and remove programs; a PUT or DELETE of another endpoint is refused by 4.03, and nothing else is. At each moment no more exchanges are
+//!   held than the policy's limit, and no more of an address than its share. A request above a share changes nothing; below it one finds a place if a
+//!   share of each address fits. By default each endpoint is a manager's, and no address is above its share.
+//! - A notification is confirmable exactly if the policy's time has passed since its observer's registration or last confirmable one, by default 86,400,000 ms.
+//!
 //! By the contracts of `laws`, `slot_laws`, `ask_laws`, `answer_laws`, `exchange_laws`, `body_laws`, `way_laws`, `reply_laws`,
-//! `response_laws`, `refusal_laws`, `observe_laws`, `shard_laws`, `turn_laws`.
+//! `response_laws`, `refusal_laws`, `observe_laws`, `policy_laws`, `shard_laws`, `turn_laws`.
 #![tactic(auto)]
 
 pub mod answer_laws;
@@ -43,6 +48,7 @@ pub mod body_laws;
 pub mod exchange_laws;
 pub mod laws;
 pub mod observe_laws;
+pub mod policy_laws;
 pub mod refusal_laws;
 pub mod reply_laws;
 pub mod response_laws;

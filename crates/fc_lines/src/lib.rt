@@ -1,17 +1,19 @@
-//! Text that the programs read and print: lines, numbers, hex digits, and emissions as `peer hex`.
+//! Text that the programs read and print: lines, numbers, hex digits, a server's policy, and emissions as `peer hex`.
 //!
 //! # What is proved
 //!
 //! - A line is read exactly where it has one of three forms: a datagram, a moment, or a moment with readings.
 //! - Numbers and hex digits are read exactly. An emission is written as `peer hex`.
+//! - A network is read exactly where it is an IPv4 address, a slash and 0 to 32, and a policy is that of its texts and limits.
 //!
-//! By the contracts of `line::parse`, `line::number`, `hexadecimal`, `emission::print`.
+//! By the contracts of `line::parse`, `line::number`, `hexadecimal`, `emission::print`, `policy::network`, `policy`.
 #![tactic(auto)]
 
 pub mod emission;
 pub mod hexadecimal;
 pub mod limit;
 pub mod line;
+pub mod policy;
 
 pub use limit::LineLimit;
 pub use line::{Line, LineError};

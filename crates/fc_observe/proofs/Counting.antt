@@ -69,7 +69,7 @@ sum_after m (Register now to token request szx serial) t n here new le = new
 sum_after m (Cancel to token) t n here new le = let less = sum_left m (is_entry_of to token) t.held in omega (arith, less, le)
 sum_after m (NextDue now noticed) t n here new le = let less = given_sum m (at_moment now t) noticed (gives_turn noticed (at_moment now t)) here in omega (arith, less, le)
 sum_after m (Miss turn) t n here new le = let less = sum_first m (is_out turn t) (λ o. missed o ∷ []) (λ o. let l = here o in omega (arith, l)) t.held in omega (arith, less, le)
-sum_after m (Notify now turn id serial random bytes) t n here new le = let less = sum_first m (is_out turn (at_moment now t)) (λ o. notified (max t.moment now) id serial random bytes o ∷ []) (λ o. let l = here o in omega (arith, l)) t.held in omega (arith, less, le)
+sum_after m (Notify now turn id serial random bytes) t n here new le = let less = sum_first m (is_out turn (at_moment now t)) (λ o. notified t.confirm_after (max t.moment now) id serial random bytes o ∷ []) (λ o. let l = here o in omega (arith, l)) t.held in omega (arith, less, le)
 sum_after m (End turn) t n here new le = let less = sum_first m (is_out turn t) (λ o. []) (λ o. omega arith) t.held in omega (arith, less, le)
 sum_after m (GiveUp turn now) t n here new le = let less = sum_first m (is_out turn (at_moment now t)) (λ o. given_up (max t.moment now) o ∷ []) (λ o. let l = here o in omega (arith, l)) t.held in omega (arith, less, le)
 sum_after m (Reset to id) t n here new le = let less = sum_left m (has_last_id to id) t.held in omega (arith, less, le)
@@ -98,11 +98,11 @@ few_added (Register now to token request szx serial) t le =
     omega (arith, few, sum)
 few_added other t le = tt
 
-pub at_most_32 : (slot : ℕ) (h : List ObserverCall) → length (observers slot h).held ≤ 32
-at_most_32 slot [] = omega arith
-at_most_32 slot (c ∷ h) =
-    let t = observers slot h in
-    let before = at_most_32 slot h in
+pub at_most_32 : (slot confirm_after : ℕ) (h : List ObserverCall) → length (observers slot confirm_after h).held ≤ 32
+at_most_32 slot confirm_after [] = omega arith
+at_most_32 slot confirm_after (c ∷ h) =
+    let t = observers slot confirm_after h in
+    let before = at_most_32 slot confirm_after h in
     let sum = length-sum t.held in
     let after = sum_after (λ (o : Entry). 1) c t 32 (λ o. omega arith) (few_added c t before) (omega (arith, before, sum)) in
     let all = length-sum (observers_after c t).held in
@@ -116,7 +116,7 @@ kept_key_by to own token now id serial random bytes o false = refl
 
 -- a call leaves an entry its endpoint and token
 pub kept_key : (to : Endpoint) (token : List ℕ) (c : ObserverCall) (t : ObserverList) (o : Entry) → is_entry_of to token (changed_by c t o) ≡ is_entry_of to token o
-kept_key to token (Notify now turn id serial random bytes) t o = kept_key_by to to token (max t.moment now) id serial random bytes o (must_confirm (max t.moment now) o)
+kept_key to token (Notify now turn id serial random bytes) t o = kept_key_by to to token (max t.moment now) id serial random bytes o (must_confirm t.confirm_after (max t.moment now) o)
 kept_key to token other t o = refl
 
 -- an entry of two keys shows that they are equal
@@ -165,9 +165,9 @@ one_added : (to : Endpoint) (token : List ℕ) (c : ObserverCall) (t : ObserverL
 one_added to token (Register now from own request szx serial) t le = entered_one to from token own.items (registration from own.items (at_moment now t)) (new_entry (max t.moment now) from own request szx serial) t.held refl le
 one_added to token other t le = tt
 
-pub one_of_key : (slot : ℕ) (h : List ObserverCall) (to : Endpoint) (token : List ℕ) → count_by (is_entry_of to token) (observers slot h).held ≤ 1
-one_of_key slot [] to token = omega arith
-one_of_key slot (c ∷ h) to token =
-    let t = observers slot h in
-    let before = one_of_key slot h to token in
+pub one_of_key : (slot confirm_after : ℕ) (h : List ObserverCall) (to : Endpoint) (token : List ℕ) → count_by (is_entry_of to token) (observers slot confirm_after h).held ≤ 1
+one_of_key slot confirm_after [] to token = omega arith
+one_of_key slot confirm_after (c ∷ h) to token =
+    let t = observers slot confirm_after h in
+    let before = one_of_key slot confirm_after h to token in
     sum_after (λ (o : Entry). cond (is_entry_of to token o) 1 0) c t 1 (λ o. let same = ap unit (kept_key to token c t o) in omega (arith, same)) (one_added to token c t before) before

@@ -83,26 +83,32 @@ moment_after (GiveUp turn now) t = max t.moment now
 moment_after (Tick now) t = max t.moment now
 moment_after other t = t.moment
 
--- the list after a call has the same slot, that moment, and no fewer turns
+-- the list after a call has the same slot, confirms after as long, has that moment, and no fewer turns
 record GoesOn (t after : ObserverList) (now : ℕ) : Type 0 where
   slot : after.slot ≡ t.slot
+  confirm_after : after.confirm_after ≡ t.confirm_after
   moment : after.moment ≡ now
   turns : t.turns ≤ after.turns
 
 goes_on_by : (t : ObserverList) (noticed : ℕ) (b : Bool) → GoesOn t (turn_given_by b noticed t) t.moment
-goes_on_by t noticed true = record { slot = refl; moment = refl; turns = omega arith }
-goes_on_by t noticed false = record { slot = refl; moment = refl; turns = omega arith }
+goes_on_by t noticed true = record { slot = refl; confirm_after = refl; moment = refl; turns = omega arith }
+goes_on_by t noticed false = record { slot = refl; confirm_after = refl; moment = refl; turns = omega arith }
 
 goes_on : (c : ObserverCall) (t : ObserverList) → GoesOn t (observers_after c t) (moment_after c t)
 goes_on (NextDue now noticed) t =
     let g = goes_on_by (at_moment now t) noticed (gives_turn noticed (at_moment now t)) in
-    record { slot = g.slot; moment = g.moment; turns = g.turns }
-goes_on other t = record { slot = refl; moment = refl; turns = omega arith }
+    record { slot = g.slot; confirm_after = g.confirm_after; moment = g.moment; turns = g.turns }
+goes_on other t = record { slot = refl; confirm_after = refl; moment = refl; turns = omega arith }
 
 -- so the slot is that of the list's `new`, and a list that was asked for a turn was handed the moment
-pub slot_is : (slot : ℕ) (h : List ObserverCall) → (observers slot h).slot ≡ slot
-slot_is slot [] = refl
-slot_is slot (c ∷ h) = let g = goes_on c (observers slot h) in g.slot ∙ slot_is slot h
+pub slot_is : (slot confirm_after : ℕ) (h : List ObserverCall) → (observers slot confirm_after h).slot ≡ slot
+slot_is slot confirm_after [] = refl
+slot_is slot confirm_after (c ∷ h) = let g = goes_on c (observers slot confirm_after h) in g.slot ∙ slot_is slot confirm_after h
+
+-- and it confirms after as long as that
+pub confirm_after_is : (slot confirm_after : ℕ) (h : List ObserverCall) → (observers slot confirm_after h).confirm_after ≡ confirm_after
+confirm_after_is slot confirm_after [] = refl
+confirm_after_is slot confirm_after (c ∷ h) = let g = goes_on c (observers slot confirm_after h) in g.confirm_after ∙ confirm_after_is slot confirm_after h
 
 pub moment_is : (now noticed : ℕ) (t : ObserverList) → (observers_after (NextDue now noticed) t).moment ≡ max t.moment now
 moment_is now noticed t = let g = goes_on (NextDue now noticed) t in g.moment
@@ -156,7 +162,7 @@ another turns k m lt =
 changed_over : (c : ObserverCall) (t : ObserverList) (k : ℕ) (o : Entry) → k < t.turns → is_out_in t.moment k o.phase ≡ false → is_out_in (moment_after c t) k (changed_by c t o).phase ≡ false
 changed_over (NextDue now noticed) t k o lt over = another t.turns k (max t.moment now) lt
 changed_over (Miss turn) t k o lt over = missed_over t.moment k o.phase over
-changed_over (Notify now turn id serial random bytes) t k o lt over = notified_in (max t.moment now) k (max t.moment now) id serial random bytes o (must_confirm (max t.moment now) o)
+changed_over (Notify now turn id serial random bytes) t k o lt over = notified_in (max t.moment now) k (max t.moment now) id serial random bytes o (must_confirm t.confirm_after (max t.moment now) o)
 changed_over (GiveUp turn now) t k o lt over = refl
 changed_over (Acknowledge to id) t k o lt over = acknowledged_over t.moment k o.phase over
 changed_over (Tick now) t k o lt over = resent_over (max t.moment now) (max t.moment now) k o.phase (stays_over t.moment (max t.moment now) k o.phase (omega arith) over)

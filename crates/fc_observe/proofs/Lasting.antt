@@ -32,7 +32,7 @@ missed_true n at missing other is = absurd (cc is)
 changed_missed : (c : ObserverCall) (t : ObserverList) (n : ℕ) (o : Entry) → n < t.turns → HasMissed n o → may_change c t o ≡ true → HasMissed n (changed_by c t o)
 changed_missed (NextDue now noticed) t n o lt w may = λ at missing is. let number : t.turns ≡ n = cc is in absurd (omega (arith, number, lt))
 changed_missed (Miss turn) t n o lt w may = λ at missing is. missed_true n at missing o.phase is
-changed_missed (Notify now turn id serial random bytes) t n o lt w may = λ at missing is. absurd (notified_out (max t.moment now) id serial random n at missing bytes o (must_confirm (max t.moment now) o) is)
+changed_missed (Notify now turn id serial random bytes) t n o lt w may = λ at missing is. absurd (notified_out (max t.moment now) id serial random n at missing bytes o (must_confirm t.confirm_after (max t.moment now) o) is)
 changed_missed (GiveUp turn now) t n o lt w may = λ at missing is. absurd (cc is)
 changed_missed (Acknowledge to id) t n o lt w may = λ at missing is. w at missing (acknowledged_out n at missing o.phase is)
 changed_missed (Tick now) t n o lt w may = λ at missing is. w at missing (resent_out (max t.moment now) n at missing o.phase is)
@@ -97,10 +97,10 @@ all_missed : (slot m : ℕ) (turn : Turn) (os : List Entry) → count_by (has_nu
 all_missed slot m turn [] le out = absurd (cc out)
 all_missed slot m turn (o ∷ os) le out = all_missed_by slot m turn o os (has_turn slot m turn o) refl le (all_missed slot m turn os) out
 
-pub missed_begin : (turn : Turn) (slot : ℕ) (h : List ObserverCall) → is_some (entry_out turn (observers slot h)) ≡ true → All (HasMissed turn.number) (observers slot (Miss turn ∷ h)).held
-missed_begin turn slot h out =
-    let t = observers slot h in
-    all_missed t.slot t.moment turn t.held (one_turn slot turn.number h) out
+pub missed_begin : (turn : Turn) (slot confirm_after : ℕ) (h : List ObserverCall) → is_some (entry_out turn (observers slot confirm_after h)) ≡ true → All (HasMissed turn.number) (observers slot confirm_after (Miss turn ∷ h)).held
+missed_begin turn slot confirm_after h out =
+    let t = observers slot confirm_after h in
+    all_missed t.slot t.moment turn t.held (one_turn slot confirm_after turn.number h) out
 
 -- ---- what it tells
 

@@ -45,10 +45,10 @@ own_entry o =
     let token : pointwise nat_eq o.token.items o.token.items ≡ true = (bytes_decides o.token.items o.token.items).1 refl in
     λ i. (ip i && port i) && token i
 
-pub observer_gone : (slot : ℕ) (turn : Turn) (o : Entry) (h : List ObserverCall) → entry_out turn (observers slot h) ≡ Some o → list_any (is_entry_of o.endpoint o.token.items) (observers slot (End turn ∷ h)).held ≡ false
-observer_gone slot turn o h out =
-    let t = observers slot h in
+pub observer_gone : (slot confirm_after : ℕ) (turn : Turn) (o : Entry) (h : List ObserverCall) → entry_out turn (observers slot confirm_after h) ≡ Some o → list_any (is_entry_of o.endpoint o.token.items) (observers slot confirm_after (End turn ∷ h)).held ≡ false
+observer_gone slot confirm_after turn o h out =
+    let t = observers slot confirm_after h in
     let p = is_entry_of o.endpoint o.token.items in
     let less = one_less p (is_out turn t) o t.held (own_entry o) out in
-    let few = one_of_key slot h o.endpoint o.token.items in
-    none_passes p (observers slot (End turn ∷ h)).held (omega (arith, less, few))
+    let few = one_of_key slot confirm_after h o.endpoint o.token.items in
+    none_passes p (observers slot confirm_after (End turn ∷ h)).held (omega (arith, less, few))

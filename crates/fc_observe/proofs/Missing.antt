@@ -60,13 +60,13 @@ found_new p (o ∷ os) all =
 abbrev NewIn : ℕ → Entry → Type 0
 NewIn n o = (at : ℕ) (missing : Bool) → o.phase ≡ TurnOut n at missing → missing ≡ false
 
-all_new : (slot now noticed : ℕ) (h : List ObserverCall) → All (NewIn (observers slot h).turns) (observers slot (NextDue now noticed ∷ h)).held
-all_new slot now noticed h =
-    let n = (observers slot h).turns in
-    all_after (OutBelow slot h) (NewIn n) (NextDue now noticed) (observers slot h)
+all_new : (slot confirm_after now noticed : ℕ) (h : List ObserverCall) → All (NewIn (observers slot confirm_after h).turns) (observers slot confirm_after (NextDue now noticed ∷ h)).held
+all_new slot confirm_after now noticed h =
+    let n = (observers slot confirm_after h).turns in
+    all_after (OutBelow slot confirm_after h) (NewIn n) (NextDue now noticed) (observers slot confirm_after h)
     (λ o below at missing out. let lt = (below n at missing out).0 in absurd (omega (arith, lt)))
     (λ o below may at missing out. cc out)
-    tt (all_below slot h)
+    tt (all_below slot confirm_after h)
 
 new_found : (slot m : ℕ) (turn : Turn) (os : List Entry) → All (NewIn turn.number) os → is_missing_by (find (has_turn slot m turn) os) ≡ false
 new_found slot m turn os all = found_new (has_turn slot m turn) os
@@ -81,9 +81,9 @@ number_of : (turn : Turn) (t : ObserverList) (b : Bool) → next_turn_by b t ≡
 number_of turn t true told = cc told
 number_of turn t false told = absurd (cc told)
 
-pub new_present : (slot now noticed : ℕ) (turn : Turn) (h : List ObserverCall) → next_turn noticed (at_moment now (observers slot h)) ≡ Some turn → is_missing turn (observers slot (NextDue now noticed ∷ h)) ≡ false
-new_present slot now noticed turn h told =
-    let before = at_moment now (observers slot h) in
-    let after = observers slot (NextDue now noticed ∷ h) in
+pub new_present : (slot confirm_after now noticed : ℕ) (turn : Turn) (h : List ObserverCall) → next_turn noticed (at_moment now (observers slot confirm_after h)) ≡ Some turn → is_missing turn (observers slot confirm_after (NextDue now noticed ∷ h)) ≡ false
+new_present slot confirm_after now noticed turn h told =
+    let before = at_moment now (observers slot confirm_after h) in
+    let after = observers slot confirm_after (NextDue now noticed ∷ h) in
     let number = number_of turn before (gives_turn noticed before) told in
-    new_found after.slot after.moment turn after.held (subst (λ (n : ℕ). All (NewIn n) after.held) number (all_new slot now noticed h))
+    new_found after.slot after.moment turn after.held (subst (λ (n : ℕ). All (NewIn n) after.held) number (all_new slot confirm_after now noticed h))

@@ -22,7 +22,7 @@ stays_empty (Cancel to token) t enters none = ap (without_those (is_entry_of to 
 stays_empty (NextDue now noticed) t enters none = given_none (at_moment now t) noticed (gives_turn noticed (at_moment now t)) none
 stays_empty (Miss turn) t enters none = ap (at_first (is_out turn t) (λ (o : Entry). missed o ∷ [])) none
 stays_empty (Notify now turn id serial random bytes) t enters none =
-    ap (at_first (is_out turn (at_moment now t)) (λ (o : Entry). notified (max t.moment now) id serial random bytes o ∷ [])) none
+    ap (at_first (is_out turn (at_moment now t)) (λ (o : Entry). notified t.confirm_after (max t.moment now) id serial random bytes o ∷ [])) none
 stays_empty (End turn) t enters none = ap (at_first (is_out turn t) (λ (o : Entry). [])) none
 stays_empty (GiveUp turn now) t enters none = ap (at_first (is_out turn (at_moment now t)) (λ (o : Entry). given_up (max t.moment now) o ∷ [])) none
 stays_empty (Reset to id) t enters none = ap (without_those (has_last_id to id)) none

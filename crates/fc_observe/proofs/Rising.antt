@@ -36,7 +36,7 @@ changed_from : (m : ℕ) (to : Endpoint) (token : List ℕ) (c : ObserverCall) (
 changed_from m to token (Notify now turn id serial random bytes) t o from above may = λ own.
     let before = from (sym (kept_key to token (Notify now turn id serial random bytes) t o) ∙ own) in
     let lt = above may in
-    let is = (notified_keeps (max t.moment now) id serial random bytes o (must_confirm (max t.moment now) o)).1 in
+    let is = (notified_keeps (max t.moment now) id serial random bytes o (must_confirm t.confirm_after (max t.moment now) o)).1 in
     omega (arith, before, lt, is)
 changed_from m to token other t o from above may = from
 
@@ -88,16 +88,16 @@ module _ (p q : Entry → Bool) (g : Entry → List Entry) (Q : Entry → Type 0
   only [] few found = absurd (cc found)
   only (o ∷ os) few found = only_by o os (q o) few (only os) found
 
-module _ (slot : ℕ) (turn : Turn) (h : List ObserverCall) (o : Entry) (to : Endpoint) (token : List ℕ) (own : is_entry_of to token o ≡ true) where
-  pub notified_from : (now id serial random : ℕ) (bytes : ArrayVec ℕ) → entry_out turn (at_moment now (observers slot h)) ≡ Some o → All (SentFrom serial to token) (observers slot (Notify now turn id serial random bytes ∷ h)).held
+module _ (slot confirm_after : ℕ) (turn : Turn) (h : List ObserverCall) (o : Entry) (to : Endpoint) (token : List ℕ) (own : is_entry_of to token o ≡ true) where
+  pub notified_from : (now id serial random : ℕ) (bytes : ArrayVec ℕ) → entry_out turn (at_moment now (observers slot confirm_after h)) ≡ Some o → All (SentFrom serial to token) (observers slot confirm_after (Notify now turn id serial random bytes ∷ h)).held
   notified_from now id serial random bytes out =
-      let t = at_moment now (observers slot h) in
-      let is = (notified_keeps t.moment id serial random bytes o (must_confirm t.moment o)).1 in
-      only (is_entry_of to token) (is_out turn t) (λ x. notified t.moment id serial random bytes x ∷ []) (λ (x : Entry). serial ≤ x.serial) o own
-      (All-cons (SentFrom serial to token) (notified t.moment id serial random bytes o) [] (λ e. omega (arith, is)) (All-nil (SentFrom serial to token)))
-      t.held (one_of_key slot h to token) out
+      let t = at_moment now (observers slot confirm_after h) in
+      let is = (notified_keeps t.moment id serial random bytes o (must_confirm t.confirm_after t.moment o)).1 in
+      only (is_entry_of to token) (is_out turn t) (λ x. notified t.confirm_after t.moment id serial random bytes x ∷ []) (λ (x : Entry). serial ≤ x.serial) o own
+      (All-cons (SentFrom serial to token) (notified t.confirm_after t.moment id serial random bytes o) [] (λ e. omega (arith, is)) (All-nil (SentFrom serial to token)))
+      t.held (one_of_key slot confirm_after h to token) out
 
-  pub ended_from : (m : ℕ) → entry_out turn (observers slot h) ≡ Some o → All (SentFrom m to token) (observers slot (End turn ∷ h)).held
+  pub ended_from : (m : ℕ) → entry_out turn (observers slot confirm_after h) ≡ Some o → All (SentFrom m to token) (observers slot confirm_after (End turn ∷ h)).held
   ended_from m out =
-      let t = observers slot h in
-      only (is_entry_of to token) (is_out turn t) (λ x. []) (λ (x : Entry). m ≤ x.serial) o own (All-nil (SentFrom m to token)) t.held (one_of_key slot h to token) out
+      let t = observers slot confirm_after h in
+      only (is_entry_of to token) (is_out turn t) (λ x. []) (λ (x : Entry). m ≤ x.serial) o own (All-nil (SentFrom m to token)) t.held (one_of_key slot confirm_after h to token) out

@@ -20,8 +20,8 @@ use Rattle.fc_observe.proofs.Keeping.{IfRegisters, all_after, come_from}
 abbrev pub IsGivenFor : ℕ → ℕ → ℕ → ℕ → Type 0
 IsGivenFor turns noticed n serial = (n < turns) × (serial < noticed)
 
-abbrev pub OutBelow : ℕ → List ObserverCall → Entry → Type 0
-OutBelow slot h o = (n at : ℕ) (missing : Bool) → o.phase ≡ TurnOut n at missing → IsGivenFor (observers slot h).turns (noticed_for n slot h) n o.serial
+abbrev pub OutBelow : ℕ → ℕ → List ObserverCall → Entry → Type 0
+OutBelow slot confirm_after h o = (n at : ℕ) (missing : Bool) → o.phase ≡ TurnOut n at missing → IsGivenFor (observers slot confirm_after h).turns (noticed_for n slot confirm_after h) n o.serial
 
 -- an older turn, where another may be given
 older_by : (t : ObserverList) (noticed n old serial : ℕ) (b : Bool) → n < t.turns → serial < old → IsGivenFor (turn_given_by b noticed t).turns (cond (b && (t.turns == n)) noticed old) n serial
@@ -30,11 +30,11 @@ older_by t noticed n old serial true lt below =
     (omega (arith, lt), subst (λ (b : Bool). serial < cond b noticed old) (sym other) below)
 older_by t noticed n old serial false lt below = (lt, below)
 
-stays_below : (slot : ℕ) (h : List ObserverCall) (c : ObserverCall) (o : Entry) → OutBelow slot h o → OutBelow slot (c ∷ h) o
-stays_below slot h (NextDue now noticed) o below = λ n at missing out.
+stays_below : (slot confirm_after : ℕ) (h : List ObserverCall) (c : ObserverCall) (o : Entry) → OutBelow slot confirm_after h o → OutBelow slot confirm_after (c ∷ h) o
+stays_below slot confirm_after h (NextDue now noticed) o below = λ n at missing out.
     let w = below n at missing out in
-    older_by (at_moment now (observers slot h)) noticed n (noticed_for n slot h) o.serial (gives_turn noticed (at_moment now (observers slot h))) w.0 w.1
-stays_below slot h other o below = below
+    older_by (at_moment now (observers slot confirm_after h)) noticed n (noticed_for n slot confirm_after h) o.serial (gives_turn noticed (at_moment now (observers slot confirm_after h))) w.0 w.1
+stays_below slot confirm_after h other o below = below
 
 -- the new turn
 newest : (t : ObserverList) (noticed old serial : ℕ) (b : Bool) → b ≡ true → serial < noticed → IsGivenFor (turn_given_by b noticed t).turns (cond (b && (t.turns == t.turns)) noticed old) t.turns serial
@@ -60,29 +60,29 @@ pub notified_out : (now id serial random n at : ℕ) (missing : Bool) (bytes : A
 notified_out now id serial random n at missing bytes o true out = cc out
 notified_out now id serial random n at missing bytes o false out = cc out
 
-changed_below : (slot : ℕ) (h : List ObserverCall) (c : ObserverCall) (o : Entry) → OutBelow slot h o → may_change c (observers slot h) o ≡ true → OutBelow slot (c ∷ h) (changed_by c (observers slot h) o)
-changed_below slot h (NextDue now noticed) o below may = λ n at missing out.
-    let t = at_moment now (observers slot h) in
+changed_below : (slot confirm_after : ℕ) (h : List ObserverCall) (c : ObserverCall) (o : Entry) → OutBelow slot confirm_after h o → may_change c (observers slot confirm_after h) o ≡ true → OutBelow slot confirm_after (c ∷ h) (changed_by c (observers slot confirm_after h) o)
+changed_below slot confirm_after h (NextDue now noticed) o below may = λ n at missing out.
+    let t = at_moment now (observers slot confirm_after h) in
     let w = and_parts (gives_turn noticed t) (is_due t.moment noticed o) may in
     let due = and_parts (nat_lt o.serial noticed) (is_free t.moment o.phase) w.1 in
     let lt = ltb-true o.serial noticed due.0 in
     let number : t.turns ≡ n = cc out in
-    subst (λ (k : ℕ). IsGivenFor (turn_given_by (gives_turn noticed t) noticed t).turns (cond (gives_turn noticed t && (t.turns == k)) noticed (noticed_for k slot h)) k o.serial) number
-    (newest t noticed (noticed_for t.turns slot h) o.serial (gives_turn noticed t) w.0 lt)
-changed_below slot h (Miss turn) o below may = λ n at missing out. let w = missed_out n at missing o.phase out in below n at w.0 w.1
-changed_below slot h (Notify now turn id serial random bytes) o below may = λ n at missing out. absurd (notified_out (max (observers slot h).moment now) id serial random n at missing bytes o (must_confirm (max (observers slot h).moment now) o) out)
-changed_below slot h (GiveUp turn now) o below may = λ n at missing out. absurd (cc out)
-changed_below slot h (Acknowledge to id) o below may = λ n at missing out. below n at missing (acknowledged_out n at missing o.phase out)
-changed_below slot h (Tick now) o below may = λ n at missing out. below n at missing (resent_out (max (observers slot h).moment now) n at missing o.phase out)
-changed_below slot h other o below may = absurd (cc may)
+    subst (λ (k : ℕ). IsGivenFor (turn_given_by (gives_turn noticed t) noticed t).turns (cond (gives_turn noticed t && (t.turns == k)) noticed (noticed_for k slot confirm_after h)) k o.serial) number
+    (newest t noticed (noticed_for t.turns slot confirm_after h) o.serial (gives_turn noticed t) w.0 lt)
+changed_below slot confirm_after h (Miss turn) o below may = λ n at missing out. let w = missed_out n at missing o.phase out in below n at w.0 w.1
+changed_below slot confirm_after h (Notify now turn id serial random bytes) o below may = λ n at missing out. absurd (notified_out (max (observers slot confirm_after h).moment now) id serial random n at missing bytes o (must_confirm (observers slot confirm_after h).confirm_after (max (observers slot confirm_after h).moment now) o) out)
+changed_below slot confirm_after h (GiveUp turn now) o below may = λ n at missing out. absurd (cc out)
+changed_below slot confirm_after h (Acknowledge to id) o below may = λ n at missing out. below n at missing (acknowledged_out n at missing o.phase out)
+changed_below slot confirm_after h (Tick now) o below may = λ n at missing out. below n at missing (resent_out (max (observers slot confirm_after h).moment now) n at missing o.phase out)
+changed_below slot confirm_after h other o below may = absurd (cc may)
 
-new_below : (slot : ℕ) (h : List ObserverCall) (c : ObserverCall) → IfRegisters (OutBelow slot (c ∷ h)) c (observers slot h)
-new_below slot h (Register now to token request szx serial) = λ n at missing out. absurd (cc out)
-new_below slot h other = tt
+new_below : (slot confirm_after : ℕ) (h : List ObserverCall) (c : ObserverCall) → IfRegisters (OutBelow slot confirm_after (c ∷ h)) c (observers slot confirm_after h)
+new_below slot confirm_after h (Register now to token request szx serial) = λ n at missing out. absurd (cc out)
+new_below slot confirm_after h other = tt
 
-pub all_below : (slot : ℕ) (h : List ObserverCall) → All (OutBelow slot h) (observers slot h).held
-all_below slot [] = All-nil (OutBelow slot [])
-all_below slot (c ∷ h) = all_after (OutBelow slot h) (OutBelow slot (c ∷ h)) c (observers slot h) (stays_below slot h c) (changed_below slot h c) (new_below slot h c) (all_below slot h)
+pub all_below : (slot confirm_after : ℕ) (h : List ObserverCall) → All (OutBelow slot confirm_after h) (observers slot confirm_after h).held
+all_below slot confirm_after [] = All-nil (OutBelow slot confirm_after [])
+all_below slot confirm_after (c ∷ h) = all_after (OutBelow slot confirm_after h) (OutBelow slot confirm_after (c ∷ h)) c (observers slot confirm_after h) (stays_below slot confirm_after h c) (changed_below slot confirm_after h c) (new_below slot confirm_after h c) (all_below slot confirm_after h)
 
 out_phase_by : (m k own at : ℕ) (b : Bool) → (own == k) ≡ b → (b && nat_lt m (at + 247000)) ≡ true → own ≡ k
 out_phase_by m k own at true e out = eqb-true own k e
@@ -93,16 +93,16 @@ pub out_phase : (m k : ℕ) (p : Phase) → is_out_in m k p ≡ true → (at : �
 out_phase m k (TurnOut own at missing) out = (at, missing, ap (λ (n : ℕ). TurnOut n at missing) (out_phase_by m k own at (own == k) refl out))
 out_phase m k other out = absurd (cc out)
 
-pub sent_above : (slot now : ℕ) (turn : Turn) (serial : ℕ) (h : List ObserverCall) → noticed_for turn.number slot h ≤ serial → All (λ (o : Entry). is_out turn (at_moment now (observers slot h)) o ≡ true → o.serial < serial) (observers slot h).held
-sent_above slot now turn serial h le =
-    let t = at_moment now (observers slot h) in
-    All-weaker (OutBelow slot h) (λ (o : Entry). is_out turn t o ≡ true → o.serial < serial)
+pub sent_above : (slot confirm_after now : ℕ) (turn : Turn) (serial : ℕ) (h : List ObserverCall) → noticed_for turn.number slot confirm_after h ≤ serial → All (λ (o : Entry). is_out turn (at_moment now (observers slot confirm_after h)) o ≡ true → o.serial < serial) (observers slot confirm_after h).held
+sent_above slot confirm_after now turn serial h le =
+    let t = at_moment now (observers slot confirm_after h) in
+    All-weaker (OutBelow slot confirm_after h) (λ (o : Entry). is_out turn t o ≡ true → o.serial < serial)
     (λ o below out.
     let w = and_parts (turn.slot == t.slot) (is_out_in t.moment turn.number o.phase) out in
     let p = out_phase t.moment turn.number o.phase w.1 in
     let lt = (below turn.number p.0 p.1 p.2).1 in
     omega (arith, lt, le))
-    (observers slot h).held (all_below slot h)
+    (observers slot confirm_after h).held (all_below slot confirm_after h)
 
 -- ---- what a call leaves of the last sent serial
 
@@ -112,7 +112,7 @@ notified_keeps now id serial random bytes o false = (refl, refl)
 
 changed_keeps : (c : ObserverCall) (t : ObserverList) (o : Entry) → may_change c t o ≡ true → KeepsSerial c t (changed_by c t o) o
 changed_keeps (Notify now turn id serial random bytes) t o may =
-    let w = notified_keeps (max t.moment now) id serial random bytes o (must_confirm (max t.moment now) o) in
+    let w = notified_keeps (max t.moment now) id serial random bytes o (must_confirm t.confirm_after (max t.moment now) o) in
     (w.0, inr (may, w.1))
 changed_keeps other t o may = (refl, inl refl)
 
@@ -138,7 +138,7 @@ notified_serial n now id serial random bytes o true le = le
 notified_serial n now id serial random bytes o false le = le
 
 changed_serial : (n : ℕ) (c : ObserverCall) (t : ObserverList) (o : Entry) → HandsInUpTo n c → o.serial ≤ n → (changed_by c t o).serial ≤ n
-changed_serial n (Notify now turn id serial random bytes) t o le below = notified_serial n (max t.moment now) id serial random bytes o (must_confirm (max t.moment now) o) le
+changed_serial n (Notify now turn id serial random bytes) t o le below = notified_serial n (max t.moment now) id serial random bytes o (must_confirm t.confirm_after (max t.moment now) o) le
 changed_serial n other t o le below = below
 
 pub serials_below : (n : ℕ) (c : ObserverCall) (t : ObserverList) → HandsInUpTo n c → All (λ (o : Entry). o.serial ≤ n) t.held → All (λ (o : Entry). o.serial ≤ n) (observers_after c t).held

@@ -161,7 +161,7 @@ module _ (to : Endpoint) (token : List ℕ) where
       (without_stays p (is_entry_of from own) t.held some)
   stays_or_goes (NextDue now noticed) t some = inl (given_stays (at_moment now t) noticed (gives_turn noticed (at_moment now t)) some)
   stays_or_goes (Miss turn) t some = inl (changed_stays p (is_out turn t) missed (λ o. refl) t.held some)
-  stays_or_goes (Notify now turn id serial random bytes) t some = inl (changed_stays p (is_out turn (at_moment now t)) (notified (max t.moment now) id serial random bytes) (kept_key to token (Notify now turn id serial random bytes) t) t.held some)
+  stays_or_goes (Notify now turn id serial random bytes) t some = inl (changed_stays p (is_out turn (at_moment now t)) (notified t.confirm_after (max t.moment now) id serial random bytes) (kept_key to token (Notify now turn id serial random bytes) t) t.held some)
   stays_or_goes (End turn) t some = ⊎_elim
       (λ (w : list_any p (at_first (is_out turn t) (λ o. []) t.held) ≡ true). inl w)
       (λ (w : (o : Entry) × (entry_out turn t ≡ Some o) × (p o ≡ true) × (false ≡ false)). inr (w.0, w.1, w.2))

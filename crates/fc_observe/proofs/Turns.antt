@@ -51,7 +51,7 @@ IfGivesNone n c t = (o : Entry) → turns_of n (changed_by c t o) ≤ turns_of n
 no_more_turns : (n : ℕ) (c : ObserverCall) (t : ObserverList) → IfGivesNone n c t
 no_more_turns n (NextDue now noticed) t = tt
 no_more_turns n (Miss turn) t = λ o. missed_number n o.phase
-no_more_turns n (Notify now turn id serial random bytes) t = λ o. notified_number n (max t.moment now) id serial random bytes o (must_confirm (max t.moment now) o)
+no_more_turns n (Notify now turn id serial random bytes) t = λ o. notified_number n (max t.moment now) id serial random bytes o (must_confirm t.confirm_after (max t.moment now) o)
 no_more_turns n (GiveUp turn now) t = λ o. omega arith
 no_more_turns n (Acknowledge to id) t = λ o. acknowledged_number n o.phase
 no_more_turns n (Tick now) t = λ o. resent_number n (max t.moment now) o.phase
@@ -105,16 +105,16 @@ number_below n turns (TurnOut own at missing) below same =
     ap unit (false_from_ne_true (own == n) (λ e. let is = eqb-true own n e in absurd (omega (arith, is, lt, same))))
 number_below n turns other below same = refl
 
-one_after : (n slot : ℕ) (h : List ObserverCall) (c : ObserverCall) → count_by (has_number n) (observers slot h).held ≤ 1 → count_by (has_number n) (observers slot (c ∷ h)).held ≤ 1
-one_after n slot h (NextDue now noticed) le =
-    let t = at_moment now (observers slot h) in
+one_after : (n slot confirm_after : ℕ) (h : List ObserverCall) (c : ObserverCall) → count_by (has_number n) (observers slot confirm_after h).held ≤ 1 → count_by (has_number n) (observers slot confirm_after (c ∷ h)).held ≤ 1
+one_after n slot confirm_after h (NextDue now noticed) le =
+    let t = at_moment now (observers slot confirm_after h) in
     given_number n t noticed (gives_turn noticed t) (t.turns == n) refl
-    (λ e. zero_sum (turns_of n) t.held (λ k d lt. number_below n t.turns _ (λ m at missing out. (all_below slot h k d lt m at missing out).0) (eqb-true t.turns n e))) le
-one_after n slot h other le = sum_after (turns_of n) other (observers slot h) 1 (no_more_turns n other (observers slot h)) (turns_added n other (observers slot h) le) le
+    (λ e. zero_sum (turns_of n) t.held (λ k d lt. number_below n t.turns _ (λ m at missing out. (all_below slot confirm_after h k d lt m at missing out).0) (eqb-true t.turns n e))) le
+one_after n slot confirm_after h other le = sum_after (turns_of n) other (observers slot confirm_after h) 1 (no_more_turns n other (observers slot confirm_after h)) (turns_added n other (observers slot confirm_after h) le) le
 
-pub one_turn : (slot number : ℕ) (h : List ObserverCall) → count_by (has_number number) (observers slot h).held ≤ 1
-one_turn slot number [] = omega arith
-one_turn slot number (c ∷ h) = one_after number slot h c (one_turn slot number h)
+pub one_turn : (slot confirm_after number : ℕ) (h : List ObserverCall) → count_by (has_number number) (observers slot confirm_after h).held ≤ 1
+one_turn slot confirm_after number [] = omega arith
+one_turn slot confirm_after number (c ∷ h) = one_after number slot confirm_after h c (one_turn slot confirm_after number h)
 
 -- ---- a turn that ends
 
@@ -157,24 +157,24 @@ out_numbered m k other true = omega arith
 one_out : (turn : Turn) (slot m : ℕ) (os : List Entry) → count_by (has_number turn.number) os ≤ 1 → count_by (has_turn slot m turn) os ≤ 1
 one_out turn slot m os le = let fewer = sum_by-le-sum_by (λ (o : Entry). unit (has_turn slot m turn o)) (turns_of turn.number) os (λ o. out_numbered m turn.number o.phase (turn.slot == slot)) in omega (arith, fewer, le)
 
-pub notified_over : (slot now id serial random : ℕ) (turn : Turn) (bytes : ArrayVec ℕ) (h : List ObserverCall) → entry_out turn (observers slot (Notify now turn id serial random bytes ∷ h)) ≡ None
-notified_over slot now id serial random turn bytes h =
-    let t = at_moment now (observers slot h) in
-    unfound (is_out turn t) (observers slot (Notify now turn id serial random bytes ∷ h)).held
-    (first_gone (is_out turn t) (λ o. notified t.moment id serial random bytes o ∷ [])
-    (λ o. let out = ap unit (and_right (turn.slot == t.slot) (is_out_in t.moment turn.number (notified t.moment id serial random bytes o).phase) (notified_in t.moment turn.number t.moment id serial random bytes o (must_confirm t.moment o))) in omega (arith, out))
-    t.held (one_out turn t.slot t.moment t.held (one_turn slot turn.number h)))
+pub notified_over : (slot confirm_after now id serial random : ℕ) (turn : Turn) (bytes : ArrayVec ℕ) (h : List ObserverCall) → entry_out turn (observers slot confirm_after (Notify now turn id serial random bytes ∷ h)) ≡ None
+notified_over slot confirm_after now id serial random turn bytes h =
+    let t = at_moment now (observers slot confirm_after h) in
+    unfound (is_out turn t) (observers slot confirm_after (Notify now turn id serial random bytes ∷ h)).held
+    (first_gone (is_out turn t) (λ o. notified t.confirm_after t.moment id serial random bytes o ∷ [])
+    (λ o. let out = ap unit (and_right (turn.slot == t.slot) (is_out_in t.moment turn.number (notified t.confirm_after t.moment id serial random bytes o).phase) (notified_in t.moment turn.number t.moment id serial random bytes o (must_confirm t.confirm_after t.moment o))) in omega (arith, out))
+    t.held (one_out turn t.slot t.moment t.held (one_turn slot confirm_after turn.number h)))
 
-pub ended_over : (slot : ℕ) (turn : Turn) (h : List ObserverCall) → entry_out turn (observers slot (End turn ∷ h)) ≡ None
-ended_over slot turn h =
-    let t = observers slot h in
-    unfound (is_out turn t) (observers slot (End turn ∷ h)).held
-    (first_gone (is_out turn t) (λ o. []) (λ o. refl) t.held (one_out turn t.slot t.moment t.held (one_turn slot turn.number h)))
+pub ended_over : (slot confirm_after : ℕ) (turn : Turn) (h : List ObserverCall) → entry_out turn (observers slot confirm_after (End turn ∷ h)) ≡ None
+ended_over slot confirm_after turn h =
+    let t = observers slot confirm_after h in
+    unfound (is_out turn t) (observers slot confirm_after (End turn ∷ h)).held
+    (first_gone (is_out turn t) (λ o. []) (λ o. refl) t.held (one_out turn t.slot t.moment t.held (one_turn slot confirm_after turn.number h)))
 
-pub given_up_over : (slot now : ℕ) (turn : Turn) (h : List ObserverCall) → entry_out turn (observers slot (GiveUp turn now ∷ h)) ≡ None
-given_up_over slot now turn h =
-    let t = at_moment now (observers slot h) in
-    unfound (is_out turn t) (observers slot (GiveUp turn now ∷ h)).held
+pub given_up_over : (slot confirm_after now : ℕ) (turn : Turn) (h : List ObserverCall) → entry_out turn (observers slot confirm_after (GiveUp turn now ∷ h)) ≡ None
+given_up_over slot confirm_after now turn h =
+    let t = at_moment now (observers slot confirm_after h) in
+    unfound (is_out turn t) (observers slot confirm_after (GiveUp turn now ∷ h)).held
     (first_gone (is_out turn t) (λ o. given_up t.moment o ∷ [])
     (λ o. let out = ap unit (and_right (turn.slot == t.slot) false refl) in omega (arith, out))
-    t.held (one_out turn t.slot t.moment t.held (one_turn slot turn.number h)))
+    t.held (one_out turn t.slot t.moment t.held (one_turn slot confirm_after turn.number h)))

@@ -45,8 +45,8 @@ after_calls [] t = t
 after_calls (c ∷ h) t = observers_after c (after_calls h t)
 
 -- the list after calls since its `new`
-abbrev pub observers : ℕ → List ObserverCall → ObserverList
-observers slot h = after_calls h (no_observers slot)
+abbrev pub observers : ℕ → ℕ → List ObserverCall → ObserverList
+observers slot confirm_after h = after_calls h (no_observers slot confirm_after)
 
 -- ---- what a call does to an entry
 
@@ -64,7 +64,7 @@ may_change other t o = false
 abbrev pub changed_by : ObserverCall → ObserverList → Entry → Entry
 changed_by (NextDue now noticed) t o = with_turn t.turns (max t.moment now) o
 changed_by (Miss turn) t o = missed o
-changed_by (Notify now turn id serial random bytes) t o = notified (max t.moment now) id serial random bytes o
+changed_by (Notify now turn id serial random bytes) t o = notified t.confirm_after (max t.moment now) id serial random bytes o
 changed_by (GiveUp turn now) t o = given_up (max t.moment now) o
 changed_by (Acknowledge to id) t o = acknowledged o
 changed_by (Tick now) t o = retransmitted (max t.moment now) o

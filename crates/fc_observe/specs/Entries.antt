@@ -80,13 +80,9 @@ given_up now o = record o { phase = GivenUp now }
 
 -- ---- notifications
 
--- 24 hours, in milliseconds
-abbrev pub confirmable_interval : ℕ
-confirmable_interval = 86400000
-
--- its next notification is confirmable
-abbrev pub must_confirm : ℕ → Entry → Bool
-must_confirm now o = nat_le (o.confirmed + confirmable_interval) now
+-- its next notification is confirmable: `confirm_after` ms passed since the last one that was
+abbrev pub must_confirm : ℕ → ℕ → Entry → Bool
+must_confirm confirm_after now o = nat_le (o.confirmed + confirm_after) now
 
 -- how long the first transmission is waited for, in milliseconds (RFC 7252, 4.2)
 abbrev pub first_timeout : ℕ → ℕ
@@ -98,9 +94,9 @@ notified_by true now id serial random bytes o =
     record o { serial = serial; id = Some id; confirmed = now; phase = Outstanding now (first_timeout random) 0 bytes }
 notified_by false now id serial random bytes o = record o { serial = serial; id = Some id; phase = Idle }
 
--- confirmable where 24 hours passed since the last confirmable one (RFC 7641, 4.5)
-abbrev pub notified : ℕ → ℕ → ℕ → ℕ → ArrayVec ℕ → Entry → Entry
-notified now id serial random bytes o = notified_by (must_confirm now o) now id serial random bytes o
+-- confirmable if `confirm_after` ms passed since the last confirmable one (RFC 7641, 4.5)
+abbrev pub notified : ℕ → ℕ → ℕ → ℕ → ℕ → ArrayVec ℕ → Entry → Entry
+notified confirm_after now id serial random bytes o = notified_by (must_confirm confirm_after now o) now id serial random bytes o
 
 -- an acknowledgement ends the wait, and nothing else
 abbrev pub acknowledged_phase : Phase → Phase

@@ -18,11 +18,13 @@ RegistersNone to token [] = Unit {0}
 RegistersNone to token (c ∷ h) = (is_registration_of to token c ≡ false) × RegistersNone to token h
 
 -- the noticed serial for which the turn of this number was given
-abbrev pub noticed_for : ℕ → ℕ → List ObserverCall → ℕ
-noticed_for number slot [] = 0
-noticed_for number slot (NextDue now noticed ∷ h) =
-    if gives_turn noticed (at_moment now (observers slot h)) && ((observers slot h).turns == number) then noticed else noticed_for number slot h
-noticed_for number slot (other ∷ h) = noticed_for number slot h
+abbrev pub noticed_for : ℕ → ℕ → ℕ → List ObserverCall → ℕ
+noticed_for number slot confirm_after [] = 0
+noticed_for number slot confirm_after (NextDue now noticed ∷ h) =
+    if gives_turn noticed (at_moment now (observers slot confirm_after h)) && ((observers slot confirm_after h).turns == number)
+    then noticed
+    else noticed_for number slot confirm_after h
+noticed_for number slot confirm_after (other ∷ h) = noticed_for number slot confirm_after h
 
 -- a confirmable notification of these bytes was sent at this moment, and its first transmission is waited for so long
 abbrev pub IsSentAt : ℕ → ℕ → ArrayVec ℕ → Entry → Type 0
@@ -84,15 +86,15 @@ abbrev pub IsNewAt : ObserverCall → ObserverList → Entry → Type 0
 IsNewAt (Register now to token request szx serial) t o = (o.id ≡ None) × (o.confirmed ≡ max t.moment now)
 IsNewAt other t o = ⊥
 
--- by a notification at a moment: the moment, where 24 hours have passed since, and else what it was
-abbrev pub confirmed_at : ℕ → ℕ → ℕ
-confirmed_at now before = if nat_le (before + 86400000) now then now else before
+-- by a notification at a moment: the moment, if `confirm_after` ms have passed since, and else what it was
+abbrev pub confirmed_at : ℕ → ℕ → ℕ → ℕ
+confirmed_at confirm_after now before = if nat_le (before + confirm_after) now then now else before
 
 -- an entry after a call is of the same observer, with the same last notification; it was notified by the call, or is as it was before
 -- a notification of another
 abbrev pub KeepsLast : ObserverCall → ObserverList → Entry → Entry → Type 0
 KeepsLast (Notify now turn id serial random bytes) t o before =
-    (o ≡ before) ⊎ ((is_out turn (at_moment now t) before ≡ true) × (interest_of o ≡ interest_of before) × (o.id ≡ Some id) × (o.confirmed ≡ confirmed_at (max t.moment now) before.confirmed))
+    (o ≡ before) ⊎ ((is_out turn (at_moment now t) before ≡ true) × (interest_of o ≡ interest_of before) × (o.id ≡ Some id) × (o.confirmed ≡ confirmed_at t.confirm_after (max t.moment now) before.confirmed))
 KeepsLast other t o before = (interest_of o ≡ interest_of before) × (o.id ≡ before.id) × (o.confirmed ≡ before.confirmed)
 
 -- ---- an acknowledgement

@@ -13,16 +13,18 @@ use Rattle.fc_observe.specs.declared.observers.Ticked.{Ticked}
 use Rattle.fc_observe.specs.declared.observers.Ticked.TheVariants.{Resend, Removed, Quiet}
 use Rattle.fc_observe.specs.Entries.{acknowledged, changed_if, given_up, has_last_id, has_missed, has_turn, is_due, is_entry_of, is_late, missed, must_confirm, new_entry, notified, retransmission, timed_out, with_turn}
 
--- the slot, the greatest moment handed in, how many turns were given, and the entries, in order of registration
+-- the slot, after how many ms a notification is confirmable again, the greatest moment handed in, how many turns were given, and the
+-- entries, in order of registration
 pub record ObserverList : Type 0 where
   pub slot : ℕ
+  pub confirm_after : ℕ
   pub moment : ℕ
   pub turns : ℕ
   pub held : List Entry
 
 -- a new list
-abbrev pub no_observers : ℕ → ObserverList
-no_observers slot = record { slot = slot; moment = 0; turns = 0; held = [] }
+abbrev pub no_observers : ℕ → ℕ → ObserverList
+no_observers slot confirm_after = record { slot = slot; confirm_after = confirm_after; moment = 0; turns = 0; held = [] }
 
 -- the clock is advanced, never backwards
 abbrev pub at_moment : ℕ → ObserverList → ObserverList
@@ -118,17 +120,17 @@ abbrev pub is_missing : Turn → ObserverList → Bool
 is_missing turn t = is_missing_by (entry_out turn t)
 
 -- whether the notification of a turn is confirmable; not where the turn is not out
-abbrev pub must_confirm_by : Option Entry → ℕ → Bool
-must_confirm_by None now = false
-must_confirm_by (Some o) now = must_confirm now o
+abbrev pub must_confirm_by : Option Entry → ℕ → ℕ → Bool
+must_confirm_by None confirm_after now = false
+must_confirm_by (Some o) confirm_after now = must_confirm confirm_after now o
 
 -- by the entry that has it
 abbrev pub must_confirm_turn : Turn → ObserverList → Bool
-must_confirm_turn turn t = must_confirm_by (entry_out turn t) t.moment
+must_confirm_turn turn t = must_confirm_by (entry_out turn t) t.confirm_after t.moment
 
 -- the turn ends by this notification
 abbrev pub turn_notified : Turn → ℕ → ℕ → ℕ → ArrayVec ℕ → ObserverList → ObserverList
-turn_notified turn id serial random bytes t = with_held (at_first (is_out turn t) (λ o. notified t.moment id serial random bytes o ∷ []) t.held) t
+turn_notified turn id serial random bytes t = with_held (at_first (is_out turn t) (λ o. notified t.confirm_after t.moment id serial random bytes o ∷ []) t.held) t
 
 -- the turn ends by the removal of its entry
 abbrev pub turn_ended : Turn → ObserverList → ObserverList

@@ -7,8 +7,9 @@ ghost use Rattle.fc_observe.specs.Views.{interest, interest_of};
 use coap_msg::{Datagram, Emission, Endpoint, Token, WINDOW};
 use fc_help::Request;
 
-/// After how long without a confirmable notification the next one is confirmable, in milliseconds: 24 hours (RFC 7641, 4.5).
-pub const CONFIRMABLE_INTERVAL: u64 = 86_400_000;
+/// The default time without a confirmable notification after which the next one is confirmable, in milliseconds: 24 hours, the most that RFC 7641,
+/// section 4.5 allows.
+pub const CONFIRM_AFTER: u64 = 86_400_000;
 
 /// The least time that the first transmission is waited for, in milliseconds: ACK_TIMEOUT (RFC 7252, 4.8).
 pub const ACK_TIMEOUT: u16 = 2000;
@@ -90,23 +91,22 @@ pub struct Observer<'a> {
     pub request: &'a Request,
     /// The size exponent of its Block2 option, if it had one.
     pub szx: Option<u8>,
-    /// Whether its notification is to be confirmable: 86,400,000 ms or more passed since the registration or the last confirmable
-    /// one (RFC 7641, 4.5).
+    /// Whether its notification is to be confirmable (RFC 7641, 4.5).
     pub confirmable: bool,
 }
 
 impl Entry {
     // The observer, at a moment of the list.
-    pub(crate) fn observer(&self, now: u64) -> Observer<'_>
+    pub(crate) fn observer(&self, confirm_after: u64, now: u64) -> Observer<'_>
         ensures interest { interest result ≡ interest_of self.now }
-        ensures confirmable { result.confirmable ≡ must_confirm now self.now }
+        ensures confirmable { result.confirmable ≡ must_confirm confirm_after now self.now }
     {
         Observer {
             endpoint: self.endpoint,
             token: &self.token,
             request: &self.request,
             szx: self.szx,
-            confirmable: self.must_confirm(now),
+            confirmable: self.must_confirm(confirm_after, now),
         }
     }
 
@@ -153,11 +153,11 @@ impl Entry {
         self.serial < noticed && is_free(now, &self.phase)
     }
 
-    // Whether its next notification is confirmable.
-    pub(crate) fn must_confirm(&self, now: u64) -> bool
-        ensures { result ≡ must_confirm now self.now }
+    // Whether its next notification is confirmable, where one is after so many milliseconds.
+    pub(crate) fn must_confirm(&self, confirm_after: u64, now: u64) -> bool
+        ensures { result ≡ must_confirm confirm_after now self.now }
     {
-        self.confirmed <= now && now - self.confirmed >= CONFIRMABLE_INTERVAL
+        self.confirmed <= now && now - self.confirmed >= confirm_after
     }
 
     // Whether its notification is outstanding, and its timeout is over.
@@ -215,10 +215,18 @@ impl Entry {
     }
 
     // Notes that it was sent a notification.
-    pub(crate) fn notify(&mut self, now: u64, id: u16, serial: u64, random: u16, bytes: &Datagram)
-        ensures { self.new ≡ notified now id serial random bytes.now self.old }
+    pub(crate) fn notify(
+        &mut self,
+        confirm_after: u64,
+        now: u64,
+        id: u16,
+        serial: u64,
+        random: u16,
+        bytes: &Datagram,
+    )
+        ensures { self.new ≡ notified confirm_after now id serial random bytes.now self.old }
     {
-        let confirmable = self.must_confirm(now);
+        let confirmable = self.must_confirm(confirm_after, now);
         self.serial = serial;
         self.id = Some(id);
         if confirmable {

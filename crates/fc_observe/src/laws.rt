@@ -8,7 +8,7 @@ ghost use Rattle.fc_help.specs.Request.{Request};
 ghost use Rattle.fc_observe.specs.Calls.{ComesFrom, IsRegisteredBy, ObserverCall, NextDue, Notify, Miss, End, GiveUp, after_calls, observers, observers_after};
 ghost use Rattle.fc_observe.specs.Entries.{given_up, is_due, is_entry_of, is_late, must_confirm, notified, retransmission, timed_out, with_turn};
 ghost use Rattle.fc_observe.specs.Laws.{HandsInUpTo, IsAcknowledged, IsGivenUpNow, IsNewAt, IsOutstanding, IsRegistrationOf, IsSentAt, IsTurnOut, KeepsLast, KeepsSerial, RegistersNone, StandsLast, has_number, noticed_for, resent_entry};
-ghost use Rattle.fc_observe.specs.Observers.{ObserverList, after_ack, after_reset, at_moment, cancelled, entry_out, is_missing, is_out, next_turn, registered, ticked, turn_given};
+ghost use Rattle.fc_observe.specs.Observers.{ObserverList, after_ack, after_reset, at_moment, cancelled, entry_out, is_missing, is_out, must_confirm_turn, next_turn, registered, ticked, turn_given};
 ghost use Rattle.fc_observe.specs.declared.entry.Entry.{Entry};
 ghost use Rattle.fc_observe.specs.declared.entry.Phase.TheVariants.{TurnOut};
 ghost use Rattle.fc_observe.specs.declared.entry.Turn.{Turn};
@@ -16,9 +16,9 @@ ghost use Rattle.fc_observe.specs.declared.observers.Ticked.TheVariants.{Resend}
 
 /// A slot has at most 32 observers, and at most one entry of an endpoint and token.
 pub fn entries_are_few()
-    ensures most { (slot : ℕ) (h : List ObserverCall) → length (observers slot h).held ≤ 32 }
-    ensures key { (slot : ℕ) (h : List ObserverCall) (to : Endpoint) (token : List ℕ) →
-        count_by (is_entry_of to token) (observers slot h).held ≤ 1 }
+    ensures most { (slot confirm_after : ℕ) (h : List ObserverCall) → length (observers slot confirm_after h).held ≤ 32 }
+    ensures key { (slot confirm_after : ℕ) (h : List ObserverCall) (to : Endpoint) (token : List ℕ) →
+        count_by (is_entry_of to token) (observers slot confirm_after h).held ≤ 1 }
 {}
 
 /// An observer is due exactly where it was last sent less than the noticed serial, none of its confirmable notifications is
@@ -31,24 +31,24 @@ pub fn observers_are_due()
 
 /// A turn is one observer's, and once its notification is sent, it is ended or given up, it is no longer out.
 pub fn turns_end_once()
-    ensures one { (slot number : ℕ) (h : List ObserverCall) →
-        count_by (has_number number) (observers slot h).held ≤ 1 }
-    ensures notified { (slot now id serial random : ℕ) (turn : Turn) (bytes : ArrayVec ℕ)
+    ensures one { (slot confirm_after number : ℕ) (h : List ObserverCall) →
+        count_by (has_number number) (observers slot confirm_after h).held ≤ 1 }
+    ensures notified { (slot confirm_after now id serial random : ℕ) (turn : Turn) (bytes : ArrayVec ℕ)
         (h : List ObserverCall) →
-        entry_out turn (observers slot (Notify now turn id serial random bytes ∷ h)) ≡ None }
-    ensures ended { (slot : ℕ) (turn : Turn) (h : List ObserverCall) →
-        entry_out turn (observers slot (End turn ∷ h)) ≡ None }
-    ensures given_up { (slot now : ℕ) (turn : Turn) (h : List ObserverCall) →
-        entry_out turn (observers slot (GiveUp turn now ∷ h)) ≡ None }
+        entry_out turn (observers slot confirm_after (Notify now turn id serial random bytes ∷ h)) ≡ None }
+    ensures ended { (slot confirm_after : ℕ) (turn : Turn) (h : List ObserverCall) →
+        entry_out turn (observers slot confirm_after (End turn ∷ h)) ≡ None }
+    ensures given_up { (slot confirm_after now : ℕ) (turn : Turn) (h : List ObserverCall) →
+        entry_out turn (observers slot confirm_after (GiveUp turn now ∷ h)) ≡ None }
 {}
 
 /// Once the taking of a turn that is out found the slot empty, the turn is missing; a new turn isn't.
 pub fn turns_keep_what_they_missed()
     ensures missed { (turn : Turn) (t : ObserverList) → is_some (entry_out turn t) ≡ true →
         is_missing turn (observers_after (Miss turn) t) ≡ true }
-    ensures new { (slot now noticed : ℕ) (turn : Turn) (h : List ObserverCall) →
-        next_turn noticed (at_moment now (observers slot h)) ≡ Some turn →
-        is_missing turn (observers slot (NextDue now noticed ∷ h)) ≡ false }
+    ensures new { (slot confirm_after now noticed : ℕ) (turn : Turn) (h : List ObserverCall) →
+        next_turn noticed (at_moment now (observers slot confirm_after h)) ≡ Some turn →
+        is_missing turn (observers slot confirm_after (NextDue now noticed ∷ h)) ≡ false }
 {}
 
 /// Each entry after a call was there before it, as it is or changed as the call says, or is registered by it.
@@ -60,9 +60,9 @@ pub fn entries_come_from_entries()
 /// A late confirmable notification is sent again, the same bytes to the same endpoint: t, then 2t, 4t and 8t milliseconds after it
 /// was last sent, t being 2,000 to 3,000; and 16t after the fourth time its observer is removed.
 pub fn notifications_are_retransmitted()
-    ensures sent { (now id serial random : ℕ) (bytes : ArrayVec ℕ) (o : Entry) →
-        must_confirm now o ≡ true →
-        IsSentAt now (2000 + random % 1001) bytes (notified now id serial random bytes o) }
+    ensures sent { (confirm_after now id serial random : ℕ) (bytes : ArrayVec ℕ) (o : Entry) →
+        must_confirm confirm_after now o ≡ true →
+        IsSentAt now (2000 + random % 1001) bytes (notified confirm_after now id serial random bytes o) }
     ensures first { (later s t : ℕ) (bytes : ArrayVec ℕ) (o : Entry) → IsSentAt s t bytes o →
         is_late later o ≡ nat_le (s + t) later }
     ensures second { (later s t a : ℕ) (bytes : ArrayVec ℕ) (o : Entry) → IsSentAt s t bytes o →
@@ -129,10 +129,10 @@ pub fn serials_rise()
     ensures kept { (c : ObserverCall) (t : ObserverList) →
         All (λ (o : Entry). IsRegisteredBy c t o ⊎ Any (KeepsSerial c t o) t.held)
         (observers_after c t).held }
-    ensures above { (slot now : ℕ) (turn : Turn) (serial : ℕ) (h : List ObserverCall) →
-        noticed_for turn.number slot h ≤ serial →
-        All (λ (o : Entry). is_out turn (at_moment now (observers slot h)) o ≡ true →
-        o.serial < serial) (observers slot h).held }
+    ensures above { (slot confirm_after now : ℕ) (turn : Turn) (serial : ℕ) (h : List ObserverCall) →
+        noticed_for turn.number slot confirm_after h ≤ serial →
+        All (λ (o : Entry). is_out turn (at_moment now (observers slot confirm_after h)) o ≡ true →
+        o.serial < serial) (observers slot confirm_after h).held }
 {}
 
 /// No observer was sent a serial above those that are handed in: where none was sent more than n, none was after a call that hands
@@ -151,12 +151,17 @@ pub fn the_first_due_gets_the_turn()
         (turn_given noticed t).held ≡ before ++ with_turn t.turns t.moment o ∷ after }
 {}
 
-/// An entry's message id is that of its last notification; there is none before the first. A notification is confirmable exactly where
-/// 86,400,000 ms or more have passed since the entry's registration, or since its last confirmable notification where there was one.
+/// An entry's message id is that of its last notification; there is none before the first. A notification is confirmable exactly if
+/// `confirm_after` ms or more have passed since the entry's registration, or since its last confirmable notification if there was one. A list keeps
+/// the `confirm_after` that it began with.
 pub fn entries_keep_their_last_notification()
     ensures kept { (c : ObserverCall) (t : ObserverList) →
         All (λ (o : Entry). IsNewAt c t o ⊎ Any (KeepsLast c t o) t.held) (observers_after c t).held }
-    ensures confirmable { (now : ℕ) (o : Entry) → must_confirm now o ≡ nat_le (o.confirmed + 86400000) now }
+    ensures confirmable { (confirm_after now : ℕ) (o : Entry) →
+        ((must_confirm confirm_after now o ≡ true) ↔ (o.confirmed + confirm_after ≤ now)) }
+    ensures turn { (turn : Turn) (t : ObserverList) (o : Entry) → entry_out turn t ≡ Some o →
+        must_confirm_turn turn t ≡ must_confirm t.confirm_after t.moment o }
+    ensures same { (slot confirm_after : ℕ) (h : List ObserverCall) → (observers slot confirm_after h).confirm_after ≡ confirm_after }
 {}
 
 /// An Acknowledgement ends the wait of the entries whose last notification it answers, and changes nothing else.
@@ -201,7 +206,7 @@ pub fn late_notifications_are_sent_again()
 
 /// The end of a turn removes the observer that has it out: no entry of its endpoint and token is left.
 pub fn ended_turns_remove_their_observer()
-    ensures { (slot : ℕ) (turn : Turn) (o : Entry) (h : List ObserverCall) →
-        entry_out turn (observers slot h) ≡ Some o →
-        list_any (is_entry_of o.endpoint o.token.items) (observers slot (End turn ∷ h)).held ≡ false }
+    ensures { (slot confirm_after : ℕ) (turn : Turn) (o : Entry) (h : List ObserverCall) →
+        entry_out turn (observers slot confirm_after h) ≡ Some o →
+        list_any (is_entry_of o.endpoint o.token.items) (observers slot confirm_after (End turn ∷ h)).held ≡ false }
 {}

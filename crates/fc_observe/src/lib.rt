@@ -61,7 +61,7 @@
 //!   after 247,000 ms. While it is out, a turn keeps that its taking found the slot empty.
 //! - Each entry after a call was there before it, as it is or changed as the call says, or is registered by it. Its message id is that of
 //!   its last notification.
-//! - A notification is confirmable where 86,400,000 ms have passed since its observer's registration or last confirmable one. A confirmable one
+//! - A notification is confirmable exactly if the list's `confirm_after` has passed since its observer's registration or last confirmable one. A confirmable one
 //!   is sent again after t, 2t, 4t and 8t, the same bytes, t being 2,000 to 3,000 ms, and 16t later its observer is removed. A tick sends the first
 //!   that is late.
 //! - An acknowledgement ends the wait of just those whose last notification it answers; a reset removes just those. Who was removed hears
@@ -78,5 +78,5 @@ pub mod entry;
 pub mod laws;
 pub mod observers;
 
-pub use entry::{Entry, Observer, Phase, Turn};
+pub use entry::{CONFIRM_AFTER, Entry, Observer, Phase, Turn};
 pub use observers::{Observers, Registered, Ticked};

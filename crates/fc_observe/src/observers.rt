@@ -43,6 +43,7 @@ pub enum Ticked {
 #[derive(Drop)]
 pub struct Observers {
     slot: u8,
+    confirm_after: u64,
     moment: u64,
     turns: u64,
     held: Vec<Entry>,
@@ -60,6 +61,7 @@ impl Model for Observers {
 
     ghost view = { λ x. record {
       slot = x.slot;
+      confirm_after = x.confirm_after;
       moment = x.moment;
       turns = x.turns;
       held = x.held.items;
@@ -70,15 +72,17 @@ impl Model for Observers {
 }
 
 impl Observers {
-    /// Makes a slot's list of no observer, with room for 32 (RFC 7641, 4.1).
+    /// Makes a slot's list of no observer, with room for 32 (RFC 7641, 4.1). A notification is confirmable if `confirm_after` milliseconds have passed
+    /// since its observer's registration or last confirmable one; RFC 7641, section 4.5 allows 24 hours at most.
     ///
     /// # Errors
     /// There was no memory for them.
-    pub fn new(alloc: Global, slot: u8) -> Result<Observers, AllocError>
-        ensures { IfOk result (λ x. x ≡ no_observers slot) }
+    pub fn new(alloc: Global, slot: u8, confirm_after: u64) -> Result<Observers, AllocError>
+        ensures { IfOk result (λ x. x ≡ no_observers slot confirm_after) }
     {
         Ok(Observers {
             slot,
+            confirm_after,
             moment: 0,
             turns: 0,
             held: Vec::with_capacity(alloc, OBSERVERS)?,
@@ -184,7 +188,7 @@ impl Observers {
         ensures confirmable { IfSome result (λ o. o.confirmable ≡ must_confirm_turn turn self.now) }
     {
         let place = self.at(turn)?;
-        Some(self.held[place].observer(self.moment))
+        Some(self.held[place].observer(self.confirm_after, self.moment))
     }
 
     // The place of the entry whose turn this is, where it is out.
@@ -222,13 +226,13 @@ impl Observers {
         }
     }
 
-    /// Returns whether the notification of this turn is to be confirmable (RFC 7641, 4.5): 86,400,000 ms or more passed since the registration or the
-    /// last confirmable one (RFC 7641, 4.5). Not where the turn isn't out.
+    /// Returns whether the notification of this turn is to be confirmable (RFC 7641, 4.5): `confirm_after` or more passed since the registration or the
+    /// last confirmable one. Not where the turn isn't out.
     pub fn must_confirm(&self, turn: Turn) -> bool
         ensures { result ≡ must_confirm_turn turn self.now }
     {
         match self.at(turn) {
-            Some(place) => self.held[place].must_confirm(self.moment),
+            Some(place) => self.held[place].must_confirm(self.confirm_after, self.moment),
             None => false,
         }
     }
@@ -259,7 +263,7 @@ impl Observers {
         self.advance(now);
         if let Some(place) = self.at(turn) {
             self.quiet_until = 0;
-            self.held[place].notify(self.moment, id, serial, random, bytes);
+            self.held[place].notify(self.confirm_after, self.moment, id, serial, random, bytes);
         }
     }
 

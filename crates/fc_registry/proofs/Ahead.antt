@@ -132,11 +132,11 @@ module _ (slots : List Slot) (watches : List ObserverList) (p : ℕ) (few : leng
   pub sent_written : (s : Slot) (w : ObserverList) → IsSentUpTo s.serial w → AreSentUpTo (set slots p s) (set watches p w)
   sent_written s w up k =
       ⊎_elim
-      (λ (same : k ≡ p). subst (λ (j : ℕ). IsSentUpTo (get_or (set slots p s) j (new_slot 0)).serial (get_or (set watches p w) j (no_observers 0))) (sym same)
-      (subst (λ (v : ObserverList). IsSentUpTo (get_or (set slots p s) p (new_slot 0)).serial v) (sym (get_or-set_same watches p w (no_observers 0) (omega (arith, eight, lt))))
+      (λ (same : k ≡ p). subst (λ (j : ℕ). IsSentUpTo (get_or (set slots p s) j (new_slot 0)).serial (get_or (set watches p w) j (no_observers 0 0))) (sym same)
+      (subst (λ (v : ObserverList). IsSentUpTo (get_or (set slots p s) p (new_slot 0)).serial v) (sym (get_or-set_same watches p w (no_observers 0 0) (omega (arith, eight, lt))))
       (subst (λ (t : Slot). IsSentUpTo t.serial w) (sym (get_or-set_same slots p s (new_slot 0) (omega (arith, few, lt)))) up)))
-      (λ (other : k ≡ p → ⊥). subst (λ (v : ObserverList). IsSentUpTo (get_or (set slots p s) k (new_slot 0)).serial v) (sym (get_or-set_other watches p k w (no_observers 0) other))
-      (subst (λ (t : Slot). IsSentUpTo t.serial (get_or watches k (no_observers 0))) (sym (get_or-set_other slots p k s (new_slot 0) other)) (sent k)))
+      (λ (other : k ≡ p → ⊥). subst (λ (v : ObserverList). IsSentUpTo (get_or (set slots p s) k (new_slot 0)).serial v) (sym (get_or-set_other watches p k w (no_observers 0 0) other))
+      (subst (λ (t : Slot). IsSentUpTo t.serial (get_or watches k (no_observers 0 0))) (sym (get_or-set_other slots p k s (new_slot 0) other)) (sent k)))
       (cases_eq k p)
 
   -- its observers alone are others
@@ -145,15 +145,15 @@ module _ (slots : List Slot) (watches : List ObserverList) (p : ℕ) (few : leng
 
   -- the slot alone is another
   pub sent_at : (s : Slot) → (get_or slots p (new_slot 0)).serial ≤ s.serial → AreSentUpTo (set slots p s) watches
-  sent_at s le = subst (λ (ws : List ObserverList). AreSentUpTo (set slots p s) ws) (set-get_or watches p (no_observers 0)) (sent_written s (get_or watches p (no_observers 0)) (sent_more (get_or slots p (new_slot 0)).serial s.serial (get_or watches p (no_observers 0)) le (sent p)))
+  sent_at s le = subst (λ (ws : List ObserverList). AreSentUpTo (set slots p s) ws) (set-get_or watches p (no_observers 0 0)) (sent_written s (get_or watches p (no_observers 0 0)) (sent_more (get_or slots p (new_slot 0)).serial s.serial (get_or watches p (no_observers 0 0)) le (sent p)))
 
 -- what stands at a place, as it is seen
 module _ (items : List SlotState) (watches : List ObserverList) (p : ℕ) (few : length items ≡ 8) (eight : length watches ≡ 8) (lt : p < 8) (sent : AreSentUpTo (map as_seen items) watches) where
   seen_few : length (map as_seen items) ≡ 8
   seen_few = length-map items as_seen ∙ few
 
-  there : (was : ObserverList) → was ≡ get_or watches p was → was ≡ get_or watches p (no_observers 0)
-  there was is = is ∙ get_or_default watches p was (no_observers 0) (omega (arith, lt, eight))
+  there : (was : ObserverList) → was ≡ get_or watches p was → was ≡ get_or watches p (no_observers 0 0)
+  there was is = is ∙ get_or_default watches p was (no_observers 0 0) (omega (arith, lt, eight))
 
   pub slot_there : (was : SlotState) → was ≡ get_or items p was → as_seen was ≡ get_or (map as_seen items) p (new_slot 0)
   slot_there was is = ap as_seen is ∙ sym (get_or-map as_seen items p was (new_slot 0) (omega (arith, lt, few)))
@@ -168,13 +168,13 @@ module _ (items : List SlotState) (watches : List ObserverList) (p : ℕ) (few :
 
   pub both_sent : (was now : SlotState) (v w : ObserverList) → was ≡ get_or items p was → v ≡ get_or watches p v → (IsSentUpTo (as_seen was).serial v → IsSentUpTo (as_seen now).serial w) → AreSentUpTo (map as_seen (set items p now)) (set watches p w)
   both_sent was now v w is held keeps =
-      let old = subst (λ (s : Slot). IsSentUpTo s.serial (get_or watches p (no_observers 0))) (sym (slot_there was is)) (sent p) in
+      let old = subst (λ (s : Slot). IsSentUpTo s.serial (get_or watches p (no_observers 0 0))) (sym (slot_there was is)) (sent p) in
       subst (λ (xs : List Slot). AreSentUpTo xs (set watches p w)) (sym (map-set as_seen items p now))
       (sent_written (map as_seen items) watches p seen_few eight lt sent (as_seen now) w (keeps (subst (IsSentUpTo (as_seen was).serial) (sym (there v held)) old)))
 
 -- ---- every place
 
-pub mapped_at : (f : ObserverList → ObserverList) (P : ObserverList → Type 0) (ws : List ObserverList) (k : ℕ) → ((w : ObserverList) → P w → P (f w)) → P (no_observers 0) → P (get_or ws k (no_observers 0)) → P (get_or (map f ws) k (no_observers 0))
+pub mapped_at : (f : ObserverList → ObserverList) (P : ObserverList → Type 0) (ws : List ObserverList) (k : ℕ) → ((w : ObserverList) → P w → P (f w)) → P (no_observers 0 0) → P (get_or ws k (no_observers 0 0)) → P (get_or (map f ws) k (no_observers 0 0))
 mapped_at f P [] k keeps none was = none
 mapped_at f P (w ∷ ws) zero keeps none was = keeps w was
 mapped_at f P (w ∷ ws) (suc k) keeps none was = mapped_at f P ws k keeps none was
@@ -189,17 +189,17 @@ abbrev AreNew : List ObserverList → Type 0
 AreNew [] = Unit {0}
 AreNew (w ∷ ws) = (w.held ≡ []) × AreNew ws
 
-new_held : (ws : List ObserverList) (k : ℕ) → AreNew ws → (get_or ws k (no_observers 0)).held ≡ []
+new_held : (ws : List ObserverList) (k : ℕ) → AreNew ws → (get_or ws k (no_observers 0 0)).held ≡ []
 new_held [] k new = refl
 new_held (w ∷ ws) zero new = new.0
 new_held (w ∷ ws) (suc k) new = new_held ws k new.1
 
 -- a new shard has no observers
-pub none_new : (index k : ℕ) → (get_or (new_watches index 8) k (no_observers 0)).held ≡ []
-none_new index k = new_held (new_watches index 8) k (refl, (refl, (refl, (refl, (refl, (refl, (refl, (refl, tt))))))))
+pub none_new : (index confirm_after k : ℕ) → (get_or (new_watches index confirm_after 8) k (no_observers 0 0)).held ≡ []
+none_new index confirm_after k = new_held (new_watches index confirm_after 8) k (refl, (refl, (refl, (refl, (refl, (refl, (refl, (refl, tt))))))))
 
 -- they were sent nothing
-pub none_sent : (slots : List Slot) (index : ℕ) → AreSentUpTo slots (new_watches index 8)
-none_sent slots index k =
+pub none_sent : (slots : List Slot) (index confirm_after : ℕ) → AreSentUpTo slots (new_watches index confirm_after 8)
+none_sent slots index confirm_after k =
     let n = (get_or slots k (new_slot 0)).serial in
-    subst (λ (os : List Entry). All (λ (o : Entry). o.serial ≤ n) os) (sym (none_new index k)) (All-nil (λ (o : Entry). o.serial ≤ n))
+    subst (λ (os : List Entry). All (λ (o : Entry). o.serial ≤ n) os) (sym (none_new index confirm_after k)) (All-nil (λ (o : Entry). o.serial ≤ n))

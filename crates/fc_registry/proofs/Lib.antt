@@ -11,3 +11,4 @@ pub mod Endings
 mod Quiet
 pub mod Watched
 pub mod Asked
+pub mod Plans

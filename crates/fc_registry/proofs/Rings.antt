@@ -1,6 +1,6 @@
 -- The ring of a slot after a change.
 use Rattle.std.proofs.Common.{◌≡◌, ℕ, ◌+◌, ◌-◌, ◌<◌, ◌≤◌, List, [], ◌∷◌, ◌++◌, length, map, set, get_or, drop, replicate, Bool, true, false, Option, Some, None, refl, sym, ap, ◌∙◌, subst, arith, ⊎_elim, length-append}
-use Rattle.std.specs.Prelude.{nat_lt, ◌==◌, ◌&&◌}
+use Rattle.std.specs.Prelude.{nat_lt, ◌==◌, ◌&&◌, Result, Ok, Err, OnOk, OnErr}
 use Rattle.std.specs.List.{All}
 use Rattle.std.proofs.lemmas.Bool.{cases_lt, cases_eq, eqb-true}
 use Rattle.std.proofs.lemmas.List.{get_or-set_same, get_or-set_other, get_or-map, get_or-replicate, length-map, length-replicate, length-set}
@@ -8,10 +8,13 @@ use Rattle.circular_buffer.specs.Buffer.{keep_last}
 use Rattle.fc_kinds.specs.Meaning.{Program, input_with, meant}
 use Rattle.fc_machine.specs.Ran.{Ran}
 use Rattle.fc_observe.specs.Observers.{ObserverList}
+use Rattle.fc_store.specs.Stored.{StoredProgram}
+use Rattle.fc_registry.specs.Plans.{IsProgramState}
+use Rattle.fc_registry.specs.declared.body.Body.{Body}
 use Rattle.fc_registry.specs.declared.slot.SlotState.{SlotState}
 use Rattle.fc_registry.specs.declared.commit.Committed.{Committed as Answer}
 use Rattle.fc_registry.specs.declared.commit.Committed.TheVariants.{Done, Overtaken, Ended, Stranger}
-use Rattle.fc_registry.specs.Views.{as_seen}
+use Rattle.fc_registry.specs.Views.{as_seen, present_of}
 use Rattle.fc_registry.specs.declared.commit.CommitOutcome.{CommitOutcome}
 use Rattle.fc_registry.specs.declared.commit.CommitOutcome.TheVariants.{Writes, Keeps, Overtakes, Ends}
 use Rattle.fc_help.specs.declared.request.Method.{Method}
@@ -20,7 +23,7 @@ use Rattle.fc_registry.specs.Calls.{IsCommit, IsOwnCommit, ComesTo, IsCurrent, c
 use Rattle.fc_registry.specs.declared.ring.Entry.{Entry}
 use Rattle.fc_registry.specs.Slots.{Slot, Present, Ticket, new_slot, last_serial}
 use Rattle.fc_registry.specs.Changes.{Change, Installed, Committed, Removed, Commit, after_changes, changed, with_vars, entry_of}
-use Rattle.fc_registry.specs.Record.{IsLink, IsChain, IsEntry, AreEntries, left_by, HasRing, HasRingIf, IsRing, code_class}
+use Rattle.fc_registry.specs.Record.{IsLink, IsChain, IsEntry, AreEntries, left_by, HasRecordIf, HasRing, HasRingIf, HasRingSince, IsRecord, IsRing, code_class}
 
 -- one more entry, that begins with what the others left
 entries_more : (p : Program) (serial : ℕ) (vars : List ℕ) (es : List Entry) (e : Entry) → AreEntries p serial vars es → IsEntry p (serial + length es) (left_by vars es) e → AreEntries p serial vars (es ++ e ∷ [])
@@ -47,48 +50,76 @@ abbrev with_after : Present → Commit → Present
 with_after p c = record p { vars = c.after }
 
 -- a ring that has room for one more
-short : (p : Present) (serial : ℕ) (c : Commit) (ring : List Entry) → length ring < 8 → IsEntry p.program (serial + 1) p.vars (entry_of (serial + 1) c) → HasRing serial p ring → HasRing (serial + 1) (with_after p c) (keep_last 8 (ring ++ entry_of (serial + 1) c ∷ []))
-short p serial c ring lt e h =
+short : (p : Present) (since serial : ℕ) (first : List ℕ) (c : Commit) (ring : List Entry) → length ring < 8 → IsEntry p.program (serial + 1) p.vars (entry_of (serial + 1) c) → HasRingSince since serial first p ring
+    → HasRingSince since (serial + 1) first (with_after p c) (keep_last 8 (ring ++ entry_of (serial + 1) c ∷ []))
+short p since serial first c ring lt e h =
     let x = entry_of (serial + 1) c in
     let len : length (ring ++ x ∷ []) ≡ length ring + 1 = length-append ring (x ∷ []) in
-    let ver = h.version in
+    let reached = h.reached in
     let size = h.size in
-    let all : length ring ≡ serial - p.version = omega (arith, size, lt) in
+    let all : length ring ≡ serial - since = omega (arith, size, lt) in
     let none : length (ring ++ x ∷ []) - 8 ≡ 0 = omega (arith, len, lt) in
     let kept : keep_last 8 (ring ++ x ∷ []) ≡ ring ++ x ∷ [] = ap (λ (k : ℕ). drop k (ring ++ x ∷ [])) none in
-    let place : serial + 1 ≡ ((serial - length ring) + 1) + length ring = omega (arith, all, ver) in
-    let first : (serial - length ring) + 1 ≡ ((serial + 1) - length (ring ++ x ∷ [])) + 1 = omega (arith, len, all, ver) in
-    subst (HasRing (serial + 1) (with_after p c)) (sym kept) (record {
-      version = omega (arith, ver);
-      size = omega (arith, len, all, ver, lt);
+    let place : serial + 1 ≡ ((serial - length ring) + 1) + length ring = omega (arith, all, reached) in
+    let oldest : (serial - length ring) + 1 ≡ ((serial + 1) - length (ring ++ x ∷ [])) + 1 = omega (arith, len, all, reached) in
+    subst (HasRingSince since (serial + 1) first (with_after p c)) (sym kept) (record {
+      version = h.version;
+      reached = omega (arith, reached);
+      size = omega (arith, len, all, reached, lt);
       found = h.found;
-      entries = subst (λ (n : ℕ). AreEntries p.program n h.found (ring ++ x ∷ [])) first (entries_more p.program ((serial - length ring) + 1) h.found ring x h.entries (subst (λ (n : ℕ). IsEntry p.program n (left_by h.found ring) x) place (subst (λ (v : List ℕ). IsEntry p.program (serial + 1) v x) h.vars e)));
+      entries = subst (λ (n : ℕ). AreEntries p.program n h.found (ring ++ x ∷ [])) oldest (entries_more p.program ((serial - length ring) + 1) h.found ring x h.entries (subst (λ (n : ℕ). IsEntry p.program n (left_by h.found ring) x) place (subst (λ (v : List ℕ). IsEntry p.program (serial + 1) v x) h.vars e)));
       vars = sym (left_more h.found ring x);
-      zeros = λ q. h.zeros all;
+      begins = λ q. h.begins all;
     })
 
 -- a ring of eight
-full : (p : Present) (serial : ℕ) (c : Commit) (ring : List Entry) → 8 ≤ length ring → IsEntry p.program (serial + 1) p.vars (entry_of (serial + 1) c) → HasRing serial p ring → HasRing (serial + 1) (with_after p c) (keep_last 8 (ring ++ entry_of (serial + 1) c ∷ []))
-full p serial c [] le e h = absurd (omega (arith, le))
-full p serial c (y ∷ es) le e h =
+full : (p : Present) (since serial : ℕ) (first : List ℕ) (c : Commit) (ring : List Entry) → 8 ≤ length ring → IsEntry p.program (serial + 1) p.vars (entry_of (serial + 1) c) → HasRingSince since serial first p ring
+    → HasRingSince since (serial + 1) first (with_after p c) (keep_last 8 (ring ++ entry_of (serial + 1) c ∷ []))
+full p since serial first c [] le e h = absurd (omega (arith, le))
+full p since serial first c (y ∷ es) le e h =
     let x = entry_of (serial + 1) c in
     let len : length (es ++ x ∷ []) ≡ length es + 1 = length-append es (x ∷ []) in
-    let ver = h.version in
+    let reached = h.reached in
     let size = h.size in
     let seven : length es ≡ 7 = omega (arith, size, le) in
-    let old : 8 ≤ serial - p.version = omega (arith, size, seven) in
+    let old : 8 ≤ serial - since = omega (arith, size, seven) in
     let one : length (y ∷ (es ++ x ∷ [])) - 8 ≡ 1 = omega (arith, len, seven) in
     let kept : keep_last 8 (y ∷ (es ++ x ∷ [])) ≡ es ++ x ∷ [] = ap (λ (k : ℕ). drop k (y ∷ (es ++ x ∷ []))) one in
     let place : serial + 1 ≡ (((serial - length (y ∷ es)) + 1) + 1) + length es = omega (arith, seven, old) in
-    let first : ((serial - length (y ∷ es)) + 1) + 1 ≡ ((serial + 1) - length (es ++ x ∷ [])) + 1 = omega (arith, len, seven, old) in
-    subst (HasRing (serial + 1) (with_after p c)) (sym kept) (record {
-      version = omega (arith, ver);
-      size = omega (arith, len, seven, old, ver);
+    let oldest : ((serial - length (y ∷ es)) + 1) + 1 ≡ ((serial + 1) - length (es ++ x ∷ [])) + 1 = omega (arith, len, seven, old) in
+    subst (HasRingSince since (serial + 1) first (with_after p c)) (sym kept) (record {
+      version = h.version;
+      reached = omega (arith, reached);
+      size = omega (arith, len, seven, old, reached);
       found = y.after;
-      entries = subst (λ (n : ℕ). AreEntries p.program n y.after (es ++ x ∷ [])) first (entries_more p.program (((serial - length (y ∷ es)) + 1) + 1) y.after es x h.entries.1 (subst (λ (n : ℕ). IsEntry p.program n (left_by y.after es) x) place (subst (λ (v : List ℕ). IsEntry p.program (serial + 1) v x) h.vars e)));
+      entries = subst (λ (n : ℕ). AreEntries p.program n y.after (es ++ x ∷ [])) oldest (entries_more p.program (((serial - length (y ∷ es)) + 1) + 1) y.after es x h.entries.1 (subst (λ (n : ℕ). IsEntry p.program n (left_by y.after es) x) place (subst (λ (v : List ℕ). IsEntry p.program (serial + 1) v x) h.vars e)));
       vars = sym (left_more y.after es x);
-      zeros = λ q. absurd (omega (arith, q, len, seven, old, ver));
+      begins = λ q. absurd (omega (arith, q, len, seven, old, reached));
     })
+
+one_more : (p : Present) (since serial : ℕ) (first : List ℕ) (c : Commit) (ring : List Entry) → IsEntry p.program (serial + 1) p.vars (entry_of (serial + 1) c) → HasRingSince since serial first p ring
+    → HasRingSince since (serial + 1) first (with_after p c) (keep_last 8 (ring ++ entry_of (serial + 1) c ∷ []))
+one_more p since serial first c ring e h = ⊎_elim
+    (λ (lt : length ring < 8). short p since serial first c ring lt e h)
+    (λ (ge : 8 ≤ length ring). full p since serial first c ring ge e h)
+    (cases_lt (length ring) 8)
+
+abbrev zeros_of : Present → List ℕ
+zeros_of p = replicate p.program.vars_size 0
+
+-- a ring since the install counts from the version
+since_version : (serial : ℕ) (p : Present) (ring : List Entry) → HasRing serial p ring → HasRingSince p.version serial (zeros_of p) p ring
+since_version serial p ring h = record { version = omega arith; reached = h.version; size = h.size; found = h.found; entries = h.entries; vars = h.vars; begins = h.zeros }
+
+from_version : (serial : ℕ) (p : Present) (ring : List Entry) → HasRingSince p.version serial (zeros_of p) p ring → HasRing serial p ring
+from_version serial p ring h = record { version = h.reached; size = h.size; found = h.found; entries = h.entries; vars = h.vars; zeros = h.begins }
+
+record_if : (serial : ℕ) (o : Option Present) (ring : List Entry) → HasRingIf serial o ring → HasRecordIf serial o ring
+record_if serial None ring h = h
+record_if serial (Some p) ring h = (p.version, zeros_of p, since_version serial p ring h, λ e. refl)
+
+pub ring_record : (slot : Slot) → IsRing slot → IsRecord slot
+ring_record slot h = record_if slot.serial slot.present slot.ring h
 
 -- a commit that is a link keeps the ring of its slot
 pub ring_committed : (slot : Slot) (c : Commit) → IsLink slot c → IsRing slot → IsRing (changed slot (Committed c))
@@ -96,13 +127,20 @@ ring_committed slot c link h =
     let p = link.found in
     let has : HasRing slot.serial p slot.ring = subst (λ (o : Option Present). HasRingIf slot.serial o slot.ring) link.present h in
     let e = entry_is slot c p link.present link in
-    let new : HasRing (slot.serial + 1) (with_after p c) (keep_last 8 (slot.ring ++ entry_of (slot.serial + 1) c ∷ [])) = ⊎_elim
-    (λ (lt : length slot.ring < 8). short p slot.serial c slot.ring lt e has)
-    (λ (ge : 8 ≤ length slot.ring). full p slot.serial c slot.ring ge e has)
-    (cases_lt (length slot.ring) 8) in
+    let new : HasRing (slot.serial + 1) (with_after p c) (keep_last 8 (slot.ring ++ entry_of (slot.serial + 1) c ∷ [])) =
+    from_version (slot.serial + 1) (with_after p c) _ (one_more p p.version slot.serial (zeros_of p) c slot.ring e (since_version slot.serial p slot.ring has)) in
     subst (λ (o : Option Present). HasRingIf (slot.serial + 1) (with_vars c.after o) (keep_last 8 (slot.ring ++ entry_of (slot.serial + 1) c ∷ []))) (sym link.present) new
 
--- an install begins a ring anew
+record_committed : (slot : Slot) (c : Commit) → IsLink slot c → IsRecord slot → IsRecord (changed slot (Committed c))
+record_committed slot c link h =
+    let p = link.found in
+    let has : HasRecordIf slot.serial (Some p) slot.ring = subst (λ (o : Option Present). HasRecordIf slot.serial o slot.ring) link.present h in
+    let e = entry_is slot c p link.present link in
+    let new : HasRecordIf (slot.serial + 1) (Some (with_after p c)) (keep_last 8 (slot.ring ++ entry_of (slot.serial + 1) c ∷ [])) =
+    (has.0, has.1, one_more p has.0 slot.serial has.1 c slot.ring e has.2, has.3) in
+    subst (λ (o : Option Present). HasRecordIf (slot.serial + 1) (with_vars c.after o) (keep_last 8 (slot.ring ++ entry_of (slot.serial + 1) c ∷ []))) (sym link.present) new
+
+-- an install begins a new ring
 pub ring_installed : (slot : Slot) (p : Program) → IsRing (changed slot (Installed p))
 ring_installed slot p = record { version = omega arith; size = omega arith; found = replicate p.vars_size 0; entries = tt; vars = refl; zeros = λ q. refl }
 
@@ -132,57 +170,82 @@ commit_link slot t w current =
     wants_post Post b e = (refl, e)
 
 -- what a commit leaves is a ring again
-ring_by : (t : Ticket) (slot : Slot) (v : ObserverList) (o : CommitOutcome) → ComesTo t slot o → IsRing slot → IsRing (after_changes slot (commits o t slot.serial v).changes)
-ring_by t slot v Writes w h = ring_committed slot (commit_of t) (commit_link slot t w.0 w.1) h
+ring_by : (t : Ticket) (slot : Slot) (v : ObserverList) (o : CommitOutcome) → ComesTo t slot o → IsRecord slot → IsRecord (after_changes slot (commits o t slot.serial v).changes)
+ring_by t slot v Writes w h = record_committed slot (commit_of t) (commit_link slot t w.0 w.1) h
 ring_by t slot v Keeps w h = h
 ring_by t slot v Overtakes w h = h
 ring_by t slot v Ends w h = h
 
-own_kept : (ran : Ran) (t : Ticket) (slot : Slot) (v : ObserverList) (c : Answer) (after : Slot) → IsOwnCommit ran t slot v c after → IsRing slot → IsRing after
-own_kept ran t slot v c after w h = subst IsRing (sym w.1.after_is) (ring_by t slot v w.1.comes_to w.1.is h)
+own_kept : (ran : Ran) (t : Ticket) (slot : Slot) (v : ObserverList) (c : Answer) (after : Slot) → IsOwnCommit ran t slot v c after → IsRecord slot → IsRecord after
+own_kept ran t slot v c after w h = subst IsRecord (sym w.1.after_is) (ring_by t slot v w.1.comes_to w.1.is h)
 
-pub ring_kept : (ran : Ran) (t : Ticket) (slot : Slot) (v : ObserverList) (c : Answer) (after : Slot) → IsCommit ran t slot v c after → IsRing slot → IsRing after
-ring_kept ran t slot v Stranger after w h = subst IsRing (sym w.after_is) h
+pub ring_kept : (ran : Ran) (t : Ticket) (slot : Slot) (v : ObserverList) (c : Answer) (after : Slot) → IsCommit ran t slot v c after → IsRecord slot → IsRecord after
+ring_kept ran t slot v Stranger after w h = subst IsRecord (sym w.after_is) h
 ring_kept ran t slot v (Done m) after w h = own_kept ran t slot v (Done m) after w h
 ring_kept ran t slot v Overtaken after w h = own_kept ran t slot v Overtaken after w h
 ring_kept ran t slot v Ended after w h = own_kept ran t slot v Ended after w h
 
-put_ring_by : (slot : Slot) (p : Program) (b : Bool) → IsRing slot → IsRing (after_changes slot (put_by b slot p).changes)
-put_ring_by slot p true h = ring_installed slot p
+put_ring_by : (slot : Slot) (p : Program) (b : Bool) → IsRecord slot → IsRecord (after_changes slot (put_by b slot p).changes)
+put_ring_by slot p true h = ring_record (changed slot (Installed p)) (ring_installed slot p)
 put_ring_by slot p false h = h
 
-pub ring_put : (slot : Slot) (p : Program) → IsRing slot → IsRing (after_changes slot (install_in slot p).changes)
+pub ring_put : (slot : Slot) (p : Program) → IsRecord slot → IsRecord (after_changes slot (install_in slot p).changes)
 ring_put slot p h = put_ring_by slot p (nat_lt slot.serial last_serial) h
 
-clear_ring_by : (slot : Slot) (b : Bool) (p : Option Present) → IsRing slot → IsRing (after_changes slot (clear_by b slot.serial p).changes)
+clear_ring_by : (slot : Slot) (b : Bool) (p : Option Present) → IsRecord slot → IsRecord (after_changes slot (clear_by b slot.serial p).changes)
 clear_ring_by slot b None h = h
 clear_ring_by slot true (Some p) h = refl
 clear_ring_by slot false (Some p) h = h
 
-pub ring_clear : (slot : Slot) → IsRing slot → IsRing (after_changes slot (remove_from slot).changes)
+pub ring_clear : (slot : Slot) → IsRecord slot → IsRecord (after_changes slot (remove_from slot).changes)
 ring_clear slot h = clear_ring_by slot (nat_lt slot.serial last_serial) slot.present h
 
 -- each slot of a list, after one of them was written
-pub all_written : (items : List SlotState) (k : ℕ) (t : SlotState) → All (λ x. IsRing (as_seen x)) items → IsRing (as_seen t) → All (λ x. IsRing (as_seen x)) (set items k t)
+pub all_written : (items : List SlotState) (k : ℕ) (t : SlotState) → All (λ x. IsRecord (as_seen x)) items → IsRecord (as_seen t) → All (λ x. IsRecord (as_seen x)) (set items k t)
 all_written items k t all here = λ j d lt. ⊎_elim
-    (λ (e : j ≡ k). let low : k < length items = omega (arith, e, lt, length-set items k t) in subst (λ (i : ℕ). IsRing (as_seen (get_or (set items k t) i d))) (sym e) (subst (λ (x : SlotState). IsRing (as_seen x)) (sym (get_or-set_same items k t d low)) here))
-    (λ (ne : j ≡ k → ⊥). subst (λ (x : SlotState). IsRing (as_seen x)) (sym (get_or-set_other items k j t d ne)) (all j d (omega (arith, lt, length-set items k t))))
+    (λ (e : j ≡ k). let low : k < length items = omega (arith, e, lt, length-set items k t) in subst (λ (i : ℕ). IsRecord (as_seen (get_or (set items k t) i d))) (sym e) (subst (λ (x : SlotState). IsRecord (as_seen x)) (sym (get_or-set_same items k t d low)) here))
+    (λ (ne : j ≡ k → ⊥). subst (λ (x : SlotState). IsRecord (as_seen x)) (sym (get_or-set_other items k j t d ne)) (all j d (omega (arith, lt, length-set items k t))))
     (cases_eq j k)
 
 -- slots that are seen as new ones
-pub all_new : (items : List SlotState) (n serial : ℕ) → map as_seen items ≡ replicate n (new_slot serial) → All (λ x. IsRing (as_seen x)) items
+pub all_new : (items : List SlotState) (n serial : ℕ) → map as_seen items ≡ replicate n (new_slot serial) → All (λ x. IsRecord (as_seen x)) items
 all_new items n serial is = λ j d lt.
     let count : n ≡ length items = sym (sym (length-map items as_seen) ∙ (ap length is ∙ length-replicate n (new_slot serial))) in
     let one : as_seen (get_or items j d) ≡ new_slot serial = sym (get_or-map as_seen items j d (new_slot serial) lt) ∙ (ap (λ (xs : List Slot). get_or xs j (new_slot serial)) is ∙ get_or-replicate n j (new_slot serial) (new_slot serial) (omega (arith, lt, count))) in
-    subst IsRing (sym one) refl
+    subst IsRecord (sym one) refl
 
 -- the state of a slot that was read, and then written at its place
-pub written_rings : (items : List SlotState) (k : ℕ) (was now : SlotState) → (length items ≡ 8) × All (λ x. IsRing (as_seen x)) items → k < 8 → was ≡ get_or items k was → (IsRing (as_seen was) → IsRing (as_seen now)) → (length (set items k now) ≡ 8) × All (λ x. IsRing (as_seen x)) (set items k now)
+pub written_rings : (items : List SlotState) (k : ℕ) (was now : SlotState) → (length items ≡ 8) × All (λ x. IsRecord (as_seen x)) items → k < 8 → was ≡ get_or items k was → (IsRecord (as_seen was) → IsRecord (as_seen now)) → (length (set items k now) ≡ 8) × All (λ x. IsRecord (as_seen x)) (set items k now)
 written_rings items k was now inv lt is keeps =
     let eight = inv.0 in
-    let old : IsRing (as_seen was) = subst (λ (x : SlotState). IsRing (as_seen x)) (sym is) (inv.1 k was (omega (arith, eight, lt))) in
+    let old : IsRecord (as_seen was) = subst (λ (x : SlotState). IsRecord (as_seen x)) (sym is) (inv.1 k was (omega (arith, eight, lt))) in
     (length-set items k now ∙ eight, all_written items k now inv.1 (keeps old))
 
-pub all_seen : (items : List SlotState) (k : ℕ) → All (λ x. IsRing (as_seen x)) items → k < length items → IsRing (get_or (map as_seen items) k (new_slot 0))
+pub all_seen : (items : List SlotState) (k : ℕ) → All (λ x. IsRecord (as_seen x)) items → k < length items → IsRecord (get_or (map as_seen items) k (new_slot 0))
 all_seen [] k all lt = absurd (omega (arith, lt))
-all_seen (x ∷ xs) k all lt = subst IsRing (sym (get_or-map as_seen (x ∷ xs) k x (new_slot 0) lt)) (all k x lt)
+all_seen (x ∷ xs) k all lt = subst IsRecord (sym (get_or-map as_seen (x ∷ xs) k x (new_slot 0) lt)) (all k x lt)
+
+-- ---- restoring
+
+-- a restored program begins a new ring
+pub restored_ring : (serial : ℕ) (b : Body) (k : StoredProgram) → IsProgramState serial k b.program.value → b.version ≡ k.version → b.vars ≡ k.vars → HasRecordIf serial (present_of (Some b)) []
+restored_ring serial b k is version vars =
+    let low = is.0 in (
+      serial,
+      b.vars,
+      record {
+        version = omega (arith, version, low);
+        reached = omega arith;
+        size = omega arith;
+        found = b.vars;
+        entries = tt;
+        vars = refl;
+        begins = λ q. refl;
+      },
+      λ (e : serial ≡ b.version). vars ∙ is.2 (sym (e ∙ version)),
+    )
+
+-- a slot that is restored, or else as it was
+pub record_either : {X E : Type 0} (r : Result X E) (was now : SlotState) → OnOk r (IsRecord (as_seen now)) → OnErr r (now ≡ was) → IsRecord (as_seen was) → IsRecord (as_seen now)
+record_either (Ok x) was now is same h = is
+record_either (Err e) was now is same h = subst (λ (s : SlotState). IsRecord (as_seen s)) (sym same) h

@@ -48,10 +48,10 @@ pub watched_there : (b : Bool) (ws : List ObserverList) (k : ℕ) (was w : Obser
 watched_there true ws k was w lt is keeps none = tt
 watched_there false ws k was w lt is keeps none = λ j.
     ⊎_elim
-    (λ (same : j ≡ k). subst (λ (i : ℕ). (get_or (set ws k w) i (no_observers 0)).held ≡ []) (sym same)
-    (ap (λ (l : ObserverList). l.held) (get_or-set_same ws k w (no_observers 0) lt)
-    ∙ keeps (ap (λ (l : ObserverList). l.held) (is ∙ get_or_default ws k was (no_observers 0) lt) ∙ none k)))
-    (λ (other : j ≡ k → ⊥). ap (λ (l : ObserverList). l.held) (get_or-set_other ws k j w (no_observers 0) other) ∙ none j)
+    (λ (same : j ≡ k). subst (λ (i : ℕ). (get_or (set ws k w) i (no_observers 0 0)).held ≡ []) (sym same)
+    (ap (λ (l : ObserverList). l.held) (get_or-set_same ws k w (no_observers 0 0) lt)
+    ∙ keeps (ap (λ (l : ObserverList). l.held) (is ∙ get_or_default ws k was (no_observers 0 0) lt) ∙ none k)))
+    (λ (other : j ≡ k → ⊥). ap (λ (l : ObserverList). l.held) (get_or-set_other ws k j w (no_observers 0 0) other) ∙ none j)
     (cases_eq j k)
 
 pub true_of_not : (b : Bool) → not b ≡ false → b ≡ true

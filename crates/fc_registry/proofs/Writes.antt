@@ -20,8 +20,8 @@ abbrev pub written : Shard → ℕ → ℕ → Slot → Shard
 written shard now k v = record shard { now = now; slots = set shard.slots k v }
 
 -- a write of the observers at a place after calls, which may be none
-pub watches_written : (cs : List ObserverCall) (k : ℕ) (watches : List ObserverList) → set watches k (after_calls cs (get_or watches k (no_observers 0))) ≡ watches_called cs k watches
-watches_written [] k watches = set-get_or watches k (no_observers 0)
+pub watches_written : (cs : List ObserverCall) (k : ℕ) (watches : List ObserverList) → set watches k (after_calls cs (get_or watches k (no_observers 0 0))) ≡ watches_called cs k watches
+watches_written [] k watches = set-get_or watches k (no_observers 0 0)
 watches_written (c ∷ cs) k watches = refl
 
 module _ (index now : ℕ) (items : List SlotState) (watches : List ObserverList) (shard : Shard) (view_is : seen index now items watches ≡ shard) (eight : length items ≡ 8) where
@@ -41,7 +41,7 @@ module _ (index now : ℕ) (items : List SlotState) (watches : List ObserverList
       λ i. record { index = (view_is i).index; now = passes i; slots = slots i; watches = (view_is i).watches }
 
   -- the same, and the observers at the place after calls on them
-  pub slot_and_watch_write : (k early late : ℕ) (t : SlotState) (v : Slot) (cs : List ObserverCall) (old new : ObserverList) → early ≡ late → as_seen t ≡ v → old ≡ get_or watches k (no_observers 0) → new ≡ after_calls cs old → seen index early (set items k t) (set watches k new) ≡ record shard { now = late; slots = set shard.slots k v; watches = watches_called cs k shard.watches }
+  pub slot_and_watch_write : (k early late : ℕ) (t : SlotState) (v : Slot) (cs : List ObserverCall) (old new : ObserverList) → early ≡ late → as_seen t ≡ v → old ≡ get_or watches k (no_observers 0 0) → new ≡ after_calls cs old → seen index early (set items k t) (set watches k new) ≡ record shard { now = late; slots = set shard.slots k v; watches = watches_called cs k shard.watches }
   slot_and_watch_write k early late t v cs old new passes is was calls =
       let slots : map as_seen (set items k t) ≡ set shard.slots k v = map-set as_seen items k t ∙ (λ i. set (slots_are i) k (is i)) in
       let called : set watches k new ≡ watches_called cs k shard.watches = ap (set watches k) (calls ∙ ap (after_calls cs) was) ∙ (watches_written cs k watches ∙ ap (λ (s : Shard). watches_called cs k s.watches) view_is) in

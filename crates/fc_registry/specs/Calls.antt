@@ -282,6 +282,10 @@ pub record IsCommitOf (t : Ticket) (slot : Slot) (w : ObserverList) (c : Committ
   pub answer : c ≡ (commits comes_to t slot.serial w).answer
   pub after_is : after ≡ after_changes slot (commits comes_to t slot.serial w).changes
 
+-- The commit of a run would write: the run is the ticket's, wants to, and finds its slot as the taking did, below the last serial.
+abbrev pub WouldWrite : Ran → Ticket → Slot → Type 0
+WouldWrite ran t slot = (wants_by ran ≡ true) × IsOwn ran t slot × ComesTo t slot Writes
+
 -- an outcome that isn't the ticket's changes nothing
 pub record IsStranger (ran : Ran) (t : Ticket) (slot : Slot) (after : Slot) : Type 0 where
   pub stranger : IsOwn ran t slot → ⊥

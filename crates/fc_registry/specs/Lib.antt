@@ -10,3 +10,4 @@ pub mod Views
 pub mod Calls
 pub mod Notes
 pub mod Laws
+pub mod Plans

@@ -63,3 +63,23 @@ HasRingIf serial (Some p) ring = HasRing serial p ring
 -- the ring of a slot is a chain; that of an empty slot is empty
 abbrev pub IsRing : Slot → Type 0
 IsRing slot = HasRingIf slot.serial slot.present slot.ring
+
+-- a ring that counts from a serial, at which the variables were these: the last eight commits since then
+pub record HasRingSince (since serial : ℕ) (first : List ℕ) (p : Present) (ring : List Entry) : Type 0 where
+  pub version : p.version ≤ since
+  pub reached : since ≤ serial
+  pub size : length ring ≡ min 8 (serial - since)
+  pub found : List ℕ
+  pub entries : AreEntries p.program ((serial - length ring) + 1) found ring
+  pub vars : p.vars ≡ left_by found ring
+  pub begins : length ring ≡ serial - since → found ≡ first
+
+-- the ring counts from the install, or from a later serial at which the slot was restored
+abbrev pub HasRecordIf : ℕ → Option Present → List Entry → Type 0
+HasRecordIf serial None ring = ring ≡ []
+HasRecordIf serial (Some p) ring =
+    (since : ℕ) × (first : List ℕ) × HasRingSince since serial first p ring × (since ≡ p.version → first ≡ replicate p.program.vars_size 0)
+
+-- the ring of a slot that may have been restored is a chain
+abbrev pub IsRecord : Slot → Type 0
+IsRecord slot = HasRecordIf slot.serial slot.present slot.ring

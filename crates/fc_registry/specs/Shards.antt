@@ -24,15 +24,16 @@ slot_in_shards shards n = slot_in (shard_at shards (n % 8)) n
 abbrev pub with_owner : List Shard → ℕ → Shard → List Shard
 with_owner shards n shard = slice_set shards (n % 8) shard
 
--- a shard of empty slots at this serial, which nobody observes
-abbrev pub empty_shard : ℕ → ℕ → Shard
-empty_shard serial index = record { index = index; now = 0; slots = replicate 8 (new_slot serial); watches = new_watches index 8 }
+-- a shard of empty slots at this serial, which nobody observes, and whose notifications are confirmable after so many ms
+abbrev pub empty_shard : ℕ → ℕ → ℕ → Shard
+empty_shard serial confirm_after index =
+    record { index = index; now = 0; slots = replicate 8 (new_slot serial); watches = new_watches index confirm_after 8 }
 
 -- such shards, of the indices below n
-abbrev pub empty_shards : ℕ → ℕ → List Shard
-empty_shards serial zero = []
-empty_shards serial (suc n) = empty_shards serial n ++ (empty_shard serial n ∷ [])
+abbrev pub empty_shards : ℕ → ℕ → ℕ → List Shard
+empty_shards serial confirm_after zero = []
+empty_shards serial confirm_after (suc n) = empty_shards serial confirm_after n ++ (empty_shard serial confirm_after n ∷ [])
 
 -- the shards of a new server, every slot at this serial
-abbrev pub first_shards : ℕ → List Shard
-first_shards serial = empty_shards serial 8
+abbrev pub first_shards : ℕ → ℕ → List Shard
+first_shards serial confirm_after = empty_shards serial confirm_after 8

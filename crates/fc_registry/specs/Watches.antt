@@ -11,9 +11,9 @@ use Rattle.fc_observe.specs.Quiet.{AreQuietUntil}
 use Rattle.fc_registry.specs.Slots.{Shard, Slot, new_slot}
 
 -- those of the slots at the first places of a new shard: place k is that of slot 8 k + index
-abbrev pub new_watches : ℕ → ℕ → List ObserverList
-new_watches index zero = []
-new_watches index (suc k) = new_watches index k ++ no_observers (8 * k + index) ∷ []
+abbrev pub new_watches : ℕ → ℕ → ℕ → List ObserverList
+new_watches index confirm_after zero = []
+new_watches index confirm_after (suc k) = new_watches index confirm_after k ++ no_observers (8 * k + index) confirm_after ∷ []
 
 -- a shard that was handed a moment: it never goes back
 abbrev pub at_time : Shard → ℕ → Shard
@@ -21,7 +21,7 @@ at_time shard now = record shard { now = max shard.now now }
 
 -- the observers of the slot at a place, and the slot's noticed serial
 abbrev pub watch_at : Shard → ℕ → ObserverList
-watch_at shard k = slice_index_or shard.watches k (no_observers 0)
+watch_at shard k = slice_index_or shard.watches k (no_observers 0 0)
 
 abbrev pub noticed_at : Shard → ℕ → ℕ
 noticed_at shard k = (slice_index_or shard.slots k (new_slot 0)).noticed
@@ -33,7 +33,7 @@ watch_called c k shard = record shard { watches = slice_set shard.watches k (obs
 -- the observers at each place after these calls on those at one, of which the latest stands first
 abbrev pub watches_called : List ObserverCall → ℕ → List ObserverList → List ObserverList
 watches_called [] k watches = watches
-watches_called (c ∷ cs) k watches = slice_set watches k (after_calls (c ∷ cs) (slice_index_or watches k (no_observers 0)))
+watches_called (c ∷ cs) k watches = slice_set watches k (after_calls (c ∷ cs) (slice_index_or watches k (no_observers 0 0)))
 
 -- the shard after these calls on the observers of slot n, and on no others
 abbrev pub with_calls : List ObserverCall → ℕ → Shard → Shard
@@ -108,7 +108,7 @@ signalled c shard = record shard { watches = map (observers_after c) shard.watch
 -- nobody observes a slot, where the shard isn't watched
 abbrev pub AreWatched : Bool → List ObserverList → Type 0
 AreWatched true watches = Unit {0}
-AreWatched false watches = (k : ℕ) → (slice_index_or watches k (no_observers 0)).held ≡ []
+AreWatched false watches = (k : ℕ) → (slice_index_or watches k (no_observers 0 0)).held ≡ []
 
 -- before this moment no notification at any place is late, and no observer due, unless the shard is called
 abbrev pub StaysQuietUntil : ℕ → Shard → Type 0
@@ -122,4 +122,4 @@ IsSentUpTo serial w = All (λ o. o.serial ≤ serial) w.held
 
 -- at each place, none was sent a serial above that of the slot
 abbrev pub AreSentUpTo : List Slot → List ObserverList → Type 0
-AreSentUpTo slots watches = (k : ℕ) → IsSentUpTo (slice_index_or slots k (new_slot 0)).serial (slice_index_or watches k (no_observers 0))
+AreSentUpTo slots watches = (k : ℕ) → IsSentUpTo (slice_index_or slots k (new_slot 0)).serial (slice_index_or watches k (no_observers 0 0))

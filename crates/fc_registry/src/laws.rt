@@ -11,6 +11,11 @@ ghost use Rattle.fc_observe.specs.Observers.{ObserverList};
 ghost use Rattle.fc_observe.specs.declared.entry.Turn.{Turn};
 ghost use Rattle.fc_observe.specs.declared.observers.Ticked.TheVariants.{Quiet};
 ghost use Rattle.fc_registry.specs.Notes.{note_calls};
+ghost use Rattle.fc_registry.specs.Plans.{IsStoredOf, IsPlanned, SavesImage};
+ghost use Rattle.fc_registry.specs.Record.{IsChain, IsRing};
+ghost use Rattle.fc_store.specs.Updates.{slot_after};
+ghost use Rattle.fc_store.specs.Stored.{StoredSlot};
+ghost use Rattle.fc_store.specs.declared.store.SlotUpdate.{SlotUpdate};
 ghost use Rattle.fc_registry.specs.Slots.{Present, Shard, Slot, Ticket, new_slot};
 ghost use Rattle.fc_registry.specs.Turns.{due_job};
 ghost use Rattle.fc_registry.specs.Watches.{after_due, shard_after_tick, due_place, is_quiet, late_place, ticked_in, watch_at};
@@ -89,4 +94,15 @@ pub fn turns_ask_what_was_registered()
         observe_calls now t ≡ Register now t.origin.endpoint t.token t.request None t.serial ∷ [] }
     ensures size { (now : ℕ) (t : Ticket) (block : Place) → is_registration t ≡ true → t.block ≡ Some block →
         observe_calls now t ≡ Register now t.origin.endpoint t.token t.request (Some block.szx) t.serial ∷ [] }
+{}
+
+/// The update of a change, with an image of its program, makes of a slot's stored state that of the changed slot.
+pub fn plans_keep_what_changes_make()
+    ensures { (slot : Slot) (k : StoredSlot) (n : ℕ) (c : Change) (s : SlotUpdate) → IsStoredOf slot k → IsPlanned slot n c s → SavesImage c s.program
+        → IsStoredOf (changed slot c) (slot_after s k) }
+{}
+
+/// The ring of a slot that was new is that of the commits since its last install: it has the last eight of them.
+pub fn new_slots_have_full_rings()
+    ensures { (serial : ℕ) (cs : List Change) → IsChain (new_slot serial) cs → IsRing (after_changes (new_slot serial) cs) }
 {}

@@ -1,11 +1,12 @@
 //! Shards of slots.
-ghost use Rattle.std.specs.Prelude.{◌≡◌, if◌then◌else◌, ℕ, ◌/◌, ◌<◌, ◌≤◌, false, length, map, IfOk, IfSome};
+ghost use Rattle.std.specs.Prelude.{◌≡◌, ◌↔◌, IsTrue, if◌then◌else◌, ℕ, ◌/◌, ◌<◌, ◌≤◌, false, length, map, IfErr, IfOk, IfSome, OnErr, OnOk};
 ghost use Rattle.fc_registry.specs.Shards.{empty_shard};
 ghost use Rattle.fc_registry.specs.Slots.{IsOwned, slot_in, with_slot, last_serial, version_in, vars_in};
 ghost use Rattle.fc_registry.specs.Changes.{after_changes};
-ghost use Rattle.fc_registry.specs.Calls.{TakesAt, CommitsTo, install_in, receipt_at, remove_from, after_taking};
+ghost use Rattle.fc_registry.specs.Calls.{TakesAt, CommitsTo, WouldWrite, install_in, receipt_at, remove_from, after_taking};
 ghost use Rattle.fc_registry.specs.Views.{HasSize, as_seen, taken_with};
-ghost use Rattle.fc_registry.specs.Record.{IsRing};
+ghost use Rattle.fc_registry.specs.Plans.{IsRestoreError, RestoresTo};
+ghost use Rattle.fc_registry.specs.Record.{IsRecord};
 ghost use Rattle.fc_observe.specs.Calls.{observers_after};
 ghost use Rattle.fc_observe.specs.Quiet.{AreQuietUntil};
 ghost use Rattle.fc_registry.specs.Notes.{IsKeptUnlessSent, NotesTo, noted_as};
@@ -16,9 +17,10 @@ use crate::commit::Committed;
 use crate::job::Job;
 use crate::note::{NoteOutcome, Noted, Notification, note};
 use crate::receipt::Receipt;
+use crate::restore::RestoreError;
 use crate::slot::{
-    SlotState, clear, committed, empty_slot, find, install, noticed_of, receipt_in, serial_of,
-    take_turn, vars_of, version_of,
+    SlotState, clear, committed, empty_slot, find, install, noticed_of, receipt_in, restore,
+    serial_of, take_turn, vars_of, version_of, would_write,
 };
 use crate::slot_number::{SHARDS, SlotNumber};
 use crate::ticket::{Found, Ticket};
@@ -27,6 +29,7 @@ use coap_msg::{Datagram, Emission, Endpoint};
 use fc_help::Readings;
 use fc_machine::Outcome;
 use fc_observe::{Observers, Ticked, Turn};
+use fc_store::StoredSlot;
 use fc_verify::Verified;
 use std::alloc::{AllocError, Global};
 use std::marker::Model;
@@ -54,12 +57,12 @@ impl Model for Shard {
     ghost Value = { Seen };
 
     ghost use Rattle.fc_registry.specs.Views.{as_seen};
-    ghost use Rattle.fc_registry.specs.Record.{IsRing};
+    ghost use Rattle.fc_registry.specs.Record.{IsRecord};
     ghost use Rattle.fc_registry.specs.Watches.{AreSentUpTo, AreWatched};
 
     ghost view = { λ s. record { index = s.index; now = s.now; slots = map as_seen s.slots.items; watches = s.watches.items } };
 
-    ghost invariant = { λ s. (length s.slots.items ≡ 8) × All (λ x. IsRing (as_seen x)) s.slots.items
+    ghost invariant = { λ s. (length s.slots.items ≡ 8) × All (λ x. IsRecord (as_seen x)) s.slots.items
         × (length s.watches.items ≡ 8) × (s.index < 8)
         × AreSentUpTo (map as_seen s.slots.items) s.watches.items
         × AreWatched s.watched s.watches.items };
@@ -118,14 +121,19 @@ pub enum Removal {
 }
 
 impl Shard {
-    /// Makes a shard of empty slots, each at this serial.
+    /// Makes a shard of empty slots, each at this serial, whose notifications are confirmable after `confirm_after` milliseconds (see [`Observers::new`]).
     ///
     /// # Errors
     /// There was no memory for it.
-    pub fn new(alloc: Global, index: u8, first_serial: u64) -> Result<Shard, AllocError>
+    pub fn new(
+        alloc: Global,
+        index: u8,
+        first_serial: u64,
+        confirm_after: u64,
+    ) -> Result<Shard, AllocError>
         requires index { index < 8 }
         requires serial { first_serial ≤ last_serial }
-        ensures { IfOk result (λ s. s ≡ empty_shard first_serial index) }
+        ensures { IfOk result (λ s. s ≡ empty_shard first_serial confirm_after index) }
     {
         let mut slots = Vec::with_capacity(alloc, usize::from(SHARDS))?;
         for _slot in 0..SHARDS {
@@ -135,9 +143,16 @@ impl Shard {
             index,
             now: 0,
             slots,
-            watches: make_watches(alloc, index)?,
+            watches: make_watches(alloc, index, confirm_after)?,
             watched: false,
         })
+    }
+
+    /// Returns whether a commit of the run would write. It changes nothing.
+    pub fn would_write(&self, outcome: &Outcome<'_>, ticket: &Ticket<'_>) -> bool
+        ensures { IsTrue result ↔ WouldWrite outcome.now ticket.now (slot_in self.entry.now ticket.now.origin.slot) }
+    {
+        would_write(outcome, ticket, &self.slots[ticket.origin().slot.place()])
     }
 
     /// Takes what a job finds in its slot, and keeps the readings that are handed in. Only a handle of the program asks for memory. A turn that is out no longer is stale, which
@@ -196,6 +211,28 @@ impl Shard {
         let answer = committed(slot, watch, self.now, outcome, ticket);
         self.watched |= !watch.is_empty();
         answer
+    }
+
+    /// Restores a slot: to its stored serial and, if it has one, its program with version and variables.
+    ///
+    /// The image is verified again. The observers are as before, and the ring of the last commits is empty.
+    ///
+    /// # Errors
+    /// Returns why the slot isn't restored; the shard is as before. `State` also says that the stored
+    /// serial is below the present one.
+    pub fn restore(
+        &mut self,
+        alloc: Global,
+        slot: SlotNumber,
+        stored: &StoredSlot,
+    ) -> Result<(), RestoreError>
+        requires { IsOwned self.old slot }
+        ensures restored { OnOk result (RestoresTo stored.now self.old slot self.new) }
+        ensures unchanged { OnErr result (self.new ≡ self.old) }
+        ensures cause { IfErr result (IsRestoreError (slot_in self.old slot) stored.now) }
+    {
+        let state = &mut self.slots[slot.place()];
+        restore(state, alloc, stored)
     }
 
     /// Installs a program, with variables of zeros. At the last serial it changes nothing, and answers `AtEnd`.
@@ -295,8 +332,8 @@ impl Shard {
 
     /// Notifies the observer whose turn is out of what is told, by a message id, at a moment in milliseconds: the response, with the
     /// serial found as its sequence number, where it is a 2.05 Content, and then the turn is over; another response, 4.04 of an empty
-    /// slot among them, has none, and removes the observer. It is confirmable 86,400,000 ms after the registration or the last
-    /// confirmable one (RFC 7641, 4.5), and then waits for an acknowledgement, by the random word. `Stale` and `Stranger`, tested in this
+    /// slot among them, has none, and removes the observer. It is confirmable the shard's `confirm_after` after the registration or
+    /// the last confirmable one (RFC 7641, 4.5), and then waits for an acknowledgement, by the random word. `Stale` and `Stranger`, tested in this
     /// order, change no observer.
     pub fn note(
         &mut self,
@@ -477,9 +514,10 @@ impl Shard {
     }
 
     /// The ring of each slot is a chain: whatever was called, in whatever order, its entries are the commits of the present
-    /// program, each begins with what the one before it left, and the last left the present variables.
+    /// program since its install, or since the slot was restored; each begins with what the one before it left, and the last
+    /// left the present variables.
     pub fn rings_are_chains(&self)
-        ensures { (n : ℕ) → IsOwned self.entry.now n → IsRing (slot_in self.entry.now n) }
+        ensures { (n : ℕ) → IsOwned self.entry.now n → IsRecord (slot_in self.entry.now n) }
     {
         let _ = &self.index;
     }
@@ -494,13 +532,13 @@ impl Shard {
 }
 
 // No observers, of each of the shard's slots.
-fn make_watches(alloc: Global, index: u8) -> Result<Vec<Observers>, AllocError>
+fn make_watches(alloc: Global, index: u8, confirm_after: u64) -> Result<Vec<Observers>, AllocError>
     requires { index < 8 }
-    ensures { IfOk result (λ w. w.items ≡ new_watches index 8) }
+    ensures { IfOk result (λ w. w.items ≡ new_watches index confirm_after 8) }
 {
     let mut watches = Vec::with_capacity(alloc, usize::from(SHARDS))?;
     for place in 0..SHARDS {
-        watches.push(Observers::new(alloc, 8 * place + index)?)?;
+        watches.push(Observers::new(alloc, 8 * place + index, confirm_after)?)?;
     }
     Ok(watches)
 }

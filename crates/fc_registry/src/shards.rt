@@ -7,17 +7,22 @@ use crate::shard::Shard;
 use crate::slot_number::SHARDS;
 use std::alloc::{AllocError, Global};
 
-/// Makes eight shards, in order of index, of empty slots that are each at the first serial.
+/// Makes eight shards, in order of index, of empty slots that are each at the first serial, whose notifications are confirmable after `confirm_after`
+/// milliseconds.
 ///
 /// # Errors
 /// There was no memory for them.
-pub fn make_shards(alloc: Global, first_serial: u64) -> Result<Vec<Shard>, AllocError>
+pub fn make_shards(
+    alloc: Global,
+    first_serial: u64,
+    confirm_after: u64,
+) -> Result<Vec<Shard>, AllocError>
     requires { first_serial ≤ last_serial }
-    ensures { IfOk result (λ v. v.items ≡ first_shards first_serial) }
+    ensures { IfOk result (λ v. v.items ≡ first_shards first_serial confirm_after) }
 {
     let mut shards = Vec::with_capacity(alloc, usize::from(SHARDS))?;
     for index in 0..SHARDS {
-        shards.push(Shard::new(alloc, index, first_serial)?)?;
+        shards.push(Shard::new(alloc, index, first_serial, confirm_after)?)?;
     }
     Ok(shards)
 }

@@ -1,9 +1,11 @@
 //! Slots: what the jobs of a slot find in it, and what they change there.
-ghost use Rattle.std.specs.Prelude.{◌≡◌, ◌+◌, ◌<◌, ◌↔◌, [], ◌∷◌, true, false, length, IfOk, IsTrue};
+ghost use Rattle.std.specs.Prelude.{◌≡◌, ◌+◌, ◌<◌, ◌≤◌, ◌↔◌, [], ◌∷◌, true, false, length, IfErr, IfOk, IsTrue, OnErr, OnOk};
 ghost use Rattle.fc_machine.specs.Ran.{meaning_of};
 ghost use Rattle.fc_registry.specs.Slots.{new_slot, last_serial, version_in, vars_in};
 ghost use Rattle.fc_registry.specs.Changes.{Committed as Wrote, after_changes};
-ghost use Rattle.fc_registry.specs.Calls.{IsCommit, ComesTo, IsOwn, IsCurrent, commit_calls, commit_of, is_observed, is_post, observe_calls, mark_of, install_in, receipt_at, remove_from, run_of, wants_by, IsFinding, IsTurnTaking, turn_calls};
+ghost use Rattle.fc_registry.specs.Calls.{IsCommit, ComesTo, IsOwn, IsCurrent, commit_calls, commit_of, is_observed, is_post, observe_calls, mark_of, install_in, receipt_at, remove_from, run_of, wants_by, IsFinding, IsTurnTaking, WouldWrite, turn_calls};
+ghost use Rattle.fc_registry.specs.Plans.{IsRestoreError, IsRestored};
+ghost use Rattle.fc_registry.specs.Record.{IsRecord};
 ghost use Rattle.fc_registry.specs.Views.{HasSize, as_seen, present_of, taken_with};
 ghost use Rattle.fc_observe.specs.Calls.{after_calls};
 
@@ -12,12 +14,14 @@ use crate::commit::{CommitOutcome, Committed};
 use crate::job::Job;
 use crate::observe::observe;
 use crate::receipt::Receipt;
+use crate::restore::{RestoreError, restored};
 use crate::ring::{Entry, Ring};
 use crate::shard::{Made, Removal, Taken};
 use crate::ticket::{Found, Mark, Ticket, is_run_of};
 use fc_help::{Method, Readings, Vars};
 use fc_machine::Outcome;
 use fc_observe::{Observers, Turn};
+use fc_store::StoredSlot;
 use fc_verify::Verified;
 use std::alloc::{AllocError, Global};
 use std::sync::Arc;
@@ -151,6 +155,26 @@ fn put(slot: &mut SlotState, serial: u64, body: Option<Body>)
     slot.body = body;
 }
 
+// Puts the stored state of a slot in its place. That never lowers its serial.
+pub(crate) fn restore(
+    slot: &mut SlotState,
+    alloc: Global,
+    stored: &StoredSlot,
+) -> Result<(), RestoreError>
+    ensures restored { OnOk result (IsRestored stored.now (as_seen slot.new)) }
+    ensures record { OnOk result (IsRecord (as_seen slot.new)) }
+    ensures rises { (as_seen slot.old).serial ≤ (as_seen slot.new).serial }
+    ensures unchanged { OnErr result (slot.new ≡ slot.old) }
+    ensures cause { IfErr result (IsRestoreError (as_seen slot.old) stored.now) }
+{
+    if stored.serial < slot.serial || stored.serial > LAST_SERIAL {
+        return Err(RestoreError::State);
+    }
+    let body = restored(alloc, stored)?;
+    put(slot, stored.serial, body);
+    Ok(())
+}
+
 // Removes the program of a slot.
 pub(crate) fn clear(slot: &mut SlotState) -> Removal
     ensures answer { result ≡ (remove_from (as_seen slot.old)).answer }
@@ -250,6 +274,15 @@ pub(crate) fn committed(
         CommitOutcome::Overtakes => Committed::Overtaken,
         CommitOutcome::Ends => Committed::Ended,
     }
+}
+
+// Returns whether a commit of the run would write. A run that has nothing to write compares nothing.
+pub(crate) fn would_write(outcome: &Outcome<'_>, ticket: &Ticket<'_>, slot: &SlotState) -> bool
+    ensures { IsTrue result ↔ WouldWrite outcome.now ticket.now (as_seen slot.now) }
+{
+    wants(outcome)
+        && is_own(outcome, ticket, slot)
+        && matches!(outcome_of(outcome, ticket, slot), CommitOutcome::Writes)
 }
 
 // Leaves a slot as it is, and registers or removes the client of its run.

@@ -23,7 +23,7 @@ use Rattle.coap_opts.specs.Verdict.{Asked, Verdict, IsAsked, IsRefused, IsSilent
 use Rattle.coap_opts.proofs.Paths.{path_named}
 use Rattle.coap_opts.proofs.Rows.{code_is}
 use Rattle.coap_opts.proofs.Within.{action_served, asked_made, asked_within}
-use Rattle.coap_dedup.specs.Exchanges.{Look, IsNew, IsBusy, IsAgain, IsSilent as IsAnsweredNon, IsFull as IsTableFull}
+use Rattle.coap_dedup.specs.Exchanges.{Look, IsNew, IsBusy, IsAgain, IsSilent as IsAnsweredNon, IsFull as IsTableFull, IsOverShare}
 use Rattle.coap_block.specs.Uploads.{Add, Continues, IsWhole, IsIncomplete, IsBadLength, IsTooLarge, IsFull, add_of}
 use Rattle.fc_help.specs.declared.request.Method.{Method as Verb}
 use Rattle.fc_help.specs.declared.request.Method.TheVariants.{Get, Post}
@@ -37,7 +37,8 @@ use Rattle.fc_laws.specs.AskLaws.{BringsJob, IsPlain, Requests, core_path, progr
 use Rattle.fc_laws.specs.BodyLaws.{Asks, asked_at}
 use Rattle.fc_core.specs.Exchanges.{FrontState}
 use Rattle.fc_core.specs.History.{Entry, Seen, front_at, no_task, tasks_brought, tasks_moved}
-use Rattle.fc_core.specs.Receiving.{Received, Opened, Refused, Silenced, add_in, ask_by, brought, etags_by, is_confirmable, job_of, look_in, looked, named_block, next_opening, observes, received, received_added, received_as, request_asked, request_received, slot_asked, slot_of_resource}
+use Rattle.fc_core.specs.Policies.{is_allowed}
+use Rattle.fc_core.specs.Receiving.{Received, Opened, Refused, Silenced, add_in, ask_by, brought, etags_by, is_confirmable, job_of, look_in, looked, named_block, next_opening, observes, over_share, received, received_added, received_as, request_asked, request_received, slot_asked, slot_of_resource, received_if}
 use Rattle.fc_core.specs.Stages.{new_task}
 use Rattle.fc_core.specs.Rows.{names}
 use Rattle.fc_laws.proofs.front.Bodies.{anew_is}
@@ -70,29 +71,35 @@ opened_by_job : (x : Received) (o : Opening) (to : Endpoint) (j : Job) → broug
 opened_by_job (Opened m r body) o to j e = record { message = m; asked = r; body = body; opened = refl; is = sym (ap first_job e) }
 opened_by_job other o to j e = absurd (cc e)
 
+over_opened : (c : Bool) (m first : Message) (r : Asked) (body : List ℕ) → over_share c m ≡ Opened first r body → ⊥
+over_opened true m first r body e = cc e
+over_opened false m first r body e = cc e
+
 looked_opened : (l : Look) (m first : Message) (new : Received) (r : Asked) (body : List ℕ) → looked l m new ≡ Opened first r body → new ≡ Opened first r body
 looked_opened IsNew m first new r body e = e
 looked_opened IsBusy m first new r body e = absurd (cc e)
 looked_opened IsAnsweredNon m first new r body e = absurd (cc e)
 looked_opened (IsAgain bytes) m first new r body e = absurd (cc e)
 looked_opened IsTableFull m first new r body e = absurd (cc e)
+looked_opened IsOverShare m first new r body e = absurd (over_opened (is_confirmable m.kind) m first r body e)
 
 -- a request of a message that is carried out with a body
 record IsCarriedOut (f : FrontState) (to : Endpoint) (m : Message) (v : Verdict) (first : Message) (r : Asked) (body : List ℕ) : Type 0 where
   message : m ≡ first
   asks : v ≡ IsAsked r
+  allowed : is_allowed f.managers to r.action ≡ true
   whole : add_in f to r ≡ IsWhole body
 
-added_opened : (f : FrontState) (to : Endpoint) (x : Add) (m first : Message) (q r : Asked) (body : List ℕ) → add_in f to q ≡ x → received_added x m q ≡ Opened first r body → IsCarriedOut f to m (IsAsked q) first r body
-added_opened f to (IsWhole bytes) m first q r body is e =
+added_opened : (f : FrontState) (to : Endpoint) (x : Add) (m first : Message) (q r : Asked) (body : List ℕ) → is_allowed f.managers to q.action ≡ true → add_in f to q ≡ x → received_added x m q ≡ Opened first r body → IsCarriedOut f to m (IsAsked q) first r body
+added_opened f to (IsWhole bytes) m first q r body allowed is e =
     let same : q ≡ r = cc e in
     let bodies : bytes ≡ body = cc e in
-    record { message = cc e; asks = ap IsAsked same; whole = subst (λ (y : Asked). add_in f to y ≡ IsWhole body) same (is ∙ ap IsWhole bodies) }
-added_opened f to Continues m first q r body is e = absurd (cc e)
-added_opened f to IsIncomplete m first q r body is e = absurd (cc e)
-added_opened f to IsBadLength m first q r body is e = absurd (cc e)
-added_opened f to IsTooLarge m first q r body is e = absurd (cc e)
-added_opened f to IsFull m first q r body is e = absurd (cc e)
+    record { message = cc e; asks = ap IsAsked same; allowed = subst (λ (y : Asked). is_allowed f.managers to y.action ≡ true) same allowed; whole = subst (λ (y : Asked). add_in f to y ≡ IsWhole body) same (is ∙ ap IsWhole bodies) }
+added_opened f to Continues m first q r body allowed is e = absurd (cc e)
+added_opened f to IsIncomplete m first q r body allowed is e = absurd (cc e)
+added_opened f to IsBadLength m first q r body allowed is e = absurd (cc e)
+added_opened f to IsTooLarge m first q r body allowed is e = absurd (cc e)
+added_opened f to IsFull m first q r body allowed is e = absurd (cc e)
 
 refused_opened : (f : FrontState) (to : Endpoint) (m first : Message) (v : Verdict) (answer : ℕ) (r : Asked) (body : List ℕ) → Refused m answer ≡ Opened first r body → IsCarriedOut f to m v first r body
 refused_opened f to m first v answer r body e = absurd (cc e)
@@ -100,8 +107,12 @@ refused_opened f to m first v answer r body e = absurd (cc e)
 silent_opened : (f : FrontState) (to : Endpoint) (m first : Message) (v : Verdict) (r : Asked) (body : List ℕ) → Silenced m ≡ Opened first r body → IsCarriedOut f to m v first r body
 silent_opened f to m first v r body e = absurd (cc e)
 
+asked_opened : (f : FrontState) (to : Endpoint) (b : Bool) (m first : Message) (q r : Asked) (body : List ℕ) → is_allowed f.managers to q.action ≡ b → received_if b f to m q ≡ Opened first r body → IsCarriedOut f to m (IsAsked q) first r body
+asked_opened f to true m first q r body allowed e = added_opened f to (add_in f to q) m first q r body allowed refl e
+asked_opened f to false m first q r body allowed e = absurd (cc e)
+
 carried_out : (f : FrontState) (to : Endpoint) (m : Message) (v : Verdict) (first : Message) (r : Asked) (body : List ℕ) → received_as f to m v ≡ Opened first r body → IsCarriedOut f to m v first r body
-carried_out f to m (IsAsked q) first r body e = added_opened f to (add_in f to q) m first q r body refl (looked_opened (look_in f to m) m first (request_received f to m q) r body e)
+carried_out f to m (IsAsked q) first r body e = asked_opened f to (is_allowed f.managers to q.action) m first q r body refl (looked_opened (look_in f to m) m first (request_received f to m q) r body e)
 carried_out f to m (IsRefused answer) first r body e = refused_opened f to m first (IsRefused answer) answer r body (looked_opened (look_in f to m) m first (Refused m answer) r body e)
 carried_out f to m IsSilent first r body e = silent_opened f to m first IsSilent r body (looked_opened (look_in f to m) m first (Silenced m) r body e)
 carried_out f to m IsReset first r body e = absurd (cc e)
@@ -113,6 +124,7 @@ pub record IsJobOf (f : FrontState) (to : Endpoint) (m : Message) (j : Job) : Ty
   pub asked : Asked
   pub body : List ℕ
   pub asks : verdict m ≡ IsAsked asked
+  pub allowed : is_allowed f.managers to asked.action ≡ true
   pub whole : add_in f to asked ≡ IsWhole body
   pub is : j ≡ job_of (next_opening f) to m asked body
 
@@ -120,7 +132,7 @@ job_received : (f : FrontState) (to : Endpoint) (bytes : List ℕ) (m : Message)
 job_received f to bytes m j read e =
     let o = opened_by_job (received f to bytes) (next_opening f) to j e in
     let c = carried_out f to m (verdict m) o.message o.asked o.body (sym (received_of f to bytes (Ok m) read) ∙ o.opened) in
-    record { asked = o.asked; body = o.body; asks = c.asks; whole = c.whole; is = subst (λ (x : Message). j ≡ job_of (next_opening f) to x o.asked o.body) (sym c.message) o.is }
+    record { asked = o.asked; body = o.body; asks = c.asks; allowed = c.allowed; whole = c.whole; is = subst (λ (x : Message). j ≡ job_of (next_opening f) to x o.asked o.body) (sym c.message) o.is }
 
 pub job_brought : (r : Entry) (s : Seen) (from : Endpoint) (m : Message) (j : Job) (b : BringsJob r s from m j) → IsJobOf (front_at s b.now) from m j
 job_brought r s from m j b =

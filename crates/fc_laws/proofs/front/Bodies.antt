@@ -12,7 +12,7 @@ use Rattle.coap_msg.specs.Reading.{reading_of}
 use Rattle.coap_msg.specs.Wire.{Message}
 use Rattle.coap_opts.specs.Values.{Place}
 use Rattle.coap_opts.specs.Verdict.{Asked, Verdict, IsAsked, IsRefused, IsSilent, IsReset, IsSignal, IsIgnored, verdict}
-use Rattle.coap_dedup.specs.Exchanges.{Look, IsNew, IsBusy, IsAgain, IsSilent as IsAnsweredNon, IsFull as IsTableFull}
+use Rattle.coap_dedup.specs.Exchanges.{Look, IsNew, IsBusy, IsAgain, IsSilent as IsAnsweredNon, IsFull as IsTableFull, IsOverShare}
 use Rattle.coap_block.specs.Cuts.{cut_at}
 use Rattle.coap_block.specs.Transfers.{Addition, transfers}
 use Rattle.coap_block.specs.UnderWay.{FitsBehind, RisesTo}
@@ -26,7 +26,8 @@ use Rattle.fc_laws.specs.BodyLaws.{Asks, BringsInstall, FitsBy, IsAskedAnew, Put
 use Rattle.fc_laws.specs.ExchangeLaws.{IsOnRequest}
 use Rattle.fc_core.specs.History.{Entry, History, Begins, Then, Seen, and_then, did, front_at, received_at, seen, stage, at_front, moment_by, additions_by}
 use Rattle.fc_core.specs.Legal.{Emits}
-use Rattle.fc_core.specs.Receiving.{Received, Silenced, Refused, Settled, Opened, add_in, added_by, addition_of, ask_by, brought, job_of, look_in, looked, next_opening, received_added, received_as, received_read, request_received, sent, slot_asked}
+use Rattle.fc_core.specs.Policies.{is_allowed}
+use Rattle.fc_core.specs.Receiving.{Received, Silenced, Refused, Settled, Opened, add_in, added_by, addition_of, ask_by, brought, is_confirmable, job_of, look_in, looked, next_opening, over_share, received_added, received_as, received_read, request_received, sent, slot_asked, received_if}
 use Rattle.coap_reply.specs.Responses.{settled_by}
 use Rattle.fc_core.specs.Stages.{content_at, needs_id, new_task}
 use Rattle.fc_laws.proofs.front.Repeats.{new_as, opening_is, opening_of, received_of}
@@ -55,7 +56,7 @@ rises_on other s w = w
 
 pub rises : (h : History) → RisesTo (seen h).moment (seen h).additions
 unfolding seen
-rises (Begins serial id) = tt
+rises (Begins serial id policy) = tt
 rises (Then h r) = rises_on r.event (seen h) (rises h)
 
 pub rises_at : (h : History) (now : ℕ) → RisesTo (max (seen h).moment now) (seen h).additions
@@ -102,7 +103,8 @@ anew_is s now to bytes m r w =
     let message : w.opens.message ≡ m = cc (sym w.opens.read ∙ w.read) in
     opening_is s now to bytes w.opens
     ∙ (ap (λ (x : Message). new_as (front_at s now) to (verdict x) x) message
-    ∙ ap (λ (v : Verdict). new_as (front_at s now) to v m) w.asks)
+    ∙ (ap (λ (v : Verdict). new_as (front_at s now) to v m) w.asks
+    ∙ ap (λ (b : Bool). received_if b (front_at s now) to m r) w.allowed))
 
 -- whatever becomes of its payload, it is added
 added_anyway : (x : Add) (m : Message) (r : Asked) (at : ℕ) (to : Endpoint) → added_by (received_added x m r) at to ≡ addition_of at to r ∷ []
@@ -122,15 +124,24 @@ asked_adds s other m r w = absurd w
 pub requests_add : (e : Entry) (s : Seen) (m : Message) (r : Asked) → Asks s e.event m r → (and_then e s).additions ≡ addition_by s e.event r ++ s.additions
 requests_add e s m r w = ap (λ (l : List Addition). l ++ s.additions) (asked_adds s e.event m r w)
 
+over_adds : (c : Bool) (m : Message) (at : ℕ) (to : Endpoint) → added_by (over_share c m) at to ≡ []
+over_adds true m at to = refl
+over_adds false m at to = refl
+
 looked_adds : (l : Look) (m : Message) (new : Received) (at : ℕ) (to : Endpoint) → (l ≡ IsNew → added_by new at to ≡ []) → added_by (looked l m new) at to ≡ []
 looked_adds IsNew m new at to none = none refl
 looked_adds IsBusy m new at to none = refl
 looked_adds IsAnsweredNon m new at to none = refl
 looked_adds (IsAgain bytes) m new at to none = refl
 looked_adds IsTableFull m new at to none = refl
+looked_adds IsOverShare m new at to none = over_adds (is_confirmable m.kind) m at to
 
 message_adds : (s : Seen) (now : ℕ) (to : Endpoint) (bytes : List ℕ) (m : Message) (v : Verdict) (at : ℕ) → reading_of bytes ≡ Ok m → verdict m ≡ v → ((r : Asked) → IsAskedAnew s now to bytes m r → ⊥) → added_by (received_as (front_at s now) to m v) at to ≡ []
-message_adds s now to bytes m (IsAsked r) at read is not = looked_adds (look_in (front_at s now) to m) m (request_received (front_at s now) to m r) at to (λ new. absurd (not r (record { opens = opening_of s now to bytes m read (subst IsOnRequest (sym is) tt) new; read = read; asks = is })))
+message_adds s now to bytes m (IsAsked r) at read is not = looked_adds (look_in (front_at s now) to m) m (request_received (front_at s now) to m r) at to (λ new.
+    (elim (is_allowed s.policy.managers to r.action) as (λ b. is_allowed s.policy.managers to r.action ≡ b → added_by (received_if b (front_at s now) to m r) at to ≡ []) [
+      | true ↦ λ allowed. absurd (not r (record { opens = opening_of s now to bytes m read (subst IsOnRequest (sym is) tt) new; read = read; asks = is; allowed = allowed }))
+      | false ↦ λ allowed. refl
+    ]) refl)
 message_adds s now to bytes m (IsRefused answer) at read is not = looked_adds (look_in (front_at s now) to m) m (Refused m answer) at to (λ new. refl)
 message_adds s now to bytes m IsSilent at read is not = looked_adds (look_in (front_at s now) to m) m (Silenced m) at to (λ new. refl)
 message_adds s now to bytes m IsReset at read is not = refl

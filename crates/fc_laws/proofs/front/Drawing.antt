@@ -11,7 +11,9 @@ use Rattle.coap_msg.specs.declared.types.Endpoint.{Endpoint}
 use Rattle.coap_msg.specs.Reading.{reading_of}
 use Rattle.coap_msg.specs.Wire.{Message}
 use Rattle.coap_opts.specs.Verdict.{Asked, Verdict, IsAsked, IsRefused, IsSilent, IsReset, IsSignal, IsIgnored, verdict}
-use Rattle.coap_dedup.specs.Exchanges.{Exchange, Look, IsNew, IsBusy, IsAgain, IsSilent as IsAnsweredNon, IsFull as IsTableFull, look_by, repeated_by}
+use Rattle.coap_dedup.specs.Exchanges.{Exchange, Look, IsNew, IsBusy, IsAgain, IsSilent as IsAnsweredNon, IsFull as IsTableFull, IsOverShare, has_place, has_share, look_by, places_of, repeated_by, room_by}
+use Rattle.coap_dedup.specs.declared.exchanges.Room.{Room}
+use Rattle.coap_dedup.specs.declared.exchanges.Room.TheVariants.{Free, Full, OverShare}
 use Rattle.coap_block.specs.Uploads.{Add, Continues, IsWhole, IsIncomplete, IsBadLength, IsTooLarge, IsFull}
 use Rattle.coap_reply.specs.Responses.{Response}
 use Rattle.fc_observe.specs.declared.entry.Turn.{Turn}
@@ -22,18 +24,19 @@ use Rattle.fc_core.specs.Contents.{Content}
 use Rattle.fc_core.specs.Exchanges.{opening_is_live}
 use Rattle.fc_core.specs.History.{Entry, History, Then, Seen, seen, at_front, front_at, ids_answered, ids_by, job, moment_by, stage}
 use Rattle.fc_core.specs.Ids.{Ids, drawn, drawn_for, free_id, is_recent, last_drawn}
-use Rattle.fc_core.specs.Receiving.{Received, Refused, Settled, Silenced, add_in, drawn_by, is_confirmable, look_in, looked, received_added, received_as, received_read, request_received}
+use Rattle.fc_core.specs.Policies.{is_allowed}
+use Rattle.fc_core.specs.Receiving.{Received, Refused, Settled, Silenced, add_in, drawn_by, is_confirmable, look_in, looked, received_added, received_as, received_read, request_received, received_if}
 use Rattle.fc_core.specs.Stage.{Stage, ToAnswer, ToTell}
 use Rattle.fc_core.specs.Stages.{content_at, needs_id}
 use Rattle.fc_core.specs.TurnStage as turns
 use Rattle.fc_laws.specs.DrawLaws.{AnswersAtOnce, AnswersInTime, FindsNoRoom, IsAnsweredAtOnce, IsRefused as IsRefusedAtOnce, IsSettled, NeedsId, TellsTurn}
-use Rattle.fc_laws.specs.ExchangeLaws.{Draw, IsCrowdedOut, IsOnRequest, draws_by, draws_of, first_id, is_within, repeated}
+use Rattle.fc_laws.specs.ExchangeLaws.{Draw, HasNoPlace, IsCrowdedOut, IsOnRequest, draws_by, draws_of, first_id, held_at, is_within, repeated, shared_at}
 use Rattle.fc_laws.specs.KeptLaws.{opened_at}
 use Rattle.fc_laws.proofs.front.Bodies.{anew_is}
 use Rattle.fc_laws.proofs.front.DrawnIds.{by_test, kept_where_none_free, next_small}
 use Rattle.fc_laws.proofs.front.Refusing.{refused_is}
-use Rattle.fc_laws.proofs.front.Repeats.{look_is, opening_of, received_of, room_at}
-use Rattle.fc_laws.proofs.front.Room.{full_is}
+use Rattle.fc_laws.proofs.front.Repeats.{look_is, opening_of, received_of, room_in, table_at}
+use Rattle.fc_laws.proofs.front.Room.{full_is, over_draws}
 
 -- the ids after an event are those after a draw at its moment
 abbrev DrawsOne : Seen → Event → Type 0
@@ -104,33 +107,46 @@ looked_keeps IsBusy m new ids at crowded keeps = refl
 looked_keeps IsAnsweredNon m new ids at crowded keeps = refl
 looked_keeps (IsAgain bytes) m new ids at crowded keeps = refl
 looked_keeps IsTableFull m new ids at crowded keeps = kept_ids (is_confirmable m.kind) ids at (crowded refl)
+looked_keeps IsOverShare m new ids at crowded keeps = over_draws (is_confirmable m.kind) m ids at refl
 
--- a look that tells of no room
+-- a look that tells of no place
 repeated_full : (c : Bool) (a : Option (ArrayVec ℕ)) → repeated_by c a ≡ IsTableFull → ⊥
 repeated_full c None e = absurd (cc e)
 repeated_full true (Some bytes) e = absurd (cc e)
 repeated_full false (Some bytes) e = absurd (cc e)
 
-full_look : (o : Option Exchange) (room : Bool) → look_by o room ≡ IsTableFull → (o ≡ None) × (room ≡ false)
-full_look None true e = absurd (cc e)
-full_look None false e = (refl, refl)
+full_look : (o : Option Exchange) (room : Room) → look_by o room ≡ IsTableFull → (o ≡ None) × (room ≡ Full)
+full_look None Free e = absurd (cc e)
+full_look None Full e = (refl, refl)
+full_look None OverShare e = absurd (cc e)
 full_look (Some x) room e = absurd (repeated_full x.confirmable x.answer e)
 
 one_false : (a b : Bool) → (a && b) ≡ false → (a ≡ false) ⊎ (b ≡ false)
 one_false true b e = inr e
 one_false false b e = inl refl
 
-no_room : (held opened : ℕ) → (nat_lt held 1024 ≡ false) ⊎ (nat_lt opened 18446744073709551615 ≡ false) → (1024 ≤ held) ⊎ (18446744073709551615 ≤ opened)
-no_room held opened (inl e) = inl (ltb-false held 1024 e)
-no_room held opened (inr e) = inr (ltb-false opened 18446744073709551615 e)
+full_parts : (share place : Bool) → room_by share place ≡ Full → (share ≡ true) × (place ≡ false)
+full_parts false place e = absurd (cc e)
+full_parts true true e = absurd (cc e)
+full_parts true false e = (refl, refl)
+
+no_place : (s : Seen) (at : ℕ) → (nat_lt (length (held_at s at)) (places_of s.policy.limits) ≡ false) ⊎ (nat_lt (length s.exchanges) 18446744073709551615 ≡ false) → HasNoPlace s at
+no_place s at (inl e) = inl (ltb-false (length (held_at s at)) (places_of s.policy.limits) e)
+no_place s at (inr e) = inr (ltb-false (length s.exchanges) 18446744073709551615 e)
 
 crowded_of : (s : Seen) (now : ℕ) (to : Endpoint) (bytes : List ℕ) (m : Message) → reading_of bytes ≡ Ok m → IsOnRequest (verdict m) → look_in (front_at s now) to m ≡ IsTableFull
     → IsCrowdedOut s now to bytes m
 crowded_of s now to bytes m read asks is =
     let at = max s.moment now in
-    let held = length (filter (is_within at) s.exchanges) in
-    let look = full_look (repeated s at to m.id) (room_at s at) (sym (look_is s now to m) ∙ is) in
-    record { read = read; asks = asks; new = look.0; full = no_room held (length s.exchanges) (one_false (nat_lt held 1024) (nat_lt (length s.exchanges) 18446744073709551615) look.1) }
+    let look = full_look (repeated s at to m.id) (room_in s at to.ip) (sym (look_is s now to m) ∙ is) in
+    let parts = full_parts (has_share (table_at s at) to.ip) (has_place (table_at s at)) look.1 in
+    record {
+      read = read;
+      asks = asks;
+      new = look.0;
+      share = ltb-true (shared_at s at to.ip) s.policy.limits.share parts.0;
+      full = no_place s at (one_false (nat_lt (length (held_at s at)) (places_of s.policy.limits)) (nat_lt (length s.exchanges) 18446744073709551615) parts.1);
+    }
 
 -- a message by its verdict
 module _ (s : Seen) (now : ℕ) (to : Endpoint) (bytes : Bor (List ℕ)) (m : Message) (read : reading_of bytes.now ≡ Ok m) (not : NeedsId s (Deliver now to bytes) → ⊥) where
@@ -141,14 +157,21 @@ module _ (s : Seen) (now : ℕ) (to : Endpoint) (bytes : Bor (List ℕ)) (m : Me
   message_keeps (IsAsked r) is =
       let asks : IsOnRequest (verdict m) = subst IsOnRequest (sym is) tt in
       looked_keeps (look_in (front_at s now) to m) m (request_received (front_at s now) to m r) s.ids (max s.moment now) (crowded_not asks)
-      (λ new. added_keeps (add_in (front_at s now) to r) m r s.ids (max s.moment now)
-      (λ response settles kind. not (AnswersAtOnce m kind
-      (IsSettled r response (record { opens = opening_of s now to bytes.now m read asks new; read = read; asks = is }) settles))))
+      (λ new. (elim (is_allowed s.policy.managers to r.action) as (λ b. is_allowed s.policy.managers to r.action ≡ b → drawn_by (received_if b (front_at s now) to m r) s.ids (max s.moment now) ≡ s.ids) [
+        | true ↦
+            λ allowed. added_keeps (add_in (front_at s now) to r) m r s.ids (max s.moment now)
+            (λ response settles kind. not (AnswersAtOnce m kind
+            (IsSettled r response (record { opens = opening_of s now to bytes.now m read asks new; read = read; asks = is; allowed = allowed }) settles)))
+        | false ↦
+            λ allowed. kept_ids (is_confirmable m.kind) s.ids (max s.moment now)
+            (λ kind. not (AnswersAtOnce m kind
+            (IsRefusedAtOnce 131 (record { opens = opening_of s now to bytes.now m read asks new; read = read; refuses = inr (record { asked = r; asks = is; allowed = allowed; answer_is = refl }) }))))
+      ]) refl)
   message_keeps (IsRefused answer) is =
       let asks : IsOnRequest (verdict m) = subst IsOnRequest (sym is) tt in
       looked_keeps (look_in (front_at s now) to m) m (Refused m answer) s.ids (max s.moment now) (crowded_not asks)
       (λ new. kept_ids (is_confirmable m.kind) s.ids (max s.moment now)
-      (λ kind. not (AnswersAtOnce m kind (IsRefusedAtOnce answer (record { opens = opening_of s now to bytes.now m read asks new; read = read; refuses = is })))))
+      (λ kind. not (AnswersAtOnce m kind (IsRefusedAtOnce answer (record { opens = opening_of s now to bytes.now m read asks new; read = read; refuses = inl is })))))
   message_keeps IsSilent is =
       let asks : IsOnRequest (verdict m) = subst IsOnRequest (sym is) tt in
       looked_keeps (look_in (front_at s now) to m) m (Silenced m) s.ids (max s.moment now) (crowded_not asks) (λ new. refl)

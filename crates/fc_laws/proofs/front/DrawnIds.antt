@@ -170,7 +170,7 @@ none_drawn id a lt e = absurd (cc (sym (get_or-replicate {A = Option ℕ} 65536 
 
 all_kept : (h : History) → first_id h < 65536 → AreKept (first_id h) (seen h).ids (seen h).moment (draws_of h)
 unfolding seen
-all_kept (Begins serial id) lt = record { next = omega (arith, lt); room = none_room; kept = tt; drawn = none_drawn; past = tt; order = tt; apart = tt }
+all_kept (Begins serial id policy) lt = record { next = omega (arith, lt); room = none_room; kept = tt; drawn = none_drawn; past = tt; order = tt; apart = tt }
 all_kept (Then h r) lt = step (first_id h) (seen h).ids (and_then r (seen h)).ids (seen h).moment (moment_by (at_front r.event) (seen h)) (draws_of h) (moment_rises r.event (seen h)) (all_kept h lt) (event_draws r.event (seen h))
 
 pub next_small : (h : History) → first_id h < 65536 → (seen h).ids.next < 65536

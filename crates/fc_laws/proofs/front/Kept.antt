@@ -24,7 +24,8 @@ use Rattle.fc_core.specs.History.{Entry, History, Begins, Then, Seen, seen, answ
 use Rattle.fc_core.specs.Ids.{free_id}
 use Rattle.fc_laws.specs.KeptLaws.{AnswersJob, HasId, answers, answers_with, emitted_bytes, exchange_of_job, opened_at}
 use Rattle.fc_core.specs.Legal.{AnswerEmits, Emits, IsAnswered}
-use Rattle.fc_core.specs.Receiving.{Received, Silenced, Refused, Opened, Settled, add_in, id_in, kept_of, next_opening, opened_by, received_added, sent}
+use Rattle.fc_core.specs.Policies.{is_allowed}
+use Rattle.fc_core.specs.Receiving.{Received, Silenced, Refused, Opened, Settled, add_in, id_in, kept_of, next_opening, opened_by, received_added, sent, received_if}
 use Rattle.fc_core.specs.Stages.{content_at}
 use Rattle.fc_laws.proofs.front.Repeats.{new_as, opened_none, opening_is}
 
@@ -97,7 +98,7 @@ numbered_by other o s w = w
 
 pub numbered : (h : History) → AreNumbered 0 (seen h).exchanges
 unfolding seen
-numbered (Begins serial id) = tt
+numbered (Begins serial id policy) = tt
 numbered (Then h r) = numbered_by r.event r.emitted (seen h) (numbered h)
 
 -- ---- what is kept
@@ -158,8 +159,12 @@ added_keeps IsBadLength m r f to opening o kept n len is = seam o kept n len
 added_keeps IsTooLarge m r f to opening o kept n len is = seam o kept n len
 added_keeps IsFull m r f to opening o kept n len is = seam o kept n len
 
+asked_keeps : (b : Bool) (m : Message) (r : Asked) (f : FrontState) (to : Endpoint) (opening : Opening) → KeepsSent (received_if b f to m r) f to opening
+asked_keeps true m r f to opening = added_keeps (add_in f to r) m r f to opening
+asked_keeps false m r f to opening = λ o kept n len is. seam o kept n len
+
 new_keeps : (v : Verdict) (m : Message) (f : FrontState) (to : Endpoint) (opening : Opening) → KeepsSent (new_as f to v m) f to opening
-new_keeps (IsAsked asked) m f to opening = added_keeps (add_in f to asked) m asked f to opening
+new_keeps (IsAsked asked) m f to opening = asked_keeps (is_allowed f.managers to asked.action) m asked f to opening
 new_keeps (IsRefused answer) m f to opening = λ o kept n len is. seam o kept n len
 new_keeps IsSilent m f to opening = λ o kept n len is. nothing_sent kept o is
 new_keeps IsReset m f to opening = λ o kept n len is. nothing_sent kept o is

@@ -33,7 +33,7 @@ front_handed other s ms is = is
 
 pub moment_is_greatest : (h : History) → (seen h).moment ≡ greatest (moments_of h)
 unfolding seen
-moment_is_greatest (Begins serial id) = refl
+moment_is_greatest (Begins serial id policy) = refl
 moment_is_greatest (Then h r) = front_handed r.event (seen h) (moments_of h) (moment_is_greatest h)
 
 abbrev at : Job → Slot → Around → Stage → Scene
@@ -70,5 +70,5 @@ handed_more other i m ms is = is
 
 pub shard_moment_is_greatest : (h : History) (i : ℕ) → (seen h).shard_moment i ≡ greatest (shard_moments_of i h)
 unfolding seen
-shard_moment_is_greatest (Begins serial id) i = refl
+shard_moment_is_greatest (Begins serial id policy) i = refl
 shard_moment_is_greatest (Then h r) i = handed_more r.event i _ _ (shard_handed (seen h) r.event (names r.event) i (shard_moments_of i h) (shard_moment_is_greatest h i))

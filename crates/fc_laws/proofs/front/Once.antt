@@ -15,7 +15,7 @@ use Rattle.coap_msg.specs.Reading.{reading_of}
 use Rattle.coap_msg.specs.Wire.{Message}
 use Rattle.coap_opts.specs.Verdict.{Asked, Verdict, IsAsked, IsRefused, IsSilent, IsReset, IsSignal, IsIgnored, verdict}
 use Rattle.coap_dedup.specs.Exchanges.{Exchange}
-use Rattle.coap_dedup.specs.Exchanges.{Look, IsNew, IsBusy, IsAgain, IsSilent as IsAnsweredNon, IsFull, answered_if, is_of}
+use Rattle.coap_dedup.specs.Exchanges.{Look, IsNew, IsBusy, IsAgain, IsSilent as IsAnsweredNon, IsFull, IsOverShare, answered_if, is_of}
 use Rattle.coap_msg.specs.Endpoints.{same_endpoint}
 use Rattle.fc_observe.specs.declared.entry.Turn.{Turn}
 use Rattle.fc_observe.specs.Calls.{NextDue, observers_after}
@@ -32,12 +32,13 @@ use Rattle.fc_laws.specs.ExchangeLaws.{is_within, repeated}
 use Rattle.fc_core.specs.History.{Entry, History, Begins, Then, Seen, seen, and_then, answered_in, due_in, front_at, job, no_task, received_at, slot_at, stage, tasks_brought, tasks_moved, turn_at, watch, at_front, exchanges_by}
 use Rattle.fc_core.specs.Laws.{HasCome}
 use Rattle.coap_block.specs.Uploads.{Add, Continues, IsWhole, IsIncomplete, IsBadLength, IsTooLarge, IsFull}
-use Rattle.fc_core.specs.Receiving.{Received, Silenced, Refused, Opened, add_in, received_added, request_received, brought, kept_of, look_in, looked, next_opening, opened_by, received_as, received_read}
+use Rattle.fc_core.specs.Policies.{is_allowed}
+use Rattle.fc_core.specs.Receiving.{Received, Silenced, Refused, Opened, add_in, received_added, request_received, brought, is_confirmable, kept_of, look_in, looked, next_opening, opened_by, over_share, received_as, received_read, received_if}
 use Rattle.fc_core.specs.Stages.{content_at, new_task}
 use Rattle.fc_core.specs.Rows.{names}
 use Rattle.fc_core.proofs.Lists.{Each}
 use Rattle.fc_laws.proofs.jobs.Others.{job_stays}
-use Rattle.fc_laws.proofs.front.Repeats.{look_is, new_look, received_of, room_at}
+use Rattle.fc_laws.proofs.front.Repeats.{look_is, new_look, received_of, room_in}
 use Rattle.fc_laws.proofs.jobs.Steps.{moved_length}
 
 -- one of them is so
@@ -115,15 +116,20 @@ module _ (s : Seen) (now : ℕ) (to : Endpoint) where
   abbrev AreNew : Received → Type 0
   AreNew x = Each (IsNewJob s (opened_by x opening to)) (brought x opening to)
 
+  over_new : (c : Bool) (m : Message) → AreNew (over_share c m)
+  over_new true m = tt
+  over_new false m = tt
+
   looked_new : (m : Message) (new : Received) (l : Look) → (l ≡ IsNew → AreNew new) → AreNew (looked l m new)
   looked_new m new IsNew w = w refl
   looked_new m new IsBusy w = tt
   looked_new m new IsAnsweredNon w = tt
   looked_new m new (IsAgain bytes) w = tt
   looked_new m new IsFull w = tt
+  looked_new m new IsOverShare w = over_new (is_confirmable m.kind) m
 
   no_repeat : (m : Message) → look_in (front_at s now) to m ≡ IsNew → repeated s (max s.moment now) to m.id ≡ None
-  no_repeat m is = (new_look (repeated s (max s.moment now) to m.id) (room_at s (max s.moment now)) (sym (look_is s now to m) ∙ is)).none
+  no_repeat m is = (new_look (repeated s (max s.moment now) to m.id) (room_in s (max s.moment now) to.ip) (sym (look_is s now to m) ∙ is)).none
 
   added_new : (a : Add) (m : Message) (r : Asked) → look_in (front_at s now) to m ≡ IsNew → AreNew (received_added a m r)
   added_new (IsWhole body) m r is = (record { moment = max s.moment now; none = no_repeat m is; at_is = refl; opened = inl (refl, refl, refl) }, tt)
@@ -133,8 +139,12 @@ module _ (s : Seen) (now : ℕ) (to : Endpoint) where
   added_new IsTooLarge m r is = tt
   added_new IsFull m r is = tt
 
+  asked_new : (b : Bool) (m : Message) (r : Asked) → look_in (front_at s now) to m ≡ IsNew → AreNew (received_if b (front_at s now) to m r)
+  asked_new true m r is = added_new (add_in (front_at s now) to r) m r is
+  asked_new false m r is = tt
+
   verdict_new : (m : Message) (v : Verdict) → AreNew (received_as (front_at s now) to m v)
-  verdict_new m (IsAsked asked) = looked_new m (request_received (front_at s now) to m asked) (look_in (front_at s now) to m) (λ is. added_new (add_in (front_at s now) to asked) m asked is)
+  verdict_new m (IsAsked asked) = looked_new m (request_received (front_at s now) to m asked) (look_in (front_at s now) to m) (λ is. asked_new (is_allowed s.policy.managers to asked.action) m asked is)
   verdict_new m (IsRefused answer) = looked_new m (Refused m answer) (look_in (front_at s now) to m) (λ is. tt)
   verdict_new m IsSilent = looked_new m (Silenced m) (look_in (front_at s now) to m) (λ is. tt)
   verdict_new m IsReset = tt
@@ -213,7 +223,7 @@ opened_after r s k come asks w = ⊎_elim
 -- the job of each request has its exchange
 opened_for : (h : History) (k : ℕ) → HasCome (seen h) k → (job (seen h) k).turn ≡ None → Any (IsOf (job (seen h) k).origin) (seen h).exchanges
 unfolding seen
-opened_for (Begins serial id) k come asks = absurd (omega arith)
+opened_for (Begins serial id policy) k come asks = absurd (omega arith)
 opened_for (Then h r) k come asks = opened_after r (seen h) k come asks (opened_for h k)
 
 -- ---- at most once in a window
@@ -260,5 +270,5 @@ apart_after h r j k lt come w =
 
 pub jobs_apart : (h : History) (j k : ℕ) → j < k → HasCome (seen h) k → (job (seen h) j).turn ≡ None → (job (seen h) k).turn ≡ None → (job (seen h) j).origin.endpoint ≡ (job (seen h) k).origin.endpoint → (job (seen h) j).origin.id ≡ (job (seen h) k).origin.id → (job (seen h) j).origin.opening.at + 247000 ≤ (job (seen h) k).origin.opening.at
 unfolding seen
-jobs_apart (Begins serial id) j k lt come = absurd (omega arith)
+jobs_apart (Begins serial id policy) j k lt come = absurd (omega arith)
 jobs_apart (Then h r) j k lt come = apart_after h r j k lt come (jobs_apart h j k lt)

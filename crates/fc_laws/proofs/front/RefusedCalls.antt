@@ -49,13 +49,14 @@ changes_still true cs own is = ap (λ (x : List Change). x ++ own) is
 changes_still false cs own is = refl
 
 -- the observers of slot n after these calls are as they were, but for their moment
-abbrev AreLeft : ℕ → List ObserverCall → List ObserverCall → Type 0
-AreLeft n own calls = observers n calls ≡ record (observers n own) { moment = (observers n calls).moment }
+abbrev AreLeft : ℕ → ℕ → List ObserverCall → List ObserverCall → Type 0
+AreLeft n confirm_after own calls =
+    observers n confirm_after calls ≡ record (observers n confirm_after own) { moment = (observers n confirm_after calls).moment }
 
-observers_still : (b : Bool) (cs own : List ObserverCall) (n : ℕ) → IsQuiet cs → AreLeft n own ((if b then cs else []) ++ own)
-observers_still true cs own n (Nothing is) = subst (λ (x : List ObserverCall). AreLeft n own (x ++ own)) (sym is) refl
-observers_still true cs own n (Moment at is) = subst (λ (x : List ObserverCall). AreLeft n own (x ++ own)) (sym is) refl
-observers_still false cs own n q = refl
+observers_still : (b : Bool) (cs own : List ObserverCall) (n confirm_after : ℕ) → IsQuiet cs → AreLeft n confirm_after own ((if b then cs else []) ++ own)
+observers_still true cs own n confirm_after (Nothing is) = subst (λ (x : List ObserverCall). AreLeft n confirm_after own (x ++ own)) (sym is) refl
+observers_still true cs own n confirm_after (Moment at is) = subst (λ (x : List ObserverCall). AreLeft n confirm_after own (x ++ own)) (sym is) refl
+observers_still false cs own n confirm_after q = refl
 
 -- what an event is that names job k, and does nothing at the front but let an id be drawn
 record IsOf (k : ℕ) (e : Event) (o : Option Emission) (s : Seen) : Type 0 where
@@ -79,10 +80,10 @@ left k e o s of still = record {
       ap (λ (x : Option ℕ). tasks_moved x e s ++ tasks_brought e s) of.named
       ∙ (ap (λ ts. tasks_moved (Some k) e s ++ ts) of.brought ∙ append-nil (tasks_moved (Some k) e s));
   observers = λ n.
-      subst (AreLeft n (s.calls n))
+      subst (AreLeft n s.policy.confirm_after (s.calls n))
       (sym (ap (λ (x : Option ℕ). calls_named x e s n ++ (calls_by (at_shard e) s n ++ s.calls n)) of.named
       ∙ ap (λ (x : List ObserverCall). calls_named (Some k) e s n ++ (x ++ s.calls n)) (of.calm n)))
-      (observers_still (slot_of s k == n) (row e (scene s k)).calls (s.calls n) n still.calls);
+      (observers_still (slot_of s k == n) (row e (scene s k)).calls (s.calls n) n s.policy.confirm_after still.calls);
   front = record { exchanges = of.kept; additions = ap (λ xs. xs ++ s.additions) of.added };
 }
 

@@ -16,13 +16,22 @@ use Rattle.fc_core.specs.declared.event.Event.TheVariants.{Deliver}
 use Rattle.fc_laws.specs.ExchangeLaws.{bare_by}
 use Rattle.fc_core.specs.History.{Entry, Seen, and_then, exchanges_received, front_at, received_at, tasks_brought, tasks_moved, at_front, exchanges_by}
 use Rattle.fc_core.specs.Legal.{Emits}
-use Rattle.fc_core.specs.Receiving.{Received, Refused, Rejected, brought, next_opening, received_as, sent}
-use Rattle.fc_laws.specs.ReplyLaws.{FormatError, IsRefusedAnew, IsRejected, NoRequest, Refuses, Rejects, reset_to}
+use Rattle.fc_core.specs.Policies.{is_allowed}
+use Rattle.fc_core.specs.Receiving.{Received, Refused, Rejected, brought, next_opening, received_as, sent, received_if, add_in}
+use Rattle.fc_laws.specs.ReplyLaws.{FormatError, IsRefusal, IsRefusedAnew, IsRejected, NoRequest, Refuses, Rejects, reset_to}
 use Rattle.fc_core.specs.Stages.{new_task}
 use Rattle.fc_core.specs.Rows.{names}
 use Rattle.fc_laws.proofs.front.Repeats.{new_as, opening_is, received_of}
 
 -- ---- a refusal
+
+-- a request that is new is refused
+refusal_is : (s : Seen) (now : ℕ) (to : Endpoint) (m : Message) (answer : ℕ) → IsRefusal s to m answer → new_as (front_at s now) to (verdict m) m ≡ Refused m answer
+refusal_is s now to m answer (inl is) = ap (λ (v : Verdict). new_as (front_at s now) to v m) is
+refusal_is s now to m answer (inr w) =
+    ap (λ (v : Verdict). new_as (front_at s now) to v m) w.asks
+    ∙ (ap (λ (b : Bool). received_if b (front_at s now) to m w.asked) w.allowed
+    ∙ ap (λ (n : ℕ). Refused m n) (sym w.answer_is))
 
 -- it is received as a new request that is refused
 pub refused_is : (s : Seen) (now : ℕ) (to : Endpoint) (bytes : List ℕ) (m : Message) (answer : ℕ) → IsRefusedAnew s now to bytes m answer → received_at s now to bytes ≡ Refused m answer
@@ -30,7 +39,7 @@ refused_is s now to bytes m answer w =
     let same : w.opens.message ≡ m = cc (sym w.opens.read ∙ w.read) in
     opening_is s now to bytes w.opens
     ∙ (ap (λ (x : Message). new_as (front_at s now) to (verdict x) x) same
-    ∙ ap (λ (v : Verdict). new_as (front_at s now) to v m) w.refuses)
+    ∙ refusal_is s now to m answer w.refuses)
 
 refused_emits_by : (s : Seen) (e : Event) (m : Message) (answer : ℕ) (o : Option Emission) → Refuses s e m answer → Emits s e o → o ≡ bare_by s e m answer
 refused_emits_by s (Deliver now to bytes) m answer o w sent_so = sent_so ∙ ap (λ (x : Received). sent x (front_at s now) to) (refused_is s now to bytes.now m answer w)

@@ -13,19 +13,22 @@ use Rattle.coap_msg.specs.Reading.{reading_of}
 use Rattle.coap_msg.specs.Wire.{Message}
 use Rattle.coap_opts.specs.Verdict.{Asked, Verdict, IsAsked, IsRefused, IsSilent, IsReset, IsSignal, IsIgnored, verdict}
 use Rattle.coap_dedup.specs.Exchanges.{Exchange}
-use Rattle.coap_dedup.specs.Exchanges.{Look, IsNew, IsBusy, IsAgain, IsSilent as IsAnsweredNon, IsFull, answered_if, has_room, is_of, look_by, repeated_by}
+use Rattle.coap_dedup.specs.Exchanges.{Look, IsNew, IsBusy, IsAgain, IsSilent as IsAnsweredNon, IsFull, IsOverShare, Table, answered_if, has_place, has_share, is_of, look_by, places_of, repeated_by, room_at, room_by}
+use Rattle.coap_dedup.specs.declared.exchanges.Room.{Room}
+use Rattle.coap_dedup.specs.declared.exchanges.Room.TheVariants.{Free, Full, OverShare}
 use Rattle.fc_registry.specs.declared.job.Job.{Job}
 use Rattle.fc_registry.specs.declared.job.Opening.{Opening}
 use Rattle.fc_core.specs.declared.event.Event.{Event}
 use Rattle.fc_core.specs.declared.event.Event.TheVariants.{Deliver, Answer}
 use Rattle.fc_core.specs.Exchanges.{FrontState}
-use Rattle.fc_laws.specs.ExchangeLaws.{Arrival, ArrivesBy, IsOnRequest, IsOpening, IsRepeat, Opens, OpensOne, Repeats, again, arrival_of, arrivals, is_within, repeat_emits, repeated}
+use Rattle.fc_laws.specs.ExchangeLaws.{Arrival, ArrivesBy, IsOnRequest, IsOpening, IsRepeat, Opens, OpensOne, Repeats, again, arrival_of, arrivals, held_at, is_within, repeat_emits, repeated, shared_at}
 use Rattle.fc_core.specs.History.{Entry, Seen, and_then, answered_in, exchanges_received, front_at, job, received_at, stage, tasks_brought, tasks_moved, at_front, exchanges_by, additions_by, ids_by}
 use Rattle.fc_core.specs.Ids.{Ids}
 use Rattle.fc_core.specs.Legal.{Emits}
 use Rattle.coap_block.specs.Transfers.{Addition}
 use Rattle.coap_block.specs.Uploads.{Add, Continues, IsWhole, IsIncomplete, IsBadLength, IsTooLarge, IsFull}
-use Rattle.fc_core.specs.Receiving.{Received, add_in, added_by, is_confirmable, received_added, request_received, Repeated, Again, Silenced, Refused, brought, drawn_by, kept_of, look_in, looked, next_opening, opened_by, received, received_as, received_read, sent}
+use Rattle.fc_core.specs.Policies.{is_allowed}
+use Rattle.fc_core.specs.Receiving.{Received, add_in, added_by, is_confirmable, received_added, request_received, Unanswered, Again, Silenced, Refused, brought, drawn_by, kept_of, look_in, looked, next_opening, opened_by, over_share, received, received_as, received_read, sent, received_if}
 use Rattle.fc_core.specs.Stages.{content_at, new_task}
 use Rattle.fc_core.specs.Rows.{names}
 
@@ -57,24 +60,27 @@ pub received_of : (f : FrontState) (to : Endpoint) (bytes : List ℕ) (r : Resul
 unfolding received
 received_of f to bytes r is = ap (received_read f to) is
 
-abbrev pub room_at : Seen → ℕ → Bool
-room_at s at = has_room (length (filter (is_within at) s.exchanges)) (length s.exchanges)
+abbrev pub table_at : Seen → ℕ → Table
+table_at s at = record { limits = s.policy.limits; now = at; opened = length s.exchanges; held = held_at s at }
 
-pub look_is : (s : Seen) (now : ℕ) (to : Endpoint) (m : Message) → look_in (front_at s now) to m ≡ look_by (repeated s (max s.moment now) to m.id) (room_at s (max s.moment now))
-look_is s now to m = ap (λ o. look_by o (room_at s (max s.moment now))) (find-filter (is_of to m.id) (is_within (max s.moment now)) s.exchanges)
+abbrev pub room_in : Seen → ℕ → List ℕ → Room
+room_in s at ip = room_at (table_at s at) ip
 
-pub request_is : (s : Seen) (now : ℕ) (to : Endpoint) (bytes : List ℕ) (m : Message) (o : Option Exchange) → reading_of bytes ≡ Ok m → IsOnRequest (verdict m) → repeated s (max s.moment now) to m.id ≡ o → received_at s now to bytes ≡ looked (look_by o (room_at s (max s.moment now))) m (new_as (front_at s now) to (verdict m) m)
+pub look_is : (s : Seen) (now : ℕ) (to : Endpoint) (m : Message) → look_in (front_at s now) to m ≡ look_by (repeated s (max s.moment now) to m.id) (room_in s (max s.moment now) to.ip)
+look_is s now to m = ap (λ o. look_by o (room_in s (max s.moment now) to.ip)) (find-filter (is_of to m.id) (is_within (max s.moment now)) s.exchanges)
+
+pub request_is : (s : Seen) (now : ℕ) (to : Endpoint) (bytes : List ℕ) (m : Message) (o : Option Exchange) → reading_of bytes ≡ Ok m → IsOnRequest (verdict m) → repeated s (max s.moment now) to m.id ≡ o → received_at s now to bytes ≡ looked (look_by o (room_in s (max s.moment now) to.ip)) m (new_as (front_at s now) to (verdict m) m)
 request_is s now to bytes m o read asks is =
     received_of (front_at s now) to bytes (Ok m) read
     ∙ (asking_looked (front_at s now) to m (verdict m) asks
-    ∙ ap (λ l. looked l m (new_as (front_at s now) to (verdict m) m)) (look_is s now to m ∙ ap (λ x. look_by x (room_at s (max s.moment now))) is))
+    ∙ ap (λ l. looked l m (new_as (front_at s now) to (verdict m) m)) (look_is s now to m ∙ ap (λ x. look_by x (room_in s (max s.moment now) to.ip)) is))
 
 -- ---- repeats
 
 -- what a repeat is
 abbrev repeat_as : Bool → Option (ArrayVec ℕ) → Received
 repeat_as true (Some bytes) = Again bytes.items
-repeat_as confirmable answer = Repeated
+repeat_as confirmable answer = Unanswered
 
 repeat_looked : (c : Bool) (a : Option (ArrayVec ℕ)) (m : Message) (new : Received) → looked (repeated_by c a) m new ≡ repeat_as c a
 repeat_looked true None m new = refl
@@ -180,19 +186,28 @@ added_opens IsBadLength m r o to = refl
 added_opens IsTooLarge m r o to = refl
 added_opens IsFull m r o to = refl
 
+asked_opened : (b : Bool) (f : FrontState) (from : Endpoint) (m : Message) (r : Asked) (o : Opening) (to : Endpoint) → map arrival_of (opened_by (received_if b f from m r) o to) ≡ arrival_by m o to ∷ []
+asked_opened true f from m r o to = added_opens (add_in f from r) m r o to
+asked_opened false f from m r o to = refl
+
 new_opens : (f : FrontState) (from : Endpoint) (v : Verdict) (m : Message) (o : Opening) (to : Endpoint) → map arrival_of (opened_by (new_as f from v m) o to) ≡ arrival_by m o to ∷ []
-new_opens f from (IsAsked asked) m o to = added_opens (add_in f from asked) m asked o to
+new_opens f from (IsAsked asked) m o to = asked_opened (is_allowed f.managers from asked.action) f from m asked o to
 new_opens f from (IsRefused answer) m o to = refl
 new_opens f from IsSilent m o to = refl
 new_opens f from IsReset m o to = refl
 new_opens f from (IsSignal reset) m o to = refl
 new_opens f from IsIgnored m o to = refl
 
+room_from : (share place : Bool) → share ≡ true → place ≡ true → room_by share place ≡ Free
+room_from share place below here = λ i. room_by (below i) (here i)
+
 pub opening_is : (s : Seen) (now : ℕ) (to : Endpoint) (bytes : List ℕ) (w : IsOpening s now to bytes) → received_at s now to bytes ≡ new_as (front_at s now) to (verdict w.message) w.message
 opening_is s now to bytes w =
     let at = max s.moment now in
     request_is s now to bytes w.message None w.read w.asks w.new
-    ∙ ap (λ b. looked (look_by None b) w.message (new_as (front_at s now) to (verdict w.message) w.message)) (and_from (nat_lt (length (filter (is_within at) s.exchanges)) 1024) (nat_lt (length s.exchanges) 18446744073709551615) (lt-ltb (length (filter (is_within at) s.exchanges)) 1024 w.room) (lt-ltb (length s.exchanges) 18446744073709551615 w.numbers))
+    ∙ ap (λ b. looked (look_by None b) w.message (new_as (front_at s now) to (verdict w.message) w.message)) (room_from (has_share (table_at s at) to.ip) (has_place (table_at s at))
+    (lt-ltb (shared_at s at to.ip) s.policy.limits.share w.share)
+    (and_from (nat_lt (length (held_at s at)) (places_of s.policy.limits)) (nat_lt (length s.exchanges) 18446744073709551615) (lt-ltb (length (held_at s at)) (places_of s.policy.limits) w.room) (lt-ltb (length s.exchanges) 18446744073709551615 w.numbers)))
 
 opens_one : (s : Seen) (e : Event) (o : Option Emission) → Opens s e → (a : Arrival) × ArrivesBy s e a × (map arrival_of (exchanges_by (at_front e) o s) ≡ arrivals s ++ a ∷ [])
 opens_one s (Deliver now to bytes) o w = (
@@ -210,19 +225,29 @@ requests_open r s w =
     record { arrival = one.0; is = one.1; last = one.2 }
 
 -- a look that tells of a new request
-pub record IsNewLook (o : Option Exchange) (room : Bool) : Type 0 where
+pub record IsNewLook (o : Option Exchange) (room : Room) : Type 0 where
   pub none : o ≡ None
-  pub here : room ≡ true
+  pub here : room ≡ Free
 
 repeated_new : (c : Bool) (a : Option (ArrayVec ℕ)) → repeated_by c a ≡ IsNew → ⊥
 repeated_new c None e = absurd (cc e)
 repeated_new true (Some bytes) e = absurd (cc e)
 repeated_new false (Some bytes) e = absurd (cc e)
 
-pub new_look : (o : Option Exchange) (room : Bool) → look_by o room ≡ IsNew → IsNewLook o room
-new_look None true e = record { none = refl; here = refl }
-new_look None false e = absurd (cc e)
+pub new_look : (o : Option Exchange) (room : Room) → look_by o room ≡ IsNew → IsNewLook o room
+new_look None Free e = record { none = refl; here = refl }
+new_look None Full e = absurd (cc e)
+new_look None OverShare e = absurd (cc e)
 new_look (Some x) room e = absurd (repeated_new x.confirmable x.answer e)
+
+room_parts : (share place : Bool) → room_by share place ≡ Free → (share ≡ true) × (place ≡ true)
+room_parts false place e = absurd (cc e)
+room_parts true false e = absurd (cc e)
+room_parts true true e = (refl, refl)
+
+over_opens : (c : Bool) (m : Message) (o : Opening) (to : Endpoint) → length (opened_by (over_share c m) o to) ≡ 0
+over_opens true m o to = refl
+over_opens false m o to = refl
 
 looked_opens : (l : Look) (m : Message) (new : Received) (o : Opening) (to : Endpoint) → (l ≡ IsNew → ⊥) → length (opened_by (looked l m new) o to) ≡ 0
 looked_opens IsNew m new o to ne = absurd (ne refl)
@@ -230,13 +255,23 @@ looked_opens IsBusy m new o to ne = refl
 looked_opens IsAnsweredNon m new o to ne = refl
 looked_opens (IsAgain bytes) m new o to ne = refl
 looked_opens IsFull m new o to ne = refl
+looked_opens IsOverShare m new o to ne = over_opens (is_confirmable m.kind) m o to
 
 pub opening_of : (s : Seen) (now : ℕ) (to : Endpoint) (bytes : List ℕ) (m : Message) → reading_of bytes ≡ Ok m → IsOnRequest (verdict m) → look_in (front_at s now) to m ≡ IsNew → IsOpening s now to bytes
 opening_of s now to bytes m read asks is =
     let at = max s.moment now in
-    let new = new_look (repeated s at to m.id) (room_at s at) (sym (look_is s now to m) ∙ is) in
-    let parts = and_parts (nat_lt (length (filter (is_within at) s.exchanges)) 1024) (nat_lt (length s.exchanges) 18446744073709551615) new.here in
-    record { message = m; read = read; asks = asks; new = new.none; room = ltb-true (length (filter (is_within at) s.exchanges)) 1024 parts.0; numbers = ltb-true (length s.exchanges) 18446744073709551615 parts.1 }
+    let new = new_look (repeated s at to m.id) (room_in s at to.ip) (sym (look_is s now to m) ∙ is) in
+    let both = room_parts (has_share (table_at s at) to.ip) (has_place (table_at s at)) new.here in
+    let parts = and_parts (nat_lt (length (held_at s at)) (places_of s.policy.limits)) (nat_lt (length s.exchanges) 18446744073709551615) both.1 in
+    record {
+      message = m;
+      read = read;
+      asks = asks;
+      new = new.none;
+      room = ltb-true (length (held_at s at)) (places_of s.policy.limits) parts.0;
+      share = ltb-true (shared_at s at to.ip) s.policy.limits.share both.0;
+      numbers = ltb-true (length s.exchanges) 18446744073709551615 parts.1;
+    }
 
 asked_opens : (s : Seen) (now : ℕ) (to : Endpoint) (bytes : List ℕ) (m : Message) (v : Verdict) (o : Opening) → reading_of bytes ≡ Ok m → verdict m ≡ v → (IsOpening s now to bytes → ⊥) → length (opened_by (received_as (front_at s now) to m v) o to) ≡ 0
 asked_opens s now to bytes m (IsAsked asked) o read is not = looked_opens (look_in (front_at s now) to m) m (request_received (front_at s now) to m asked) o to (λ new. not (opening_of s now to bytes m read (subst IsOnRequest (sym is) tt) new))

@@ -18,17 +18,17 @@ use Rattle.coap_reply.specs.Responses.{bare, settled_by}
 use Rattle.fc_laws.specs.BodyLaws.{Asks, SettlesBy}
 use Rattle.fc_core.specs.declared.event.Event.{Event}
 use Rattle.fc_core.specs.declared.event.Event.TheVariants.{Deliver}
-use Rattle.fc_laws.specs.ExchangeLaws.{FindsNoExchange, IsOpening}
+use Rattle.fc_laws.specs.ExchangeLaws.{ExceedsShare, FindsNoExchange, IsOpening}
 use Rattle.fc_core.specs.History.{Entry, Seen, and_then, did, exchanges_received, front_at, received_at}
-use Rattle.fc_core.specs.Receiving.{Received, Full, Ignored, Rejected, Settled, Silenced, add_in, added_by, brought, next_opening, received_added, received_as, slot_asked}
-use Rattle.fc_laws.specs.RefusalLaws.{ByCode, FindsNoRoom, InSilence, IsNoMessage, IsNoRequest, IsRefusedByCheck, IsRejected, IsTurnedDown, LeavesAll, LeavesAllButExchange, LeavesAllButTransfer, sender}
+use Rattle.fc_core.specs.Receiving.{Received, Full, Ignored, Rejected, Settled, Silenced, Unanswered, add_in, added_by, brought, is_confirmable, next_opening, over_share, received_added, received_as, slot_asked}
+use Rattle.fc_laws.specs.RefusalLaws.{ByCode, FindsNoRoom, InSilence, IsAboveShare, IsNoMessage, IsNoRequest, IsRefusedByCheck, IsRejected, IsTurnedDown, LeavesAll, LeavesAllButExchange, LeavesAllButTransfer, sender}
 use Rattle.fc_laws.specs.ReplyLaws.{Refuses, Rejects}
 use Rattle.fc_core.specs.Stages.{new_task}
 use Rattle.fc_laws.proofs.front.Bodies.{requests_add}
 use Rattle.fc_laws.proofs.front.BlockCauses.{settles_waits}
 use Rattle.fc_laws.proofs.front.Refusing.{refused_brings, refused_is, rejected_is}
 use Rattle.fc_laws.proofs.front.Repeats.{new_as, opening_is, received_of, requests_open}
-use Rattle.fc_laws.proofs.front.Room.{full_is}
+use Rattle.fc_laws.proofs.front.Room.{full_is, over_is}
 
 -- ---- what is turned down
 
@@ -37,6 +37,7 @@ abbrev IsNothing : Received → Type 0
 IsNothing Ignored = Unit {0}
 IsNothing (Rejected id) = Unit {0}
 IsNothing (Full m) = Unit {0}
+IsNothing Unanswered = Unit {0}
 IsNothing other = ⊥
 
 module _ (s : Seen) (now : ℕ) (to : Endpoint) (bytes : Bor (List ℕ)) (o : Option Emission) where
@@ -44,18 +45,21 @@ module _ (s : Seen) (now : ℕ) (to : Endpoint) (bytes : Bor (List ℕ)) (o : Op
   nothing_opened Ignored w = append-nil s.exchanges
   nothing_opened (Rejected id) w = append-nil s.exchanges
   nothing_opened (Full m) w = append-nil s.exchanges
+  nothing_opened Unanswered w = append-nil s.exchanges
   nothing_opened other w = absurd w
 
   nothing_brought : (x : Received) → IsNothing x → s.tasks ++ map new_task (brought x (next_opening (front_at s now)) to) ≡ s.tasks
   nothing_brought Ignored w = append-nil s.tasks
   nothing_brought (Rejected id) w = append-nil s.tasks
   nothing_brought (Full m) w = append-nil s.tasks
+  nothing_brought Unanswered w = append-nil s.tasks
   nothing_brought other w = absurd w
 
   nothing_added : (x : Received) → IsNothing x → added_by x (max s.moment now) to ++ s.additions ≡ s.additions
   nothing_added Ignored w = refl
   nothing_added (Rejected id) w = refl
   nothing_added (Full m) w = refl
+  nothing_added Unanswered w = refl
   nothing_added other w = absurd w
 
   left_by : (x : Received) → received_at s now to bytes.now ≡ x → IsNothing x → LeavesAll s (and_then (did (Deliver now to bytes) o) s)
@@ -79,6 +83,15 @@ crowded_left : (e : Event) (o : Option Emission) (s : Seen) (m : Message) → Fi
 crowded_left (Deliver now to bytes) o s m w = left_by s now to bytes o (Full m) (full_is s now to bytes.now m w) tt
 crowded_left other o s m w = absurd w
 
+over_nothing : (c : Bool) (m : Message) → IsNothing (over_share c m)
+over_nothing true m = tt
+over_nothing false m = tt
+
+pub over_left : (e : Event) (o : Option Emission) (s : Seen) (m : Message) → ExceedsShare s e m → LeavesAll s (and_then (did e o) s)
+over_left (Deliver now to bytes) o s m w =
+    left_by s now to bytes o (over_share (is_confirmable m.kind) m) (over_is s now to bytes.now m w) (over_nothing (is_confirmable m.kind) m)
+over_left other o s m w = absurd w
+
 turned_by : (e : Event) (o : Option Emission) (s : Seen) → IsTurnedDown s e → LeavesAll s (and_then (did e o) s)
 turned_by e o s (IsNoMessage now to bytes is read) =
     subst (λ (x : Event). LeavesAll s (and_then (did x o) s)) (sym is) (left_by s now to bytes o Ignored
@@ -88,6 +101,7 @@ turned_by e o s (IsNoRequest now to bytes m is read ignored) =
     (received_of (front_at s now) to bytes.now (Ok m) read ∙ ap (λ (v : Verdict). received_as (front_at s now) to m v) ignored) tt)
 turned_by e o s (IsRejected to id w) = rejected_left e o s to id w
 turned_by e o s (FindsNoRoom m w) = crowded_left e o s m w
+turned_by e o s (IsAboveShare m w) = over_left e o s m w
 
 pub turned_down_left : (r : Entry) (s : Seen) → IsTurnedDown s r.event → LeavesAll s (and_then r s)
 turned_down_left r s w = turned_by r.event r.emitted s w

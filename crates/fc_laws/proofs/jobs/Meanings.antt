@@ -56,7 +56,7 @@ step_meant e s k cs ts true is m w = event_meant e s k cs ts (named_is k (names 
 step_meant e s k cs ts false is m w = w
 
 all_meant : (h : History) (k : ℕ) → AllMean h → AllMeant (takings_of h k)
-all_meant (Begins serial id) k m = tt
+all_meant (Begins serial id policy) k m = tt
 all_meant (Then h r) k m = step_meant r.event (seen h) k ((seen h).changes (slot_of (seen h) k)) (takings_of h k) (is_named k r.event) refl m.0 (all_meant h k m.1)
 
 -- ---- what a job holds

@@ -79,14 +79,14 @@ module _ (s : Seen) (e : Event) (k : ℕ) (still : row e (scene s k) ≡ moves (
   words_still : words_seen (Some k) e s ≡ s.words
   words_still = ap (λ (m : Move). words_after m (task_at s.tasks k) s.words) still
 
-all_same : (a b : Seen) → a.first_serial ≡ b.first_serial → a.moment ≡ b.moment → a.exchanges ≡ b.exchanges → a.additions ≡ b.additions → a.ids ≡ b.ids → a.tasks ≡ b.tasks → ((n : ℕ) → a.changes n ≡ b.changes n) → ((n : ℕ) → a.shard_moment n ≡ b.shard_moment n) → ((n : ℕ) → a.calls n ≡ b.calls n) → a.words ≡ b.words → a ≡ b
-all_same a b f m x p d t c h v w = λ i. record { first_serial = f i; moment = m i; exchanges = x i; additions = p i; ids = d i; tasks = t i; changes = λ n. c n i; shard_moment = λ n. h n i; calls = λ n. v n i; words = w i }
+all_same : (a b : Seen) → a.policy ≡ b.policy → a.first_serial ≡ b.first_serial → a.moment ≡ b.moment → a.exchanges ≡ b.exchanges → a.additions ≡ b.additions → a.ids ≡ b.ids → a.tasks ≡ b.tasks → ((n : ℕ) → a.changes n ≡ b.changes n) → ((n : ℕ) → a.shard_moment n ≡ b.shard_moment n) → ((n : ℕ) → a.calls n ≡ b.calls n) → a.words ≡ b.words → a ≡ b
+all_same a b o f m x p d t c h v w = λ i. record { policy = o i; first_serial = f i; moment = m i; exchanges = x i; additions = p i; ids = d i; tasks = t i; changes = λ n. c n i; shard_moment = λ n. h n i; calls = λ n. v n i; words = w i }
 
 -- an event of a job that changes nothing of the front
 named_still : (s : Seen) (e : Event) (o : Option Emission) (k : ℕ) → names e ≡ Some k → is_stray_at e (job s k).origin.slot (stage s k) ≡ true → moment_by (at_front e) s ≡ s.moment → exchanges_by (at_front e) o s ≡ s.exchanges → additions_by (at_front e) s ≡ [] → ids_by (at_front e) s ≡ s.ids → tasks_brought e s ≡ [] → ((i : ℕ) → hands_by (at_shard e) i ≡ None) → ((n : ℕ) → calls_by (at_shard e) s n ≡ []) → and_then (did e o) s ≡ s
 named_still s e o k is stray m x p d b g q =
     let still : row e (scene s k) ≡ moves (stage s k) = row_still e (job s k) (scene s k).slot (scene s k).around (stage s k) stray in
-    all_same (and_then (did e o) s) s refl m x (ap (λ (l : List Addition). l ++ s.additions) p) d
+    all_same (and_then (did e o) s) s refl refl m x (ap (λ (l : List Addition). l ++ s.additions) p) d
     ((λ i. tasks_moved (is i) e s ++ b i) ∙ (append-nil (tasks_moved (Some k) e s) ∙ tasks_still s e k still))
     (λ n. (λ i. changes_after (is i) e s n) ∙ changes_still s e k still n)
     (λ n. (λ i. handed (g n i) (shard_moment_after (is i) e s n)) ∙ shard_still s e k still n)

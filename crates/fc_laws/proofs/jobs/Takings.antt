@@ -185,7 +185,7 @@ more e s k ts = gives e (scene s k) (s.changes (slot_of s k)) ++ ts
 
 pub is_told : IsTold takings_of more Took []
 is_told = record {
-  begins = λ serial id k. refl;
+  begins = λ serial id policy k. refl;
   then_is = λ h r k. refl;
   still = λ e s k ts is. ap (λ (x : Stage). gives e (at (job s k) (slot_at s (slot_of s k)) (around s (slot_of s k)) x) (s.changes (slot_of s k)) ++ ts) is ∙ ap (λ (l : List Taking). l ++ ts) (gone_given e (job s k) (slot_at s (slot_of s k)) (around s (slot_of s k)) (s.changes (slot_of s k)));
   gone = omega arith;

@@ -118,7 +118,7 @@ images_by r s n (Clears w) a = subst AllOfImages (sym w.change) a
 
 pub images : (h : History) (n : ℕ) → AllOfImages ((seen h).changes n)
 unfolding seen
-images (Begins serial id) n = tt
+images (Begins serial id policy) n = tt
 images (Then h r) n = images_by r (seen h) n (does r (seen h) n) (images h n)
 
 -- a program in the slot after these changes is of an image

@@ -21,6 +21,7 @@ use Rattle.fc_core.specs.declared.event.Event.TheVariants.{Take, Commit}
 use Rattle.fc_core.specs.Stage.{Stage}
 use Rattle.fc_core.specs.Stage.{ToTake, ToCommit, ToTell}
 use Rattle.fc_core.specs.TurnStage as turns
+use Rattle.fc_core.specs.declared.policy.Policy.{Policy}
 use Rattle.fc_core.specs.History.{around, Entry, History, Begins, Then, Seen, seen, and_then, begun, did, job, scene, slot_at, stage, watch}
 use Rattle.fc_core.specs.Laws.{HasCome, Taking, finds, finds_if, gives_at, is_named, slot_of, takings_of}
 use Rattle.fc_laws.specs.SlotLaws.{IsUnchanged, IsWritten}
@@ -36,12 +37,12 @@ use Rattle.fc_laws.proofs.jobs.Takings.{Took, is_told, known, more}
 
 -- ---- the chain
 
-begun_sound : (serial id : ℕ) → IsSoundlySeen (begun serial id)
-begun_sound serial id = record { chain = λ n. tt; within = λ k. (omega arith, tt); stages = λ k. tt; watched = λ n. All-nil EntryWithin }
+begun_sound : (serial id : ℕ) (policy : Policy) → IsSoundlySeen (begun serial id policy)
+begun_sound serial id policy = record { chain = λ n. tt; within = λ k. (omega arith, tt); stages = λ k. tt; watched = λ n. All-nil EntryWithin }
 
 pub sound : (h : History) → IsSoundlySeen (seen h)
 unfolding seen
-sound (Begins serial id) = begun_sound serial id
+sound (Begins serial id policy) = begun_sound serial id policy
 sound (Then h r) = still_sound r (seen h) (sound h)
 
 pub chains : (h : History) (n : ℕ) → IsChain (new_slot (seen h).first_serial) ((seen h).changes n)
@@ -99,7 +100,7 @@ since_after h r k w = ⊎_elim
 
 all_since : (h : History) (k : ℕ) → Each (IsSince (seen h) k) (takings_of h k)
 unfolding seen
-all_since (Begins serial id) k = tt
+all_since (Begins serial id policy) k = tt
 all_since (Then h r) k = since_after h r k (all_since h k)
 
 -- ---- the commit

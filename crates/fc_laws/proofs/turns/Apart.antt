@@ -41,7 +41,7 @@ module _ (Q : Job → Stage → Type 0) (gone : (j : Job) → Q j Gone) (first :
 
   pub every : (h : History) (k : ℕ) → Q (job (seen h) k) (stage (seen h) k)
   unfolding seen
-  every (Begins serial id) k = gone no_task.job
+  every (Begins serial id policy) k = gone no_task.job
   every (Then h r) k = every_by r (seen h) k (task_at (and_then r (seen h)).tasks k) (becomes r (seen h) k) (every h k)
 
 -- ---- the job of a turn

@@ -48,14 +48,14 @@ miss_above true turn (Some p) m w = (λ k d lt. tt, tt)
 miss_above false turn present m w = (λ k d lt. tt, tt)
 
 -- a notification is of a serial at least that for which its turn was given
-told_above : (b : Bool) (turn : Turn) (id random m serial n : ℕ) (e : Emission) (calls : List ObserverCall) → noticed_for turn.number n calls ≤ serial → All (Above (told_call b turn id random m serial e.bytes) (at_moment m (observers n calls))) (observers n calls).held
-told_above true turn id random m serial n e calls le = sent_above n m turn serial (Advance m ∷ calls) le
-told_above false turn id random m serial n e calls le = λ k d lt. tt
+told_above : (b : Bool) (turn : Turn) (id random m serial n confirm_after : ℕ) (e : Emission) (calls : List ObserverCall) → noticed_for turn.number n confirm_after calls ≤ serial → All (Above (told_call b turn id random m serial e.bytes) (at_moment m (observers n confirm_after calls))) (observers n confirm_after calls).held
+told_above true turn id random m serial n confirm_after e calls le = sent_above n confirm_after m turn serial (Advance m ∷ calls) le
+told_above false turn id random m serial n confirm_after e calls le = λ k d lt. tt
 
-note_above : (turn : Turn) (id random m n : ℕ) (found : Option Ticket) (sent : Option Emission) (calls : List ObserverCall) → ((t : Ticket) → found ≡ Some t → noticed_for turn.number n calls ≤ t.serial) → AreAbove (note_calls turn id random m found sent) (observers n calls)
-note_above turn id random m n found None calls le = (λ k d lt. tt, tt)
-note_above turn id random m n None (Some e) calls le = (λ k d lt. tt, (λ k d lt. tt, tt))
-note_above turn id random m n (Some t) (Some e) calls le = (told_above (keeps_observer (Some t)) turn id random m t.serial n e calls (le t refl), (λ k d lt. tt, tt))
+note_above : (turn : Turn) (id random m n confirm_after : ℕ) (found : Option Ticket) (sent : Option Emission) (calls : List ObserverCall) → ((t : Ticket) → found ≡ Some t → noticed_for turn.number n confirm_after calls ≤ t.serial) → AreAbove (note_calls turn id random m found sent) (observers n confirm_after calls)
+note_above turn id random m n confirm_after found None calls le = (λ k d lt. tt, tt)
+note_above turn id random m n confirm_after None (Some e) calls le = (λ k d lt. tt, (λ k d lt. tt, tt))
+note_above turn id random m n confirm_after (Some t) (Some e) calls le = (told_above (keeps_observer (Some t)) turn id random m t.serial n confirm_after e calls (le t refl), (λ k d lt. tt, tt))
 
 one_above : (b : Bool) (c : ObserverCall) (w : ObserverList) → AreAbove (c ∷ []) w → AreAbove (if b then c ∷ [] else []) w
 one_above true c w above = above
@@ -79,7 +79,7 @@ module _ (h : History) (r : Entry) (n : ℕ) where
   abbrev s : Seen
   s = seen h
 
-  row_above : (k : ℕ) (cs : List ObserverCall) → names r.event ≡ Some k → slot_of s k ≡ n → CallsBy r.event (around s (slot_of s k)) (stage s k) cs → AreAbove cs (observers n (s.calls n))
+  row_above : (k : ℕ) (cs : List ObserverCall) → names r.event ≡ Some k → slot_of s k ≡ n → CallsBy r.event (around s (slot_of s k)) (stage s k) cs → AreAbove cs (observers n s.policy.confirm_after (s.calls n))
   row_above k cs named slot (NoCall is) = subst (λ (l : List ObserverCall). AreAbove l (watch s n)) (sym is) tt
   row_above k cs named slot (OfCommit j now count m t event stands is) = subst (λ (l : List ObserverCall). AreAbove l (watch s n)) (sym is) (observed_above (is_registration t) (is_cancellation t) m t (watch s n))
   row_above k cs named slot (OfTaking turn m present t is) = subst (λ (l : List ObserverCall). AreAbove l (watch s n)) (sym is) (miss_above (is_out_at turn m t) turn present m (watch s n))
@@ -87,8 +87,8 @@ module _ (h : History) (r : Entry) (n : ℕ) where
   row_above k cs named slot (OfNote j now random id turn found event stands is) =
       let m = moment_at s k now in
       subst (λ (l : List ObserverCall). AreAbove l (watch s n)) (sym is)
-      (note_above turn id random m n found (note_at turn id m found (watch s (slot_of s k))) (s.calls n)
-      (λ t same. subst (λ (i : ℕ). noticed_for turn.number i (s.calls i) ≤ t.serial) slot (found_noticed h k id turn t (stands ∙ ap (λ (x : Option Ticket). ToTell turn (turns.ToNote x id)) same))))
+      (note_above turn id random m n s.policy.confirm_after found (note_at turn id m found (watch s (slot_of s k))) (s.calls n)
+      (λ t same. subst (λ (i : ℕ). noticed_for turn.number i s.policy.confirm_after (s.calls i) ≤ t.serial) slot (found_noticed h k id turn t (stands ∙ ap (λ (x : Option Ticket). ToTell turn (turns.ToNote x id)) same))))
 
   slot_above : (k : ℕ) (b : Bool) → names r.event ≡ Some k → (slot_of s k == n) ≡ b → AreAbove (if b then (row r.event (scene s k)).calls else []) (watch s n)
   slot_above k true named is = row_above k (row r.event (scene s k)).calls named (eqb-true (slot_of s k) n is) (row_calls r.event (job s k) (slot_at s (slot_of s k)) (around s (slot_of s k)) (stage s k))
@@ -112,13 +112,13 @@ module _ (n m : ℕ) (to : Endpoint) (token : List ℕ) where
     from_by : (o : Option ℕ) → names e ≡ o → All (SentFrom m to token) (watch (and_then r (seen h)) n).held
     from_by None named =
         subst (λ (t : ObserverList). All (SentFrom m to token) t.held)
-        (sym ((λ i. observers n (calls_named (named i) e (seen h) n ++ (of_shard ++ (seen h).calls n))) ∙ after_append n of_shard ((seen h).calls n)))
+        (sym ((λ i. observers n (seen h).policy.confirm_after (calls_named (named i) e (seen h) n ++ (of_shard ++ (seen h).calls n))) ∙ after_append n (seen h).policy.confirm_after of_shard ((seen h).calls n)))
         (calls_from m to token of_shard (watch (seen h) n) (none_in e (seen h) n to token) (shard_above e (seen h) n (watch (seen h) n)) from)
     from_by (Some k) named =
         let calls = calls_named (Some k) e (seen h) n in
         let none : RegistersNone to token calls = subst (λ (o : Option ℕ). RegistersNone to token (calls_named o e (seen h) n)) named (registers_none r (seen h) n to token not) in
         subst (λ (t : ObserverList). All (SentFrom m to token) t.held)
-        (sym ((λ i. observers n (calls_named (named i) e (seen h) n ++ (calls_by (named_calm e k named i) (seen h) n ++ (seen h).calls n))) ∙ after_append n calls ((seen h).calls n)))
+        (sym ((λ i. observers n (seen h).policy.confirm_after (calls_named (named i) e (seen h) n ++ (calls_by (named_calm e k named i) (seen h) n ++ (seen h).calls n))) ∙ after_append n (seen h).policy.confirm_after calls ((seen h).calls n)))
         (calls_from m to token calls (watch (seen h) n) none (named_above h r n (Some k) named) from)
 
     from_next : All (SentFrom m to token) (watch (and_then r (seen h)) n).held
@@ -138,6 +138,9 @@ module _ (h : History) (k now random id : ℕ) (turn : Turn) (t : Ticket) (o : O
   abbrev moment : ℕ
   moment = moment_at (seen h) k now
 
+  abbrev confirm_after : ℕ
+  confirm_after = (seen h).policy.confirm_after
+
   abbrev calls : List ObserverCall
   calls = (seen h).calls n
 
@@ -145,17 +148,17 @@ module _ (h : History) (k now random id : ℕ) (turn : Turn) (t : Ticket) (o : O
   sent = note_at turn id moment (Some t) (watch (seen h) n)
 
   -- the moment is advanced once
-  out_again : entry_out turn (at_moment moment (observers n (Advance moment ∷ calls))) ≡ Some o
+  out_again : entry_out turn (at_moment moment (observers n confirm_after (Advance moment ∷ calls))) ≡ Some o
   out_again =
       let w = watch (seen h) n in
       let same : max (max w.moment moment) moment ≡ max w.moment moment = omega arith in
       ap (λ (x : ℕ). entry_out turn (record w { moment = x })) same ∙ out
 
-  told_from : (b : Bool) (e : Emission) → All (SentFrom t.serial to token) (observers n (told_call b turn id random moment t.serial e.bytes ∷ Advance moment ∷ calls)).held
-  told_from true e = notified_from n turn (Advance moment ∷ calls) o to token own moment id t.serial random e.bytes out_again
-  told_from false e = ended_from n turn (Advance moment ∷ calls) o to token own t.serial out
+  told_from : (b : Bool) (e : Emission) → All (SentFrom t.serial to token) (observers n confirm_after (told_call b turn id random moment t.serial e.bytes ∷ Advance moment ∷ calls)).held
+  told_from true e = notified_from n confirm_after turn (Advance moment ∷ calls) o to token own moment id t.serial random e.bytes out_again
+  told_from false e = ended_from n confirm_after turn (Advance moment ∷ calls) o to token own t.serial out
 
-  note_from : (x : Option Emission) → is_some x ≡ true → All (SentFrom t.serial to token) (observers n (note_calls turn id random moment (Some t) x ++ calls)).held
+  note_from : (x : Option Emission) → is_some x ≡ true → All (SentFrom t.serial to token) (observers n confirm_after (note_calls turn id random moment (Some t) x ++ calls)).held
   note_from None some = absurd (cc some)
   note_from (Some e) some = told_from (keeps_observer (Some t)) e
 
@@ -163,8 +166,8 @@ module _ (h : History) (k now random id : ℕ) (turn : Turn) (t : Ticket) (o : O
   noted_from emitted =
       let some : is_some sent ≡ true = note_where_out h k now id turn (Some t) is ∙ ap (λ (x : Option ObserverEntry). is_some x) out in
       subst (λ (w : ObserverList). All (SentFrom t.serial to token) w.held)
-      (sym (ap (λ (b : Bool). observers n ((if b then (row (Note k now random) (scene (seen h) k)).calls else []) ++ calls)) (eq-eqb n n refl)
-      ∙ ap (λ (st : Stage). observers n ((row (Note k now random) (at_stage (seen h) k st)).calls ++ calls)) is))
+      (sym (ap (λ (b : Bool). observers n confirm_after ((if b then (row (Note k now random) (scene (seen h) k)).calls else []) ++ calls)) (eq-eqb n n refl)
+      ∙ ap (λ (st : Stage). observers n confirm_after ((row (Note k now random) (at_stage (seen h) k st)).calls ++ calls)) is))
       (note_from sent some)
 
   noted_seen : (emitted : Option Emission) → All (SentFrom t.serial to token) (watch (seen (Then h (did (Note k now random) emitted))) n).held

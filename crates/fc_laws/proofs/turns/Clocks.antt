@@ -213,7 +213,7 @@ module _ (s : Seen) where
       let e = r.event in
       let named = calls_named (names e) e s n in
       let of_shard = calls_by (at_shard e) s n in
-      let is = after_append n named (of_shard ++ s.calls n) ∙ ap (after_calls named) (after_append n of_shard (s.calls n)) in
+      let is = after_append n s.policy.confirm_after named (of_shard ++ s.calls n) ∙ ap (after_calls named) (after_append n s.policy.confirm_after of_shard (s.calls n)) in
       let rises = shard_rises e (n % 8) in
       let here : (watch s n).moment ≤ later e (n % 8) = omega (arith, before, rises) in
       subst (λ (t : ObserverList). t.moment ≤ later e (n % 8)) (sym is)
@@ -221,7 +221,7 @@ module _ (s : Seen) where
 
 pub follows_shard : (h : History) (n : ℕ) → (watch (seen h) n).moment ≤ (seen h).shard_moment (n % 8)
 unfolding seen
-follows_shard (Begins serial id) n = omega arith
+follows_shard (Begins serial id policy) n = omega arith
 follows_shard (Then h r) n = follows_after (seen h) r n (follows_shard h n)
 
 -- the moment of a turn's observers, where their shard is handed one

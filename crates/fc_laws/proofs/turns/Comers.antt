@@ -111,7 +111,7 @@ module _ (r : Entry) (s : Seen) (n : ℕ) (to : Endpoint) (token : List ℕ) whe
       let named = calls_named (names r.event) r.event s n in
       let of_shard = calls_by (at_shard r.event) s n in
       let before = stays_gone to token of_shard (watch s n) (none_in r.event s n to token) away in
-      ap (is_held to token) (after_append n named (of_shard ++ s.calls n) ∙ ap (after_calls named) (after_append n of_shard (s.calls n)))
+      ap (is_held to token) (after_append n s.policy.confirm_after named (of_shard ++ s.calls n) ∙ ap (after_calls named) (after_append n s.policy.confirm_after of_shard (s.calls n)))
       ∙ stays_gone to token named (after_calls of_shard (watch s n)) none before
 
   pub come_by_commits : is_held to token (watch (and_then r s) n) ≡ true → (is_held to token (watch s n) ≡ true) ⊎ Registers r s n to token

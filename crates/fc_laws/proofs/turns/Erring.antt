@@ -37,13 +37,13 @@ module _ (s : Seen) (k now random id : ℕ) (turn : Turn) (found : Option Ticket
   at = moment_at s k now
 
   -- the list after the notification
-  ended : stage s k ≡ ToTell turn (turns.ToNote found id) → IsNoContent found → Emits s (Note k now random) (Some e) → watch (and_then (did (Note k now random) (Some e)) s) n ≡ observers n (End turn ∷ Advance at ∷ s.calls n)
+  ended : stage s k ≡ ToTell turn (turns.ToNote found id) → IsNoContent found → Emits s (Note k now random) (Some e) → watch (and_then (did (Note k now random) (Some e)) s) n ≡ observers n s.policy.confirm_after (End turn ∷ Advance at ∷ s.calls n)
   ended is not sent =
-      ap (λ (b : Bool). observers n ((if b then (row (Note k now random) (scene s k)).calls else []) ++ s.calls n)) (eq-eqb n n refl)
-      ∙ (ap (λ (x : Stage). observers n ((row (Note k now random) (at_stage s k x)).calls ++ s.calls n)) is
-      ∙ (ap (λ (o : Option Emission). observers n (note_calls turn id random at found o ++ s.calls n)) (sym (note_sends s k now random id turn found (Some e) is sent))
-      ∙ ap (λ (cs : List ObserverCall). observers n (cs ++ s.calls n)) (turn_ends turn id random at found e not)))
+      ap (λ (b : Bool). observers n s.policy.confirm_after ((if b then (row (Note k now random) (scene s k)).calls else []) ++ s.calls n)) (eq-eqb n n refl)
+      ∙ (ap (λ (x : Stage). observers n s.policy.confirm_after ((row (Note k now random) (at_stage s k x)).calls ++ s.calls n)) is
+      ∙ (ap (λ (o : Option Emission). observers n s.policy.confirm_after (note_calls turn id random at found o ++ s.calls n)) (sym (note_sends s k now random id turn found (Some e) is sent))
+      ∙ ap (λ (cs : List ObserverCall). observers n s.policy.confirm_after (cs ++ s.calls n)) (turn_ends turn id random at found e not)))
 
   pub observer_removed : (x : ObserverEntry) → stage s k ≡ ToTell turn (turns.ToNote found id) → IsNoContent found → entry_out turn (at_moment at (watch s n)) ≡ Some x → Emits s (Note k now random) (Some e) → is_held x.endpoint x.token.items (watch (and_then (did (Note k now random) (Some e)) s) n) ≡ false
   observer_removed x is not out sent =
-      ap (λ (w : ObserverList). is_held x.endpoint x.token.items w) (ended is not sent) ∙ observer_gone n turn x (Advance at ∷ s.calls n) out
+      ap (λ (w : ObserverList). is_held x.endpoint x.token.items w) (ended is not sent) ∙ observer_gone n s.policy.confirm_after turn x (Advance at ∷ s.calls n) out

@@ -15,7 +15,7 @@ use Rattle.fc_observe.specs.declared.entry.Entry.{Entry}
 use Rattle.fc_observe.specs.declared.entry.Turn.{Turn}
 use Rattle.fc_observe.specs.Observers.{ObserverList, at_moment, entry_out, is_missing, is_out, must_confirm_by, must_confirm_turn, ticked}
 use Rattle.fc_observe.specs.Views.{interest_of}
-use Rattle.fc_observe.proofs.Hearing.{found_held, none_found, resent_of_held}
+use Rattle.fc_observe.proofs.Hearing.{confirm_after_is, found_held, none_found, resent_of_held}
 use Rattle.fc_observe.proofs.Lasting.{missing_where_out}
 use Rattle.fc_observe.proofs.Staying.{held_passes}
 use Rattle.fc_observe.proofs.Serials.{out_phase, sent_above}
@@ -48,32 +48,32 @@ kind_is : (b : Bool) → note_kind b ≡ if b then Confirmable else NonConfirmab
 kind_is true = refl
 kind_is false = refl
 
-module _ (turn : Turn) (id at : ℕ) (w : ObserverList) (found : Option Ticket) (e : Emission) (later : max w.moment at ≡ at) where
+module _ (turn : Turn) (id at : ℕ) (w : ObserverList) (found : Option Ticket) (e : Emission) (later : max w.moment at ≡ at) (confirm_after : ℕ) (after_is : w.confirm_after ≡ confirm_after) where
   -- by the entry that has the turn out
-  notifies_by : (x : Option Entry) → entry_out turn (at_moment at w) ≡ x → Some e ≡ option_map (note_to id (must_confirm_by x (max w.moment at)) found) (option_map interest_of x) → Notifies turn id at w (note_response found) e
+  notifies_by : (x : Option Entry) → entry_out turn (at_moment at w) ≡ x → Some e ≡ option_map (note_to id (must_confirm_by x w.confirm_after (max w.moment at)) found) (option_map interest_of x) → Notifies turn id at confirm_after w (note_response found) e
   notifies_by None out sent = absurd (cc sent)
   notifies_by (Some o) out sent =
-      let confirms = nat_le (o.confirmed + 86400000) (max w.moment at) in
+      let confirms = nat_le (o.confirmed + w.confirm_after) (max w.moment at) in
       let is : e ≡ note_to id confirms found (interest_of o) = cc sent in
       record {
         entry = o;
         held = found_held (is_out turn (at_moment at w)) w.held o out;
         out = out;
         is = is ∙ ap (λ (kind : MessageType). sent_in (record { to = o.endpoint; kind = kind; id = id; token = o.token.items }) (note_response found))
-            (kind_is confirms ∙ ap (λ (m : ℕ). if nat_le (o.confirmed + 86400000) m then Confirmable else NonConfirmable) later);
+            (kind_is confirms ∙ (λ i. if nat_le (o.confirmed + after_is i) (later i) then Confirmable else NonConfirmable));
       }
 
-  notifies_out : Some e ≡ option_map (note_to id (must_confirm_by (entry_out turn (at_moment at w)) (max w.moment at)) found) (option_map interest_of (entry_out turn (at_moment at w))) → Notifies turn id at w (note_response found) e
+  notifies_out : Some e ≡ option_map (note_to id (must_confirm_by (entry_out turn (at_moment at w)) w.confirm_after (max w.moment at)) found) (option_map interest_of (entry_out turn (at_moment at w))) → Notifies turn id at confirm_after w (note_response found) e
   notifies_out sent = notifies_by (entry_out turn (at_moment at w)) refl sent
 
   -- of an empty slot, where the turn missed its program
-  notifies_if : (b : Bool) → Some e ≡ option_map (note_to id (must_confirm_by (entry_out turn (at_moment at w)) (max w.moment at)) found) (if b then option_map interest_of (entry_out turn (at_moment at w)) else None) → Notifies turn id at w (note_response found) e
+  notifies_if : (b : Bool) → Some e ≡ option_map (note_to id (must_confirm_by (entry_out turn (at_moment at w)) w.confirm_after (max w.moment at)) found) (if b then option_map interest_of (entry_out turn (at_moment at w)) else None) → Notifies turn id at confirm_after w (note_response found) e
   notifies_if true sent = notifies_out sent
   notifies_if false sent = absurd (cc sent)
 
-sent_notifies : (turn : Turn) (id at : ℕ) (w : ObserverList) (found : Option Ticket) (e : Emission) → max w.moment at ≡ at → Some e ≡ note_at turn id at found w → Notifies turn id at w (note_response found) e
-sent_notifies turn id at w None e later sent = notifies_if turn id at w None e later (is_missing turn (at_moment at w)) sent
-sent_notifies turn id at w (Some t) e later sent = notifies_out turn id at w (Some t) e later sent
+sent_notifies : (turn : Turn) (id at : ℕ) (w : ObserverList) (found : Option Ticket) (e : Emission) → max w.moment at ≡ at → (confirm_after : ℕ) → w.confirm_after ≡ confirm_after → Some e ≡ note_at turn id at found w → Notifies turn id at confirm_after w (note_response found) e
+sent_notifies turn id at w None e later confirm_after after_is sent = notifies_if turn id at w None e later confirm_after after_is (is_missing turn (at_moment at w)) sent
+sent_notifies turn id at w (Some t) e later confirm_after after_is sent = notifies_out turn id at w (Some t) e later confirm_after after_is sent
 
 -- what a turn that is to notify sends
 pub note_sends : (s : Seen) (k now random id : ℕ) (turn : Turn) (found : Option Ticket) (o : Option Emission) → stage s k ≡ ToTell turn (turns.ToNote found id) → Emits s (Note k now random) o → o ≡ note_at turn id (moment_at s k now) found (watch s (slot_of s k))
@@ -81,7 +81,9 @@ note_sends s k now random id turn found o is sent = sent ∙ ap (λ (st : Stage)
 
 notifies : (h : History) (k now random id : ℕ) (turn : Turn) (found : Option Ticket) (e : Emission) → stage (seen h) k ≡ ToTell turn (turns.ToNote found id) → Emits (seen h) (Note k now random) (Some e) → NotifiesOf (seen h) k now turn id (note_response found) e
 notifies h k now random id turn found e is sent =
-    sent_notifies turn id (moment_at (seen h) k now) (watch (seen h) (slot_of (seen h) k)) found e (turn_moment h k now) (note_sends (seen h) k now random id turn found (Some e) is sent)
+    let n = slot_of (seen h) k in
+    sent_notifies turn id (moment_at (seen h) k now) (watch (seen h) n) found e (turn_moment h k now)
+    (seen h).policy.confirm_after (confirm_after_is n (seen h).policy.confirm_after ((seen h).calls n)) (note_sends (seen h) k now random id turn found (Some e) is sent)
 
 pub found_notifies : (h : History) (k now random id : ℕ) (turn : Turn) (t : Ticket) (e : Emission) → stage (seen h) k ≡ ToTell turn (turns.ToNote (Some t) id) → Emits (seen h) (Note k now random) (Some e) → NotifiesOf (seen h) k now turn id (response_of t) e
 found_notifies h k now random id turn t e is sent = notifies h k now random id turn (Some t) e is sent
@@ -162,7 +164,7 @@ sent_above_last h k now id turn t o is out =
     let n = slot_of (seen h) k in
     let w = watch (seen h) n in
     let passes = is_out turn (at_moment now w) in
-    let x = found_holds (λ (e : Entry). passes e ≡ true → e.serial < t.serial) passes w.held o (sent_above n now turn t.serial ((seen h).calls n) (found_noticed h k id turn t is)) out in
+    let x = found_holds (λ (e : Entry). passes e ≡ true → e.serial < t.serial) passes w.held o (sent_above n (seen h).policy.confirm_after now turn t.serial ((seen h).calls n) (found_noticed h k id turn t is)) out in
     x.0 x.1
 
 -- ---- who hears them
@@ -170,18 +172,18 @@ sent_above_last h k now id turn t o is out =
 own_held : (w : ObserverList) (o : Entry) → Contains w.held o → is_held o.endpoint o.token.items w ≡ true
 own_held w o there = held_passes (is_entry_of o.endpoint o.token.items) w.held o there (own o)
 
-goes_to_held : (turn : Turn) (id at : ℕ) (w : ObserverList) (response : Response) (e : Emission) → Notifies turn id at w response e → IsToHeld w e
-goes_to_held turn id at w response e n = record {
+goes_to_held : (turn : Turn) (id at confirm_after : ℕ) (w : ObserverList) (response : Response) (e : Emission) → Notifies turn id at confirm_after w response e → IsToHeld w e
+goes_to_held turn id at confirm_after w response e n = record {
   entry = n.entry;
   held = own_held w n.entry n.held;
-  kind = if nat_le (n.entry.confirmed + 86400000) at then Confirmable else NonConfirmable;
+  kind = if nat_le (n.entry.confirmed + confirm_after) at then Confirmable else NonConfirmable;
   id = id;
   response = response;
   is = n.is;
 }
 
 pub notified_held : (h : History) (k now random id : ℕ) (turn : Turn) (found : Option Ticket) (e : Emission) → stage (seen h) k ≡ ToTell turn (turns.ToNote found id) → Emits (seen h) (Note k now random) (Some e) → IsToHeld (watch (seen h) (slot_of (seen h) k)) e
-notified_held h k now random id turn found e is sent = goes_to_held turn id (moment_at (seen h) k now) (watch (seen h) (slot_of (seen h) k)) (note_response found) e (notifies h k now random id turn found e is sent)
+notified_held h k now random id turn found e is sent = goes_to_held turn id (moment_at (seen h) k now) (seen h).policy.confirm_after (watch (seen h) (slot_of (seen h) k)) (note_response found) e (notifies h k now random id turn found e is sent)
 
 -- the notification of an entry in this phase, sent again
 record ResendsIn (to : Endpoint) (p : Phase) (e : Emission) : Type 0 where

@@ -66,12 +66,12 @@ abbrev at : Seen → ℕ → Stage → Scene
 at s k st = record { job = job s k; slot = slot_at s (slot_of s k); around = around s (slot_of s k); stage = st }
 
 -- the observers of the job's slot, by what the commit comes to
-watched : (s : Seen) (k now n : ℕ) (t : Ticket) (o : Option Emission) (x : CommitOutcome) → stage s k ≡ ToCommit n t → outcome t (slot_at s (slot_of s k)) ≡ x → watch (and_then (did (Commit k now) o) s) (slot_of s k) ≡ observers (slot_of s k) ((committed x n t now (slot_at s (slot_of s k)).serial (around s (slot_of s k))).calls ++ s.calls (slot_of s k))
+watched : (s : Seen) (k now n : ℕ) (t : Ticket) (o : Option Emission) (x : CommitOutcome) → stage s k ≡ ToCommit n t → outcome t (slot_at s (slot_of s k)) ≡ x → watch (and_then (did (Commit k now) o) s) (slot_of s k) ≡ observers (slot_of s k) s.policy.confirm_after ((committed x n t now (slot_at s (slot_of s k)).serial (around s (slot_of s k))).calls ++ s.calls (slot_of s k))
 watched s k now n t o x is comes =
     let m = slot_of s k in
-    ap (λ (b : Bool). observers m ((if b then (row (Commit k now) (scene s k)).calls else []) ++ s.calls m)) (eq-eqb m m refl)
-    ∙ (ap (λ (st : Stage). observers m ((row (Commit k now) (at s k st)).calls ++ s.calls m)) is
-    ∙ ap (λ (y : CommitOutcome). observers m ((committed y n t now (slot_at s m).serial (around s m)).calls ++ s.calls m)) comes)
+    ap (λ (b : Bool). observers m s.policy.confirm_after ((if b then (row (Commit k now) (scene s k)).calls else []) ++ s.calls m)) (eq-eqb m m refl)
+    ∙ (ap (λ (st : Stage). observers m s.policy.confirm_after ((row (Commit k now) (at s k st)).calls ++ s.calls m)) is
+    ∙ ap (λ (y : CommitOutcome). observers m s.policy.confirm_after ((committed y n t now (slot_at s m).serial (around s m)).calls ++ s.calls m)) comes)
 
 -- and where it leaves the job
 leaves : (s : Seen) (k now n : ℕ) (t : Ticket) (o : Option Emission) (x : CommitOutcome) → stage s k ≡ ToCommit n t → outcome t (slot_at s (slot_of s k)) ≡ x → stage (and_then (did (Commit k now) o) s) k ≡ (committed x n t now (slot_at s (slot_of s k)).serial (around s (slot_of s k))).stage
@@ -90,7 +90,7 @@ pub get_registers : (s : Seen) (k now n : ℕ) (t : Ticket) (o : Option Emission
 get_registers s k now n t o is get a =
     let m = slot_of s k in
     watched s k now n t o Keeps is (keeps s k t get)
-    ∙ ap (λ (b : Bool). observers m (observe_calls_by b (is_cancellation t) (max (s.shard_moment (m % 8)) now) t ++ s.calls m)) (registers_asked t a)
+    ∙ ap (λ (b : Bool). observers m s.policy.confirm_after (observe_calls_by b (is_cancellation t) (max (s.shard_moment (m % 8)) now) t ++ s.calls m)) (registers_asked t a)
 
 -- an entry is of its own endpoint and token
 pub own : (o : Entry) → is_entry_of o.endpoint o.token.items o ≡ true
@@ -134,7 +134,7 @@ pub get_cancels : (s : Seen) (k now n : ℕ) (t : Ticket) (o : Option Emission) 
 get_cancels s k now n t o is get one =
     let m = slot_of s k in
     watched s k now n t o Keeps is (keeps s k t get)
-    ∙ (λ i. observers m (observe_calls_by (no_registration t one i) (has_observe 1 (one i)) (max (s.shard_moment (m % 8)) now) t ++ s.calls m))
+    ∙ (λ i. observers m s.policy.confirm_after (observe_calls_by (no_registration t one i) (has_observe 1 (one i)) (max (s.shard_moment (m % 8)) now) t ++ s.calls m))
 
 -- ---- every other commit
 
@@ -149,8 +149,8 @@ others_call_nothing s k now n t o is asks one =
     let m = slot_of s k in
     let x = outcome t (slot_at s m) in
     watched s k now n t o x is refl
-    ∙ ap (λ (cs : List ObserverCall). observers m (cs ++ s.calls m)) (none_called x n now (slot_at s m).serial t (around s m) (not_true (is_registration t) (λ e. asks (asked t e))) (not_true (is_cancellation t) (λ e. one (value_is 1 t.observe e))))
+    ∙ ap (λ (cs : List ObserverCall). observers m s.policy.confirm_after (cs ++ s.calls m)) (none_called x n now (slot_at s m).serial t (around s m) (not_true (is_registration t) (λ e. asks (asked t e))) (not_true (is_cancellation t) (λ e. one (value_is 1 t.observe e))))
 
 -- another slot's
 pub other_slots_stay : (s : Seen) (k now m : ℕ) (o : Option Emission) → (m ≡ slot_of s k → ⊥) → watch (and_then (did (Commit k now) o) s) m ≡ watch s m
-other_slots_stay s k now m o ne = ap (λ (b : Bool). observers m ((if b then (row (Commit k now) (scene s k)).calls else []) ++ s.calls m)) (ne_eqb (slot_of s k) m (λ q. ne (sym q)))
+other_slots_stay s k now m o ne = ap (λ (b : Bool). observers m s.policy.confirm_after ((if b then (row (Commit k now) (scene s k)).calls else []) ++ s.calls m)) (ne_eqb (slot_of s k) m (λ q. ne (sym q)))

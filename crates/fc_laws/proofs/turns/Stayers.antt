@@ -191,12 +191,12 @@ module _ (r : Entry) (s : Seen) (n : ℕ) (to : Endpoint) (token : List ℕ) whe
 
   by_name : (o : Option ℕ) → names r.event ≡ o → is_held to token w ≡ true → (is_held to token (watch (and_then r s) n) ≡ true) ⊎ Removes r s n to token
   by_name None named some = stays_as (watch (and_then r s) n) (after_calls (calls_by (at_shard r.event) s n) w)
-      ((λ i. observers n (calls_named (named i) r.event s n ++ (calls_by (at_shard r.event) s n ++ s.calls n))) ∙ after_append n (calls_by (at_shard r.event) s n) (s.calls n))
+      ((λ i. observers n s.policy.confirm_after (calls_named (named i) r.event s n ++ (calls_by (at_shard r.event) s n ++ s.calls n))) ∙ after_append n s.policy.confirm_after (calls_by (at_shard r.event) s n) (s.calls n))
       (by_shard r.event refl some)
   by_name (Some k) named some =
       let calls = calls_named (Some k) r.event s n in
       stays_as (watch (and_then r s) n) (after_calls calls w)
-      ((λ i. observers n (calls_named (named i) r.event s n ++ (calls_by (named_calm r.event k named i) s n ++ s.calls n))) ∙ after_append n calls (s.calls n))
+      ((λ i. observers n s.policy.confirm_after (calls_named (named i) r.event s n ++ (calls_by (named_calm r.event k named i) s n ++ s.calls n))) ∙ after_append n s.policy.confirm_after calls (s.calls n))
       (by_slot k (slot_of s k == n) named refl some)
 
   pub stays_or_removed : is_held to token w ≡ true → (is_held to token (watch (and_then r s) n) ≡ true) ⊎ Removes r s n to token

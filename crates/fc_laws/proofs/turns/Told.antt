@@ -46,26 +46,26 @@ use Rattle.fc_laws.proofs.slots.Writing.{sound}
 -- ---- what is known
 
 -- of what its taking found
-abbrev pub KnowsFound : ℕ → List ObserverCall → Turn → Option Ticket → Type 0
-KnowsFound n calls turn None = All (HasMissed turn.number) (observers n calls).held
-KnowsFound n calls turn (Some t) = noticed_for turn.number n calls ≤ t.serial
+abbrev pub KnowsFound : ℕ → ℕ → List ObserverCall → Turn → Option Ticket → Type 0
+KnowsFound n confirm_after calls turn None = All (HasMissed turn.number) (observers n confirm_after calls).held
+KnowsFound n confirm_after calls turn (Some t) = noticed_for turn.number n confirm_after calls ≤ t.serial
 
-abbrev pub KnowsTurn : ℕ → List ObserverCall → ℕ → Turn → TurnStage → Type 0
-KnowsTurn n calls serial turn turns.ToTake = noticed_for turn.number n calls ≤ serial
-KnowsTurn n calls serial turn (turns.ToDraw found) = KnowsFound n calls turn found
-KnowsTurn n calls serial turn (turns.ToNote found id) = KnowsFound n calls turn found
+abbrev pub KnowsTurn : ℕ → ℕ → List ObserverCall → ℕ → Turn → TurnStage → Type 0
+KnowsTurn n confirm_after calls serial turn turns.ToTake = noticed_for turn.number n confirm_after calls ≤ serial
+KnowsTurn n confirm_after calls serial turn (turns.ToDraw found) = KnowsFound n confirm_after calls turn found
+KnowsTurn n confirm_after calls serial turn (turns.ToNote found id) = KnowsFound n confirm_after calls turn found
 
 -- of a job of slot n at this stage, after these calls on the slot's observers, where the slot is at this serial
-abbrev pub Knows : ℕ → List ObserverCall → ℕ → Stage → Type 0
-Knows n calls serial (ToTell turn needs) = (turn.number < (observers n calls).turns) × KnowsTurn n calls serial turn needs
-Knows n calls serial other = Unit {0}
+abbrev pub Knows : ℕ → ℕ → List ObserverCall → ℕ → Stage → Type 0
+Knows n confirm_after calls serial (ToTell turn needs) = (turn.number < (observers n confirm_after calls).turns) × KnowsTurn n confirm_after calls serial turn needs
+Knows n confirm_after calls serial other = Unit {0}
 
 -- ---- more calls, and a later serial
 
-turns_last : (n number : ℕ) (cs calls : List ObserverCall) → number < (observers n calls).turns → number < (observers n (cs ++ calls)).turns
-turns_last n number cs calls lt =
-    let more = more_turns cs (observers n calls) in
-    let same = ap (λ (t : ObserverList). t.turns) (after_append n cs calls) in
+turns_last : (n confirm_after number : ℕ) (cs calls : List ObserverCall) → number < (observers n confirm_after calls).turns → number < (observers n confirm_after (cs ++ calls)).turns
+turns_last n confirm_after number cs calls lt =
+    let more = more_turns cs (observers n confirm_after calls) in
+    let same = ap (λ (t : ObserverList). t.turns) (after_append n confirm_after cs calls) in
     omega (arith, lt, more, same)
 
 -- a later turn has another number
@@ -74,60 +74,60 @@ another_turn turns number noticed old b lt =
     let other : (turns == number) ≡ false = false_from_ne_true (turns == number) (λ e. let same = eqb-true turns number e in absurd (omega (arith, same, lt))) in
     ap (λ (c : Bool). cond c noticed old) (and_right b (turns == number) other)
 
-noticed_lasts : (n number : ℕ) (cs calls : List ObserverCall) → number < (observers n calls).turns → noticed_for number n (cs ++ calls) ≡ noticed_for number n calls
-noticed_lasts n number [] calls lt = refl
-noticed_lasts n number (NextDue now noticed ∷ cs) calls lt =
-    let t = observers n (cs ++ calls) in
-    another_turn t.turns number noticed (noticed_for number n (cs ++ calls)) (gives_turn noticed (at_moment now t)) (turns_last n number cs calls lt) ∙ noticed_lasts n number cs calls lt
-noticed_lasts n number (other ∷ cs) calls lt = noticed_lasts n number cs calls lt
+noticed_lasts : (n confirm_after number : ℕ) (cs calls : List ObserverCall) → number < (observers n confirm_after calls).turns → noticed_for number n confirm_after (cs ++ calls) ≡ noticed_for number n confirm_after calls
+noticed_lasts n confirm_after number [] calls lt = refl
+noticed_lasts n confirm_after number (NextDue now noticed ∷ cs) calls lt =
+    let t = observers n confirm_after (cs ++ calls) in
+    another_turn t.turns number noticed (noticed_for number n confirm_after (cs ++ calls)) (gives_turn noticed (at_moment now t)) (turns_last n confirm_after number cs calls lt) ∙ noticed_lasts n confirm_after number cs calls lt
+noticed_lasts n confirm_after number (other ∷ cs) calls lt = noticed_lasts n confirm_after number cs calls lt
 
-found_lasts : (n : ℕ) (cs calls : List ObserverCall) (turn : Turn) (found : Option Ticket) → turn.number < (observers n calls).turns → KnowsFound n calls turn found → KnowsFound n (cs ++ calls) turn found
-found_lasts n cs calls turn None lt all = subst (λ (t : ObserverList). All (HasMissed turn.number) t.held) (sym (after_append n cs calls)) (missed_last turn.number cs (observers n calls) lt all)
-found_lasts n cs calls turn (Some t) lt le = let same = noticed_lasts n turn.number cs calls lt in omega (arith, le, same)
+found_lasts : (n confirm_after : ℕ) (cs calls : List ObserverCall) (turn : Turn) (found : Option Ticket) → turn.number < (observers n confirm_after calls).turns → KnowsFound n confirm_after calls turn found → KnowsFound n confirm_after (cs ++ calls) turn found
+found_lasts n confirm_after cs calls turn None lt all = subst (λ (t : ObserverList). All (HasMissed turn.number) t.held) (sym (after_append n confirm_after cs calls)) (missed_last turn.number cs (observers n confirm_after calls) lt all)
+found_lasts n confirm_after cs calls turn (Some t) lt le = let same = noticed_lasts n confirm_after turn.number cs calls lt in omega (arith, le, same)
 
-turn_lasts : (n : ℕ) (cs calls : List ObserverCall) (serial later : ℕ) (turn : Turn) (needs : TurnStage) → serial ≤ later → turn.number < (observers n calls).turns → KnowsTurn n calls serial turn needs → KnowsTurn n (cs ++ calls) later turn needs
-turn_lasts n cs calls serial later turn turns.ToTake rises lt le = let same = noticed_lasts n turn.number cs calls lt in omega (arith, le, same, rises)
-turn_lasts n cs calls serial later turn (turns.ToDraw found) rises lt w = found_lasts n cs calls turn found lt w
-turn_lasts n cs calls serial later turn (turns.ToNote found id) rises lt w = found_lasts n cs calls turn found lt w
+turn_lasts : (n confirm_after : ℕ) (cs calls : List ObserverCall) (serial later : ℕ) (turn : Turn) (needs : TurnStage) → serial ≤ later → turn.number < (observers n confirm_after calls).turns → KnowsTurn n confirm_after calls serial turn needs → KnowsTurn n confirm_after (cs ++ calls) later turn needs
+turn_lasts n confirm_after cs calls serial later turn turns.ToTake rises lt le = let same = noticed_lasts n confirm_after turn.number cs calls lt in omega (arith, le, same, rises)
+turn_lasts n confirm_after cs calls serial later turn (turns.ToDraw found) rises lt w = found_lasts n confirm_after cs calls turn found lt w
+turn_lasts n confirm_after cs calls serial later turn (turns.ToNote found id) rises lt w = found_lasts n confirm_after cs calls turn found lt w
 
-lasts : (n : ℕ) (cs calls : List ObserverCall) (serial later : ℕ) (s : Stage) → serial ≤ later → Knows n calls serial s → Knows n (cs ++ calls) later s
-lasts n cs calls serial later (ToTell turn needs) rises w = (turns_last n turn.number cs calls w.0, turn_lasts n cs calls serial later turn needs rises w.0 w.1)
-lasts n cs calls serial later other rises w = tt
+lasts : (n confirm_after : ℕ) (cs calls : List ObserverCall) (serial later : ℕ) (s : Stage) → serial ≤ later → Knows n confirm_after calls serial s → Knows n confirm_after (cs ++ calls) later s
+lasts n confirm_after cs calls serial later (ToTell turn needs) rises w = (turns_last n confirm_after turn.number cs calls w.0, turn_lasts n confirm_after cs calls serial later turn needs rises w.0 w.1)
+lasts n confirm_after cs calls serial later other rises w = tt
 
 -- ---- each row
 
 abbrev at : Job → Slot → Around → Stage → Scene
 at job slot ws stage = record { job = job; slot = slot; around = ws; stage = stage }
 
-module _ (n : ℕ) (calls : List ObserverCall) (serial : ℕ) (turn : Turn) (moment : ℕ) (job : Job) where
+module _ (n confirm_after : ℕ) (calls : List ObserverCall) (serial : ℕ) (turn : Turn) (moment : ℕ) (job : Job) where
   abbrev out : Bool
-  out = is_out_at turn moment (observers n calls)
+  out = is_out_at turn moment (observers n confirm_after calls)
 
-  taking_knows : (b : Bool) (kept : Option (List ℕ)) (p : Option Present) → is_some (entry_out turn (at_moment moment (observers n calls))) ≡ b → turn.number < (observers n calls).turns → noticed_for turn.number n calls ≤ serial → Knows n ((miss_calls b turn p ++ Advance moment ∷ []) ++ calls) serial (turn_took turn (turn_taking b kept job serial p))
+  taking_knows : (b : Bool) (kept : Option (List ℕ)) (p : Option Present) → is_some (entry_out turn (at_moment moment (observers n confirm_after calls))) ≡ b → turn.number < (observers n confirm_after calls).turns → noticed_for turn.number n confirm_after calls ≤ serial → Knows n confirm_after ((miss_calls b turn p ++ Advance moment ∷ []) ++ calls) serial (turn_took turn (turn_taking b kept job serial p))
   taking_knows false kept p is lt le = tt
-  taking_knows true kept None is lt le = (turns_last n turn.number (Miss turn ∷ Advance moment ∷ []) calls lt, missed_begin turn n (Advance moment ∷ calls) is)
+  taking_knows true kept None is lt le = (turns_last n confirm_after turn.number (Miss turn ∷ Advance moment ∷ []) calls lt, missed_begin turn n confirm_after (Advance moment ∷ calls) is)
   taking_knows true (Some readings) (Some p) is lt le = (lt, le)
   taking_knows true None (Some p) is lt le = (lt, le)
 
-drawn_knows : (n : ℕ) (calls : List ObserverCall) (serial : ℕ) (turn : Turn) (found : Option Ticket) (free : Option ℕ) → KnowsFound n calls turn found → KnowsTurn n calls serial turn (with_id found free)
-drawn_knows n calls serial turn found (Some id) w = w
-drawn_knows n calls serial turn found None w = w
+drawn_knows : (n confirm_after : ℕ) (calls : List ObserverCall) (serial : ℕ) (turn : Turn) (found : Option Ticket) (free : Option ℕ) → KnowsFound n confirm_after calls turn found → KnowsTurn n confirm_after calls serial turn (with_id found free)
+drawn_knows n confirm_after calls serial turn found (Some id) w = w
+drawn_knows n confirm_after calls serial turn found None w = w
 
-module _ (n : ℕ) (calls : List ObserverCall) (common : Common) (moment : ℕ) where
+module _ (n confirm_after : ℕ) (calls : List ObserverCall) (common : Common) (moment : ℕ) where
   abbrev ws : Around
-  ws = record { common = common; moment = moment; watch = observers n calls }
+  ws = record { common = common; moment = moment; watch = observers n confirm_after calls }
 
-  step_knows : (c : Step) (job : Job) (slot : Slot) (turn : Turn) → IsToldOf turn (stage_by c) → Knows n calls slot.serial (stage_by c) → Knows n ((move_by c job slot ws).calls ++ calls) slot.serial (move_by c job slot ws).stage
-  step_knows (steps.TakesTurn memory readings mine) job slot turn own w = taking_knows n calls slot.serial mine moment job (is_out_at mine moment (observers n calls)) (readings_if memory readings) slot.present refl w.0 w.1
-  step_knows (steps.Draws now mine found) job slot turn own w = (w.0, drawn_knows n calls slot.serial mine found (common.free now) w.1)
+  step_knows : (c : Step) (job : Job) (slot : Slot) (turn : Turn) → IsToldOf turn (stage_by c) → Knows n confirm_after calls slot.serial (stage_by c) → Knows n confirm_after ((move_by c job slot ws).calls ++ calls) slot.serial (move_by c job slot ws).stage
+  step_knows (steps.TakesTurn memory readings mine) job slot turn own w = taking_knows n confirm_after calls slot.serial mine moment job (is_out_at mine moment (observers n confirm_after calls)) (readings_if memory readings) slot.present refl w.0 w.1
+  step_knows (steps.Draws now mine found) job slot turn own w = (w.0, drawn_knows n confirm_after calls slot.serial mine found (common.free now) w.1)
   step_knows (steps.Notes now random mine found id) job slot turn own w = tt
   step_knows (steps.GivesUp now mine needs) job slot turn own w = tt
   step_knows (steps.Loses needs) job slot turn own w = tt
   step_knows other job slot turn own w = absurd own
 
-  row_knows : (e : Event) (job : Job) (slot : Slot) (turn : Turn) (s : Stage) → IsToldOf turn s → Knows n calls slot.serial s → Knows n ((row e (at job slot ws s)).calls ++ calls) slot.serial (row e (at job slot ws s)).stage
+  row_knows : (e : Event) (job : Job) (slot : Slot) (turn : Turn) (s : Stage) → IsToldOf turn s → Knows n confirm_after calls slot.serial s → Knows n confirm_after ((row e (at job slot ws s)).calls ++ calls) slot.serial (row e (at job slot ws s)).stage
   row_knows e job slot turn s =
-      by_move (λ st m. IsToldOf turn st → Knows n calls slot.serial st → Knows n (m.calls ++ calls) slot.serial m.stage) job slot ws
+      by_move (λ st m. IsToldOf turn st → Knows n confirm_after calls slot.serial st → Knows n confirm_after (m.calls ++ calls) slot.serial m.stage) job slot ws
       (λ c asked. step_knows c job slot turn) (λ st own w. w) e s
 
 -- ---- each event
@@ -137,15 +137,15 @@ newly_given t noticed old true is = (omega arith, ap (λ (b : Bool). cond b noti
 newly_given t noticed old false is = absurd (cc is)
 
 abbrev KnowsAt : Seen → Job → Stage → Type 0
-KnowsAt s j st = Knows j.origin.slot (s.calls j.origin.slot) (slot_at s j.origin.slot).serial st
+KnowsAt s j st = Knows j.origin.slot s.policy.confirm_after (s.calls j.origin.slot) (slot_at s j.origin.slot).serial st
 
 abbrev KnowsTask : Seen → Task → Type 0
 KnowsTask s t = KnowsAt s t.job t.stage
 
 -- a request's job is told of no turn
-not_told : (n serial : ℕ) (calls : List ObserverCall) (j : Job) (slot : Slot) (s : Stage) → j.turn ≡ None → FitsStage j slot s → Knows n calls serial s
-not_told n serial calls j slot (ToTell turn needs) none fits = absurd (cc (none, fits.1))
-not_told n serial calls j slot other none fits = tt
+not_told : (n confirm_after serial : ℕ) (calls : List ObserverCall) (j : Job) (slot : Slot) (s : Stage) → j.turn ≡ None → FitsStage j slot s → Knows n confirm_after calls serial s
+not_told n confirm_after serial calls j slot (ToTell turn needs) none fits = absurd (cc (none, fits.1))
+not_told n confirm_after serial calls j slot other none fits = tt
 
 module _ (r : Entry) (s : Seen) where
   abbrev e : Event
@@ -164,8 +164,8 @@ module _ (r : Entry) (s : Seen) where
   still_known : (t : Task) → KnowsTask s t → KnowsTask after t
   still_known t w =
       let n = t.job.origin.slot in
-      lasts n (calls_named (names e) e s n) (calls_by (at_shard e) s n ++ s.calls n) (slot_at after n).serial (slot_at after n).serial t.stage (omega arith)
-      (lasts n (calls_by (at_shard e) s n) (s.calls n) (slot_at s n).serial (slot_at after n).serial t.stage (serial_rises n) w)
+      lasts n s.policy.confirm_after (calls_named (names e) e s n) (calls_by (at_shard e) s n ++ s.calls n) (slot_at after n).serial (slot_at after n).serial t.stage (omega arith)
+      (lasts n s.policy.confirm_after (calls_by (at_shard e) s n) (s.calls n) (slot_at s n).serial (slot_at after n).serial t.stage (serial_rises n) w)
 
   -- the calls of the event that names a job
   own_calls : (k : ℕ) → names e ≡ Some k → after.calls (slot_of s k) ≡ (row e (scene s k)).calls ++ s.calls (slot_of s k)
@@ -175,19 +175,19 @@ module _ (r : Entry) (s : Seen) where
       ∙ ap (λ (b : Bool). (if b then (row e (scene s k)).calls else []) ++ s.calls n) (eq-eqb n n refl)
 
   moved_by : (k : ℕ) → names e ≡ Some k → ((number : ℕ) → (job s k).turn ≡ Some number → IsToldOf (turn_of (job s k) number) (stage s k)) → (o : Option ℕ) → (job s k).turn ≡ o → FitsStage (job s k) (slot_at s (slot_of s k)) (row e (scene s k)).stage → KnowsAt s (job s k) (stage s k) → KnowsAt after (job s k) (row e (scene s k)).stage
-  moved_by k named own None asks fits w = not_told (slot_of s k) (slot_at after (slot_of s k)).serial (after.calls (slot_of s k)) (job s k) (slot_at s (slot_of s k)) (row e (scene s k)).stage asks fits
+  moved_by k named own None asks fits w = not_told (slot_of s k) s.policy.confirm_after (slot_at after (slot_of s k)).serial (after.calls (slot_of s k)) (job s k) (slot_at s (slot_of s k)) (row e (scene s k)).stage asks fits
   moved_by k named own (Some number) of_turn fits w =
       let n = slot_of s k in
-      subst (λ (cs : List ObserverCall). Knows n cs (slot_at after n).serial (row e (scene s k)).stage) (sym (own_calls k named))
-      (lasts n [] ((row e (scene s k)).calls ++ s.calls n) (slot_at s n).serial (slot_at after n).serial (row e (scene s k)).stage (serial_rises n)
-      (row_knows n (s.calls n) (common s) (s.shard_moment (n % 8)) e (job s k) (slot_at s n) (turn_of (job s k) number) (stage s k) (own number of_turn) w))
+      subst (λ (cs : List ObserverCall). Knows n s.policy.confirm_after cs (slot_at after n).serial (row e (scene s k)).stage) (sym (own_calls k named))
+      (lasts n s.policy.confirm_after [] ((row e (scene s k)).calls ++ s.calls n) (slot_at s n).serial (slot_at after n).serial (row e (scene s k)).stage (serial_rises n)
+      (row_knows n s.policy.confirm_after (s.calls n) (common s) (s.shard_moment (n % 8)) e (job s k) (slot_at s n) (turn_of (job s k) number) (stage s k) (own number of_turn) w))
 
   -- ---- what it brings
 
   asked_known : (j : Job) → j.turn ≡ None → KnowsTask after (new_task j)
   asked_known j none =
       let n = j.origin.slot in
-      not_told n (slot_at after n).serial (after.calls n) j (slot_at after n) (first_stage j) none (first_fits j (slot_at after n))
+      not_told n s.policy.confirm_after (slot_at after n).serial (after.calls n) j (slot_at after n) (first_stage j) none (first_fits j (slot_at after n))
 
   brought_asked : (x : Received) (o : Opening) (to : Endpoint) → Each (KnowsTask after) (map new_task (brought x o to))
   brought_asked (Opened m asked body) o to = (asked_known (job_of o to m asked body) refl, tt)
@@ -212,13 +212,13 @@ module _ (r : Entry) (s : Seen) where
         ∙ (ap (λ (p : Option ℕ). (if is_place_of p shard n then NextDue moment noticed ∷ [] else []) ++ s.calls n) due
         ∙ ap (λ (b : Bool). (if b then NextDue moment noticed ∷ [] else []) ++ s.calls n) (eq-eqb n n refl))
 
-    new_known : gives_turn noticed t ≡ true → Knows n (after.calls n) (slot_at after n).serial (ToTell (record { slot = n; number = t.turns }) turns.ToTake)
+    new_known : gives_turn noticed t ≡ true → Knows n s.policy.confirm_after (after.calls n) (slot_at after n).serial (ToTell (record { slot = n; number = t.turns }) turns.ToTake)
     new_known gives =
-        let w = newly_given t noticed (noticed_for t.turns n (s.calls n)) (gives_turn noticed t) gives in
+        let w = newly_given t noticed (noticed_for t.turns n s.policy.confirm_after (s.calls n)) (gives_turn noticed t) gives in
         let same = w.1 in
         let rises = serial_rises n in
         let within = noticed_within s.first_serial (s.changes n) in
-        subst (λ (cs : List ObserverCall). Knows n cs (slot_at after n).serial (ToTell (record { slot = n; number = t.turns }) turns.ToTake)) (sym due_calls) (w.0, omega (arith, same, rises, within))
+        subst (λ (cs : List ObserverCall). Knows n s.policy.confirm_after cs (slot_at after n).serial (ToTell (record { slot = n; number = t.turns }) turns.ToTake)) (sym due_calls) (w.0, omega (arith, same, rises, within))
 
     told_of : (x : Option Interest) → gives_turn noticed t ≡ true → Each (KnowsTask after) (map new_task (option_to_list (option_map (turn_job n t.turns) x)) ++ [])
     told_of None gives = tt
@@ -247,9 +247,9 @@ module _ (r : Entry) (s : Seen) where
     all_known : (k : ℕ) → KnowsTask after (task_at after.tasks k)
     all_known k = appended_all (KnowsTask after) (tasks_moved (names e) e s) (tasks_brought e s) no_task (moved_known (names e) refl) (brought_known e refl) k
 
-pub known : (h : History) (k : ℕ) → Knows (slot_of (seen h) k) ((seen h).calls (slot_of (seen h) k)) (slot_at (seen h) (slot_of (seen h) k)).serial (stage (seen h) k)
+pub known : (h : History) (k : ℕ) → Knows (slot_of (seen h) k) (seen h).policy.confirm_after ((seen h).calls (slot_of (seen h) k)) (slot_at (seen h) (slot_of (seen h) k)).serial (stage (seen h) k)
 unfolding seen
-known (Begins serial id) k = tt
+known (Begins serial id policy) k = tt
 known (Then h r) k = all_known r (seen h) (sound h) (is_told_of h) (known h) k
 
 -- ---- of a turn that is to notify
@@ -259,9 +259,9 @@ module _ (h : History) (k id : ℕ) (turn : Turn) where
   own_slot = slot_of (seen h) k
 
   abbrev knows : Stage → Type 0
-  knows st = Knows own_slot ((seen h).calls own_slot) (slot_at (seen h) own_slot).serial st
+  knows st = Knows own_slot (seen h).policy.confirm_after ((seen h).calls own_slot) (slot_at (seen h) own_slot).serial st
 
-  pub found_noticed : (t : Ticket) → stage (seen h) k ≡ ToTell turn (turns.ToNote (Some t) id) → noticed_for turn.number own_slot ((seen h).calls own_slot) ≤ t.serial
+  pub found_noticed : (t : Ticket) → stage (seen h) k ≡ ToTell turn (turns.ToNote (Some t) id) → noticed_for turn.number own_slot (seen h).policy.confirm_after ((seen h).calls own_slot) ≤ t.serial
   found_noticed t is = (subst knows is (known h k)).1
 
   pub none_missed : stage (seen h) k ≡ ToTell turn (turns.ToNote None id) → All (HasMissed turn.number) (watch (seen h) own_slot).held

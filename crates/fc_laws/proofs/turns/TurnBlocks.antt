@@ -79,7 +79,7 @@ all_moved e s (Some j) before k = written_all (λ t. AsksFirst t.job) s.tasks j 
 
 asks_first : (h : History) (k : ℕ) → AsksFirst (job (seen h) k)
 unfolding seen
-asks_first (Begins serial id) k = λ number is. absurd (cc is)
+asks_first (Begins serial id policy) k = λ number is. absurd (cc is)
 asks_first (Then h r) k = appended_all (λ (t : Task). AsksFirst t.job) (tasks_moved (names r.event) r.event (seen h)) (tasks_brought r.event (seen h)) no_task (all_moved r.event (seen h) (names r.event) (asks_first h)) (all_brought r.event (seen h)) k
 
 -- ---- that of its ticket

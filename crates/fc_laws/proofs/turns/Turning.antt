@@ -80,9 +80,9 @@ first_found : (p q : Entry → Bool) (g : Entry → Entry) (x : Entry) (os : Lis
 first_found p q g x [] none new e = absurd (cc)
 first_found p q g x (o ∷ os) none new e = found_if p q g o x os (p o) (All-head (λ y. q y ≡ false) o os none) new (first_found p q g x os (All-tail (λ y. q y ≡ false) o os none) new) e
 
-module _ (n at noticed : ℕ) (h : List ObserverCall) where
+module _ (n confirm_after at noticed : ℕ) (h : List ObserverCall) where
   abbrev w : ObserverList
-  w = observers n h
+  w = observers n confirm_after h
 
   abbrev m : ℕ
   m = max w.moment at
@@ -90,7 +90,7 @@ module _ (n at noticed : ℕ) (h : List ObserverCall) where
   abbrev turn : Turn
   turn = record { slot = w.slot; number = w.turns }
 
-  old_not_out : (o : Entry) → OutBelow n h o → has_turn w.slot m turn o ≡ false
+  old_not_out : (o : Entry) → OutBelow n confirm_after h o → has_turn w.slot m turn o ≡ false
   old_not_out o below = false_from_ne_true (has_turn w.slot m turn o) (λ e.
       let p = out_phase m w.turns o.phase (and_parts (w.slot == w.slot) (is_out_in m w.turns o.phase) e).1 in
       let lt = (below w.turns p.0 p.1 p.2).0 in
@@ -100,7 +100,7 @@ module _ (n at noticed : ℕ) (h : List ObserverCall) where
   new_is_out o = and_from (w.slot == w.slot) ((w.turns == w.turns) && nat_lt m (m + 247000)) (eq-eqb w.slot w.slot refl) (and_from (w.turns == w.turns) (nat_lt m (m + 247000)) (eq-eqb w.turns w.turns refl) (lt-ltb m (m + 247000) (omega arith)))
 
   given_out : (x : Entry) → find (is_due m noticed) w.held ≡ Some x → entry_out turn (turn_given_by true noticed (at_moment at w)) ≡ Some (with_turn w.turns m x)
-  given_out x e = first_found (is_due m noticed) (has_turn w.slot m turn) (with_turn w.turns m) x w.held (All-weaker (OutBelow n h) (λ o. has_turn w.slot m turn o ≡ false) old_not_out w.held (all_below n h)) new_is_out e
+  given_out x e = first_found (is_due m noticed) (has_turn w.slot m turn) (with_turn w.turns m) x w.held (All-weaker (OutBelow n confirm_after h) (λ o. has_turn w.slot m turn o ≡ false) old_not_out w.held (all_below n confirm_after h)) new_is_out e
 
   job_by : (b : Bool) (x : Entry) → b ≡ true → find (is_due m noticed) w.held ≡ Some x → job_of_turn n (next_turn_by b (at_moment at w)) (turn_given_by b noticed (at_moment at w)) ≡ Some (turn_job n w.turns (interest_of x))
   job_by true x gives e = ap (λ (o : Option Entry). option_map (turn_job n w.turns) (option_map interest_of o)) (given_out x e)
@@ -127,7 +127,7 @@ module _ (s : Seen) (i k now : ℕ) (o : Option Emission) where
 
   pub due_brings : due_in s i at ≡ Some k → BringsTurn s place at (and_then (did (Due i now) o) s)
   due_brings e =
-      let given = given_job place at (slot_at s place).noticed (s.calls place) (due_first s i at k e).0 in
+      let given = given_job place s.policy.confirm_after at (slot_at s place).noticed (s.calls place) (due_first s i at k e).0 in
       let brought : turn_at (due_in s i at) s i at ≡ Some (turn_job place (watch s place).turns (interest_of given.0)) = ap (λ (p : Option ℕ). turn_at p s i at) e ∙ given.2 in
       record {
         entry = given.0;
@@ -136,8 +136,8 @@ module _ (s : Seen) (i k now : ℕ) (o : Option Emission) where
       }
 
   -- the calls of a shard that is asked, by the place that is due
-  asked_by : (n : ℕ) (p q : Option ℕ) → p ≡ q → observers n ((if is_place_of p i n then NextDue at (slot_at s n).noticed ∷ [] else []) ++ s.calls n) ≡ observers n ((if is_place_of q i n then NextDue at (slot_at s n).noticed ∷ [] else []) ++ s.calls n)
-  asked_by n p q is = ap (λ (x : Option ℕ). observers n ((if is_place_of x i n then NextDue at (slot_at s n).noticed ∷ [] else []) ++ s.calls n)) is
+  asked_by : (n : ℕ) (p q : Option ℕ) → p ≡ q → observers n s.policy.confirm_after ((if is_place_of p i n then NextDue at (slot_at s n).noticed ∷ [] else []) ++ s.calls n) ≡ observers n s.policy.confirm_after ((if is_place_of q i n then NextDue at (slot_at s n).noticed ∷ [] else []) ++ s.calls n)
+  asked_by n p q is = ap (λ (x : Option ℕ). observers n s.policy.confirm_after ((if is_place_of x i n then NextDue at (slot_at s n).noticed ∷ [] else []) ++ s.calls n)) is
 
   pub due_gives : due_in s i at ≡ Some k → watch (and_then (did (Due i now) o) s) place ≡ turn_given (slot_at s place).noticed (at_moment at (watch s place))
   due_gives e = asked_by place (due_in s i at) (Some k) e ∙ called s place (NextDue at (slot_at s place).noticed) (place == place) true (eq-eqb place place refl)
@@ -162,8 +162,8 @@ module _ (s : Seen) (k now : ℕ) (turn : Turn) (needs : TurnStage) (o : Option 
   pub given_up_here : watch (and_then (did (GiveUp k now) o) s) (slot_of s k) ≡ turn_given_up turn (at_moment (max (s.shard_moment (slot_of s k % 8)) now) (watch s (slot_of s k)))
   given_up_here =
       let n = slot_of s k in
-      ap (λ (b : Bool). observers n ((if b then (row (GiveUp k now) (scene s k)).calls else []) ++ s.calls n)) (eq-eqb n n refl)
-      ∙ ap (λ (st : Stage). observers n ((row (GiveUp k now) (at_stage s k st)).calls ++ s.calls n)) is
+      ap (λ (b : Bool). observers n s.policy.confirm_after ((if b then (row (GiveUp k now) (scene s k)).calls else []) ++ s.calls n)) (eq-eqb n n refl)
+      ∙ ap (λ (st : Stage). observers n s.policy.confirm_after ((row (GiveUp k now) (at_stage s k st)).calls ++ s.calls n)) is
 
   pub given_up_gone : stage (and_then (did (GiveUp k now) o) s) k ≡ Gone
   given_up_gone = named_stage (did (GiveUp k now) o) s k (is_here s k (ToTell turn needs) is (λ e. absurd (cc e))) refl
@@ -183,11 +183,11 @@ module _ (s : Seen) (k now : ℕ) (turn : Turn) (found : Option Ticket) (o : Opt
   undrawn_stage free = drew_stage ∙ ap (λ (f : Option ℕ). ToTell turn (with_id found f)) free
 
 pub given_up_elsewhere : (s : Seen) (k now m : ℕ) (o : Option Emission) → (m ≡ slot_of s k → ⊥) → watch (and_then (did (GiveUp k now) o) s) m ≡ watch s m
-given_up_elsewhere s k now m o ne = ap (λ (b : Bool). observers m ((if b then (row (GiveUp k now) (scene s k)).calls else []) ++ s.calls m)) (ne_eqb (slot_of s k) m (λ q. ne (sym q)))
+given_up_elsewhere s k now m o ne = ap (λ (b : Bool). observers m s.policy.confirm_after ((if b then (row (GiveUp k now) (scene s k)).calls else []) ++ s.calls m)) (ne_eqb (slot_of s k) m (λ q. ne (sym q)))
 
-none_called : (b : Bool) (n : ℕ) (cs : List ObserverCall) → observers n ((if b then [] else []) ++ cs) ≡ observers n cs
-none_called true n cs = refl
-none_called false n cs = refl
+none_called : (b : Bool) (n confirm_after : ℕ) (cs : List ObserverCall) → observers n confirm_after ((if b then [] else []) ++ cs) ≡ observers n confirm_after cs
+none_called true n confirm_after cs = refl
+none_called false n confirm_after cs = refl
 
 pub lost_keeps : (s : Seen) (k n : ℕ) (o : Option Emission) → watch (and_then (did (Lose k) o) s) n ≡ watch s n
-lost_keeps s k n o = none_called (slot_of s k == n) n (s.calls n)
+lost_keeps s k n o = none_called (slot_of s k == n) n s.policy.confirm_after (s.calls n)

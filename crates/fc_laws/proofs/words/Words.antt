@@ -70,7 +70,7 @@ words_length (Some k) e s = published_length (row e (scene s k)).raises (slot_of
 
 sixty_four : (h : History) → length (seen h).words ≡ 64
 unfolding seen
-sixty_four (Begins serial id) = length-replicate {A = ℕ} 64 0
+sixty_four (Begins serial id policy) = length-replicate {A = ℕ} 64 0
 sixty_four (Then h r) = words_length (names r.event) r.event (seen h) ∙ sixty_four h
 
 -- the words that are raised, by the option of one
@@ -134,7 +134,7 @@ greatest_append (x ∷ xs) ys = omega (arith, greatest_append xs ys)
 
 pub word_is_greatest : (h : History) (n : ℕ) → n < 64 → word_at (seen h).words n ≡ greatest (raises_of n h)
 unfolding seen
-word_is_greatest (Begins serial id) n lt = get_or-replicate 64 n 0 0 lt
+word_is_greatest (Begins serial id policy) n lt = get_or-replicate 64 n 0 0 lt
 word_is_greatest (Then h r) n lt =
     word_after r.event (seen h) n (subst (λ (i : ℕ). n < i) (sym (sixty_four h)) lt)
     ∙ (ap (λ (w : ℕ). max w (greatest (words_raised n r.event (seen h)))) (word_is_greatest h n lt)

@@ -1,10 +1,11 @@
-use Rattle.std.proofs.Common.{◌≡◌, ◌+◌, ◌-◌, ◌/◌, ◌∙◌, suc, List, ℕ, Some, length, ap, refl, sym, subst, arith}
+use Rattle.std.proofs.Common.{◌≡◌, ◌+◌, ◌-◌, ◌/◌, ◌∙◌, suc, ℕ, Some, length, ap, refl, sym, subst, arith}
 use Rattle.std.specs.FinMap.{entries, entries_sorted, keys}
+use Rattle.circular_buffer.specs.Buffer.{Buffer}
 use Rattle.coap_dedup.specs.declared.exchange.Opened.{Opened}
 use Rattle.coap_dedup.specs.declared.key.Key.{Key}
 use Rattle.coap_dedup.specs.Requests.{by_key}
-use Rattle.coap_dedup.proofs.Halves.{IsBetween, fewer, lower, start, upper}
-use Rattle.coap_dedup.proofs.Index.{index_length, key_at, keys_length}
+use Rattle.coap_dedup.proofs.Halves.{IsBetween, fewer, fewer_than_eleven, lower, start, upper}
+use Rattle.coap_dedup.proofs.Index.{index_length, key_at, keys_at_most, keys_length}
 use Rattle.coap_dedup.proofs.Keys.{key_antisymmetric}
 use Rattle.coap_dedup.proofs.requests.Requests.search.Goals as goal
 
@@ -16,45 +17,46 @@ halves-init c =
     let counted = c.len-high.ensures in
     let full : length (keys (by_key os)) ≡ c.len-high.result = omega (arith, long, same, counted) in
     let few = c.self.invariant.0.few in
-    let b : IsBetween (keys (by_key os)) c.args.key.now 0 c.len-high.result 0 = subst (λ (n : ℕ). IsBetween (keys (by_key os)) c.args.key.now 0 n 0) full (start (keys (by_key os)) c.args.key.now (omega (arith, few, long))) in
-    subst (λ (n : ℕ). IsBetween (keys (by_key c.args.self.now)) c.args.key.now 0 c.len-high.result n) (sym c.requires) (subst (λ (xs : List Opened). IsBetween (keys (by_key xs)) c.args.key.now 0 c.len-high.result 0) c.self.view_is b)
+    let most = c.self.invariant.0.capacity in
+    let b : IsBetween (keys (by_key os)) c.args.key.now 0 c.len-high.result 0 = subst (λ (n : ℕ). IsBetween (keys (by_key os)) c.args.key.now 0 n 0) full (start (keys (by_key os)) c.args.key.now (omega (arith, few, most, long))) in
+    subst (λ (n : ℕ). IsBetween (keys (by_key c.args.self.now.items)) c.args.key.now 0 c.len-high.result n) (sym c.requires) (subst (λ (xs : Buffer Opened). IsBetween (keys (by_key xs.items)) c.args.key.now 0 c.len-high.result 0) c.self.view_is b)
 
 pub at-requires-clause-index : goal.at-requires-clause-index
 at-requires-clause-index c =
     let lt = c.halves-test.true in
     let within = c.halves.invariant.within in
-    let long : length (keys (by_key c.args.self.now)) ≡ length c.args.self.now = subst (λ (xs : List Opened). length (keys (by_key xs)) ≡ length xs) c.self.view_is (keys_length c.self.inside.ring.items c.self.inside.index.items c.self.invariant.0.is_index) in
+    let long : length (keys (by_key c.args.self.now.items)) ≡ length c.args.self.now.items = subst (λ (xs : Buffer Opened). length (keys (by_key xs.items)) ≡ length xs.items) c.self.view_is (keys_length c.self.inside.ring.items c.self.inside.index.items c.self.invariant.0.is_index) in
     omega (arith, lt, within, long)
 
 pub order-requires : goal.order-requires
-order-requires c = let few = fewer (keys (by_key c.args.self.now)) c.args.key.now c.halves.low c.halves.high c.halves.probes c.halves.invariant c.halves-test.true in omega (arith, few)
+order-requires c = let few = fewer (keys (by_key c.args.self.now.items)) c.args.key.now c.halves.low c.halves.high c.halves.probes c.halves.invariant c.halves-test.true in omega (arith, few)
 
 pub halves-preserved-in-Less : goal.halves-preserved-in-Less
 halves-preserved-in-Less c =
-    let m = by_key c.args.self.now in
+    let m = by_key c.args.self.now.items in
     let next : suc c.halves.probes ≡ c.order.new.probes = omega arith ∙ sym c.order.ensures.counted in
     subst (λ (n : ℕ). IsBetween (keys m) c.args.key.now (c.halves.low + (c.halves.high - c.halves.low) / 2 + 1) c.halves.high n) next
     (upper (entries m) c.args.key.now c.at.result.now.key c.halves.low c.halves.high (c.halves.low + (c.halves.high - c.halves.low) / 2) c.halves.probes (entries_sorted m) c.halves.invariant c.halves-test.true refl
-    (key_at c.args.self.now (c.halves.low + (c.halves.high - c.halves.low) / 2) c.at.result.now.key c.at.result.now.number c.at.ensures.entry) (sym c.order.ensures.order ∙ c.in-Less.is))
+    (key_at c.args.self.now.items (c.halves.low + (c.halves.high - c.halves.low) / 2) c.at.result.now.key c.at.result.now.number c.at.ensures.entry) (sym c.order.ensures.order ∙ c.in-Less.is))
 
 pub returns-in-Equal-clause-found : goal.returns-in-Equal-clause-found
 returns-in-Equal-clause-found c =
     let middle = c.halves.low + (c.halves.high - c.halves.low) / 2 in
-    key_at c.args.self.now middle c.at.result.now.key c.at.result.now.number c.at.ensures.entry ∙ ap (λ (k : Key). Some k) (key_antisymmetric c.at.result.now.key c.args.key.now (sym c.order.ensures.order ∙ c.in-Equal.is))
+    key_at c.args.self.now.items middle c.at.result.now.key c.at.result.now.number c.at.ensures.entry ∙ ap (λ (k : Key). Some k) (key_antisymmetric c.at.result.now.key c.args.key.now (sym c.order.ensures.order ∙ c.in-Equal.is))
 
-pub returns-in-Equal-clause-few : goal.returns-in-Equal-clause-few
-returns-in-Equal-clause-few c =
-    let few = fewer (keys (by_key c.args.self.now)) c.args.key.now c.halves.low c.halves.high c.halves.probes c.halves.invariant c.halves-test.true in
+pub returns-in-Equal-clause-most : goal.returns-in-Equal-clause-most
+returns-in-Equal-clause-most c =
+    let few = fewer (keys (by_key c.args.self.now.items)) c.args.key.now c.halves.low c.halves.high c.halves.probes c.halves.invariant c.halves-test.true in
     let next = c.order.ensures.counted in
     omega (arith, few, next)
 
 pub halves-preserved : goal.halves-preserved
 halves-preserved c =
-    let m = by_key c.args.self.now in
+    let m = by_key c.args.self.now.items in
     let next : suc c.halves.probes ≡ c.order.new.probes = omega arith ∙ sym c.order.ensures.counted in
     subst (λ (n : ℕ). IsBetween (keys m) c.args.key.now c.halves.low (c.halves.low + (c.halves.high - c.halves.low) / 2) n) next
     (lower (entries m) c.args.key.now c.at.result.now.key c.halves.low c.halves.high (c.halves.low + (c.halves.high - c.halves.low) / 2) c.halves.probes (entries_sorted m) c.halves.invariant c.halves-test.true refl
-    (key_at c.args.self.now (c.halves.low + (c.halves.high - c.halves.low) / 2) c.at.result.now.key c.at.result.now.number c.at.ensures.entry) (sym c.order.ensures.order ∙ c.in-Greater.is))
+    (key_at c.args.self.now.items (c.halves.low + (c.halves.high - c.halves.low) / 2) c.at.result.now.key c.at.result.now.number c.at.ensures.entry) (sym c.order.ensures.order ∙ c.in-Greater.is))
 
 pub returns-clause-absent : goal.returns-clause-absent
 returns-clause-absent c =
@@ -64,5 +66,15 @@ returns-clause-absent c =
     let within = b.within in
     record { within = omega (arith, within, all); below = b.below; above = λ j x le is. b.above j x (omega (arith, le, all)) is }
 
+pub returns-in-Equal-clause-few : goal.returns-in-Equal-clause-few
+returns-in-Equal-clause-few c = λ small.
+    let less = keys_at_most c.args.self.now.items in
+    let some = fewer_than_eleven (keys (by_key c.args.self.now.items)) c.args.key.now c.halves.low c.halves.high c.halves.probes c.halves.invariant c.halves-test.true (omega (arith, small, less)) in
+    let next = c.order.ensures.counted in
+    omega (arith, some, next)
+
+pub returns-clause-most : goal.returns-clause-most
+returns-clause-most c = c.halves.invariant.few
+
 pub returns-clause-few : goal.returns-clause-few
-returns-clause-few c = c.halves.invariant.few
+returns-clause-few c = λ small. let less = keys_at_most c.args.self.now.items in c.halves.invariant.fewer_of_few (omega (arith, small, less))

@@ -15,7 +15,7 @@ returns-then-self c =
     let due = is_due (max c.self.inside.moment c.args.now) c.args.noticed in
     let some : c.is_some.result ≡ is_some (position due c.self.inside.held.items) = cc in
     let few : nat_lt c.self.inside.turns 18446744073709551615 ≡ true = lt-ltb c.self.inside.turns 18446744073709551615 (omega arith) in
-    let l : ObserverList = record { slot = c.self.inside.slot; moment = c.self.inside.moment; turns = c.self.inside.turns; held = c.self.inside.held.items } in
+    let l : ObserverList = record { slot = c.self.inside.slot; confirm_after = c.self.inside.confirm_after; moment = c.self.inside.moment; turns = c.self.inside.turns; held = c.self.inside.held.items } in
     (some ∙ is_some-position due c.self.inside.held.items)
     ∙ (ap (λ (b : Bool). b && list_any due c.self.inside.held.items) (sym few)
     ∙ (sym (is_some-next_turn c.args.noticed (at_moment c.args.now l))

@@ -24,7 +24,7 @@ returns-in_default-clause-after c =
     let at : position p s.held.items ≡ None = sym (ap (λ (l : List Entry). position p l) c.deref.ensures.value)
     ∙ (sym c.first_late.ensures.place ∙ c.in_default.is) in
     let none = none_passes p s.held.items at in
-    let list = λ (h : List Entry). let l : ObserverList = record { slot = s.slot; moment = s.moment; turns = s.turns; held = h } in l in
+    let list = λ (h : List Entry). let l : ObserverList = record { slot = s.slot; confirm_after = s.confirm_after; moment = s.moment; turns = s.turns; held = h } in l in
     sym c.self.view_is ∙ (ap list (sym (none.change (λ o. timed_out s.moment o))) ∙ ap (λ l. after_tick l) (c.self.view_is ∙ c.advance.ensures))
 
 pub returns-in-Some-retransmit-clause-answer : goal.returns-in-Some-retransmit-clause-answer
@@ -52,7 +52,7 @@ returns-in-Some-retransmit-clause-after c =
     ∙ ap (λ (e : Option Emission). changed_if (is_some e) (λ o. retransmitted s.moment o) x) sent) in
     let made : timed_out s.moment x ≡ c.retransmit.new.self ∷ [] = ap (λ (e : Option Emission). timed_out_by e s.moment x) sent
     ∙ ap (λ (o : Entry). o ∷ []) after in
-    let list = λ (h : List Entry). let l : ObserverList = record { slot = s.slot; moment = s.moment; turns = s.turns; held = h } in l in
+    let list = λ (h : List Entry). let l : ObserverList = record { slot = s.slot; confirm_after = s.confirm_after; moment = s.moment; turns = s.turns; held = h } in l in
     ap list (changed_there p (λ o. timed_out s.moment o) s.held.items c.in-Some.place x c.retransmit.new.self first c.index_mut.ensures.value made)
     ∙ ap (λ l. after_tick l) (c.self.view_is ∙ c.advance.ensures)
 
@@ -79,6 +79,6 @@ returns-in-None-clause-after c =
     let over : retransmission x ≡ None = sym c.retransmit.ensures.sent ∙ c.in-None.is in
     let made : timed_out s.moment x ≡ [] = ap (λ (e : Option Emission). timed_out_by e s.moment x) over in
     let gone = removed_there p (λ o. timed_out s.moment o) s.held.items c.in-Some.place x first c.index_mut.ensures.value made in
-    let list = λ (h : List Entry). let l : ObserverList = record { slot = s.slot; moment = s.moment; turns = s.turns; held = h } in l in
+    let list = λ (h : List Entry). let l : ObserverList = record { slot = s.slot; confirm_after = s.confirm_after; moment = s.moment; turns = s.turns; held = h } in l in
     ap list (c.remove-removed.ensures.items ∙ (remove-set s.held.items c.in-Some.place c.retransmit.new.self ∙ gone))
     ∙ ap (λ l. after_tick l) (c.self.view_is ∙ c.advance.ensures)

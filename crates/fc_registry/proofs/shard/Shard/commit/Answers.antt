@@ -28,8 +28,8 @@ returns c =
     let found = slot_read in_.index in_.now in_.slots.items in_.watches.items shard c.self.view_is c.self.invariant.0 k c.index_mut-slot.result.now lt c.index_mut-slot.ensures.value
     ∙ ap (λ (j : ℕ). slot_in_place shard j) place in
     let was = c.index_mut-watch.result.now in
-    let held : was ≡ get_or in_.watches.items k (no_observers 0) = c.index_mut-watch.ensures.value
-    ∙ get_or_default in_.watches.items k was (no_observers 0) (omega (arith, lt, eight)) in
+    let held : was ≡ get_or in_.watches.items k (no_observers 0 0) = c.index_mut-watch.ensures.value
+    ∙ get_or_default in_.watches.items k was (no_observers 0 0) (omega (arith, lt, eight)) in
     let watch : was ≡ watch_at shard (t.origin.slot / 8) = held ∙ (ap (λ (s : Shard). watch_at s k) c.self.view_is ∙ ap (watch_at shard) place) in
     let at : c.max-self-inside.result ≡ max shard.now c.args.now = c.max-self-inside.ensures
     ∙ ap (λ (m : ℕ). max m c.args.now) (now_is in_.index in_.now in_.slots.items in_.watches.items shard c.self.view_is c.self.invariant.0) in

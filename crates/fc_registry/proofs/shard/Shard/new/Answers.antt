@@ -21,6 +21,6 @@ invariant_of-result c =
       all_new items c.loop-slot._slot c.args.first_serial c.loop-slot.invariant,
       ap length c.in_ok-make_watches.ensures,
       c.requires.index,
-      subst (AreSentUpTo (map as_seen items)) (sym c.in_ok-make_watches.ensures) (none_sent (map as_seen items) c.args.index),
-      subst (AreWatched false) (sym c.in_ok-make_watches.ensures) (none_new c.args.index),
+      subst (AreSentUpTo (map as_seen items)) (sym c.in_ok-make_watches.ensures) (none_sent (map as_seen items) c.args.index c.args.confirm_after),
+      subst (AreWatched false) (sym c.in_ok-make_watches.ensures) (none_new c.args.index c.args.confirm_after),
     )

@@ -2,7 +2,7 @@ use Rattle.std.proofs.Common.{◌≡◌, ℕ, ◌≤◌, ◌∙◌, ap, subst, s
 use Rattle.fc_registry.specs.Slots.{Slot, slot_in}
 use Rattle.fc_registry.specs.Changes.{after_changes}
 use Rattle.fc_registry.specs.Calls.{remove_from}
-use Rattle.fc_registry.specs.Record.{IsRing}
+use Rattle.fc_registry.specs.Record.{IsRecord}
 use Rattle.fc_registry.specs.Views.{as_seen}
 use Rattle.fc_registry.proofs.Ahead.{remove_rises, slot_sent}
 use Rattle.fc_registry.proofs.Rings.{written_rings, ring_clear}
@@ -30,7 +30,7 @@ pub invariant_of-self : goal.invariant_of-self
 invariant_of-self c =
     let was = c.index_mut-state.result.now in
     let rings = written_rings c.self.inside.slots.items c.place.result was c.clear.new.slot (c.self.invariant.0, c.self.invariant.1) c.place.ensures.limit c.index_mut-state.ensures.value
-    (λ old. subst IsRing (sym c.clear.ensures.slot) (ring_clear (as_seen was) old)) in
+    (λ old. subst IsRecord (sym c.clear.ensures.slot) (ring_clear (as_seen was) old)) in
     let sent = slot_sent c.self.inside.slots.items c.self.inside.watches.items c.place.result c.self.invariant.0 c.self.invariant.2 c.place.ensures.limit c.self.invariant.4
     was c.clear.new.slot c.index_mut-state.ensures.value (subst (λ (s : Slot). (as_seen was).serial ≤ s.serial) (sym c.clear.ensures.slot) (remove_rises (as_seen was))) in
     (rings.0, rings.1, c.self.invariant.2, c.self.invariant.3, sent, c.self.invariant.5)

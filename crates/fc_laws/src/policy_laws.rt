@@ -1,0 +1,111 @@
+//! What a history promises of a server's policy: each function is a law, and its contract says it.
+ghost use Rattle.std.specs.Borrow.{Bor};
+ghost use Rattle.std.specs.Prelude.{ℕ, List, [], ◌∷◌, length, max, nat_le, ◌≡◌, ◌*◌, ◌+◌, ◌<◌, ◌≤◌, Ok, false, true, if◌then◌else◌};
+ghost use Rattle.coap_msg.specs.declared.types.Emission.{Emission};
+ghost use Rattle.coap_msg.specs.declared.types.MessageType.TheVariants.{Confirmable, NonConfirmable};
+ghost use Rattle.coap_reply.specs.Responses.{Response};
+ghost use Rattle.fc_observe.specs.declared.entry.Turn.{Turn};
+ghost use Rattle.fc_laws.specs.TurnLaws.{NotifiesOf, moment_at, note_as};
+ghost use Rattle.coap_msg.specs.Reading.{reading_of};
+ghost use Rattle.coap_msg.specs.Wire.{Message};
+ghost use Rattle.coap_msg.specs.declared.types.Endpoint.{Endpoint};
+ghost use Rattle.coap_opts.specs.Verdict.{Asked, IsAsked, verdict};
+ghost use Rattle.fc_core.specs.declared.event.Event.TheVariants.{Deliver};
+ghost use Rattle.fc_core.specs.History.{Entry, History, Seen, and_then, job, seen};
+ghost use Rattle.fc_core.specs.Laws.{HasCome};
+ghost use Rattle.fc_core.specs.Legal.{Emits};
+ghost use Rattle.coap_dedup.specs.Exchanges.{places_of};
+ghost use Rattle.coap_dedup.specs.Keys.{address_number};
+ghost use Rattle.coap_opts.specs.declared.request.Action.{Action};
+ghost use Rattle.coap_opts.specs.declared.request.Action.TheVariants as actions;
+ghost use Rattle.fc_core.specs.declared.event.Event.{Event};
+ghost use Rattle.fc_core.specs.declared.policy.Network.{Network};
+ghost use Rattle.fc_core.specs.Policies.{any_address, changes_program, default_policy, is_allowed, is_in, is_manager};
+ghost use Rattle.fc_core.specs.Receiving.{is_confirmable};
+ghost use Rattle.fc_laws.specs.ExchangeLaws.{ExceedsShare, IsCrowdedOut, IsOpening, held_at, shared_at};
+ghost use Rattle.fc_laws.specs.PolicyLaws.{AreAmong, IsManaged, IsOneOf, over_share_emits};
+ghost use Rattle.fc_laws.specs.RefusalLaws.{LeavesAll};
+ghost use Rattle.fc_laws.specs.ReplyLaws.{Refuses};
+
+/// A network has the addresses that begin with its bits: 192.0.2.0/25 has 192.0.2.127 and hasn't 192.0.2.128, which 192.0.2.0/24 has; that hasn't
+/// 193.0.2.0. 127.0.0.1/32 has no other address, nor has it with more than 32 bits, and 0.0.0.0/0 has each.
+pub fn networks_are_prefixes()
+    ensures last { is_in (192 ∷ 0 ∷ 2 ∷ 127 ∷ []) (record { ip = 192 ∷ 0 ∷ 2 ∷ 0 ∷ []; bits = 25 }) ≡ true }
+    ensures next { is_in (192 ∷ 0 ∷ 2 ∷ 128 ∷ []) (record { ip = 192 ∷ 0 ∷ 2 ∷ 0 ∷ []; bits = 25 }) ≡ false }
+    ensures wider { is_in (192 ∷ 0 ∷ 2 ∷ 128 ∷ []) (record { ip = 192 ∷ 0 ∷ 2 ∷ 0 ∷ []; bits = 24 }) ≡ true }
+    ensures first { is_in (193 ∷ 0 ∷ 2 ∷ 0 ∷ []) (record { ip = 192 ∷ 0 ∷ 2 ∷ 0 ∷ []; bits = 24 }) ≡ false }
+    ensures one { is_in (127 ∷ 0 ∷ 0 ∷ 2 ∷ []) (record { ip = 127 ∷ 0 ∷ 0 ∷ 1 ∷ []; bits = 32 }) ≡ false }
+    ensures more { is_in (127 ∷ 0 ∷ 0 ∷ 2 ∷ []) (record { ip = 127 ∷ 0 ∷ 0 ∷ 1 ∷ []; bits = 40 }) ≡ false }
+    ensures any { (ip : List ℕ) → address_number ip < 4294967296 → is_in ip any_address ≡ true }
+{}
+
+/// Only a PUT or DELETE of `/p/N` wants a manager's endpoint. A GET or POST of `/r/N`, a GET of `/p/N` and one of the list are allowed to each endpoint, and
+/// each action is allowed to a manager's.
+pub fn managers_are_wanted_for_changes_alone()
+    ensures get { (managers : List Network) (to : Endpoint) (n : ℕ) → is_allowed managers to (actions.Get n) ≡ true }
+    ensures post { (managers : List Network) (to : Endpoint) (n : ℕ) → is_allowed managers to (actions.Post n) ≡ true }
+    ensures describe { (managers : List Network) (to : Endpoint) (n : ℕ) → is_allowed managers to (actions.Describe n) ≡ true }
+    ensures discover { (managers : List Network) (to : Endpoint) → is_allowed managers to actions.Discover ≡ true }
+    ensures install { (managers : List Network) (to : Endpoint) (n : ℕ) → is_allowed managers to (actions.Install n) ≡ is_manager managers to }
+    ensures remove { (managers : List Network) (to : Endpoint) (n : ℕ) → is_allowed managers to (actions.Remove n) ≡ is_manager managers to }
+    ensures managers { (managers : List Network) (to : Endpoint) (action : Action) → is_manager managers to ≡ true → is_allowed managers to action ≡ true }
+{}
+
+/// By default each endpoint is a manager's, 1,024 exchanges are held, no address is above its share, and a notification is confirmable after 86,400,000 ms,
+/// which is 24 hours.
+pub fn default_policy_allows_all()
+    ensures managers { (to : Endpoint) → address_number to.ip < 4294967296 → is_manager default_policy.managers to ≡ true }
+    ensures places { places_of default_policy.limits ≡ 1024 }
+    ensures confirm_after { default_policy.confirm_after ≡ 86400000 }
+    ensures shares { (h : History) (e : Event) (m : Message) → (seen h).policy ≡ default_policy → ExceedsShare (seen h) e m → ⊥ }
+{}
+
+/// Each job that installs or removes a program is of a manager's endpoint. A slot changes by the installs, removals and commits of jobs alone, so no
+/// other endpoint changes which program a slot holds.
+pub fn managers_alone_change_programs()
+    ensures { (h : History) (k : ℕ) → HasCome (seen h) k → IsManaged (seen h).policy.managers (job (seen h) k) }
+{}
+
+/// A new PUT or DELETE of a program that passes each check of its options, of an endpoint that is no manager's, is refused by 4.03 (Forbidden), whose byte
+/// is 131.
+pub fn forbidden_changes_are_refused()
+    ensures { (s : Seen) (now : ℕ) (to : Endpoint) (bytes : Bor (List ℕ)) (m : Message) (r : Asked) → IsOpening s now to bytes.now
+        → reading_of bytes.now ≡ Ok m → verdict m ≡ IsAsked r → changes_program r.action ≡ true → is_manager s.policy.managers to ≡ false
+        → Refuses s (Deliver now to bytes) m 131 }
+{}
+
+/// From the front's moment on, at most `exchanges` of the policy's limits are less than 247,000 ms old, and at most `share` of each address.
+pub fn exchanges_are_within_limits()
+    ensures all { (h : History) (at : ℕ) → (seen h).moment ≤ at → length (held_at (seen h) at) ≤ places_of (seen h).policy.limits }
+    ensures shares { (h : History) (at : ℕ) (ip : List ℕ) → (seen h).moment ≤ at → shared_at (seen h) at ip ≤ (seen h).policy.limits.share }
+{}
+
+/// Each address keeps a place for each exchange of its share: if all that is held is of some addresses, and a share for each of them fits into the places, a new
+/// request of one of them below its share finds a place.
+pub fn shares_are_kept_free()
+    ensures { (h : History) (now : ℕ) (to : Endpoint) (bytes : List ℕ) (m : Message) (ips : List (List ℕ))
+        → AreAmong ips (held_at (seen h) (max (seen h).moment now)) → IsOneOf to.ip ips
+        → length ips * (seen h).policy.limits.share ≤ places_of (seen h).policy.limits
+        → length (seen h).exchanges < 18446744073709551615 → IsCrowdedOut (seen h) now to bytes m → ⊥ }
+{}
+
+/// A new request of an address that has its whole share changes nothing but the front's moment: it opens no exchange, draws no message id, brings no job and
+/// adds no payload to a transfer. A confirmable one is answered 5.03 (Service Unavailable), whose byte is 163; another isn't answered.
+pub fn requests_above_a_share_change_nothing()
+    ensures left { (r : Entry) (s : Seen) (m : Message) → ExceedsShare s r.event m → LeavesAll s (and_then r s) }
+    ensures ids { (r : Entry) (s : Seen) (m : Message) → ExceedsShare s r.event m → (and_then r s).ids ≡ s.ids }
+    ensures emitted { (r : Entry) (s : Seen) (m : Message) → ExceedsShare s r.event m → Emits s r.event r.emitted
+        → r.emitted ≡ over_share_emits (is_confirmable m.kind) s r.event m }
+{}
+
+/// A notification is confirmable exactly if the policy's `confirm_after`, in ms, has passed since its observer's registration or last confirmable
+/// notification: none is a millisecond early, and none is non-confirmable from then on. By default that is 86,400,000 ms, 24 hours.
+pub fn notifications_are_confirmable_in_time()
+    ensures in_time { (s : Seen) (k now id : ℕ) (turn : Turn) (response : Response) (e : Emission) (n : NotifiesOf s k now turn id response e)
+        → n.entry.confirmed + s.policy.confirm_after ≤ moment_at s k now → e ≡ note_as Confirmable id n.entry response }
+    ensures early { (s : Seen) (k now id : ℕ) (turn : Turn) (response : Response) (e : Emission) (n : NotifiesOf s k now turn id response e)
+        → moment_at s k now < n.entry.confirmed + s.policy.confirm_after → e ≡ note_as NonConfirmable id n.entry response }
+    ensures default { (s : Seen) (k now id : ℕ) (turn : Turn) (response : Response) (e : Emission) (n : NotifiesOf s k now turn id response e)
+        → s.policy ≡ default_policy
+        → e ≡ note_as (if nat_le (n.entry.confirmed + 86400000) (moment_at s k now) then Confirmable else NonConfirmable) id n.entry response }
+{}

@@ -1,0 +1,85 @@
+//! The updates to save before changes of slots are made.
+ghost use Rattle.std.specs.Prelude.{◌≡◌, ◌+◌, ◌<◌, ◌≤◌, None, IfSome};
+ghost use Rattle.fc_registry.specs.Calls.{WouldWrite, commit_of, install_in, remove_from};
+ghost use Rattle.fc_registry.specs.Changes.{Committed};
+ghost use Rattle.fc_registry.specs.Plans.{HasImage, IsPlan, IsPlanned};
+ghost use Rattle.fc_registry.specs.Slots.{IsOwned, last_serial, slot_in};
+
+use crate::shard::Shard;
+use crate::slot::LAST_SERIAL;
+use crate::slot_number::SlotNumber;
+use crate::ticket::Ticket;
+use fc_help::vars::VARS;
+use fc_machine::Outcome;
+use fc_store::{ProgramUpdate, SlotUpdate};
+use fc_verify::Verified;
+
+/// The initial variables of a program, which has as many of them as its image says.
+const ZEROS: [u8; VARS] = [0; VARS];
+
+/// Returns the update of an install, or `None` if the slot is at its last serial.
+///
+/// `image` is to be an image of `program`.
+pub fn plan_install<'a>(
+    shard: &Shard,
+    slot: SlotNumber,
+    image: &'a [u8],
+    program: &Verified,
+) -> Option<SlotUpdate<'a>>
+    requires { IsOwned shard.now slot }
+    ensures plan { IsPlan (slot_in shard.entry.now slot) slot (install_in (slot_in shard.entry.now slot) program.now).changes result }
+    ensures image { IfSome result (λ u. HasImage image.now u.program) }
+{
+    let zeros = &ZEROS[..usize::from(program.vars_size())];
+    plan(shard, slot, ProgramUpdate::Install(image, zeros))
+}
+
+/// Returns the update of a removal, or `None` if the slot has no program or is at its last serial.
+pub fn plan_removal<'a>(shard: &Shard, slot: SlotNumber) -> Option<SlotUpdate<'a>>
+    requires { IsOwned shard.now slot }
+    ensures { IsPlan (slot_in shard.entry.now slot) slot (remove_from (slot_in shard.entry.now slot)).changes result }
+{
+    if shard.version(slot).is_none() {
+        return None;
+    }
+    plan(shard, slot, ProgramUpdate::Remove)
+}
+
+/// Returns the update of a commit, or `None` if the commit wouldn't write.
+pub fn plan_commit<'a>(
+    shard: &Shard,
+    outcome: &Outcome<'a>,
+    ticket: &Ticket<'_>,
+) -> Option<SlotUpdate<'a>>
+    requires { IsOwned shard.now ticket.now.origin.slot }
+    ensures none { result ≡ None → WouldWrite outcome.now ticket.now (slot_in shard.entry.now ticket.now.origin.slot) → ⊥ }
+    ensures writes { IfSome result (λ _. WouldWrite outcome.now ticket.now (slot_in shard.entry.now ticket.now.origin.slot)) }
+    ensures some { IfSome result (IsPlanned (slot_in shard.entry.now ticket.now.origin.slot) ticket.now.origin.slot (Committed (commit_of ticket.now))) }
+{
+    if !shard.would_write(outcome, ticket) {
+        return None;
+    }
+    let slot = ticket.origin().slot;
+    Some(SlotUpdate {
+        slot: slot.number(),
+        serial: shard.serial(slot) + 1,
+        program: ProgramUpdate::Commit(outcome.after()),
+    })
+}
+
+// An update at the slot's next serial; there is none after the last.
+fn plan<'a>(shard: &Shard, slot: SlotNumber, program: ProgramUpdate<'a>) -> Option<SlotUpdate<'a>>
+    ensures none { result ≡ None → last_serial ≤ (slot_in shard.entry.now slot).serial }
+    ensures some { IfSome result (λ u. ((slot_in shard.entry.now slot).serial < last_serial)
+        × (u ≡ record { slot = slot; serial = (slot_in shard.entry.now slot).serial + 1; program = program.entry })) }
+{
+    let serial = shard.serial(slot);
+    if serial >= LAST_SERIAL {
+        return None;
+    }
+    Some(SlotUpdate {
+        slot: slot.number(),
+        serial: serial + 1,
+        program,
+    })
+}

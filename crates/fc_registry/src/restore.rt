@@ -1,0 +1,84 @@
+//! Restoring the stored state of a slot.
+ghost use Rattle.std.specs.Prelude.{◌≡◌, ◌↔◌, [], replicate, IsTrue, IfErr, IfOk, Some};
+ghost use Rattle.fc_verify.specs.Accepted.{Accepts};
+ghost use Rattle.fc_verify.specs.Judged.{judged};
+ghost use Rattle.fc_store.specs.Stored.{StoredProgram};
+ghost use Rattle.fc_registry.specs.Plans.{IsProgramError, IsProgramState, IsStoredProgram};
+ghost use Rattle.fc_registry.specs.Record.{HasRecordIf};
+ghost use Rattle.fc_registry.specs.Views.{present_of};
+
+use crate::body::Body;
+use fc_help::Vars;
+use fc_store::{StoredProgram, StoredSlot};
+use fc_verify::{Refusal, Verified, verify};
+use std::alloc::Global;
+use std::sync::Arc;
+
+/// Why a stored slot isn't restored. The slot is as it was.
+#[derive(Clone, Copy, Debug, PartialEq, Eq)]
+pub enum RestoreError {
+    /// No history leaves this state: its serial, the program's version, or the variables are wrong.
+    State,
+    /// The verifier refuses the image.
+    Image(Refusal),
+    /// Memory can't be allocated.
+    Memory,
+}
+
+// Returns the program of a stored slot, if it has one, with its version and variables.
+pub(crate) fn restored(alloc: Global, stored: &StoredSlot) -> Result<Option<Body>, RestoreError>
+    ensures program { IfOk result (λ b. IsStoredProgram (present_of b) stored.now.program) }
+    ensures record { IfOk result (λ b. HasRecordIf stored.now.serial (present_of b) []) }
+    ensures cause { IfErr result (λ e. (s : StoredProgram) × (stored.now.program ≡ Some s) × IsProgramError stored.now.serial s e) }
+{
+    match &stored.program {
+        Some(program) => Ok(Some(restored_program(alloc, stored.serial, program)?)),
+        None => Ok(None),
+    }
+}
+
+// Verifies a stored program.
+fn restored_program(
+    alloc: Global,
+    serial: u64,
+    stored: &StoredProgram,
+) -> Result<Body, RestoreError>
+    ensures program { IfOk result (λ b. judged stored.now.image ≡ Accepts b.program.value) }
+    ensures version { IfOk result (λ b. b.version ≡ stored.now.version) }
+    ensures vars { IfOk result (λ b. b.vars ≡ stored.now.vars) }
+    ensures state { IfOk result (λ b. IsProgramState serial stored.now b.program.value) }
+    ensures cause { IfErr result (IsProgramError serial stored.now) }
+{
+    let program = match verify(alloc, stored.image.as_slice()) {
+        Ok(program) => program,
+        Err(refusal) => return Err(RestoreError::Image(refusal)),
+    };
+    if !is_state(serial, stored, &program) {
+        return Err(RestoreError::State);
+    }
+    let vars = Vars::of(stored.vars.as_slice());
+    match Arc::new(alloc, program) {
+        Ok(program) => Ok(Body {
+            program,
+            version: stored.version,
+            vars,
+        }),
+        Err(_) => Err(RestoreError::Memory),
+    }
+}
+
+// Returns whether changes can leave a slot at `serial` with this state of its program.
+fn is_state(serial: u64, stored: &StoredProgram, program: &Verified) -> bool
+    ensures { IsTrue result ↔ IsProgramState serial stored.now program.now }
+{
+    stored.version <= serial
+        && stored.vars.len() == usize::from(program.vars_size())
+        && (stored.version != serial || are_zeros(stored.vars.as_slice(), program))
+}
+
+// Returns whether these are the initial variables of a program.
+fn are_zeros(vars: &[u8], program: &Verified) -> bool
+    ensures { IsTrue result ↔ (vars.now ≡ replicate program.now.vars_size 0) }
+{
+    vars == Vars::zeros(program.vars_size()).as_slice()
+}
