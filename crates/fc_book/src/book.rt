@@ -1,0 +1,237 @@
+//! The book of one history, and the owners of its tracks.
+ghost use Rattle.std.specs.Prelude.{◌≡◌, ◌<◌, ◌++◌, ◌∷◌, [], true, false, IfOk};
+ghost use Rattle.atomic_table.specs.Seated.{TableId};
+ghost use Rattle.fc_book.specs.Tracks.{HasHistory, HasKey, with_begun, first_own, first_view, merged_with, own_view, part_view, with_entry, with_next, with_part, without_first};
+
+use crate::entry::CallEntry;
+use crate::steps::{self, Words};
+use crate::view::{BookView, EntryName};
+use atomic_table::{Seat, Table};
+use std::alloc::{AllocError, Global};
+use std::marker::{Brand, Model, PhantomData};
+use std::mem::replace;
+
+/// The name of a book, by its table. Types with the same name are of the same book.
+pub trait BookName {
+    ghost table: { TableId };
+}
+
+impl BookName for Brand {
+    ghost use Rattle.fc_book.specs.Tracks.{no_table};
+
+    ghost table = { no_table };
+}
+
+/// A part of a book: the book's table, and the key of the part's track.
+pub trait Part {
+    ghost use Rattle.std.specs.Prelude.{ℕ};
+
+    ghost table: { TableId };
+
+    ghost key: { ℕ };
+}
+
+/// The part with this key, of the book with this name.
+pub struct PartOf<J: BookName, const KEY: u64> {
+    of: PhantomData<J>,
+}
+
+impl<J: BookName, const KEY: u64> Part for PartOf<J, KEY> {
+    ghost table = { J.table };
+
+    ghost key = { KEY };
+}
+
+/// A book with an empty history and no name yet.
+#[derive(Drop)]
+pub struct NewBook {
+    words: Words,
+    seat: Seat<u8, BookView>,
+    pub ghost of: { seat.table_id ≡ words.shared.table_id },
+    pub ghost some: { 0 < words.shared.table_id.words },
+    pub ghost empty: { seat.me ≡ (first_view, []) },
+}
+
+/// The book: a table of words that are never written. Each step loads its first word.
+#[derive(Drop)]
+pub struct Book<J: BookName> {
+    words: Words,
+    of: PhantomData<J>,
+    ghost named: { words.shared.table_id ≡ J.table },
+    ghost some: { 0 < words.shared.table_id.words },
+}
+
+/// The tracks that a thread or a message owns. It has no bytes; a clause sees its view.
+#[derive(Drop)]
+pub struct Tracks<J: BookName> {
+    seat: Seat<u8, BookView>,
+    of: PhantomData<J>,
+}
+
+impl<J: BookName> Model for Tracks<J> {
+    ghost use Rattle.std.specs.Prelude.{◌≡◌, []};
+    ghost use Rattle.fc_book.specs.declared.view.BookView.{BookView as Viewed};
+
+    ghost Value = { Viewed };
+
+    ghost view = { λ t. t.seat.me.0 };
+
+    ghost invariant = { λ t. (t.seat.table_id ≡ J.table) × (t.seat.me.1 ≡ []) × (t.seat.me.0.locked ≡ []) };
+}
+
+/// The track of a part, kept under the part's lock. It has no bytes; a clause sees the calls on it, oldest first.
+#[derive(Drop)]
+pub struct PartTrack<P: Part> {
+    seat: Seat<u8, BookView>,
+    of: PhantomData<P>,
+}
+
+impl<P: Part> Model for PartTrack<P> {
+    ghost use Rattle.std.specs.Prelude.{◌≡◌, [], List};
+    ghost use Rattle.fc_book.specs.declared.entry.CallEntry.{CallEntry as Call};
+
+    ghost Value = { List Call };
+
+    ghost use Rattle.fc_book.specs.Tracks.{entries_of, part_view};
+
+    ghost view = { λ p. entries_of p.seat.me.0.locked };
+
+    ghost invariant = { λ p. (p.seat.table_id ≡ P.table) × (p.seat.me ≡ (part_view P.key (entries_of p.seat.me.0.locked), [])) };
+}
+
+impl NewBook {
+    /// Makes a book with an empty history.
+    ///
+    /// # Errors
+    /// Returns `AllocError` if memory can't be allocated.
+    pub fn new(alloc: Global) -> Result<NewBook, AllocError> {
+        let (words, seat) = Table::of_words(alloc, &[0; 8], &())?;
+        Ok(NewBook { words, seat })
+    }
+
+    /// Names the book, and returns it with the owner of no track yet, which may begin each.
+    pub fn with_name<J: BookName>(self) -> (Book<J>, Tracks<J>)
+        requires { self.words.shared.table_id ≡ J.table }
+        ensures { result.1 ≡ first_view }
+    {
+        let NewBook { words, seat } = self;
+        (
+            Book {
+                words,
+                of: PhantomData,
+            },
+            Tracks {
+                seat,
+                of: PhantomData,
+            },
+        )
+    }
+}
+
+impl<J: BookName> Tracks<J> {
+    /// Begins the next track, for a part, and returns it.
+    pub fn begin_part<P: Part>(&mut self, book: &Book<J>) -> PartTrack<P>
+        requires same { P.table ≡ J.table }
+        requires key { P.key ≡ self.old.next }
+        requires may_begin { self.old.may_begin ≡ true }
+        ensures part { result ≡ [] }
+        ensures kept { self.new ≡ with_next self.old }
+    {
+        PartTrack {
+            seat: steps::begin_part(&book.words, &mut self.seat),
+            of: PhantomData,
+        }
+    }
+
+    /// Begins the next track, for a new owner, and returns that.
+    pub fn begin_tracks(&mut self, book: &Book<J>) -> Tracks<J>
+        requires may_begin { self.old.may_begin ≡ true }
+        ensures new { result ≡ own_view self.old.next [] }
+        ensures kept { self.new ≡ with_next self.old }
+    {
+        Tracks {
+            seat: steps::begin_tracks(&book.words, &mut self.seat),
+            of: PhantomData,
+        }
+    }
+
+    /// Begins the next track, and puts it first among its own.
+    pub fn begin(&mut self, book: &Book<J>)
+        requires may_begin { self.old.may_begin ≡ true }
+        ensures kept { self.new ≡ with_begun self.old }
+    {
+        steps::begin(&book.words, &mut self.seat);
+    }
+
+    /// Splits off the first of its own tracks, and returns it in a new owner.
+    pub fn split_first(&mut self, book: &Book<J>) -> Tracks<J>
+        ensures first { result ≡ first_own self.old }
+        ensures kept { self.new ≡ without_first self.old }
+    {
+        Tracks {
+            seat: steps::split_first(&book.words, &mut self.seat),
+            of: PhantomData,
+        }
+    }
+
+    /// Merges the tracks of another owner into its own.
+    pub fn merge(&mut self, book: &Book<J>, other: Tracks<J>)
+        requires { other.may_begin ≡ false }
+        ensures merged { self.new ≡ merged_with self.old other }
+    {
+        let Tracks { seat, of: _ } = other;
+        steps::merge(&book.words, &mut self.seat, seat);
+    }
+
+    /// Closes a part: its track becomes one of its own.
+    pub fn close<P: Part>(&mut self, book: &Book<J>, part: PartTrack<P>)
+        requires { P.table ≡ J.table }
+        ensures closed { self.new ≡ with_part self.old (part_view P.key part) }
+    {
+        let PartTrack { seat, of: _ } = part;
+        steps::close(&book.words, &mut self.seat, seat);
+    }
+
+    /// Attests that there is one history, of which its tracks are just the entries with their keys.
+    pub fn attest(&mut self, book: &Book<J>)
+        ensures one { HasHistory self.old }
+        ensures kept { self.new ≡ self.old }
+    {
+        steps::attest(&book.words, &mut self.seat);
+    }
+
+    /// Files a call of a part, whose lock the caller holds: the call becomes the last entry on the tracks of its part, its thread
+    /// and its job.
+    pub fn file<P: Part>(&mut self, book: &Book<J>, part: &mut PartTrack<P>, entry: &CallEntry)
+        requires same { P.table ≡ J.table }
+        requires part { entry.now.part ≡ P.key }
+        requires who { HasKey entry.now.who self.old.own }
+        requires job { HasKey entry.now.job self.old.own }
+        ensures part { part.new ≡ part.old ++ entry.now ∷ [] }
+        ensures own { self.new ≡ record self.old { own = with_entry entry.now self.old.own } }
+    {
+        file_as::<Brand, J, P>(book, self, part, entry);
+    }
+}
+
+/// Files a call, as [`Tracks::file`], with the entry named by `X`.
+fn file_as<X: EntryName, J: BookName, P: Part>(
+    book: &Book<J>,
+    tracks: &mut Tracks<J>,
+    part: &mut PartTrack<P>,
+    entry: &CallEntry,
+)
+    requires entry { X.entry ≡ entry.now }
+    requires same { P.table ≡ J.table }
+    requires part { entry.now.part ≡ P.key }
+    requires who { HasKey entry.now.who tracks.old.own }
+    requires job { HasKey entry.now.job tracks.old.own }
+    ensures part { part.new ≡ part.old ++ entry.now ∷ [] }
+    ensures own { tracks.new ≡ record tracks.old { own = with_entry entry.now tracks.old.own } }
+{
+    let spare = steps::empty_seat(&book.words, &mut tracks.seat);
+    let seat = replace(&mut part.seat, spare);
+    steps::file::<X>(&book.words, &mut tracks.seat, seat);
+    let back = steps::return_part(&book.words, &mut tracks.seat);
+    let _spent = replace(&mut part.seat, back);
+}

@@ -1,0 +1,127 @@
+//! The steps of seats at the book. Each is a load of its first word, which nobody writes.
+ghost use Rattle.std.specs.Prelude.{◌≡◌, ◌<◌, ◌+◌, [], ◌∷◌, ◌++◌, true, false};
+ghost use Rattle.fc_book.specs.Tracks.{AreSingle, HasHistory, HasKey, with_begun, filed_with, first_own, locked_of, merged_with, no_tracks, own_view, part_view, with_next, with_part, without_first, without_locked};
+
+use crate::view::{
+    Attests, Begins, BeginsPart, BeginsTracks, BookRule, BookView, Closes, EntryName, Files,
+    MakesEmpty, Merges, ReturnsPart, SplitsFirst,
+};
+use atomic_table::{Seat, Table};
+use std::alloc::Global;
+
+pub(crate) type Words = Table<u8, BookView, (), BookRule, Global>;
+
+/// Makes a seat with no track.
+pub(crate) fn empty_seat(words: &Words, seat: &mut Seat<u8, BookView>) -> Seat<u8, BookView>
+    requires size { 0 < words.now.shared.table_id.words }
+    requires table { seat.old.table_id ≡ words.now.shared.table_id }
+    ensures kept { (seat.new.table_id ≡ seat.old.table_id) × (seat.new.me ≡ seat.old.me) }
+    ensures new { (result.table_id ≡ words.now.shared.table_id) × (result.me ≡ (no_tracks, [])) }
+{
+    words.shared.split_seat::<MakesEmpty>(seat)
+}
+
+/// Takes a part's track in, and files an entry.
+pub(crate) fn file<X: EntryName>(
+    words: &Words,
+    seat: &mut Seat<u8, BookView>,
+    part: Seat<u8, BookView>,
+)
+    requires size { 0 < words.now.shared.table_id.words }
+    requires table { seat.old.table_id ≡ words.now.shared.table_id }
+    requires part_table { part.table_id ≡ words.now.shared.table_id }
+    requires free { seat.old.me.0.locked ≡ [] }
+    requires part { (part.me.0.own ≡ []) × (part.me.0.may_begin ≡ false) × (part.me.1 ≡ []) }
+    requires on { HasKey X.entry.part part.me.0.locked × HasKey X.entry.who seat.old.me.0.own × HasKey X.entry.job seat.old.me.0.own }
+    ensures table { seat.new.table_id ≡ seat.old.table_id }
+    ensures filed { seat.new.me ≡ (filed_with X.entry seat.old.me.0 part.me.0, seat.old.me.1) }
+{
+    words.shared.join_seat::<Files<X>>(seat, part);
+}
+
+/// Returns the part's track.
+pub(crate) fn return_part(words: &Words, seat: &mut Seat<u8, BookView>) -> Seat<u8, BookView>
+    requires size { 0 < words.now.shared.table_id.words }
+    requires table { seat.old.table_id ≡ words.now.shared.table_id }
+    ensures kept { (seat.new.table_id ≡ seat.old.table_id) × (seat.new.me ≡ (without_locked seat.old.me.0, seat.old.me.1)) }
+    ensures back { (result.table_id ≡ words.now.shared.table_id) × (result.me ≡ (locked_of seat.old.me.0, [])) }
+{
+    words.shared.split_seat::<ReturnsPart>(seat)
+}
+
+/// Begins the next track, for a part.
+pub(crate) fn begin_part(words: &Words, seat: &mut Seat<u8, BookView>) -> Seat<u8, BookView>
+    requires size { 0 < words.now.shared.table_id.words }
+    requires table { seat.old.table_id ≡ words.now.shared.table_id }
+    requires may_begin { seat.old.me.0.may_begin ≡ true }
+    ensures kept { (seat.new.table_id ≡ seat.old.table_id) × (seat.new.me ≡ (with_next seat.old.me.0, seat.old.me.1)) }
+    ensures new { (result.table_id ≡ words.now.shared.table_id) × (result.me ≡ (part_view seat.old.me.0.next [], [])) }
+{
+    words.shared.split_seat::<BeginsPart>(seat)
+}
+
+/// Begins the next track, for a new owner.
+pub(crate) fn begin_tracks(words: &Words, seat: &mut Seat<u8, BookView>) -> Seat<u8, BookView>
+    requires size { 0 < words.now.shared.table_id.words }
+    requires table { seat.old.table_id ≡ words.now.shared.table_id }
+    requires may_begin { seat.old.me.0.may_begin ≡ true }
+    ensures kept { (seat.new.table_id ≡ seat.old.table_id) × (seat.new.me ≡ (with_next seat.old.me.0, seat.old.me.1)) }
+    ensures new { (result.table_id ≡ words.now.shared.table_id) × (result.me ≡ (own_view seat.old.me.0.next [], [])) }
+{
+    words.shared.split_seat::<BeginsTracks>(seat)
+}
+
+/// Begins the next track, for the owner itself.
+pub(crate) fn begin(words: &Words, seat: &mut Seat<u8, BookView>)
+    requires size { 0 < words.now.shared.table_id.words }
+    requires table { seat.old.table_id ≡ words.now.shared.table_id }
+    requires may_begin { seat.old.me.0.may_begin ≡ true }
+    ensures table { seat.new.table_id ≡ seat.old.table_id }
+    ensures begun { seat.new.me ≡ (with_begun seat.old.me.0, seat.old.me.1) }
+{
+    let _ = words.shared.load::<Begins>(seat, 0);
+}
+
+/// Splits the first of the owner's tracks off.
+pub(crate) fn split_first(words: &Words, seat: &mut Seat<u8, BookView>) -> Seat<u8, BookView>
+    requires size { 0 < words.now.shared.table_id.words }
+    requires table { seat.old.table_id ≡ words.now.shared.table_id }
+    ensures kept { (seat.new.table_id ≡ seat.old.table_id) × (seat.new.me ≡ (without_first seat.old.me.0, seat.old.me.1)) }
+    ensures first { (result.table_id ≡ words.now.shared.table_id) × (result.me ≡ (first_own seat.old.me.0, [])) }
+{
+    words.shared.split_seat::<SplitsFirst>(seat)
+}
+
+/// Merges another's tracks into the owner's.
+pub(crate) fn merge(words: &Words, seat: &mut Seat<u8, BookView>, other: Seat<u8, BookView>)
+    requires size { 0 < words.now.shared.table_id.words }
+    requires table { seat.old.table_id ≡ words.now.shared.table_id }
+    requires other_table { other.table_id ≡ words.now.shared.table_id }
+    requires other { (other.me.0.locked ≡ []) × (other.me.0.may_begin ≡ false) × (other.me.1 ≡ []) }
+    ensures table { seat.new.table_id ≡ seat.old.table_id }
+    ensures merged { seat.new.me ≡ (merged_with seat.old.me.0 other.me.0, seat.old.me.1) }
+{
+    words.shared.join_seat::<Merges>(seat, other);
+}
+
+/// Makes a part's track one of the owner's.
+pub(crate) fn close(words: &Words, seat: &mut Seat<u8, BookView>, part: Seat<u8, BookView>)
+    requires size { 0 < words.now.shared.table_id.words }
+    requires table { seat.old.table_id ≡ words.now.shared.table_id }
+    requires part_table { part.table_id ≡ words.now.shared.table_id }
+    requires part { (part.me.0.own ≡ []) × (part.me.0.may_begin ≡ false) × (part.me.1 ≡ []) × AreSingle part.me.0.locked }
+    ensures table { seat.new.table_id ≡ seat.old.table_id }
+    ensures closed { seat.new.me ≡ (with_part seat.old.me.0 part.me.0, seat.old.me.1) }
+{
+    words.shared.join_seat::<Closes>(seat, part);
+}
+
+/// Attests the history.
+pub(crate) fn attest(words: &Words, seat: &mut Seat<u8, BookView>)
+    requires size { 0 < words.now.shared.table_id.words }
+    requires table { seat.old.table_id ≡ words.now.shared.table_id }
+    ensures kept { (seat.new.table_id ≡ seat.old.table_id) × (seat.new.me ≡ seat.old.me) }
+    ensures one { HasHistory seat.old.me.0 }
+{
+    let _ = words.shared.load::<Attests>(seat, 0);
+}

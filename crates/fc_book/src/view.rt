@@ -1,0 +1,158 @@
+//! The view of an owner of tracks, and the moves that change it.
+ghost use Rattle.std.specs.Prelude.{◌≡◌};
+
+use crate::entry::CallEntry;
+use atomic_table::{Join, Play, Split, TableRule};
+use std::collections::LinkedList;
+use std::marker::{Brand, PhantomData};
+
+/// A track: the entries of the history with its key, oldest first. It is seen by clauses alone; no value of it is made.
+pub struct Track {
+    pub key: u64,
+    pub entries: LinkedList<CallEntry>,
+}
+
+/// The tracks that an owner has: a part's, while its lock is held, and its own. If it may begin tracks, `next` is the key of the next.
+/// It is seen by clauses alone; no value of it is made.
+pub struct BookView {
+    pub locked: LinkedList<Track>,
+    pub own: LinkedList<Track>,
+    pub may_begin: bool,
+    pub next: u64,
+}
+
+/// The rule of a book: there is one history, each view is one of it, and no track is in two views.
+pub struct BookRule;
+
+impl TableRule<u8, BookView, ()> for BookRule {
+    ghost use Rattle.fc_book.specs.Tracks.{HaveOneHistory, first_view};
+
+    ghost holds = { λ _ s. HaveOneHistory s.views };
+
+    ghost first = { λ _. first_view };
+}
+
+/// The name of an entry that is filed. Each call of [`crate::Tracks::file`] chooses it.
+pub trait EntryName {
+    ghost use Rattle.fc_book.specs.declared.entry.CallEntry.{CallEntry};
+
+    ghost entry: { CallEntry };
+}
+
+impl EntryName for Brand {
+    ghost use Rattle.fc_book.specs.Tracks.{no_entry};
+
+    ghost entry = { no_entry };
+}
+
+/// Takes a part's track in, and files an entry.
+pub(crate) struct Files<X: EntryName> {
+    of: PhantomData<X>,
+}
+
+impl<X: EntryName> Join<BookView> for Files<X> {
+    ghost use Rattle.fc_book.specs.Tracks.{filed_with, no_tracks};
+
+    ghost both = { filed_with X.entry };
+
+    ghost spent = { no_tracks };
+}
+
+/// Returns the part's track.
+pub(crate) struct ReturnsPart;
+
+impl Split<BookView> for ReturnsPart {
+    ghost use Rattle.fc_book.specs.Tracks.{locked_of, without_locked};
+
+    ghost left = { without_locked };
+
+    ghost right = { locked_of };
+}
+
+/// Makes a seat with no track.
+pub(crate) struct MakesEmpty;
+
+impl Split<BookView> for MakesEmpty {
+    ghost use Rattle.fc_book.specs.Tracks.{no_tracks};
+
+    ghost left = { λ v. v };
+
+    ghost right = { λ v. no_tracks };
+}
+
+/// Begins the next track, for a part.
+pub(crate) struct BeginsPart;
+
+impl Split<BookView> for BeginsPart {
+    ghost use Rattle.std.specs.Prelude.{[]};
+    ghost use Rattle.fc_book.specs.Tracks.{part_view, with_next};
+
+    ghost left = { with_next };
+
+    ghost right = { λ v. part_view v.next [] };
+}
+
+/// Begins the next track, for a new owner.
+pub(crate) struct BeginsTracks;
+
+impl Split<BookView> for BeginsTracks {
+    ghost use Rattle.std.specs.Prelude.{[]};
+    ghost use Rattle.fc_book.specs.Tracks.{own_view, with_next};
+
+    ghost left = { with_next };
+
+    ghost right = { λ v. own_view v.next [] };
+}
+
+/// Begins the next track, for the owner itself.
+pub(crate) struct Begins;
+
+impl Play<u8, BookView> for Begins {
+    ghost use Rattle.std.specs.Prelude.{◌≡◌};
+    ghost use Rattle.fc_book.specs.Tracks.{with_begun};
+
+    ghost then = { λ s v found w. w ≡ (with_begun v.0, v.1) };
+}
+
+/// Splits the first of the owner's tracks off.
+pub(crate) struct SplitsFirst;
+
+impl Split<BookView> for SplitsFirst {
+    ghost use Rattle.fc_book.specs.Tracks.{first_own, without_first};
+
+    ghost left = { without_first };
+
+    ghost right = { first_own };
+}
+
+/// Merges another's tracks into the owner's.
+pub(crate) struct Merges;
+
+impl Join<BookView> for Merges {
+    ghost use Rattle.fc_book.specs.Tracks.{merged_with, no_tracks};
+
+    ghost both = { merged_with };
+
+    ghost spent = { no_tracks };
+}
+
+/// Makes a part's track one of the owner's.
+pub(crate) struct Closes;
+
+impl Join<BookView> for Closes {
+    ghost use Rattle.fc_book.specs.Tracks.{no_tracks, with_part};
+
+    ghost both = { with_part };
+
+    ghost spent = { no_tracks };
+}
+
+/// Attests the history.
+pub(crate) struct Attests;
+
+impl Play<u8, BookView> for Attests {
+    ghost use Rattle.std.specs.Prelude.{◌≡◌};
+    ghost use Rattle.fc_book.specs.Tracks.{HasHistory};
+
+    ghost then = { λ s v found w. (w ≡ v) × HasHistory v.0 };
+}

@@ -1,0 +1,19 @@
+-- What is left after the first call.
+use Rattle.std.proofs.Common.{◌≡◌, ℕ, List, length}
+use Rattle.fc_core.specs.declared.stage.Task.{Task}
+use Rattle.fc_core.specs.History.{History}
+use Rattle.fc_server.specs.Serving.{Serves, next}
+use Rattle.fc_server.specs.States.{ServerState}
+use Rattle.fc_linear.specs.Operations.{Operation, LogEntry, emitted_of, event_for}
+use Rattle.fc_linear.specs.Parts.{RightByParts}
+
+-- after the first call the rest is as right
+pub record After (k : ℕ) (op : Operation) (es : List LogEntry) (h : History) (end : ServerState) : Type 0 where
+  pub server : ServerState
+  pub tasks : List Task
+  pub serves : Serves (next h (event_for k op) (emitted_of op)) server tasks
+  pub rest : RightByParts end server tasks es
+
+-- there are eight shards
+pub eight : (h : History) (s : ServerState) (tasks : List Task) → Serves h s tasks → length s.shards ≡ 8
+eight h s tasks v = v.agrees.shards.are.count

@@ -1,0 +1,64 @@
+-- Calls that are right by parts and by jobs are one history.
+use Rattle.std.proofs.Common.{ℕ, ◌%◌, List, [], ◌∷◌, refl, sym, ap, ◌∙◌}
+use Rattle.fc_core.specs.declared.stage.Task.{Task}
+use Rattle.fc_core.specs.History.{History}
+use Rattle.fc_calls.specs.Logged.{HearsDatagram, AdvancesFront, DrawsId, AnswersRequest, TellsReceipt, GivesReadings, LooksAt, TakesForJob, CommitsRun, InstallsProgram, RemovesProgram, HandsSignal, AdvancesQuiet, AdvancesShard, GivesTurn, NotesTurn, GivesUpTurn, RaisesWord}
+use Rattle.fc_registry.specs.Slots.{Shard, slot_in}
+use Rattle.fc_registry.specs.Watches.{watch_at}
+use Rattle.fc_server.specs.declared.server.Begin.{Begin}
+use Rattle.fc_server.specs.Serving.{Serves, next}
+use Rattle.fc_server.specs.States.{ServerState, begin_of}
+use Rattle.fc_server.proofs.Beginning.{begins}
+use Rattle.fc_linear.specs.Operations.{Operation, Logged, LogEntry, LacksMemory, RejectsImage, emitted_of, event_of}
+use Rattle.fc_linear.specs.Parts.{IsHistoryOf, LeavesServer, RightByParts, first_server, history_on}
+use Rattle.fc_linear.proofs.Afters.{After}
+use Rattle.fc_linear.proofs.Firsts.{entry_for}
+use Rattle.fc_linear.proofs.AtFront.{after_answer, after_draw, after_hear, after_tick}
+use Rattle.fc_linear.proofs.AtShards.{after_due, after_quiet, after_shard_tick, after_signal}
+use Rattle.fc_linear.proofs.ForJobs.{after_look, after_raise, after_take, below_eight}
+use Rattle.fc_linear.proofs.ForSlots.{after_give_up, after_install, after_lack, after_note, after_receipt, after_reject, after_remove, after_run}
+
+module _ (k : ℕ) (es : List LogEntry) (h : History) (end s : ServerState) (tasks : List Task) (v : Serves h s tasks) where
+  after_first : (op : Operation) → RightByParts end s tasks (entry_for k op ∷ es) → After k op es h end
+  after_first (Logged (HearsDatagram now from bytes brings)) st = after_hear k es h end s tasks v now from bytes brings st
+  after_first (Logged (AdvancesFront now)) st = after_tick k es h end s tasks v now st
+  after_first (Logged (DrawsId now id)) st = after_draw k es h end s tasks v now id st
+  after_first (Logged (AnswersRequest now job content sent)) st = after_answer k es h end s tasks v now job content sent st
+  after_first (Logged (GivesReadings readings)) st = absurd st.events.0
+  after_first (Logged (LooksAt slot word)) st = after_look k es h end s tasks v slot word st
+  after_first (Logged (TakesForJob job readings taken)) st = after_take k es h end s tasks v job readings taken st
+  after_first (Logged (CommitsRun now ran ticket committed)) st = after_run k es h end s tasks v now ran ticket committed st
+  after_first (Logged (InstallsProgram job program made)) st = after_install k es h end s tasks v job program made st
+  after_first (Logged (RemovesProgram job removal)) st = after_remove k es h end s tasks v job removal st
+  after_first (Logged (HandsSignal shard from id reset)) st = after_signal k es h end s tasks v shard from id reset st
+  after_first (Logged (AdvancesQuiet shard now)) st = after_quiet k es h end s tasks v shard now st
+  after_first (Logged (AdvancesShard shard now ticked)) st = after_shard_tick k es h end s tasks v shard now ticked st
+  after_first (Logged (GivesTurn shard now turn)) st = after_due k es h end s tasks v shard now turn st
+  after_first (Logged (NotesTurn turn id now random told noted)) st = after_note k es h end s tasks v turn id now random told noted st
+  after_first (Logged (GivesUpTurn turn now)) st = after_give_up k es h end s tasks v turn now st
+  after_first (Logged (RaisesWord slot word)) st = after_raise k es h end s tasks v slot word st
+  after_first (Logged (TellsReceipt job receipt)) st = after_receipt k es h end s tasks v job receipt st
+  after_first (RejectsImage job content) st = after_reject k es h end s tasks v job content st
+  after_first (LacksMemory job) st = after_lack k es h end s tasks v job st
+
+-- whatever history leaves the server before them
+pub ends : (log : List LogEntry) (h : History) (end s : ServerState) (tasks : List Task) → Serves h s tasks → RightByParts end s tasks log → LeavesServer (history_on h log) end
+ends [] h end s tasks v st = record { server = s; tasks = tasks; serves = v; front = sym st.front; shards = λ i low. sym (st.shards i low); words = sym st.words }
+ends (e ∷ es) h end s tasks v st =
+    let a : After e.job e.operation es h end = after_first e.job es h end s tasks v e.operation st in
+    ends es (next h (event_of e) (emitted_of e.operation)) end a.server a.tasks a.serves a.rest
+
+-- and those of a server that has just begun are one whole history
+pub whole : (log : List LogEntry) (b : Begin) (end : ServerState) → RightByParts end (first_server b) [] log → IsHistoryOf (history_on (begin_of b) log) end
+whole log b end right =
+    let l : LeavesServer (history_on (begin_of b) log) end = ends log (begin_of b) end (first_server b) [] (begins b.serial b.id b.policy (first_server b) refl refl refl) right in
+    let a = l.serves.agrees in
+    record {
+      legal = l.serves.legal;
+      means = l.serves.means;
+      front = sym l.front ∙ a.front;
+      slots = λ n lt. ap (λ (x : Shard). slot_in x n) (sym (l.shards (n % 8) (below_eight n))) ∙ a.shards.slot n lt;
+      moments = λ i low. ap (λ (x : Shard). x.now) (sym (l.shards i low)) ∙ a.shards.now i low;
+      observers = λ i k low lt. ap (λ (x : Shard). watch_at x k) (sym (l.shards i low)) ∙ a.shards.watch i k low lt;
+      words = sym l.words ∙ a.words;
+    }

@@ -1,0 +1,231 @@
+-- Operations of a server with many threads, as the entries of one history: which part of the server each is of, its effect on that part and
+-- on its job, and its event.
+use Rattle.std.specs.Prelude.{◌≡◌, ◌⊎◌, ℕ, ◌%◌, ◌<◌, ◌==◌, Bool, true, false, List, [], ◌∷◌, ◌++◌, length, Option, Some, None}
+use Rattle.std.specs.Borrow.{Bor}
+use Rattle.arrayvec.specs.ArrayVec.{ArrayVec}
+use Rattle.coap_msg.specs.declared.types.Emission.{Emission}
+use Rattle.fc_isa.specs.declared.rule.Fault.{Fault}
+use Rattle.fc_verify.specs.Accepted.{Accepts}
+use Rattle.fc_verify.specs.Judged.{judged}
+use Rattle.fc_verify.specs.Refusals.{IsRefusal}
+use Rattle.fc_verify.specs.declared.refusal.Refusal.TheVariants.{Broken}
+use Rattle.fc_observe.specs.declared.entry.Turn.{Turn}
+use Rattle.fc_registry.specs.declared.job.Job.{Job}
+use Rattle.fc_registry.specs.declared.receipt.Receipt.{Receipt as Facts}
+use Rattle.fc_registry.specs.Calls.{receipt_of, run_of}
+use Rattle.fc_registry.specs.Notes.{sent_of}
+use Rattle.fc_registry.specs.Slots.{Shard, Ticket}
+use Rattle.fc_core.specs.declared.event.Event.{Event}
+use Rattle.fc_core.specs.declared.event.Event.TheVariants.{Deliver, Peek, Take, Commit, Install, Remove, Receipt, Raise, Answer, Due, Fresh, Note, GiveUp, Signal, Tick, ShardTick}
+use Rattle.fc_core.specs.declared.front.Delivered.{Delivered}
+use Rattle.fc_core.specs.declared.front.Delivered.TheVariants.{Job as Brings, Reply}
+use Rattle.fc_core.specs.Stage.{Stage}
+use Rattle.fc_core.specs.Stage.{ToMatch, ToTake, ToCommit, ToInstall, ToRemove, ToDescribe, ToList, ToRaise, ToAnswer, ToTell, Gone}
+use Rattle.fc_core.specs.TurnStage.{TurnStage}
+use Rattle.fc_core.specs.TurnStage as turns
+use Rattle.fc_core.specs.Contents.{Content, Unavailable}
+use Rattle.fc_core.specs.Ends.{refused}
+use Rattle.fc_core.specs.Exchanges.{FrontState}
+use Rattle.fc_core.specs.Fits.{IsSafe}
+use Rattle.fc_core.specs.Heads.{word_at, word_raised}
+use Rattle.fc_core.specs.Legal.{resent}
+use Rattle.fc_core.specs.Stages.{after_commit, had_memory, image_of, listed, made, matched, removed, told, took, turn_took, with_id}
+use Rattle.fc_calls.specs.Logged.{LoggedCall}
+use Rattle.fc_calls.specs.Logged.{HearsDatagram, AdvancesFront, DrawsId, AnswersRequest, TellsReceipt, GivesReadings, LooksAt, RaisesWord}
+use Rattle.fc_calls.specs.Logged.{TakesForJob, CommitsRun, InstallsProgram, RemovesProgram, HandsSignal, AdvancesQuiet, AdvancesShard, GivesTurn, NotesTurn, GivesUpTurn}
+use Rattle.fc_calls.specs.Doings.{AdvancesTo, AnswersAt, CommitsAt, DescribesTo, DrawsAt, GivesTurnAt, GivesUpAt, HandsOn, HearsAt, InstallsTo, NotesAt, PassesIfQuiet, RemovesFrom, TakesTo, TicksAt}
+use Rattle.fc_calls.specs.Doings.{SaysFound}
+
+-- a call that a thread's log has; or an image that isn't installed, since it breaks a rule or memory is refused
+pub data Operation : Type 0 where
+  Logged : (call : LoggedCall) → Operation
+  RejectsImage : (job : Job) (content : Content) → Operation
+  LacksMemory : (job : Job) → Operation
+
+-- an operation, with the number of its job; the number means nothing if the operation is for no job
+pub record LogEntry : Type 0 where
+  pub job : ℕ
+  pub operation : Operation
+
+-- ---- its part of the server
+
+pub data ServerPart : Type 0 where
+  FrontPart : ServerPart
+  ShardPart : (index : ℕ) → ServerPart
+  WordsPart : ServerPart
+  NoPart : ServerPart
+
+abbrev pub part_by : LoggedCall → ServerPart
+part_by (HearsDatagram now from bytes brings) = FrontPart
+part_by (AdvancesFront now) = FrontPart
+part_by (DrawsId now id) = FrontPart
+part_by (AnswersRequest now job content sent) = FrontPart
+part_by (TellsReceipt job receipt) = ShardPart (job.origin.slot % 8)
+part_by (GivesReadings readings) = NoPart
+part_by (LooksAt slot word) = WordsPart
+part_by (TakesForJob job readings taken) = ShardPart (job.origin.slot % 8)
+part_by (CommitsRun now ran ticket committed) = ShardPart (ticket.origin.slot % 8)
+part_by (InstallsProgram job program made) = ShardPart (job.origin.slot % 8)
+part_by (RemovesProgram job removal) = ShardPart (job.origin.slot % 8)
+part_by (HandsSignal shard from id reset) = ShardPart shard
+part_by (AdvancesQuiet shard now) = ShardPart shard
+part_by (AdvancesShard shard now ticked) = ShardPart shard
+part_by (GivesTurn shard now turn) = ShardPart shard
+part_by (NotesTurn turn id now random told noted) = ShardPart (turn.slot % 8)
+part_by (GivesUpTurn turn now) = ShardPart (turn.slot % 8)
+part_by (RaisesWord slot word) = WordsPart
+
+abbrev pub part_of : Operation → ServerPart
+part_of (Logged call) = part_by call
+part_of (RejectsImage job content) = NoPart
+part_of (LacksMemory job) = NoPart
+
+abbrev pub is_front : ServerPart → Bool
+is_front FrontPart = true
+is_front other = false
+
+abbrev pub is_words : ServerPart → Bool
+is_words WordsPart = true
+is_words other = false
+
+abbrev pub is_shard : ℕ → ServerPart → Bool
+is_shard i (ShardPart index) = index == i
+is_shard i other = false
+
+-- ---- its effect on that part
+
+abbrev pub FrontDoes : Operation → FrontState → FrontState → Type 0
+FrontDoes (Logged (HearsDatagram now from bytes brings)) f g = HearsAt now from bytes brings f g
+FrontDoes (Logged (AdvancesFront now)) f g = AdvancesTo now f g
+FrontDoes (Logged (DrawsId now id)) f g = DrawsAt now id f g
+FrontDoes (Logged (AnswersRequest now job content sent)) f g = AnswersAt now job content sent f g
+FrontDoes other f g = ⊥
+
+abbrev pub ShardDoes : Operation → Shard → Shard → Type 0
+ShardDoes (Logged (TellsReceipt job receipt)) x y = DescribesTo job x receipt y
+ShardDoes (Logged (TakesForJob job readings taken)) x y = TakesTo job readings x taken y
+ShardDoes (Logged (CommitsRun now ran ticket committed)) x y = CommitsAt now ran ticket x committed y
+ShardDoes (Logged (InstallsProgram job program made)) x y = InstallsTo job program x made y
+ShardDoes (Logged (RemovesProgram job removal)) x y = RemovesFrom job x removal y
+ShardDoes (Logged (HandsSignal shard from id reset)) x y = HandsOn reset from id x y
+ShardDoes (Logged (AdvancesQuiet shard now)) x y = PassesIfQuiet now x true y
+ShardDoes (Logged (AdvancesShard shard now ticked)) x y = TicksAt now x ticked y
+ShardDoes (Logged (GivesTurn shard now turn)) x y = GivesTurnAt now x turn y
+ShardDoes (Logged (NotesTurn turn id now random told noted)) x y = NotesAt turn id now random told x noted y
+ShardDoes (Logged (GivesUpTurn turn now)) x y = GivesUpAt now turn x y
+ShardDoes other x y = ⊥
+
+abbrev pub WordsDo : Operation → List ℕ → List ℕ → Type 0
+WordsDo (Logged (LooksAt slot word)) ws vs = (word ≡ word_at ws slot) × (vs ≡ ws)
+WordsDo (Logged (RaisesWord slot word)) ws vs = vs ≡ word_raised slot word ws
+WordsDo other ws vs = ⊥
+
+-- it is an event: readings are none, and a shard's index is below 8
+abbrev pub IsEvent : Operation → Type 0
+IsEvent (Logged (GivesReadings readings)) = ⊥
+IsEvent (Logged (HandsSignal shard from id reset)) = shard < 8
+IsEvent (Logged (AdvancesQuiet shard now)) = shard < 8
+IsEvent (Logged (AdvancesShard shard now ticked)) = shard < 8
+IsEvent (Logged (GivesTurn shard now turn)) = shard < 8
+IsEvent other = Unit {0}
+
+-- ---- its effect on its job
+
+abbrev pub job_in : Delivered → Option Job
+job_in (Brings job) = Some job
+job_in other = None
+
+-- the new job that it brings, if any
+abbrev pub job_brought : Operation → Option Job
+job_brought (Logged (HearsDatagram now from bytes brings)) = job_in brings
+job_brought (Logged (GivesTurn shard now turn)) = turn
+job_brought other = None
+
+-- it is for a job that came before
+abbrev pub is_for_job : Operation → Bool
+is_for_job (Logged (HearsDatagram now from bytes brings)) = false
+is_for_job (Logged (AdvancesFront now)) = false
+is_for_job (Logged (GivesReadings readings)) = false
+is_for_job (Logged (HandsSignal shard from id reset)) = false
+is_for_job (Logged (AdvancesQuiet shard now)) = false
+is_for_job (Logged (AdvancesShard shard now ticked)) = false
+is_for_job (Logged (GivesTurn shard now turn)) = false
+is_for_job other = true
+
+-- a receipt ends the job whose stage needs it, and leaves any other job where it is
+abbrev pub ReceiptMoves : Option Facts → Stage → Stage → Type 0
+ReceiptMoves receipt s t = ((s ≡ ToDescribe) × (t ≡ ToAnswer (told receipt))) ⊎ ((s ≡ ToDescribe → ⊥) × (t ≡ s))
+
+-- a look at a head word is for the tags of a request, or for the list of all slots
+abbrev pub LookMoves : ℕ → ℕ → Job → Stage → Stage → Type 0
+LookMoves slot word job s t =
+    ((slot ≡ job.origin.slot) × (s ≡ ToMatch) × (t ≡ matched word job.etags.items))
+    ⊎ ((seen : ArrayVec ℕ) × (slot ≡ length seen.items) × (s ≡ ToList seen) × (t ≡ listed (seen.items ++ word ∷ [])))
+
+-- the operation that the job's stage needs, and the stage that it leads to by what it was answered
+abbrev pub StageMoves : Operation → Job → Stage → Stage → Type 0
+StageMoves (Logged (DrawsId now id)) job s t = (turn : Turn) × (found : Option Ticket) × (s ≡ ToTell turn (turns.ToDraw found)) × (t ≡ ToTell turn (with_id found id))
+StageMoves (Logged (AnswersRequest now j content sent)) job s t = (j ≡ job) × (s ≡ ToAnswer content) × (t ≡ Gone)
+StageMoves (Logged (TellsReceipt j receipt)) job s t = (j ≡ job) × ReceiptMoves receipt s t
+StageMoves (Logged (LooksAt slot word)) job s t = LookMoves slot word job s t
+StageMoves (Logged (TakesForJob j readings taken)) job s t =
+    (j ≡ job) × (((count : ℕ) × (s ≡ ToTake count) × (t ≡ took count taken)) ⊎ ((turn : Turn) × (s ≡ ToTell turn turns.ToTake) × (t ≡ turn_took turn taken)))
+StageMoves (Logged (CommitsRun now ran ticket committed)) job s t = (ran ≡ run_of ticket) × ((count : ℕ) × (s ≡ ToCommit count ticket) × (t ≡ after_commit count ticket committed))
+StageMoves (Logged (InstallsProgram j program answer)) job s t =
+    (j ≡ job) × (judged (image_of job.ask) ≡ Accepts program) × IsSafe program × (s ≡ ToInstall) × (t ≡ made (receipt_of program 0) answer)
+StageMoves (Logged (RemovesProgram j removal)) job s t = (j ≡ job) × (s ≡ ToRemove) × (t ≡ removed removal)
+StageMoves (Logged (NotesTurn turn id now random told noted)) job s t = (found : Option Ticket) × SaysFound told found × (s ≡ ToTell turn (turns.ToNote found id)) × (t ≡ Gone)
+StageMoves (Logged (GivesUpTurn turn now)) job s t = (needs : TurnStage) × (s ≡ ToTell turn needs) × (t ≡ Gone)
+StageMoves (Logged (RaisesWord slot word)) job s t = (slot ≡ job.origin.slot) × ((content : Content) × (s ≡ ToRaise word content) × (t ≡ ToAnswer content))
+StageMoves (RejectsImage j content) job s t =
+    (j ≡ job) × ((f : Fault) × IsRefusal (image_of job.ask) (Broken f) × (content ≡ refused (Broken f))) × (s ≡ ToInstall) × (t ≡ ToAnswer content)
+StageMoves (LacksMemory j) job s t = (j ≡ job) × (s ≡ ToInstall) × (t ≡ ToAnswer Unavailable)
+StageMoves other job s t = ⊥
+
+-- ---- its event, and what that emits
+
+abbrev pub borrowed : List ℕ → Bor (List ℕ)
+borrowed bytes = record { ref_ptr = (0, 0); now = bytes }
+
+abbrev pub event_by : ℕ → LoggedCall → Event
+event_by k (HearsDatagram now from bytes brings) = Deliver now from (borrowed bytes)
+event_by k (AdvancesFront now) = Tick now
+event_by k (DrawsId now id) = Fresh k now
+event_by k (AnswersRequest now job content sent) = Answer k now
+event_by k (TellsReceipt job receipt) = Receipt k
+event_by k (GivesReadings readings) = Tick 0
+event_by k (LooksAt slot word) = Peek k slot
+event_by k (TakesForJob job readings taken) = Take k (had_memory taken) readings
+event_by k (CommitsRun now ran ticket committed) = Commit k now
+event_by k (InstallsProgram job program made) = Install k true
+event_by k (RemovesProgram job removal) = Remove k
+event_by k (HandsSignal shard from id reset) = Signal shard from id reset
+event_by k (AdvancesQuiet shard now) = ShardTick shard now
+event_by k (AdvancesShard shard now ticked) = ShardTick shard now
+event_by k (GivesTurn shard now turn) = Due shard now
+event_by k (NotesTurn turn id now random told noted) = Note k now random
+event_by k (GivesUpTurn turn now) = GiveUp k now
+event_by k (RaisesWord slot word) = Raise k
+
+abbrev pub event_for : ℕ → Operation → Event
+event_for k (Logged call) = event_by k call
+event_for k (RejectsImage j content) = Install k true
+event_for k (LacksMemory j) = Install k false
+
+abbrev pub event_of : LogEntry → Event
+event_of e = event_for e.job e.operation
+
+abbrev pub reply_in : Delivered → Option Emission
+reply_in (Reply emission) = Some emission
+reply_in other = None
+
+abbrev pub emitted_by : LoggedCall → Option Emission
+emitted_by (HearsDatagram now from bytes brings) = reply_in brings
+emitted_by (AnswersRequest now job content sent) = sent
+emitted_by (AdvancesShard shard now ticked) = resent ticked
+emitted_by (NotesTurn turn id now random told noted) = sent_of noted
+emitted_by other = None
+
+abbrev pub emitted_of : Operation → Option Emission
+emitted_of (Logged call) = emitted_by call
+emitted_of other = None
