@@ -8,15 +8,21 @@ use Rattle.fc_core.specs.declared.event.Event.TheVariants.{Deliver, Peek, Take, 
 use Rattle.coap_msg.specs.declared.types.Endpoint.{Endpoint}
 use Rattle.fc_help.specs.Region.{no_readings}
 use Rattle.fc_registry.specs.Slots.{last_serial}
+use Rattle.fc_core.specs.Policies.{default_policy}
+use Rattle.fc_core.specs.declared.policy.Policy.{Policy}
 use Rattle.fc_server.specs.declared.server.Begin.{Begin}
 use Rattle.fc_lines.specs.Fields.{space, IsNumber}
 use Rattle.fc_lines.specs.Emissions.{peer_endpoint}
+use Rattle.fc_lines.specs.Policies.{IsPolicyOf}
 
 abbrev pub Bytes : Type 0
 Bytes = List ℕ
 
 abbrev pub equals : ℕ
 equals = 61
+
+abbrev pub comma : ℕ
+comma = 44
 
 -- single spaces part the words of a line
 abbrev pub line_words : Bytes → List Bytes
@@ -112,11 +118,35 @@ pub record AreOfEvent (words : List Bytes) (event : Event) : Type 0 where
   pub words_are : words ≡ name ∷ parts
   pub says : IsEventOf name parts event
 
--- a name and its parts, in any order, say how a server begins: by the serial of its empty slots, and by the first message id of its own
+-- the seconds after which a notification is confirmable: 86,400 if there are five parts, and the sixth's if there are six
+abbrev pub HasSeconds : List Bytes → ℕ → Type 0
+HasSeconds parts seconds =
+    ((length parts ≡ 5) × (seconds ≡ 86400)) ⊎ ((length parts ≡ 6) × HasNumber parts (codes "confirm-after") (2 ^ 64) seconds)
+
+-- a policy of these networks, whose limits two of the parts say
+pub record HasLimits (parts networks : List Bytes) (policy : Policy) : Type 0 where
+  pub seconds : ℕ
+  pub exchanges : HasNumber parts (codes "exchanges") (2 ^ 64) policy.limits.exchanges
+  pub share : HasNumber parts (codes "share") (2 ^ 64) policy.limits.share
+  pub confirm_after : HasSeconds parts seconds
+  pub is : IsPolicyOf networks policy.limits.exchanges policy.limits.share seconds policy
+
+-- three of five parts, or four of six, are a policy's: commas part its networks
+pub record SaysPolicy (parts : List Bytes) (policy : Policy) : Type 0 where
+  pub networks : Bytes
+  pub managers : HasPart parts (codes "managers") networks
+  pub limits : HasLimits parts (slice_split (λ b. b == comma) networks) policy
+
+-- or there are two parts, and it is the default policy
+abbrev pub HasPolicy : List Bytes → Policy → Type 0
+HasPolicy parts policy = SaysPolicy parts policy ⊎ ((length parts ≡ 2) × (policy ≡ default_policy))
+
+-- a name and its parts, in any order, say how a server begins: by the serial of its empty slots, by the first message id of its own, and
+-- by its policy
 abbrev pub IsBeginOf : Bytes → List Bytes → Begin → Type 0
 IsBeginOf name parts begin =
-    IsForm name parts (codes "Begin") 2 × HasNumber parts (codes "serial") (2 ^ 64) begin.serial × (begin.serial ≤ last_serial)
-    × HasNumber parts (codes "id") 65536 begin.id
+    (name ≡ codes "Begin") × HasNumber parts (codes "serial") (2 ^ 64) begin.serial × (begin.serial ≤ last_serial)
+    × HasNumber parts (codes "id") 65536 begin.id × HasPolicy parts begin.policy
 
 pub record SaysBegin (words : List Bytes) (begin : Begin) : Type 0 where
   pub name : Bytes

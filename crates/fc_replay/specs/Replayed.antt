@@ -8,6 +8,7 @@ use Rattle.fc_registry.specs.Slots.{Shard, Slot, vars_in, version_in}
 use Rattle.fc_core.specs.declared.event.Event.{Event}
 use Rattle.fc_core.specs.History.{seen, slot_at}
 use Rattle.fc_core.specs.Legal.{IsLegal}
+use Rattle.fc_core.specs.Policies.{default_policy}
 use Rattle.fc_server.specs.declared.server.Begin.{Begin}
 use Rattle.fc_world.specs.Histories.{history_from}
 use Rattle.fc_replay.specs.Listed.{AreOfEvent, Bytes, SaysBegin, line_words}
@@ -33,7 +34,7 @@ pub record HasBeginLine (text : Bytes) (begin : Begin) (rest : Bytes) : Type 0 w
 
 -- how the server begins, and the text of the events: where no first line says it, at serial 0 and message id 0
 abbrev pub HasBeginning : Bytes → Begin → Bytes → Type 0
-HasBeginning text begin rest = ((rest ≡ text) × (begin ≡ record { serial = 0; id = 0 })) ⊎ HasBeginLine text begin rest
+HasBeginning text begin rest = ((rest ≡ text) × (begin ≡ record { serial = 0; id = 0; policy = default_policy })) ⊎ HasBeginLine text begin rest
 
 -- each line says its event, by the words of the line
 abbrev pub AreEvents : List (List Bytes) → List Event → Type 0

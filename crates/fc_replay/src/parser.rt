@@ -1,13 +1,16 @@
 //! Events as lines of text: a name, and its parts as `name=value`, in any order.
-ghost use Rattle.std.specs.Prelude.{◌≡◌, ◌≤◌, ◌++◌, ◌∷◌, ◌^◌, length, codes, IfOk, IfSome};
+ghost use Rattle.std.specs.List.{slice_split};
+ghost use Rattle.std.specs.Prelude.{◌≡◌, ◌==◌, ◌≤◌, ◌++◌, ◌∷◌, ◌^◌, length, codes, IfOk, IfSome};
 ghost use Rattle.fc_registry.specs.Slots.{last_serial};
-ghost use Rattle.fc_replay.specs.Listed.{HasData, HasEndpoint, HasFlag, HasNumber, HasPart, AreOfEvent, IsBeginOf, SaysBegin, IsEventOf, equals, line_words, texts};
+ghost use Rattle.fc_replay.specs.Listed.{HasData, HasEndpoint, HasFlag, HasLimits, HasNumber, HasPart, HasPolicy, HasSeconds, AreOfEvent, IsBeginOf, SaysBegin, SaysPolicy, IsEventOf, comma, equals, line_words, texts};
 
 use coap_msg::Endpoint;
+use fc_core::{DEFAULT_POLICY, Policy};
 use fc_help::NO_READINGS;
 use fc_lines::emission::endpoint;
 use fc_lines::hexadecimal::decode;
 use fc_lines::line::{LineError, byte, number, readings};
+use fc_lines::policy::{DEFAULT_SECONDS, policy};
 use fc_registry::LAST_SERIAL;
 use fc_server::Begin;
 use fc_world::Event;
@@ -67,7 +70,8 @@ impl<'a> ListedEvent<'a> {
     }
 }
 
-/// Parses how a server begins, where a line says it: `Begin serial=S id=I`, its parts in any order.
+/// Parses how a server begins from `Begin serial=S id=I`, its parts in any order. Three more parts may say its policy: `managers=A.B.C.D/BITS`, up to
+/// four of these parted by commas, `exchanges=N` and `share=N`. Returns `None` if the line is none of these.
 ///
 /// # Errors
 /// There was no memory.
@@ -75,36 +79,94 @@ pub fn begin_in(alloc: Global, line: &[u8]) -> Result<Option<Begin>, AllocError>
     ensures { IfOk result (λ found. IfSome found (SaysBegin (line_words line.now))) }
 {
     match words(alloc, line) {
-        Ok(words) => Ok(begin_of(&words)),
+        Ok(words) => begin_of(alloc, &words),
         Err(LineError::Bad) => Ok(None),
         Err(LineError::NoMemory) => Err(AllocError),
     }
 }
 
-fn begin_of(words: &[&str]) -> Option<Begin>
-    ensures { IfSome result (SaysBegin (texts words.now)) }
+fn begin_of(alloc: Global, words: &[&str]) -> Result<Option<Begin>, AllocError>
+    ensures { IfOk result (λ found. IfSome found (SaysBegin (texts words.now))) }
 {
     let [name, parts @ ..] = words else {
-        return None;
+        return Ok(None);
     };
-    match parts.len() {
-        2 => begin_with(name, parts),
-        _ => None,
+    match policy_of(alloc, parts)? {
+        Some(policy) => Ok(begin_with(name, parts, policy)),
+        None => Ok(None),
     }
 }
 
-// How a server begins, by two parts.
-fn begin_with(name: &str, parts: &[&str]) -> Option<Begin>
-    requires { length parts.now ≡ 2 }
+// How a server begins, by two of the parts, with this policy.
+fn begin_with(name: &str, parts: &[&str], policy: Policy) -> Option<Begin>
+    requires { HasPolicy (texts parts.now) policy }
     ensures { IfSome result (IsBeginOf name.now (texts parts.now)) }
 {
     match name {
         "Begin" => Some(Begin {
             serial: serial(parts)?,
             id: short(parts, "id")?,
+            policy,
         }),
         _ => None,
     }
+}
+
+// The policy: the default if there are two parts, and that of the other three or four if there are five or six.
+fn policy_of(alloc: Global, parts: &[&str]) -> Result<Option<Policy>, AllocError>
+    ensures { IfOk result (λ found. IfSome found (HasPolicy (texts parts.now))) }
+{
+    if parts.len() == 2 {
+        return Ok(Some(DEFAULT_POLICY));
+    }
+    match seconds(parts) {
+        Some(seconds) => policy_said(alloc, parts, seconds),
+        None => Ok(None),
+    }
+}
+
+// The seconds after which a notification is confirmable: the default if there are five parts, and the sixth part's if there are six.
+fn seconds(parts: &[&str]) -> Option<u64>
+    ensures { IfSome result (HasSeconds (texts parts.now)) }
+{
+    match parts.len() {
+        5 => Some(DEFAULT_SECONDS),
+        6 => long(parts, "confirm-after"),
+        _ => None,
+    }
+}
+
+// The policy of three of five parts, or of four of six.
+fn policy_said(alloc: Global, parts: &[&str], seconds: u64) -> Result<Option<Policy>, AllocError>
+    requires { HasSeconds (texts parts.now) seconds }
+    ensures { IfOk result (λ found. IfSome found (SaysPolicy (texts parts.now))) }
+{
+    let Some(list) = value(parts, "managers") else {
+        return Ok(None);
+    };
+    let networks = between_commas(alloc, list)?;
+    Ok(policy_with(parts, list, &networks, seconds))
+}
+
+// The parts of a list, which single commas part.
+fn between_commas(alloc: Global, list: &str) -> Result<Vec<&str>, AllocError>
+    ensures { IfOk result (λ v. texts v.items ≡ slice_split (λ b. b == comma) list.now) }
+{
+    match list.split(',').collect(alloc) {
+        Ok(parts) => Ok(parts),
+        Err(_) => Err(AllocError),
+    }
+}
+
+// The policy of the networks of a list, whose limits two of the parts say.
+fn policy_with(parts: &[&str], list: &str, networks: &[&str], seconds: u64) -> Option<Policy>
+    requires networks { texts networks.now ≡ slice_split (λ b. b == comma) list.now }
+    requires seconds { HasSeconds (texts parts.now) seconds }
+    ensures { IfSome result (HasLimits (texts parts.now) (slice_split (λ b. b == comma) list.now)) }
+{
+    let exchanges = index(parts, "exchanges")?;
+    let share = index(parts, "share")?;
+    policy(networks, exchanges, share, seconds)
 }
 
 // A serial that slots may begin with.

@@ -2,7 +2,7 @@
 ghost use Rattle.std.specs.Prelude.{◌≡◌, ◌≤◌, flat_map, map, IfOk, IfSome, OnOk};
 ghost use Rattle.std.specs.Io.KnownBytes.{Appends};
 ghost use Rattle.fc_registry.specs.Shards.{AreShards};
-ghost use Rattle.fc_registry.specs.Slots.{last_serial};
+ghost use Rattle.fc_server.specs.States.{CanBegin};
 ghost use Rattle.fc_cli.specs.declared.status.Status.TheVariants.{Done};
 ghost use Rattle.fc_replay.specs.Listed.{line_words};
 ghost use Rattle.fc_replay.specs.Printed.{emitted_line};
@@ -15,7 +15,7 @@ use fc_cli::status::{Status, tell};
 use fc_cli::stop::Stop;
 use fc_lines::line::LineError;
 use fc_registry::{SLOTS, Shard, SlotNumber};
-use fc_server::Begin;
+use fc_server::{Begin, DEFAULT_BEGIN};
 use fc_world::{Event, run_world_from};
 use std::alloc::{AllocError, Global};
 use std::io::{Read, Write};
@@ -48,7 +48,7 @@ fn replay_list<R: Read, W: Write>(alloc: Global, input: &mut R, out: &mut W) -> 
         return Ok(());
     }
     let before = u64::from(rest.len() < text.len());
-    replay_lines(alloc, begin, list_of(rest), before, out)?;
+    replay_lines(alloc, &begin, list_of(rest), before, out)?;
     out.flush()?;
     Ok(())
 }
@@ -56,12 +56,12 @@ fn replay_list<R: Read, W: Write>(alloc: Global, input: &mut R, out: &mut W) -> 
 // How the server of a text begins, and the text of its events.
 fn begun(alloc: Global, text: &[u8]) -> Result<(Begin, &[u8]), AllocError>
     ensures begun { IfOk result (λ r. HasBeginning text.now r.0 r.1.now) }
-    ensures serial { IfOk result (λ r. r.0.serial ≤ last_serial) }
+    ensures can_begin { IfOk result (λ r. CanBegin r.0) }
 {
     let (line, rest) = first_line(text);
     match begin_in(alloc, line)? {
         Some(begin) => Ok((begin, rest)),
-        None => Ok((Begin { serial: 0, id: 0 }, text)),
+        None => Ok((DEFAULT_BEGIN, text)),
     }
 }
 
@@ -99,13 +99,13 @@ fn list_of(text: &[u8]) -> &[u8]
 // Replays a list, before which so many lines stand.
 fn replay_lines<W: Write>(
     alloc: Global,
-    begin: Begin,
+    begin: &Begin,
     list: &[u8],
     before: u64,
     out: &mut W,
 ) -> Result<(), Stop>
-    requires { begin.serial ≤ last_serial }
-    ensures { OnOk result (AreReplayed begin list.now (W.contents out.old) (W.contents out.new)) }
+    requires { CanBegin begin.now }
+    ensures { OnOk result (AreReplayed begin.now list.now (W.contents out.old) (W.contents out.new)) }
 {
     let lines = lines(alloc, list, before)?;
     let events = events(alloc, &lines, before)?;

@@ -11,75 +11,76 @@ use Rattle.fc_observe.specs.Observers.{no_observers}
 use Rattle.fc_core.specs.History.{Begins, begun, seen}
 use Rattle.fc_core.specs.Heads.{no_words}
 use Rattle.fc_core.specs.Exchanges.{first_front}
+use Rattle.fc_core.specs.declared.policy.Policy.{Policy}
 use Rattle.fc_core.proofs.Calling.{EntryWithin}
 use Rattle.fc_server.specs.Agreement.{ShardsAgree}
 use Rattle.fc_server.specs.Serving.{Serves}
 use Rattle.fc_server.specs.States.{ServerState}
 
 -- an empty shard
-abbrev empty : ℕ → ℕ → Shard
-empty serial s = record { index = s; now = 0; slots = replicate 8 (new_slot serial); watches = new_watches s 8 }
+abbrev empty : ℕ → ℕ → ℕ → Shard
+empty serial confirm_after s = record { index = s; now = 0; slots = replicate 8 (new_slot serial); watches = new_watches s confirm_after 8 }
 
-length-empty_shards : (serial n : ℕ) → length (empty_shards serial n) ≡ n
-length-empty_shards serial zero = refl
-length-empty_shards serial (suc n) = let e = length-empty_shards serial n in length-append (empty_shards serial n) (empty serial n ∷ []) ∙ omega (arith, e)
+length-empty_shards : (serial confirm_after n : ℕ) → length (empty_shards serial confirm_after n) ≡ n
+length-empty_shards serial confirm_after zero = refl
+length-empty_shards serial confirm_after (suc n) = let e = length-empty_shards serial confirm_after n in length-append (empty_shards serial confirm_after n) (empty serial confirm_after n ∷ []) ∙ omega (arith, e)
 
 -- each of the first shards is empty
-empty_at : (serial n s : ℕ) → s < n → shard_at (empty_shards serial n) s ≡ empty serial s
-empty_at serial zero s lt = absurd (omega arith)
-empty_at serial (suc n) s lt =
-    let len = length-empty_shards serial n in
+empty_at : (serial confirm_after n s : ℕ) → s < n → shard_at (empty_shards serial confirm_after n) s ≡ empty serial confirm_after s
+empty_at serial confirm_after zero s lt = absurd (omega arith)
+empty_at serial confirm_after (suc n) s lt =
+    let len = length-empty_shards serial confirm_after n in
     ⊎_elim
-    (λ (low : s < n). get_or_append_left (empty_shards serial n) (empty serial n ∷ []) no_shard s (omega (arith, len)) ∙ empty_at serial n s low)
+    (λ (low : s < n). get_or_append_left (empty_shards serial confirm_after n) (empty serial confirm_after n ∷ []) no_shard s (omega (arith, len)) ∙ empty_at serial confirm_after n s low)
     (λ (high : n ≤ s).
-    let e : s ≡ length (empty_shards serial n) = omega (arith, len) in
-    ap (λ (i : ℕ). shard_at (empty_shards serial n ++ empty serial n ∷ []) i) e ∙ (get_or-append_seam (empty_shards serial n) (empty serial n) [] no_shard ∙ ap (empty serial) (sym (e ∙ len))))
+    let e : s ≡ length (empty_shards serial confirm_after n) = omega (arith, len) in
+    ap (λ (i : ℕ). shard_at (empty_shards serial confirm_after n ++ empty serial confirm_after n ∷ []) i) e ∙ (get_or-append_seam (empty_shards serial confirm_after n) (empty serial confirm_after n) [] no_shard ∙ ap (empty serial confirm_after) (sym (e ∙ len))))
     (cases_lt s n)
 
-empty_slots : (serial n : ℕ) → n < 64 → slot_in_shards (first_shards serial) n ≡ new_slot serial
-empty_slots serial n lt =
+empty_slots : (serial confirm_after n : ℕ) → n < 64 → slot_in_shards (first_shards serial confirm_after) n ≡ new_slot serial
+empty_slots serial confirm_after n lt =
     let low : n / 8 < 8 = omega arith in
-    ap (λ (x : Shard). slot_in x n) (empty_at serial 8 (n % 8) (omega arith)) ∙ get_or-replicate 8 (n / 8) (new_slot serial) (new_slot 0) low
+    ap (λ (x : Shard). slot_in x n) (empty_at serial confirm_after 8 (n % 8) (omega arith)) ∙ get_or-replicate 8 (n / 8) (new_slot serial) (new_slot 0) low
 
-length-new_watches : (i n : ℕ) → length (new_watches i n) ≡ n
-length-new_watches i zero = refl
-length-new_watches i (suc n) = let e = length-new_watches i n in length-append (new_watches i n) (no_observers (8 * n + i) ∷ []) ∙ omega (arith, e)
+length-new_watches : (i confirm_after n : ℕ) → length (new_watches i confirm_after n) ≡ n
+length-new_watches i confirm_after zero = refl
+length-new_watches i confirm_after (suc n) = let e = length-new_watches i confirm_after n in length-append (new_watches i confirm_after n) (no_observers (8 * n + i) confirm_after ∷ []) ∙ omega (arith, e)
 
 -- and has no observers
-new_watch : (i n k : ℕ) → k < n → get_or (new_watches i n) k (no_observers 0) ≡ no_observers (8 * k + i)
-new_watch i zero k lt = absurd (omega arith)
-new_watch i (suc n) k lt =
-    let len = length-new_watches i n in
+new_watch : (i confirm_after n k : ℕ) → k < n → get_or (new_watches i confirm_after n) k (no_observers 0 0) ≡ no_observers (8 * k + i) confirm_after
+new_watch i confirm_after zero k lt = absurd (omega arith)
+new_watch i confirm_after (suc n) k lt =
+    let len = length-new_watches i confirm_after n in
     ⊎_elim
-    (λ (low : k < n). get_or_append_left (new_watches i n) (no_observers (8 * n + i) ∷ []) (no_observers 0) k (omega (arith, len)) ∙ new_watch i n k low)
+    (λ (low : k < n). get_or_append_left (new_watches i confirm_after n) (no_observers (8 * n + i) confirm_after ∷ []) (no_observers 0 0) k (omega (arith, len)) ∙ new_watch i confirm_after n k low)
     (λ (high : n ≤ k).
-    let e : k ≡ length (new_watches i n) = omega (arith, len) in
-    ap (λ (j : ℕ). get_or (new_watches i n ++ no_observers (8 * n + i) ∷ []) j (no_observers 0)) e ∙ (get_or-append_seam (new_watches i n) (no_observers (8 * n + i)) [] (no_observers 0) ∙ ap (λ (j : ℕ). no_observers (8 * j + i)) (sym (e ∙ len))))
+    let e : k ≡ length (new_watches i confirm_after n) = omega (arith, len) in
+    ap (λ (j : ℕ). get_or (new_watches i confirm_after n ++ no_observers (8 * n + i) confirm_after ∷ []) j (no_observers 0 0)) e ∙ (get_or-append_seam (new_watches i confirm_after n) (no_observers (8 * n + i) confirm_after) [] (no_observers 0 0) ∙ ap (λ (j : ℕ). no_observers (8 * j + i) confirm_after) (sym (e ∙ len))))
     (cases_lt k n)
 
-shards_begin : (serial id : ℕ) → ShardsAgree (begun serial id) (first_shards serial)
-shards_begin serial id = record {
+shards_begin : (serial id : ℕ) (policy : Policy) → ShardsAgree (begun serial id policy) (first_shards serial policy.confirm_after)
+shards_begin serial id policy = record {
   are = record {
-    count = length-empty_shards serial 8;
-    index = λ s lt. ap (λ (x : Shard). x.index) (empty_at serial 8 s lt);
-    size = λ s lt. ap (λ (x : Shard). length x.slots) (empty_at serial 8 s lt);
-    watched = λ s lt. ap (λ (x : Shard). length x.watches) (empty_at serial 8 s lt) ∙ length-new_watches s 8;
+    count = length-empty_shards serial policy.confirm_after 8;
+    index = λ s lt. ap (λ (x : Shard). x.index) (empty_at serial policy.confirm_after 8 s lt);
+    size = λ s lt. ap (λ (x : Shard). length x.slots) (empty_at serial policy.confirm_after 8 s lt);
+    watched = λ s lt. ap (λ (x : Shard). length x.watches) (empty_at serial policy.confirm_after 8 s lt) ∙ length-new_watches s policy.confirm_after 8;
   };
-  slot = empty_slots serial;
-  now = λ s lt. ap (λ (x : Shard). x.now) (empty_at serial 8 s lt);
-  watch = λ i k low lt. ap (λ (x : Shard). watch_at x k) (empty_at serial 8 i low) ∙ new_watch i 8 k lt;
+  slot = empty_slots serial policy.confirm_after;
+  now = λ s lt. ap (λ (x : Shard). x.now) (empty_at serial policy.confirm_after 8 s lt);
+  watch = λ i k low lt. ap (λ (x : Shard). watch_at x k) (empty_at serial policy.confirm_after 8 i low) ∙ new_watch i policy.confirm_after 8 k lt;
 }
 
-pub begins : (serial id : ℕ) (s : ServerState) → s.front ≡ first_front id → s.shards ≡ first_shards serial → s.words ≡ no_words → Serves (Begins serial id) s []
+pub begins : (serial id : ℕ) (policy : Policy) (s : ServerState) → s.front ≡ first_front policy id → s.shards ≡ first_shards serial policy.confirm_after → s.words ≡ no_words → Serves (Begins serial id policy) s []
 unfolding seen
-begins serial id s front shards words = record {
+begins serial id policy s front shards words = record {
   legal = tt;
   means = tt;
   agrees = record {
     front = front;
     tasks = refl;
     words = words;
-    shards = subst (ShardsAgree (begun serial id)) (sym shards) (shards_begin serial id);
+    shards = subst (ShardsAgree (begun serial id policy)) (sym shards) (shards_begin serial id policy);
     sound = record { chain = λ n. tt; within = λ k. (omega arith, tt); stages = λ k. tt; watched = λ n. All-nil EntryWithin };
     safe = record { slots = λ n. tt };
   };

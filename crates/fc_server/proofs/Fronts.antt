@@ -11,6 +11,7 @@ use Rattle.coap_msg.specs.declared.types.Emission.{Emission}
 use Rattle.coap_dedup.specs.Exchanges.{Exchange}
 use Rattle.coap_dedup.specs.Exchanges.{is_live as is_held, answered_if}
 use Rattle.coap_dedup.specs.Calls.{answered}
+use Rattle.fc_core.specs.declared.policy.Policy.{Policy}
 use Rattle.fc_core.specs.Exchanges.{FrontState, advanced}
 use Rattle.fc_core.specs.History.{Seen, answered_in, front_at, front_in}
 use Rattle.fc_core.specs.Ids.{Ids}
@@ -57,7 +58,7 @@ opened_live s at (x.Refused m answer) to = new_live at (exchange_of (next_openin
 opened_live s at x.Ignored to = refl
 opened_live s at (x.Rejected id) to = refl
 opened_live s at (x.Signals id reset) to = refl
-opened_live s at x.Repeated to = refl
+opened_live s at x.Unanswered to = refl
 opened_live s at (x.Again bytes) to = refl
 opened_live s at (x.Full m) to = refl
 
@@ -75,12 +76,12 @@ kept_all at n bytes [] = refl
 kept_all at n bytes (e ∷ es) = kept_one at n bytes e (filter (is_held at) es) (map (λ e. answered_if (e.number == n) bytes e) es) (e.number == n) (is_held at e) refl refl (kept_all at n bytes es)
 
 -- a front of these exchanges, transfers and message ids
-abbrev pub front_of : ℕ → List Exchange → List Transfer → Ids → FrontState
-front_of at es ts ids = record { now = at; opened = length es; held = filter (is_held at) es; transfers = ts; ids = ids }
+abbrev pub front_of : Policy → ℕ → List Exchange → List Transfer → Ids → FrontState
+front_of p at es ts ids = record { managers = p.managers; limits = p.limits; now = at; opened = length es; held = filter (is_held at) es; transfers = ts; ids = ids }
 
-pub front_keeps : (at n : ℕ) (em : Option Emission) (es : List Exchange) (ts : List Transfer) (ids : Ids) → keeping n em (front_of at es ts ids) ≡ front_of at (answered_in n em es) ts ids
-front_keeps at n None es ts ids = refl
-front_keeps at n (Some em) es ts ids = λ i. record { now = at; opened = sym (length-map es (λ e. answered_if (e.number == n) em.bytes e)) i; held = kept_all at n em.bytes es i; transfers = ts; ids = ids }
+pub front_keeps : (p : Policy) (at n : ℕ) (em : Option Emission) (es : List Exchange) (ts : List Transfer) (ids : Ids) → keeping n em (front_of p at es ts ids) ≡ front_of p at (answered_in n em es) ts ids
+front_keeps p at n None es ts ids = refl
+front_keeps p at n (Some em) es ts ids = λ i. record { managers = p.managers; limits = p.limits; now = at; opened = sym (length-map es (λ e. answered_if (e.number == n) em.bytes e)) i; held = kept_all at n em.bytes es i; transfers = ts; ids = ids }
 
 -- the transfers after what is added
 pub transfers_added : (new before : List Addition) → transfers (new ++ before) ≡ after_added new (transfers before)
@@ -90,10 +91,12 @@ transfers_added (a ∷ more) before = ap (after_addition a) (transfers_added mor
 -- a front that opens what is live
 pub front_opens : (s : Seen) (at : ℕ) (r : Received) (to : Endpoint) (ts : List Transfer) (ids : Ids) →
     record (front_in s at) { opened = length s.exchanges + length (opened_by r (next_opening (front_in s at)) to); held = filter (is_held at) s.exchanges ++ opened_by r (next_opening (front_in s at)) to; transfers = ts; ids = ids }
-    ≡ front_of at (s.exchanges ++ opened_by r (next_opening (front_in s at)) to) ts ids
+    ≡ front_of s.policy at (s.exchanges ++ opened_by r (next_opening (front_in s at)) to) ts ids
 front_opens s at r to ts ids =
     let new = opened_by r (next_opening (front_in s at)) to in
     λ i. record {
+      managers = s.policy.managers;
+      limits = s.policy.limits;
       now = at;
       opened = sym (length-append s.exchanges new) i;
       held = (ap (λ (l : List Exchange). filter (is_held at) s.exchanges ++ l) (sym (opened_live s at r to)) ∙ sym (filter-append (is_held at) s.exchanges new)) i;

@@ -95,13 +95,13 @@ module _ (s : Seen) (i now : ℕ) (low : i < 8) (old new : List Shard) (a : Shar
   watched =
       let eight = a.are.watched i low in
       let below = place_below (has_due asked) 8 0 place given.1 in
-      get_or-set_same asked.watches place (asked_there asked place) (no_observers 0) (omega (arith, eight, below))
+      get_or-set_same asked.watches place (asked_there asked place) (no_observers 0 0) (omega (arith, eight, below))
 
   -- its turn is the job's
   same_turn : turn_at_place asked place ≡ turn_of job (watch_at asked place).turns
   same_turn =
       let below = place_below (has_due asked) 8 0 place given.1 in
-      let own = ap (λ (w : ObserverList). w.slot) (a.watch i place low (omega (arith, below))) ∙ slot_is (8 * place + i) (s.calls (8 * place + i)) ∙ sym slot_of_job in
+      let own = ap (λ (w : ObserverList). w.slot) (a.watch i place low (omega (arith, below))) ∙ slot_is (8 * place + i) s.policy.confirm_after (s.calls (8 * place + i)) ∙ sym slot_of_job in
       ap (λ (n : ℕ). let t : Turn = record { slot = n; number = (watch_at asked place).turns } in t) own
 
   -- the moment is handed already

@@ -39,7 +39,7 @@ module _ (shards : List Shard) (are : AreShards shards) (n : ℕ) (lt : n < 64) 
   held = let watched = are.watched (n % 8) (omega arith) in omega (arith, watched, lt)
 
   pub watch_here : watch_at (shard_at written (n % 8)) (n / 8) ≡ after_calls m.calls (watch_at (shard_at shards (n % 8)) (n / 8))
-  watch_here = ap (λ (ws : List ObserverList). get_or ws (n / 8) (no_observers 0)) watches_here ∙ get_or-set_same (shard_at shards (n % 8)).watches (n / 8) called (no_observers 0) held
+  watch_here = ap (λ (ws : List ObserverList). get_or ws (n / 8) (no_observers 0 0)) watches_here ∙ get_or-set_same (shard_at shards (n % 8)).watches (n / 8) called (no_observers 0 0) held
 
   -- those of the other slots are as they were
   pub watch_there : (i k : ℕ) → i < 8 → (8 * k + i ≡ n → ⊥) → watch_at (shard_at written i) k ≡ watch_at (shard_at shards i) k
@@ -47,7 +47,7 @@ module _ (shards : List Shard) (are : AreShards shards) (n : ℕ) (lt : n < 64) 
       (λ (e : i ≡ n % 8).
       let apart : k ≡ n / 8 → ⊥ = λ q. ne (omega (arith, e, q)) in
       subst (λ (j : ℕ). watch_at (shard_at written j) k ≡ watch_at (shard_at shards j) k) (sym e)
-      (ap (λ (ws : List ObserverList). get_or ws k (no_observers 0)) watches_here ∙ get_or-set_other (shard_at shards (n % 8)).watches (n / 8) k called (no_observers 0) apart))
+      (ap (λ (ws : List ObserverList). get_or ws k (no_observers 0 0)) watches_here ∙ get_or-set_other (shard_at shards (n % 8)).watches (n / 8) k called (no_observers 0 0) apart))
       (λ (other : i ≡ n % 8 → ⊥). ap (λ (x : Shard). watch_at x k) (elsewhere i other))
       (cases_eq i (n % 8))
 

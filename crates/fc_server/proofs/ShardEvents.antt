@@ -30,7 +30,7 @@ rest_agrees y s shards hands calls a = record {
   are = a.are;
   slot = a.slot;
   now = λ i lt. a.now i lt ∙ ap (λ (p : Option ℕ). handed p (s.shard_moment i)) (sym (hands i lt));
-  watch = λ i k low lt. let n = 8 * k + i in a.watch i k low lt ∙ ap (λ (cs : List ObserverCall). observers n (cs ++ s.calls n)) (sym (calls n));
+  watch = λ i k low lt. let n = 8 * k + i in a.watch i k low lt ∙ ap (λ (cs : List ObserverCall). observers n s.policy.confirm_after (cs ++ s.calls n)) (sym (calls n));
 }
 
 -- ---- a shard in place of another, whose slots it keeps
@@ -63,7 +63,7 @@ module _ (shards : List Shard) (are : AreShards shards) (i : ℕ) (low : i < 8) 
   -- the agreement, where the rest is what is seen of the event
   put_agrees : (s : Seen) (y : AtShard) → ShardsAgree s shards → x.index ≡ (shard_at shards i).index → x.slots ≡ (shard_at shards i).slots → length x.watches ≡ 8 →
       x.now ≡ handed (hands_by y i) (s.shard_moment i) → ((j : ℕ) → (j ≡ i → ⊥) → hands_by y j ≡ None) →
-      ((k : ℕ) → k < 8 → watch_at x k ≡ observers (8 * k + i) (calls_by y s (8 * k + i) ++ s.calls (8 * k + i))) → ((j k : ℕ) → j < 8 → k < 8 → (j ≡ i → ⊥) → calls_by y s (8 * k + j) ≡ []) →
+      ((k : ℕ) → k < 8 → watch_at x k ≡ observers (8 * k + i) s.policy.confirm_after (calls_by y s (8 * k + i) ++ s.calls (8 * k + i))) → ((j k : ℕ) → j < 8 → k < 8 → (j ≡ i → ⊥) → calls_by y s (8 * k + j) ≡ []) →
       ShardsAgree (shard_seen y s) put
   put_agrees s y a index slots eight now others here there = record {
     are = are_put index slots eight;
@@ -73,8 +73,8 @@ module _ (shards : List Shard) (are : AreShards shards) (i : ℕ) (low : i < 8) 
         (λ (ne : j ≡ i → ⊥). ap (λ (z : Shard). z.now) (elsewhere j ne) ∙ (a.now j lt ∙ ap (λ (p : Option ℕ). handed p (s.shard_moment j)) (sym (others j ne))))
         (cases_eq j i);
     watch = λ j k jl kl. ⊎_elim
-        (λ (q : j ≡ i). subst (λ (m : ℕ). watch_at (shard_at put m) k ≡ observers (8 * k + m) (calls_by y s (8 * k + m) ++ s.calls (8 * k + m))) (sym q) (ap (λ (z : Shard). watch_at z k) at_place ∙ here k kl))
-        (λ (ne : j ≡ i → ⊥). ap (λ (z : Shard). watch_at z k) (elsewhere j ne) ∙ (a.watch j k jl kl ∙ ap (λ (cs : List ObserverCall). observers (8 * k + j) (cs ++ s.calls (8 * k + j))) (sym (there j k jl kl ne))))
+        (λ (q : j ≡ i). subst (λ (m : ℕ). watch_at (shard_at put m) k ≡ observers (8 * k + m) s.policy.confirm_after (calls_by y s (8 * k + m) ++ s.calls (8 * k + m))) (sym q) (ap (λ (z : Shard). watch_at z k) at_place ∙ here k kl))
+        (λ (ne : j ≡ i → ⊥). ap (λ (z : Shard). watch_at z k) (elsewhere j ne) ∙ (a.watch j k jl kl ∙ ap (λ (cs : List ObserverCall). observers (8 * k + j) s.policy.confirm_after (cs ++ s.calls (8 * k + j))) (sym (there j k jl kl ne))))
         (cases_eq j i);
   }
 
@@ -85,8 +85,8 @@ for_shard : (i n : ℕ) (c : ObserverCall) (b : Bool) → ((n % 8) == i) ≡ b �
 for_shard i n c b is = ap (λ (d : Bool). if d then c ∷ [] else []) is
 
 -- a signal at a place
-signalled_here : (c : ObserverCall) (x : Shard) (n k : ℕ) (h : List ObserverCall) → length x.watches ≡ 8 → k < 8 → watch_at x k ≡ observers n h → watch_at (signalled c x) k ≡ observers n (c ∷ h)
-signalled_here c x n k h eight lt is = get_or-map (observers_after c) x.watches k (no_observers 0) (no_observers 0) (omega (arith, eight, lt)) ∙ ap (observers_after c) is
+signalled_here : (c : ObserverCall) (x : Shard) (n confirm_after k : ℕ) (h : List ObserverCall) → length x.watches ≡ 8 → k < 8 → watch_at x k ≡ observers n confirm_after h → watch_at (signalled c x) k ≡ observers n confirm_after (c ∷ h)
+signalled_here c x n confirm_after k h eight lt is = get_or-map (observers_after c) x.watches k (no_observers 0 0) (no_observers 0 0) (omega (arith, eight, lt)) ∙ ap (observers_after c) is
 
 signal_agrees : (s : Seen) (i : ℕ) (to : Endpoint) (id : ℕ) (reset : Bool) (shards : List Shard) → ShardsAgree s shards → ShardsAgree (shard_seen (Signals i to id reset) s) (shard_changed (nat_lt i 8) i (signalled (signal_call reset to id)) shards)
 signal_agrees s i to id reset shards a =
@@ -97,7 +97,7 @@ signal_agrees s i to id reset shards a =
     (λ (low : i < 8). subst (λ (b : Bool). ShardsAgree (shard_seen y s) (shard_changed b i (signalled c) shards)) (sym (lt-ltb i 8 low))
     (put_agrees shards a.are i low x s y a refl refl (length-map (shard_at shards i).watches (observers_after c) ∙ a.are.watched i low)
     (a.now i low) (λ j ne. refl)
-    (λ k lt. signalled_here c (shard_at shards i) (8 * k + i) k (s.calls (8 * k + i)) (a.are.watched i low) lt (a.watch i k low lt) ∙ ap (λ (cs : List ObserverCall). observers (8 * k + i) (cs ++ s.calls (8 * k + i))) (sym (for_shard i (8 * k + i) c true (eq-eqb ((8 * k + i) % 8) i (omega (arith, low))))))
+    (λ k lt. signalled_here c (shard_at shards i) (8 * k + i) s.policy.confirm_after k (s.calls (8 * k + i)) (a.are.watched i low) lt (a.watch i k low lt) ∙ ap (λ (cs : List ObserverCall). observers (8 * k + i) s.policy.confirm_after (cs ++ s.calls (8 * k + i))) (sym (for_shard i (8 * k + i) c true (eq-eqb ((8 * k + i) % 8) i (omega (arith, low))))))
     (λ j k jl kl ne. for_shard i (8 * k + j) c false (ne_eqb ((8 * k + j) % 8) i (λ q. ne (omega (arith, q, jl)))))))
     (λ (high : 8 ≤ i). subst (λ (b : Bool). ShardsAgree (shard_seen y s) (shard_changed b i (signalled c) shards)) (sym (le-ltb i 8 high))
     (rest_agrees y s shards (λ j lt. refl) (λ n. for_shard i n c false (ne_eqb (n % 8) i (λ q. absurd (omega (arith, q, high))))) a))
@@ -138,16 +138,16 @@ module _ (s : Seen) (i now : ℕ) (low : i < 8) (shards : List Shard) (a : Shard
   tick_calls b = if b then TickObservers at ∷ [] else []
 
   -- the observers at a place after it
-  ticked_here : (p : Option ℕ) (k : ℕ) → k < 8 → watch_at (shard_after_tick p here) k ≡ observers (8 * k + i) (tick_calls (is_place_of p i (8 * k + i)) ++ s.calls (8 * k + i))
+  ticked_here : (p : Option ℕ) (k : ℕ) → k < 8 → watch_at (shard_after_tick p here) k ≡ observers (8 * k + i) s.policy.confirm_after (tick_calls (is_place_of p i (8 * k + i)) ++ s.calls (8 * k + i))
   ticked_here None k lt = a.watch i k low lt
   ticked_here (Some j) k lt =
       let eight = a.are.watched i low in
       ⊎_elim
       (λ (q : k ≡ j).
-      let found : watch_at (shard_after_tick (Some j) here) k ≡ observers_after (TickObservers here.now) (watch_at here k) = subst (λ (m : ℕ). watch_at (watch_called (TickObservers here.now) m here) k ≡ observers_after (TickObservers here.now) (watch_at here k)) q (get_or-set_same here.watches k (observers_after (TickObservers here.now) (watch_at here k)) (no_observers 0) (omega (arith, eight, lt))) in
-      found ∙ ((λ m. observers_after (TickObservers (at_is m)) (a.watch i k low lt m)) ∙ ap (λ (b : Bool). observers (8 * k + i) (tick_calls b ++ s.calls (8 * k + i))) (sym (eq-eqb (8 * j + i) (8 * k + i) (omega (arith, q))))))
+      let found : watch_at (shard_after_tick (Some j) here) k ≡ observers_after (TickObservers here.now) (watch_at here k) = subst (λ (m : ℕ). watch_at (watch_called (TickObservers here.now) m here) k ≡ observers_after (TickObservers here.now) (watch_at here k)) q (get_or-set_same here.watches k (observers_after (TickObservers here.now) (watch_at here k)) (no_observers 0 0) (omega (arith, eight, lt))) in
+      found ∙ ((λ m. observers_after (TickObservers (at_is m)) (a.watch i k low lt m)) ∙ ap (λ (b : Bool). observers (8 * k + i) s.policy.confirm_after (tick_calls b ++ s.calls (8 * k + i))) (sym (eq-eqb (8 * j + i) (8 * k + i) (omega (arith, q))))))
       (λ (ne : k ≡ j → ⊥).
-      get_or-set_other here.watches j k (observers_after (TickObservers here.now) (watch_at here j)) (no_observers 0) ne ∙ (a.watch i k low lt ∙ ap (λ (b : Bool). observers (8 * k + i) (tick_calls b ++ s.calls (8 * k + i))) (sym (ne_eqb (8 * j + i) (8 * k + i) (λ q. ne (omega (arith, q)))))))
+      get_or-set_other here.watches j k (observers_after (TickObservers here.now) (watch_at here j)) (no_observers 0 0) ne ∙ (a.watch i k low lt ∙ ap (λ (b : Bool). observers (8 * k + i) s.policy.confirm_after (tick_calls b ++ s.calls (8 * k + i))) (sym (ne_eqb (8 * j + i) (8 * k + i) (λ q. ne (omega (arith, q)))))))
       (cases_eq k j)
 
   -- it is of no slot of another shard
@@ -181,7 +181,7 @@ module _ (s : Seen) (i now : ℕ) (low : i < 8) (shards : List Shard) (a : Shard
   tick_agrees p is = put_agrees shards a.are i low (shard_after_tick p here) s (Ticks i now) a (after_index p) (after_slots p) (after_length p)
       (after_now p ∙ (at_is ∙ ap (λ (o : Option ℕ). handed o (s.shard_moment i)) (sym hands_here)))
       hands_there
-      (λ k lt. ticked_here p k lt ∙ ap (λ (q : Option ℕ). observers (8 * k + i) (tick_calls (is_place_of q i (8 * k + i)) ++ s.calls (8 * k + i))) is)
+      (λ k lt. ticked_here p k lt ∙ ap (λ (q : Option ℕ). observers (8 * k + i) s.policy.confirm_after (tick_calls (is_place_of q i (8 * k + i)) ++ s.calls (8 * k + i))) is)
       (λ j k jl kl ne. ap (λ (q : Option ℕ). tick_calls (is_place_of q i (8 * k + j))) (sym is) ∙ elsewhere_none p j k jl ne)
 
 -- a shard above 7 has nothing that is late
@@ -253,16 +253,16 @@ module _ (s : Seen) (i now : ℕ) (low : i < 8) (shards : List Shard) (a : Shard
   turn_calls b n = if b then NextDue then_at (slot_at s n).noticed ∷ [] else []
 
   -- the observers at a place after it
-  given_here : (p : Option ℕ) (k : ℕ) → k < 8 → watch_at (after_due p asked) k ≡ observers (8 * k + i) (turn_calls (is_place_of p i (8 * k + i)) (8 * k + i) ++ s.calls (8 * k + i))
+  given_here : (p : Option ℕ) (k : ℕ) → k < 8 → watch_at (after_due p asked) k ≡ observers (8 * k + i) s.policy.confirm_after (turn_calls (is_place_of p i (8 * k + i)) (8 * k + i) ++ s.calls (8 * k + i))
   given_here None k lt = a.watch i k low lt
   given_here (Some j) k lt =
       let eight = a.are.watched i low in
       ⊎_elim
       (λ (q : k ≡ j).
-      let found : watch_at (after_due (Some j) asked) k ≡ observers_after (NextDue asked.now (noticed_at asked k)) (watch_at asked k) = subst (λ (m : ℕ). watch_at (watch_called (NextDue asked.now (noticed_at asked m)) m asked) k ≡ observers_after (NextDue asked.now (noticed_at asked k)) (watch_at asked k)) q (get_or-set_same asked.watches k (observers_after (NextDue asked.now (noticed_at asked k)) (watch_at asked k)) (no_observers 0) (omega (arith, eight, lt))) in
-      found ∙ ((λ m. observers_after (NextDue (then_is m) (noticed_is k lt m)) (a.watch i k low lt m)) ∙ ap (λ (b : Bool). observers (8 * k + i) (turn_calls b (8 * k + i) ++ s.calls (8 * k + i))) (sym (eq-eqb (8 * j + i) (8 * k + i) (omega (arith, q))))))
+      let found : watch_at (after_due (Some j) asked) k ≡ observers_after (NextDue asked.now (noticed_at asked k)) (watch_at asked k) = subst (λ (m : ℕ). watch_at (watch_called (NextDue asked.now (noticed_at asked m)) m asked) k ≡ observers_after (NextDue asked.now (noticed_at asked k)) (watch_at asked k)) q (get_or-set_same asked.watches k (observers_after (NextDue asked.now (noticed_at asked k)) (watch_at asked k)) (no_observers 0 0) (omega (arith, eight, lt))) in
+      found ∙ ((λ m. observers_after (NextDue (then_is m) (noticed_is k lt m)) (a.watch i k low lt m)) ∙ ap (λ (b : Bool). observers (8 * k + i) s.policy.confirm_after (turn_calls b (8 * k + i) ++ s.calls (8 * k + i))) (sym (eq-eqb (8 * j + i) (8 * k + i) (omega (arith, q))))))
       (λ (ne : k ≡ j → ⊥).
-      get_or-set_other asked.watches j k (observers_after (NextDue asked.now (noticed_at asked j)) (watch_at asked j)) (no_observers 0) ne ∙ (a.watch i k low lt ∙ ap (λ (b : Bool). observers (8 * k + i) (turn_calls b (8 * k + i) ++ s.calls (8 * k + i))) (sym (ne_eqb (8 * j + i) (8 * k + i) (λ q. ne (omega (arith, q)))))))
+      get_or-set_other asked.watches j k (observers_after (NextDue asked.now (noticed_at asked j)) (watch_at asked j)) (no_observers 0 0) ne ∙ (a.watch i k low lt ∙ ap (λ (b : Bool). observers (8 * k + i) s.policy.confirm_after (turn_calls b (8 * k + i) ++ s.calls (8 * k + i))) (sym (ne_eqb (8 * j + i) (8 * k + i) (λ q. ne (omega (arith, q)))))))
       (cases_eq k j)
 
   none_elsewhere : (p : Option ℕ) (j k : ℕ) → j < 8 → (j ≡ i → ⊥) → turn_calls (is_place_of p i (8 * k + j)) (8 * k + j) ≡ []
@@ -289,7 +289,7 @@ module _ (s : Seen) (i now : ℕ) (low : i < 8) (shards : List Shard) (a : Shard
   turn_agrees p is = put_agrees shards a.are i low (after_due p asked) s (AsksTurn i now) a (due_index p) (due_slots p) (due_length p)
       (due_now p ∙ (then_is ∙ ap (λ (o : Option ℕ). handed o (s.shard_moment i)) (sym (hands_here s i now low shards a))))
       (hands_there s i now low shards a)
-      (λ k lt. given_here p k lt ∙ ap (λ (q : Option ℕ). observers (8 * k + i) (turn_calls (is_place_of q i (8 * k + i)) (8 * k + i) ++ s.calls (8 * k + i))) is)
+      (λ k lt. given_here p k lt ∙ ap (λ (q : Option ℕ). observers (8 * k + i) s.policy.confirm_after (turn_calls (is_place_of q i (8 * k + i)) (8 * k + i) ++ s.calls (8 * k + i))) is)
       (λ j k jl kl ne. ap (λ (q : Option ℕ). turn_calls (is_place_of q i (8 * k + j)) (8 * k + j)) (sym is) ∙ none_elsewhere p j k jl ne)
 
 -- a shard above 7 has nobody that is due

@@ -58,7 +58,7 @@ takes_mean other s a f = tt
 
 -- the front that is seen after what an event does there
 abbrev front_seen : AtFront → Option Emission → Seen → FrontState
-front_seen x out s = record { now = moment_by x s; opened = length (exchanges_by x out s); held = filter (is_held (moment_by x s)) (exchanges_by x out s); transfers = transfers (additions_by x s ++ s.additions); ids = ids_by x s }
+front_seen x out s = record { managers = s.policy.managers; limits = s.policy.limits; now = moment_by x s; opened = length (exchanges_by x out s); held = filter (is_held (moment_by x s)) (exchanges_by x out s); transfers = transfers (additions_by x s ++ s.additions); ids = ids_by x s }
 
 front_received : (s : Seen) (now : ℕ) (to : Endpoint) (bytes : List ℕ) (out : Option Emission) → out ≡ sent (received_at s now to bytes) (front_at s now) to → after_received (received_at s now to bytes) (front_at s now) to ≡ front_seen (Receives now to bytes) out s
 front_received s now to bytes out e =
@@ -70,28 +70,28 @@ front_received s now to bytes out e =
     let new = added_by x at to in
     let ts = after_added new (transfers s.additions) in
     ap (keeping n (kept_of x (sent x (front_at s now) to))) (front_opens s at x to ts ids)
-    ∙ (front_keeps at n (kept_of x (sent x (front_at s now) to)) all ts ids
-    ∙ λ i. front_of at (answered_in n (kept_of x (sym e i)) all) (sym (transfers_added new s.additions) i) ids)
+    ∙ (front_keeps s.policy at n (kept_of x (sent x (front_at s now) to)) all ts ids
+    ∙ λ i. front_of s.policy at (answered_in n (kept_of x (sym e i)) all) (sym (transfers_added new s.additions) i) ids)
 
 -- by the content of the answer, if there is one
 front_answered : (s : Seen) (now : ℕ) (j : Job) (out : Option Emission) (live : Bool) (c : Option Content) → opening_is_live (max s.moment now) j.origin.opening ≡ live → AnswerEmits c j (front_at s now) out →
     front_after c j out (front_in s s.moment) now
-    ≡ front_of (if is_some c then max s.moment now else s.moment) (if is_some c then answered_in j.origin.opening.number out s.exchanges else s.exchanges) (transfers s.additions) (ids_answered c live j.confirmable s.ids (max s.moment now))
+    ≡ front_of s.policy (if is_some c then max s.moment now else s.moment) (if is_some c then answered_in j.origin.opening.number out s.exchanges else s.exchanges) (transfers s.additions) (ids_answered c live j.confirmable s.ids (max s.moment now))
 front_answered s now j out live None is emits = refl
 front_answered s now j out true (Some content) is emits =
     let at = max s.moment now in
     (λ i. after_answered_by (opening_is_live (front_advances s now i).now j.origin.opening) j out (front_advances s now i))
     ∙ (ap (λ (b : Bool). after_answered_by b j out (front_at s now)) is
-    ∙ front_keeps at j.origin.opening.number out s.exchanges (transfers s.additions) (drawn_for j.confirmable s.ids at))
+    ∙ front_keeps s.policy at j.origin.opening.number out s.exchanges (transfers s.additions) (drawn_for j.confirmable s.ids at))
 front_answered s now j out false (Some content) is emits =
     let late : out ≡ None = subst (λ (b : Bool). IsAnswered b (id_in (front_at s now) j.confirmable j.origin.id) j content out) is emits in
     (λ i. after_answered_by (opening_is_live (front_advances s now i).now j.origin.opening) j out (front_advances s now i))
     ∙ (ap (λ (b : Bool). after_answered_by b j out (front_at s now)) is
-    ∙ ap (λ (em : Option Emission). front_of (max s.moment now) (answered_in j.origin.opening.number em s.exchanges) (transfers s.additions) s.ids) (sym late))
+    ∙ ap (λ (em : Option Emission). front_of s.policy (max s.moment now) (answered_in j.origin.opening.number em s.exchanges) (transfers s.additions) s.ids) (sym late))
 
 front_drew : (s : Seen) (now : ℕ) (b : Bool) →
     front_drawn b (front_in s s.moment) now
-    ≡ front_of (if b then max s.moment now else s.moment) s.exchanges (transfers s.additions) (if b then drawn s.ids (max s.moment now) else s.ids)
+    ≡ front_of s.policy (if b then max s.moment now else s.moment) s.exchanges (transfers s.additions) (if b then drawn s.ids (max s.moment now) else s.ids)
 front_drew s now true = ap (λ (f : FrontState). record f { ids = drawn s.ids (max s.moment now) }) (front_advances s now)
 front_drew s now false = refl
 
@@ -143,19 +143,19 @@ module _ (s : Seen) (e : Event) (shards : List Shard) (a : ShardsAgree s shards)
     slot_place = sym (after_changes-append (new_slot s.first_serial) m.changes (s.changes n)) ∙ ap (after_changes (new_slot s.first_serial)) (sym (changes_if n true (eq-eqb n n refl)))
 
     -- the observers of the job's slot, and of another
-    watch_own : (i p : ℕ) → i < 8 → 8 * p + i ≡ n → watch_at (shard_at (shards_moved m n shards) i) p ≡ observers (8 * p + i) (calls_named (Some k) e s (8 * p + i) ++ s.calls (8 * p + i))
+    watch_own : (i p : ℕ) → i < 8 → 8 * p + i ≡ n → watch_at (shard_at (shards_moved m n shards) i) p ≡ observers (8 * p + i) s.policy.confirm_after (calls_named (Some k) e s (8 * p + i) ++ s.calls (8 * p + i))
     watch_own i p il q =
         let shard : i ≡ n % 8 = omega (arith, il, q) in
         let place : p ≡ n / 8 = omega (arith, il, q) in
-        let here : watch_at (shard_at (shards_moved m n shards) i) p ≡ observers n (calls_named (Some k) e s n ++ s.calls n) =
+        let here : watch_at (shard_at (shards_moved m n shards) i) p ≡ observers n s.policy.confirm_after (calls_named (Some k) e s n ++ s.calls n) =
         (λ j. watch_at (shard_at (shards_moved m n shards) (shard j)) (place j))
         ∙ (watch_here shards a.are n low m
         ∙ (ap (after_calls m.calls) (watch_is)
-        ∙ (sym (after_append n m.calls (s.calls n)) ∙ ap (λ (cs : List ObserverCall). observers n (cs ++ s.calls n)) (sym (calls_if n true (eq-eqb n n refl)))))) in
-        subst (λ (j : ℕ). watch_at (shard_at (shards_moved m n shards) i) p ≡ observers j (calls_named (Some k) e s j ++ s.calls j)) (sym q) here
+        ∙ (sym (after_append n s.policy.confirm_after m.calls (s.calls n)) ∙ ap (λ (cs : List ObserverCall). observers n s.policy.confirm_after (cs ++ s.calls n)) (sym (calls_if n true (eq-eqb n n refl)))))) in
+        subst (λ (j : ℕ). watch_at (shard_at (shards_moved m n shards) i) p ≡ observers j s.policy.confirm_after (calls_named (Some k) e s j ++ s.calls j)) (sym q) here
 
-    watch_other : (i p : ℕ) → i < 8 → p < 8 → (8 * p + i ≡ n → ⊥) → watch_at (shard_at (shards_moved m n shards) i) p ≡ observers (8 * p + i) (calls_named (Some k) e s (8 * p + i) ++ s.calls (8 * p + i))
-    watch_other i p il pl ne = watch_there shards a.are n low m i p il ne ∙ (a.watch i p il pl ∙ ap (λ (cs : List ObserverCall). observers (8 * p + i) (cs ++ s.calls (8 * p + i))) (sym (calls_if (8 * p + i) false (ne_eqb n (8 * p + i) (λ q. ne (sym q))))))
+    watch_other : (i p : ℕ) → i < 8 → p < 8 → (8 * p + i ≡ n → ⊥) → watch_at (shard_at (shards_moved m n shards) i) p ≡ observers (8 * p + i) s.policy.confirm_after (calls_named (Some k) e s (8 * p + i) ++ s.calls (8 * p + i))
+    watch_other i p il pl ne = watch_there shards a.are n low m i p il ne ∙ (a.watch i p il pl ∙ ap (λ (cs : List ObserverCall). observers (8 * p + i) s.policy.confirm_after (cs ++ s.calls (8 * p + i))) (sym (calls_if (8 * p + i) false (ne_eqb n (8 * p + i) (λ q. ne (sym q))))))
 
     moved_agrees : ShardsAgree (shards_seen (Some k) Calm) (shards_moved m n shards)
     moved_agrees = record {

@@ -1,9 +1,9 @@
 -- What a server holds, and what an event does to it and to a task.
-use Rattle.std.specs.Prelude.{◌≡◌, ℕ, ◌%◌, ◌<◌, Bool, true, false, List, Option, Some, None, length, max}
+use Rattle.std.specs.Prelude.{◌≡◌, ℕ, ◌%◌, ◌<◌, ◌≤◌, Bool, true, false, List, Option, Some, None, length, max}
 use Rattle.coap_msg.specs.declared.types.Emission.{Emission}
 use Rattle.fc_registry.specs.declared.job.Job.{Job}
 use Rattle.fc_registry.specs.Shards.{shard_at, slot_in_shards, with_owner}
-use Rattle.fc_registry.specs.Slots.{Shard}
+use Rattle.fc_registry.specs.Slots.{Shard, last_serial}
 use Rattle.fc_core.specs.declared.event.Event.{Event}
 use Rattle.fc_core.specs.declared.stage.Task.{Task}
 use Rattle.fc_core.specs.Answering.{after_answered}
@@ -11,11 +11,20 @@ use Rattle.fc_core.specs.Contents.{Content}
 use Rattle.fc_core.specs.Exchanges.{FrontState, advanced}
 use Rattle.fc_core.specs.Ids.{drawn, free_id}
 use Rattle.fc_core.specs.Fits.{FitsStage}
-use Rattle.fc_core.specs.History.{AtFront, Answers, Draws, at_front}
+use Rattle.fc_core.specs.History.{AtFront, Answers, Draws, at_front, Begins, History}
+use Rattle.fc_server.specs.declared.server.Begin.{Begin}
 use Rattle.fc_core.specs.Legal.{AnswerEmits}
 use Rattle.fc_core.specs.Sound.{AllSafe}
 use Rattle.fc_core.specs.Stages.{content_at, drew, ended, needs_id}
 use Rattle.fc_core.specs.Rows.{Common, Move, Scene, moves, task_moved, row, scene_of, sends, shard_moved, words_after}
+
+-- its serial is one that slots may begin with
+pub record CanBegin (b : Begin) : Type 0 where
+  pub serial : b.serial ≤ last_serial
+
+-- the history of a server that begins so
+abbrev pub begin_of : Begin → History
+begin_of b = Begins b.serial b.id b.policy
 
 -- its front, its shards, and the head words of their slots
 pub record ServerState : Type 0 where

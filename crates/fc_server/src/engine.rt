@@ -3,20 +3,19 @@ ghost use Rattle.std.specs.Prelude.{◌≡◌, ℕ, ◌<◌, ◌≤◌, List, []
 ghost use Rattle.arrayvec.specs.ArrayVec.{ArrayVec};
 ghost use Rattle.coap_msg.specs.declared.types.Emission.{Emission as Emitted};
 ghost use Rattle.fc_registry.specs.Shards.{shard_at, slot_in_shards};
-ghost use Rattle.fc_registry.specs.Slots.{last_serial};
 ghost use Rattle.fc_registry.specs.Watches.{StaysQuietUntil, at_time, is_quiet};
 ghost use Rattle.fc_core.specs.Stage.{Stage};
 ghost use Rattle.fc_core.specs.Exchanges.{advanced};
-ghost use Rattle.fc_core.specs.History.{Begins};
 ghost use Rattle.fc_core.specs.Ids.{free_id};
 ghost use Rattle.fc_core.specs.Receiving.{delivered, emission_if};
 ghost use Rattle.fc_core.specs.Legal.{resent};
 ghost use Rattle.fc_server.specs.Serving.{FindsProgram, Hears, IsBegun, IsOutToTake, IsReachable, AsksForTurn, Passes, TicksShard, Serves, Turns, WorksOff, WorksOffUnread};
 ghost use Rattle.fc_server.specs.Notified.{Starved, Unsent, is_given, notification_in, notified_as};
 ghost use Rattle.fc_server.specs.Serving.{IsSignalled};
+ghost use Rattle.fc_server.specs.States.{CanBegin, begin_of};
 ghost use Rattle.fc_server.specs.Steps.{shard_told};
 
-use crate::server::Server;
+use crate::server::{Begin, Server};
 use coap_msg::{Emission, Endpoint};
 use fc_core::{Heard, Step, Task};
 use fc_help::Readings;
@@ -45,17 +44,16 @@ impl Model for Engine {
 }
 
 impl Engine {
-    /// Makes a server that holds nothing, with slots 0 to 63 empty, each at the first serial, and that draws this message id
-    /// first.
+    /// Makes a server that holds nothing, with slots 0 to 63 empty, that begins as `begin` says.
     ///
     /// # Errors
     /// There was no memory for it.
-    pub fn new(alloc: Global, first_serial: u64, first_id: u16) -> Result<Engine, AllocError>
-        requires { first_serial ≤ last_serial }
-        ensures { IfOk result (λ e. Serves (Begins first_serial first_id) e []) }
+    pub fn new(alloc: Global, begin: &Begin) -> Result<Engine, AllocError>
+        requires { CanBegin begin.now }
+        ensures { IfOk result (λ e. Serves (begin_of begin.now) e []) }
     {
         Ok(Engine {
-            server: Server::new(alloc, first_serial, first_id)?,
+            server: Server::new(alloc, begin)?,
             task: Task::blank(),
         })
     }

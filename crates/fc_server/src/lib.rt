@@ -43,4 +43,4 @@ pub mod engine;
 pub mod server;
 
 pub use engine::Engine;
-pub use server::{Begin, Server};
+pub use server::{Begin, DEFAULT_BEGIN, Server};

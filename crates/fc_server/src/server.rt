@@ -1,19 +1,18 @@
 //! The front, the shards and the machine, and one call an event.
 ghost use Rattle.std.specs.Prelude.{◌≡◌, ℕ, List, ◌<◌, ◌≤◌, if◌then◌else◌, [], false, length, slice_set, IfOk, OnOk};
 ghost use Rattle.fc_registry.specs.Shards.{first_shards, shard_at};
-ghost use Rattle.fc_registry.specs.Slots.{last_serial};
 ghost use Rattle.fc_registry.specs.Turns.{written_if};
 ghost use Rattle.fc_registry.specs.Watches.{StaysQuietUntil, at_time, is_quiet, signal_call, signalled};
 ghost use Rattle.fc_core.specs.declared.event.Event.{Event};
 ghost use Rattle.fc_core.specs.Exchanges.{advanced, first_front};
 ghost use Rattle.fc_core.specs.Heads.{no_words};
 ghost use Rattle.fc_core.specs.Receiving.{after_delivered, delivered, emission_if, heard};
-ghost use Rattle.fc_server.specs.States.{Responds, AtWork, Does, DrawsId, Works};
+ghost use Rattle.fc_server.specs.States.{Responds, AtWork, CanBegin, Does, DrawsId, Works};
 ghost use Rattle.fc_server.specs.Steps.{shard_asked, shard_ticked, shard_told, shard_turn};
 
 use coap_msg::{Emission, Endpoint};
 use fc_core::front::blank_emission;
-use fc_core::{Event, Front, Heads, Heard, Responded, Task};
+use fc_core::{DEFAULT_POLICY, Event, Front, Heads, Heard, Policy, Responded, Task};
 use fc_help::Readings;
 use fc_machine::Frame;
 use fc_observe::Ticked;
@@ -21,12 +20,20 @@ use fc_registry::{Job, Shard, make_shards};
 use std::alloc::{AllocError, Global};
 use std::marker::Model;
 
-/// What a server begins with: the serial of its empty slots, and the first message id of its own.
+/// What a server begins with: the serial of its empty slots, the first message id of its own, and its policy.
 #[derive(Clone, Copy)]
 pub struct Begin {
     pub serial: u64,
     pub id: u16,
+    pub policy: Policy,
 }
+
+/// A server that begins at serial 0 and message id 0, with the default policy.
+pub const DEFAULT_BEGIN: Begin = Begin {
+    serial: 0,
+    id: 0,
+    policy: DEFAULT_POLICY,
+};
 
 /// The front, the eight shards, the head words of their slots, and a frame to run programs in: all that a server on one
 /// thread holds beside its jobs. A clause sees what the front holds, the shards, and the head words.
@@ -47,20 +54,19 @@ impl Model for Server {
 }
 
 impl Server {
-    /// Makes a server that holds nothing, with slots 0 to 63 empty, each at the first serial, and that draws this message id
-    /// first.
+    /// Makes a server that holds nothing, with slots 0 to 63 empty, that begins as `begin` says.
     ///
     /// # Errors
     /// There was no memory for it.
-    pub fn new(alloc: Global, first_serial: u64, first_id: u16) -> Result<Server, AllocError>
-        requires { first_serial ≤ last_serial }
-        ensures front { IfOk result (λ s. s.front ≡ first_front first_id) }
-        ensures shards { IfOk result (λ s. s.shards ≡ first_shards first_serial) }
+    pub fn new(alloc: Global, begin: &Begin) -> Result<Server, AllocError>
+        requires { CanBegin begin.now }
+        ensures front { IfOk result (λ s. s.front ≡ first_front begin.now.policy begin.now.id) }
+        ensures shards { IfOk result (λ s. s.shards ≡ first_shards begin.now.serial begin.now.policy.confirm_after) }
         ensures words { IfOk result (λ s. s.words ≡ no_words) }
     {
         Ok(Server {
-            front: Front::new(alloc, first_id)?,
-            shards: make_shards(alloc, first_serial)?,
+            front: Front::new(alloc, &begin.policy, begin.id)?,
+            shards: make_shards(alloc, begin.serial, begin.policy.confirm_after)?,
             heads: Heads::new(),
             frame: Frame::new(alloc)?,
         })

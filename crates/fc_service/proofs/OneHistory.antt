@@ -12,14 +12,14 @@ use Rattle.fc_core.specs.declared.front.Delivered.{Delivered}
 use Rattle.fc_core.specs.declared.front.Delivered.TheVariants.{Job as Brings, Signal as Signals}
 use Rattle.fc_core.specs.declared.stage.Task.{Task}
 use Rattle.fc_core.specs.Exchanges.{advanced}
-use Rattle.fc_core.specs.History.{Begins, Entry, History, Then, did}
+use Rattle.fc_core.specs.History.{Entry, History, Then, did}
 use Rattle.fc_core.specs.Laws.{followed_by}
 use Rattle.fc_core.specs.Receiving.{delivered, emission_if}
 use Rattle.fc_core.specs.Stage.{Stage, ToDescribe, ToInstall, ToList, ToMatch, ToRemove, ToTake}
 use Rattle.fc_core.specs.Stages.{first_stage}
 use Rattle.fc_server.specs.Notified.{is_given, notification_in}
 use Rattle.fc_server.specs.Serving.{Heard, Serves, TurnGiven, next, peeked_below, run_through, signalled_below, turned, worked}
-use Rattle.fc_server.specs.States.{ServerState}
+use Rattle.fc_server.specs.States.{ServerState, begin_of}
 use Rattle.fc_server.specs.declared.server.Begin.{Begin}
 use Rattle.fc_lines.specs.declared.line.Line.{Line}
 use Rattle.fc_lines.specs.declared.line.Line.TheVariants as lines
@@ -27,10 +27,10 @@ use Rattle.fc_lines.specs.Emissions.{peer_endpoint, printed}
 use Rattle.fc_host.specs.Sockets.{Incoming, Receive}
 use Rattle.fc_service.proofs.Settled.{printed_of}
 use Rattle.fc_service.specs.Alone.{HandsAlone, HearsAlone, PassesAlone, ReadiesAlone, alone_calls}
-use Rattle.fc_service.specs.Histories.{IsOneHistory, datagram_in, delivered_by, received_in_lines, sent_in_lines}
+use Rattle.fc_service.specs.Histories.{Arrival, IsOneHistory, arrivals_in, arrivals_in_lines, arrived_by, datagram_in, sent_in_lines}
 use Rattle.fc_service.specs.Intakes.{IsHeardBy, is_reply}
 use Rattle.fc_service.specs.Playing.{ArePlayedBy, IsCarriedOutBy, IsHandedBy, IsPlayedBy, IsPlayedOut, PlayedLine, moment_of, output_by, printed_lines}
-use Rattle.fc_service.specs.Rounds.{AreRoundsBy, HasServed, IsReceivedBy, IsRoundBy, Round, received_in, sendings_in}
+use Rattle.fc_service.specs.Rounds.{AreRoundsBy, HasServed, IsReceivedBy, IsRoundBy, Round, RoundCalls, sendings_in}
 use Rattle.fc_service.specs.Settling.{AreStepsBy, Asked, IsStepBy, Passed, Resent, SettlingStep, printed_steps, sent_in_step, sent_in_steps}
 use Rattle.fc_service.specs.Traffic.{Sending}
 use Rattle.fc_service.specs.declared.alone.Alone.{Alone}
@@ -39,17 +39,17 @@ use Rattle.fc_workers.specs.declared.call_log.CallLog.{CallLog}
 
 -- ---- what follows on a history
 
-abbrev delivered_in : List Entry → List Incoming
-delivered_in entries = flat_map (λ r. delivered_by r.event) entries
+abbrev arrived_in : List Entry → List Arrival
+arrived_in entries = flat_map (λ r. arrived_by r.event) entries
 
 abbrev emitted_in : List Entry → List Emission
 emitted_in entries = flat_map (λ r. option_to_list r.emitted) entries
 
--- a history is this one and some events after it, which delivered and emitted these
-record Follows (h : History) (delivers : List Incoming) (emits : List Emission) (later : History) : Type 0 where
+-- a history is this one and some events after it, by which these arrived and were emitted
+record Follows (h : History) (arrives : List Arrival) (emits : List Emission) (later : History) : Type 0 where
   entries : List Entry
   is : later ≡ followed_by h entries
-  delivers_are : delivered_in entries ≡ delivers
+  arrives_are : arrived_in entries ≡ arrives
   emits_are : emitted_in entries ≡ emits
 
 followed_on : (h : History) (xs ys : List Entry) → followed_by (followed_by h xs) ys ≡ followed_by h (xs ++ ys)
@@ -57,34 +57,34 @@ followed_on h [] ys = refl
 followed_on h (x ∷ xs) ys = followed_on (Then h x) xs ys
 
 none_follows : (h : History) → Follows h [] [] h
-none_follows h = record { entries = []; is = refl; delivers_are = refl; emits_are = refl }
+none_follows h = record { entries = []; is = refl; arrives_are = refl; emits_are = refl }
 
-one_follows : (h : History) (e : Event) (out : Option Emission) → Follows h (delivered_by e) (option_to_list out) (next h e out)
-one_follows h e out = record { entries = did e out ∷ []; is = refl; delivers_are = append-nil (delivered_by e); emits_are = append-nil (option_to_list out) }
+one_follows : (h : History) (e : Event) (out : Option Emission) → Follows h (arrived_by e) (option_to_list out) (next h e out)
+one_follows h e out = record { entries = did e out ∷ []; is = refl; arrives_are = append-nil (arrived_by e); emits_are = append-nil (option_to_list out) }
 
-both_follow : (h mid later : History) (ds ds' : List Incoming) (es es' : List Emission) → Follows h ds es mid → Follows mid ds' es' later → Follows h (ds ++ ds') (es ++ es') later
+both_follow : (h mid later : History) (ds ds' : List Arrival) (es es' : List Emission) → Follows h ds es mid → Follows mid ds' es' later → Follows h (ds ++ ds') (es ++ es') later
 both_follow h mid later ds ds' es es' v w = record {
   entries = v.entries ++ w.entries;
   is = w.is ∙ (ap (λ (x : History). followed_by x w.entries) v.is ∙ followed_on h v.entries w.entries);
-  delivers_are = flat_map-append (λ (r : Entry). delivered_by r.event) v.entries w.entries ∙ (λ i. v.delivers_are i ++ w.delivers_are i);
+  arrives_are = flat_map-append (λ (r : Entry). arrived_by r.event) v.entries w.entries ∙ (λ i. v.arrives_are i ++ w.arrives_are i);
   emits_are = flat_map-append (λ (r : Entry). option_to_list r.emitted) v.entries w.entries ∙ (λ i. v.emits_are i ++ w.emits_are i);
 }
 
--- one event more that delivers nothing and emits nothing
-silent_next : (h mid : History) (ds : List Incoming) (es : List Emission) (e : Event) → delivered_by e ≡ [] → Follows h ds es mid → Follows h ds es (next mid e None)
+-- one event more by which nothing arrives and nothing is emitted
+silent_next : (h mid : History) (ds : List Arrival) (es : List Emission) (e : Event) → arrived_by e ≡ [] → Follows h ds es mid → Follows h ds es (next mid e None)
 silent_next h mid ds es e none v =
-    let w = both_follow h mid (next mid e None) ds (delivered_by e) es [] v (one_follows mid e None) in
-    record { entries = w.entries; is = w.is; delivers_are = w.delivers_are ∙ (ap (λ (l : List Incoming). ds ++ l) none ∙ append-nil ds); emits_are = w.emits_are ∙ append-nil es }
+    let w = both_follow h mid (next mid e None) ds (arrived_by e) es [] v (one_follows mid e None) in
+    record { entries = w.entries; is = w.is; arrives_are = w.arrives_are ∙ (ap (λ (l : List Arrival). ds ++ l) none ∙ append-nil ds); emits_are = w.emits_are ∙ append-nil es }
 
--- one more that delivers nothing, after those that emitted nothing
-last_next : (h mid : History) (ds : List Incoming) (e : Event) (out : Option Emission) → delivered_by e ≡ [] → Follows h ds [] mid → Follows h ds (option_to_list out) (next mid e out)
+-- one more by which nothing arrives, after those that emitted nothing
+last_next : (h mid : History) (ds : List Arrival) (e : Event) (out : Option Emission) → arrived_by e ≡ [] → Follows h ds [] mid → Follows h ds (option_to_list out) (next mid e out)
 last_next h mid ds e out none v =
-    let w = both_follow h mid (next mid e out) ds (delivered_by e) [] (option_to_list out) v (one_follows mid e out) in
-    record { entries = w.entries; is = w.is; delivers_are = w.delivers_are ∙ (ap (λ (l : List Incoming). ds ++ l) none ∙ append-nil ds); emits_are = w.emits_are }
+    let w = both_follow h mid (next mid e out) ds (arrived_by e) [] (option_to_list out) v (one_follows mid e out) in
+    record { entries = w.entries; is = w.is; arrives_are = w.arrives_are ∙ (ap (λ (l : List Arrival). ds ++ l) none ∙ append-nil ds); emits_are = w.emits_are }
 
 -- ---- the events of a job
 
-module _ (h : History) (ds : List Incoming) where
+module _ (h : History) (ds : List Arrival) where
   peeks_follow : (k n : ℕ) (mid : History) → Follows h ds [] mid → Follows h ds [] (peeked_below k n mid)
   peeks_follow k zero mid v = v
   peeks_follow k (suc n) mid v = silent_next h (peeked_below k n mid) ds [] (Peek k n) refl (peeks_follow k n mid v)
@@ -101,7 +101,7 @@ module _ (h : History) (ds : List Incoming) where
       let raised = silent_next h (next (next mid (Take k memory readings) None) (Commit k now) None) ds [] (Raise k) refl committed in
       last_next h _ ds (Answer k now) out refl raised
 
-  changed_follows : (e : Event) (k now : ℕ) (out : Option Emission) (mid : History) → delivered_by e ≡ [] → Follows h ds [] mid
+  changed_follows : (e : Event) (k now : ℕ) (out : Option Emission) (mid : History) → arrived_by e ≡ [] → Follows h ds [] mid
       → Follows h ds (option_to_list out) (next (next (next mid e None) (Raise k) None) (Answer k now) out)
   changed_follows e k now out mid none v =
       last_next h (next (next mid e None) (Raise k) None) ds (Answer k now) out refl
@@ -127,7 +127,7 @@ turned_follows h readings k memory now random out mid v =
 -- ---- a server's calls
 
 -- a server went on from a history: some events delivered and emitted these, and left it
-record GoesOn (h : History) (ds : List Incoming) (es : List Emission) (new : ServerState) : Type 0 where
+record GoesOn (h : History) (ds : List Arrival) (es : List Emission) (new : ServerState) : Type 0 where
   later : History
   follows : Follows h ds es later
   tasks : List Task
@@ -135,18 +135,18 @@ record GoesOn (h : History) (ds : List Incoming) (es : List Emission) (new : Ser
 
 -- a datagram
 heard_goes_on : (readings : List ℕ) (h : History) (k now : ℕ) (to : Endpoint) (bytes : Bor (List ℕ)) (d : Delivered) (new : ServerState) (out : Option Emission)
-    → Heard readings h k now to bytes d new out → GoesOn h (delivered_by (Deliver now to bytes)) (option_to_list out) new
+    → Heard readings h k now to bytes d new out → GoesOn h (arrived_by (Deliver now to bytes)) (option_to_list out) new
 heard_goes_on readings h k now to bytes (Brings job) new out w = record {
   later = worked readings (first_stage job) job.origin.slot k w.memory now out (next h (Deliver now to bytes) None);
-  follows = worked_follows h (delivered_by (Deliver now to bytes)) readings (first_stage job) job.origin.slot k w.memory now out (next h (Deliver now to bytes) None)
+  follows = worked_follows h (arrived_by (Deliver now to bytes)) readings (first_stage job) job.origin.slot k w.memory now out (next h (Deliver now to bytes) None)
       (one_follows h (Deliver now to bytes) None);
   tasks = w.tasks;
   serves = w.serves;
 }
 heard_goes_on readings h k now to bytes (Signals id reset) new out w = record {
   later = signalled_below to id reset 8 (next h (Deliver now to bytes) None);
-  follows = subst (λ (o : Option Emission). Follows h (delivered_by (Deliver now to bytes)) (option_to_list o) (signalled_below to id reset 8 (next h (Deliver now to bytes) None)))
-      (sym w.0) (signals_follow h (delivered_by (Deliver now to bytes)) to id reset 8 (next h (Deliver now to bytes) None) (one_follows h (Deliver now to bytes) None));
+  follows = subst (λ (o : Option Emission). Follows h (arrived_by (Deliver now to bytes)) (option_to_list o) (signalled_below to id reset 8 (next h (Deliver now to bytes) None)))
+      (sym w.0) (signals_follow h (arrived_by (Deliver now to bytes)) to id reset 8 (next h (Deliver now to bytes) None) (one_follows h (Deliver now to bytes) None));
   tasks = w.1.tasks;
   serves = w.1.serves;
 }
@@ -188,7 +188,7 @@ step_goes_on now (Asked shard told) old new h tasks w v =
     turn_goes_on (is_given told) old.handed.readings h (shard % 8) (length tasks) now old.handed.random new.engine (notification_in told) (w.1.0.asked h tasks v)
 
 -- what went on, and then went on again
-both_go_on : (h : History) (ds ds' : List Incoming) (es es' : List Emission) (mid new : ServerState) (v : GoesOn h ds es mid) → GoesOn v.later ds' es' new → GoesOn h (ds ++ ds') (es ++ es') new
+both_go_on : (h : History) (ds ds' : List Arrival) (es es' : List Emission) (mid new : ServerState) (v : GoesOn h ds es mid) → GoesOn v.later ds' es' new → GoesOn h (ds ++ ds') (es ++ es') new
 both_go_on h ds ds' es es' mid new v w =
     record { later = w.later; follows = both_follow h v.later w.later ds ds' es es' v.follows w.follows; tasks = w.tasks; serves = w.serves }
 
@@ -203,72 +203,73 @@ steps_go_on now (step ∷ steps) old new h tasks w v =
     (step_goes_on now step w.0 new before.later before.tasks w.1 before.serves)
 
 -- the same, of lists that are equal
-goes_on_as : {h : History} {new : ServerState} (ds ds' : List Incoming) (es es' : List Emission) → ds ≡ ds' → es ≡ es' → GoesOn h ds es new → GoesOn h ds' es' new
+goes_on_as : {h : History} {new : ServerState} (ds ds' : List Arrival) (es es' : List Emission) → ds ≡ ds' → es ≡ es' → GoesOn h ds es new → GoesOn h ds' es' new
 goes_on_as {h} {new} ds ds' es es' same equal w =
-    subst (λ (l : List Incoming). GoesOn h l es' new) same (subst (λ (l : List Emission). GoesOn h ds l new) equal w)
+    subst (λ (l : List Arrival). GoesOn h l es' new) same (subst (λ (l : List Emission). GoesOn h ds l new) equal w)
 
 -- a datagram that was heard whole
 datagram_goes_on : (now : ℕ) (incoming : Incoming) (old new : Alone) (sent : Option Emission) (h : History) (tasks : List Task) → IsHeardBy HearsAlone now incoming old sent new
-    → Leaves h old tasks → GoesOn h (incoming ∷ []) (option_to_list sent) new.engine
+    → Leaves h old tasks → GoesOn h (record { now = now; came = Some incoming } ∷ []) (option_to_list sent) new.engine
 datagram_goes_on now incoming old new sent h tasks w v =
-    let whole : record { from = incoming.from; bytes = w.borrow.now } ∷ [] ≡ incoming ∷ [] = ap (λ (bytes : List ℕ). record { from = incoming.from; bytes = bytes } ∷ []) w.bytes_are in
+    let came : List ℕ → List Arrival = λ bytes. record { now = now; came = Some (record { from = incoming.from; bytes = bytes }) } ∷ [] in
     let out = emission_if (is_reply w.heard) w.reply in
-    goes_on_as _ (incoming ∷ []) (option_to_list out) (option_to_list sent) whole (ap option_to_list (sym w.sent_is))
+    goes_on_as _ (came incoming.bytes) (option_to_list out) (option_to_list sent) (ap came w.bytes_are) (ap option_to_list (sym w.sent_is))
     (heard_goes_on old.handed.readings h (length tasks) now incoming.from w.borrow (delivered (advanced old.engine.front now) incoming.from w.borrow.now) new.engine out
     (w.hears.0 h tasks v))
 
 passed_goes_on : (now : ℕ) (old new : Alone) (sent : Option Emission) (h : History) (tasks : List Task) → PassesAlone now old new → sent ≡ None → Leaves h old tasks
-    → GoesOn h [] (option_to_list sent) new.engine
+    → GoesOn h (record { now = now; came = None } ∷ []) (option_to_list sent) new.engine
 passed_goes_on now old new sent h tasks passes none v =
-    goes_on_as [] [] [] (option_to_list sent) refl (ap option_to_list (sym none))
+    goes_on_as (record { now = now; came = None } ∷ []) (record { now = now; came = None } ∷ []) [] (option_to_list sent) refl (ap option_to_list (sym none))
     (record { later = next h (Tick now) None; follows = one_follows h (Tick now) None; tasks = tasks; serves = passes.0 h tasks v })
 
 -- ---- rounds
 
-module _ (sensors : List ℕ → Type 0) (moments : ℕ → Type 0) where
+module _ (sensors : List ℕ → Type 0) where
   received_goes_on : (now : ℕ) (received : Option Incoming) (old new : Alone) (sent : Option Emission) (h : History) (tasks : List Task)
-      → IsReceivedBy moments (ReadiesAlone sensors) alone_calls now received old sent new → Leaves h old tasks
-      → GoesOn h (option_to_list received) (option_to_list sent) new.engine
+      → IsReceivedBy (ReadiesAlone sensors) alone_calls now received old sent new → Leaves h old tasks
+      → GoesOn h (record { now = now; came = received } ∷ []) (option_to_list sent) new.engine
   received_goes_on now (Some incoming) old new sent h tasks w v = datagram_goes_on now incoming old new sent h tasks w v
   received_goes_on now None old new sent h tasks w v = passed_goes_on now old new sent h tasks w.0 w.1 v
 
   round_goes_on : (r : Round) (old new : Alone) (h : History) (tasks : List Task)
-      → IsRoundBy moments (ReadiesAlone sensors) alone_calls r old new → Leaves h old tasks
-      → GoesOn h (option_to_list r.received) (map (λ s. s.emission) r.sendings) new.engine
+      → IsRoundBy (ReadiesAlone sensors) alone_calls r old new → Leaves h old tasks
+      → GoesOn h (record { now = r.now; came = r.received } ∷ []) (map (λ s. s.emission) r.sendings) new.engine
   round_goes_on r old new h tasks w v =
       let made : Leaves h w.ready tasks = subst (λ (s : ServerState). Serves h s tasks) (sym w.readied.2) v in
       let heard = received_goes_on r.now r.received w.ready w.answered r.sent h tasks w.carried_out made in
-      let all = both_go_on h (option_to_list r.received) [] (option_to_list r.sent) (sent_in_steps r.steps) w.answered.engine new.engine heard
+      let came : List Arrival = record { now = r.now; came = r.received } ∷ [] in
+      let all = both_go_on h came [] (option_to_list r.sent) (sent_in_steps r.steps) w.answered.engine new.engine heard
       (steps_go_on r.now r.steps w.answered new heard.later heard.tasks w.steps heard.serves) in
-      goes_on_as _ (option_to_list r.received) _ (map (λ s. s.emission) r.sendings) (append-nil (option_to_list r.received)) (sym w.sent) all
+      goes_on_as _ came _ (map (λ s. s.emission) r.sendings) refl (sym w.sent) all
 
   rounds_go_on : (rounds : List Round) (old new : Alone) (h : History) (tasks : List Task)
-      → AreRoundsBy moments (ReadiesAlone sensors) alone_calls rounds old new → Leaves h old tasks
-      → GoesOn h (received_in rounds) (map (λ s. s.emission) (sendings_in rounds)) new.engine
+      → AreRoundsBy (ReadiesAlone sensors) alone_calls rounds old new → Leaves h old tasks
+      → GoesOn h (arrivals_in rounds) (map (λ s. s.emission) (sendings_in rounds)) new.engine
   rounds_go_on [] old new h tasks is v =
       record { later = h; follows = none_follows h; tasks = tasks; serves = subst (λ (a : Alone). Leaves h a tasks) (sym is) v }
   rounds_go_on (r ∷ rounds) old new h tasks w v =
       let before = rounds_go_on rounds old w.0 h tasks w.1 v in
-      let all = both_go_on h (received_in rounds) (option_to_list r.received) (map (λ s. s.emission) (sendings_in rounds)) (map (λ s. s.emission) r.sendings) w.0.engine new.engine before
+      let all = both_go_on h (arrivals_in rounds) (record { now = r.now; came = r.received } ∷ []) (map (λ s. s.emission) (sendings_in rounds)) (map (λ s. s.emission) r.sendings) w.0.engine new.engine before
       (round_goes_on r w.0 new before.later before.tasks w.3 before.serves) in
       goes_on_as _ _ _ (map (λ s. s.emission) (sendings_in rounds ++ r.sendings)) refl (sym (map-append (λ (s : Sending). s.emission) (sendings_in rounds) r.sendings)) all
 
 -- it is one history
-one_history : (serial id : ℕ) (ds : List Incoming) (es : List Emission) (s : ServerState) → GoesOn (Begins serial id) ds es s → IsOneHistory serial id ds es s
-one_history serial id ds es s w = record {
+one_history : (begin : Begin) (ds : List Arrival) (es : List Emission) (s : ServerState) → GoesOn (begin_of begin) ds es s → IsOneHistory begin ds es s
+one_history begin ds es s w = record {
   entries = w.follows.entries;
   tasks = w.tasks;
   serves = subst (λ (h : History). Serves h s w.tasks) w.follows.is w.serves;
-  delivers = w.follows.delivers_are;
+  arrives = w.follows.arrives_are;
   emits = w.follows.emits_are;
 }
 
-pub rounds_are_one_history : (sensors : List ℕ → Type 0) (moments : ℕ → Type 0) (went : Emission → Bool → CallLog → CallLog → Type 0) (limit : ℕ) (begin : Begin) (before after : Option (List Receive)) (replies : Replies)
-    (w : HasServed sensors moments went limit begin before after replies)
-    → IsOneHistory begin.serial begin.id (received_in w.run.rounds) (map (λ s. s.emission) (sendings_in w.run.rounds)) w.last.engine
-rounds_are_one_history sensors moments went limit begin before after replies w =
-    one_history begin.serial begin.id (received_in w.run.rounds) (map (λ s. s.emission) (sendings_in w.run.rounds)) w.last.engine
-    (rounds_go_on sensors moments w.run.rounds w.first w.last (Begins begin.serial begin.id) [] w.run.has.are_rounds w.begins)
+pub rounds_are_one_history : (sensors : List ℕ → Type 0) (e : RoundCalls) (limit : ℕ) (begin : Begin) (before after : Option (List Receive)) (replies : Replies)
+    (w : HasServed sensors e limit begin before after replies)
+    → IsOneHistory begin (arrivals_in w.run.rounds) (map (λ s. s.emission) (sendings_in w.run.rounds)) w.last.engine
+rounds_are_one_history sensors e limit begin before after replies w =
+    one_history begin (arrivals_in w.run.rounds) (map (λ s. s.emission) (sendings_in w.run.rounds)) w.last.engine
+    (rounds_go_on sensors w.run.rounds w.first w.last (begin_of begin) [] w.run.has.are_rounds w.begins)
 
 -- ---- lines
 
@@ -280,35 +281,36 @@ handed_on (lines.Deliver now peer bytes) old new h tasks is v = subst (λ (a : A
 
 told_goes_on : (line : Line) (old new : Alone) (sent : Option Emission) (h : History) (tasks : List Task)
     → IsCarriedOutBy HandsAlone alone_calls line old sent new → Leaves h old tasks
-    → GoesOn h (datagram_in line) (option_to_list sent) new.engine
+    → GoesOn h (record { now = moment_of line; came = datagram_in line } ∷ []) (option_to_list sent) new.engine
 told_goes_on (lines.Deliver now peer bytes) old new sent h tasks w v = datagram_goes_on now (record { from = peer_endpoint peer; bytes = bytes.items }) old new sent h tasks w v
 told_goes_on (lines.Tick now) old new sent h tasks w v = passed_goes_on now old new sent h tasks w.0 w.1 v
 told_goes_on (lines.Device now readings) old new sent h tasks w v = passed_goes_on now old new sent h tasks w.0 w.1 v
 
 line_goes_on : (p : PlayedLine) (old new : Alone) (h : History) (tasks : List Task)
     → IsPlayedBy HandsAlone alone_calls p old new → Leaves h old tasks
-    → GoesOn h (datagram_in p.line) (option_to_list p.sent ++ sent_in_steps p.steps) new.engine
+    → GoesOn h (record { now = moment_of p.line; came = datagram_in p.line } ∷ []) (option_to_list p.sent ++ sent_in_steps p.steps) new.engine
 line_goes_on p old new h tasks w v =
     let told = told_goes_on p.line w.handed w.answered p.sent h tasks w.carried_out (handed_on p.line old w.handed h tasks w.hands v) in
-    goes_on_as _ (datagram_in p.line) _ _ (append-nil (datagram_in p.line)) refl
-    (both_go_on h (datagram_in p.line) [] (option_to_list p.sent) (sent_in_steps p.steps) w.answered.engine new.engine told
+    let came : List Arrival = record { now = moment_of p.line; came = datagram_in p.line } ∷ [] in
+    goes_on_as _ came _ _ refl refl
+    (both_go_on h came [] (option_to_list p.sent) (sent_in_steps p.steps) w.answered.engine new.engine told
     (steps_go_on (moment_of p.line) p.steps w.answered new told.later told.tasks w.steps told.serves))
 
 lines_go_on : (played : List PlayedLine) (old new : Alone) (h : History) (tasks : List Task)
     → ArePlayedBy HandsAlone alone_calls played old new → Leaves h old tasks
-    → GoesOn h (received_in_lines played) (sent_in_lines played) new.engine
+    → GoesOn h (arrivals_in_lines played) (sent_in_lines played) new.engine
 lines_go_on [] old new h tasks is v =
     record { later = h; follows = none_follows h; tasks = tasks; serves = subst (λ (a : Alone). Leaves h a tasks) (sym is) v }
 lines_go_on (p ∷ played) old new h tasks w v =
     let before = lines_go_on played old w.0 h tasks w.1 v in
-    both_go_on h (received_in_lines played) (datagram_in p.line) (sent_in_lines played) (option_to_list p.sent ++ sent_in_steps p.steps) w.0.engine new.engine before
+    both_go_on h (arrivals_in_lines played) (record { now = moment_of p.line; came = datagram_in p.line } ∷ []) (sent_in_lines played) (option_to_list p.sent ++ sent_in_steps p.steps) w.0.engine new.engine before
     (line_goes_on p w.0 new before.later before.tasks w.2 before.serves)
 
-pub lines_are_one_history : (serial id : ℕ) (had before after : Option (List ℕ)) (w : IsPlayedOut serial id had before after)
-    → IsOneHistory serial id (received_in_lines w.played.lines) (sent_in_lines w.played.lines) w.last.engine
-lines_are_one_history serial id had before after w =
-    one_history serial id (received_in_lines w.played.lines) (sent_in_lines w.played.lines) w.last.engine
-    (lines_go_on w.played.lines w.first w.last (Begins serial id) [] w.played.played w.begins)
+pub lines_are_one_history : (begin : Begin) (had before after : Option (List ℕ)) (w : IsPlayedOut begin had before after)
+    → IsOneHistory begin (arrivals_in_lines w.played.lines) (sent_in_lines w.played.lines) w.last.engine
+lines_are_one_history begin had before after w =
+    one_history begin (arrivals_in_lines w.played.lines) (sent_in_lines w.played.lines) w.last.engine
+    (lines_go_on w.played.lines w.first w.last (begin_of begin) [] w.played.played w.begins)
 
 -- what is printed of lines is what was sent of them
 pub lines_print_what_is_sent : (played : List PlayedLine) → printed_lines played ≡ flat_map printed (sent_in_lines played)

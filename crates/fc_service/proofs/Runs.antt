@@ -1,23 +1,29 @@
 -- Rounds, one after the other.
 use Rattle.std.proofs.Common.{◌≡◌, ℕ, ◌+◌, ◌<◌, ◌≤◌, Bool, List, [], ◌∷◌, length, Option, Some, None, arith, refl, ap, sym, subst, ◌∙◌}
-use Rattle.std.specs.Prelude.{min}
+use Rattle.std.specs.Prelude.{false, is_none, min, true}
 use Rattle.std.proofs.lemmas.List.{length-append}
 use Rattle.std.specs.Option.{option_to_list}
 use Rattle.coap_msg.specs.declared.types.Emission.{Emission}
 use Rattle.fc_host.specs.Sockets.{Comes, Incoming, Receive}
-use Rattle.fc_service.proofs.Traffic.{more_came, more_handed, more_replies, more_sent, none_came, none_sent}
+use Rattle.fc_service.proofs.Traffic.{more_came, more_replies, more_sent, none_came, none_sent}
 use Rattle.fc_service.specs.Counting.{no_replies}
 use Rattle.fc_service.specs.Intakes.{IntakeCalls, IsHeardBy}
-use Rattle.fc_service.specs.Rounds.{EndsInTime, HasRounds, IsReceivedBy, Round, WaitsAfter, received_in, round_receives, sendings_in}
+use Rattle.fc_service.specs.Rounds.{EndsInTime, HasRounds, IsReceivedBy, Round, RoundCalls, WaitsAfter, received_in, round_receives, sendings_in}
 use Rattle.fc_service.specs.Settling.{AreSettled, AreStepsBy, SettlingStep, sent_in_steps}
 use Rattle.fc_service.specs.Traffic.{Sends, counted_each}
 use Rattle.fc_service.specs.declared.replies.Outbox.{Outbox}
 use Rattle.fc_workers.specs.declared.call_log.CallLog.{CallLog}
 
-module _ {S : Type 0} (IsMoment : ℕ → Type 0) (Readies : ℕ → S → S → Type 0) (calls : IntakeCalls S)
-    (Went : Emission → Bool → CallLog → CallLog → Type 0) where
+module _ {S : Type 0} (Readies : ℕ → S → S → Type 0) (calls : IntakeCalls S) (e : RoundCalls) where
   abbrev Rounds : List Round → Option (List Receive) → Option (List Receive) → S → S → CallLog → Outbox → Type 0
-  Rounds rounds before after old new log outbox = HasRounds IsMoment Readies calls Went rounds before after old new log outbox
+  Rounds rounds before after old new log outbox = HasRounds Readies calls e rounds before after old new log outbox
+
+  -- an outbox that has been passed on with another log, by a receive of this wait and datagram, and the moment that was asked for after it
+  pub record AreAsked (wait : Option ℕ) (received : Option Incoming) (now : ℕ) (old new : Outbox) : Type 0 where
+    pub asked : CallLog
+    pub receives : e.received (record { wait = wait; came = received }) old.log asked
+    pub moment : e.moment now asked new.log
+    pub kept : new.replies ≡ old.replies
 
   -- rounds in which so many datagrams were received, no more than the limit, where there is one; and how long the next one waits
   abbrev pub Runs : (limit count : ℕ) → Option ℕ → Option (List Receive) → Option (List Receive) → S → S → Outbox → Type 0
@@ -26,26 +32,26 @@ module _ {S : Type 0} (IsMoment : ℕ → Type 0) (Readies : ℕ → S → S →
 
   pub no_rounds : (limit : ℕ) (came : Option (List Receive)) (s : S) (o : Outbox) → o.replies ≡ no_replies → Runs limit 0 (Some 100) came came s s o
   no_rounds limit came s o none =
-      ([], (o.log, record { are_rounds = refl; came = none_came came; handed = refl; counted = none }), λ some. (refl, omega arith), refl)
+      ([], (o.log, record { are_rounds = refl; came = none_came came; called = refl; counted = none }), λ some. (refl, omega arith), refl)
 
-  one_round : (limit count next : ℕ) (wait after_it : Option ℕ) (before mid after : Option (List Receive)) (old last ready answered new : S) (a b c : Outbox) (now : ℕ) (received : Option Incoming)
-      → Runs limit count wait before mid old last a → IsMoment now
+  one_round : (limit count next : ℕ) (wait after_it : Option ℕ) (before mid after : Option (List Receive)) (old last ready answered new : S) (o a b c : Outbox) (now : ℕ) (received : Option Incoming)
+      → Runs limit count wait before mid old last o → AreAsked wait received now o a
       → Comes mid after (record { wait = wait; came = received } ∷ []) → Readies now last ready
-      → ((sent : Option Emission) × IsReceivedBy IsMoment Readies calls now received ready sent answered × Sends Went (option_to_list sent) a b)
-      → ((steps : List SettlingStep) × AreStepsBy calls now steps answered new × AreSettled steps × Sends Went (sent_in_steps steps) b c)
-      → (0 < limit → (count + length (option_to_list received) ≡ next) × (next ≤ limit)) → EndsInTime (λ shard until. calls.stays_quiet shard new until) now after_it → Runs limit next after_it before after old new c
-  one_round limit count next wait after_it before mid after old last ready answered new a b c now received w moment came readied x y counts ends =
+      → ((sent : Option Emission) × IsReceivedBy Readies calls now received ready sent answered × Sends e.went (option_to_list sent) a b)
+      → ((steps : List SettlingStep) × AreStepsBy calls now steps answered new × AreSettled steps × Sends e.went (sent_in_steps steps) b c)
+      → (0 < limit → (count + length (option_to_list received) ≡ next) × (next ≤ limit)) → EndsInTime (λ shard until. calls.stays_quiet shard new until) now (is_none received) after_it → Runs limit next after_it before after old new c
+  one_round limit count next wait after_it before mid after old last ready answered new o a b c now received w asks came readied x y counts ends =
       let rounds = w.0 in
       let h = w.1.1 in
-      let z = more_sent Went a b c (option_to_list x.0) (sent_in_steps y.0) x.2 y.3 in (
+      let z = more_sent e.went a b c (option_to_list x.0) (sent_in_steps y.0) x.2 y.3 in (
         record { wait = wait; received = received; now = now; sent = x.0; steps = y.0; sendings = z.0 } ∷ rounds,
         (
           w.1.0,
           record {
-            are_rounds = (last, h.are_rounds, w.3, record { moment = moment; ready = ready; readied = readied; answered = answered; carried_out = x.1; steps = y.1; settled = y.2; sent = z.2 });
+            are_rounds = (last, h.are_rounds, w.3, record { ready = ready; readied = readied; answered = answered; carried_out = x.1; steps = y.1; settled = y.2; sent = z.2 });
             came = more_came before mid after (round_receives rounds) (record { wait = wait; came = received } ∷ []) h.came came;
-            handed = more_handed Went (sendings_in rounds) z.0 w.1.0 a.log c.log h.handed z.1;
-            counted = z.3 ∙ (ap (counted_each z.0) h.counted ∙ more_replies (sendings_in rounds) z.0);
+            called = (o.log, h.called, record { asked = asks.asked; receives = asks.receives; told = a.log; moment = asks.moment; handed = z.1 });
+            counted = z.3 ∙ (ap (counted_each z.0) (asks.kept ∙ h.counted) ∙ more_replies (sendings_in rounds) z.0);
           },
         ),
         λ some.
@@ -54,25 +60,27 @@ module _ {S : Type 0} (IsMoment : ℕ → Type 0) (Readies : ℕ → S → S →
       )
 
   -- one round more, of a datagram, where the limit wasn't reached
-  pub heard_round : (limit count next : ℕ) (wait after_it : Option ℕ) (before mid after : Option (List Receive)) (old last ready heard answered new : S) (a b c d : Outbox) (now : ℕ) (incoming : Incoming)
-      → Runs limit count wait before mid old last a → IsMoment now
+  pub heard_round : (limit count next : ℕ) (wait after_it : Option ℕ) (before mid after : Option (List Receive)) (old last ready heard answered new : S) (o a b c d : Outbox) (now : ℕ) (incoming : Incoming)
+      → Runs limit count wait before mid old last o → AreAsked wait (Some incoming) now o a
       → Comes mid after (record { wait = wait; came = Some incoming } ∷ []) → Readies now last ready
-      → ((sent : Option Emission) × IsHeardBy calls.hears now incoming ready sent heard × Sends Went (option_to_list sent) a b) → answered ≡ heard → c ≡ b
-      → ((steps : List SettlingStep) × AreStepsBy calls now steps answered new × AreSettled steps × Sends Went (sent_in_steps steps) c d)
+      → ((sent : Option Emission) × IsHeardBy calls.hears now incoming ready sent heard × Sends e.went (option_to_list sent) a b) → answered ≡ heard → c ≡ b
+      → ((steps : List SettlingStep) × AreStepsBy calls now steps answered new × AreSettled steps × Sends e.went (sent_in_steps steps) c d)
       → (0 < limit → count < limit) → limit ≤ 4294967295 → next ≡ min (count + 1) 4294967295
-      → EndsInTime (λ shard until. calls.stays_quiet shard new until) now after_it → Runs limit next after_it before after old new d
-  heard_round limit count next wait after_it before mid after old last ready heard answered new a b c d now incoming h moment came readied x same counts y below fits is ends =
-      one_round limit count next wait after_it before mid after old last ready answered new a c d now (Some incoming) h moment came readied
-      (x.0, subst (λ (s : S). IsHeardBy calls.hears now incoming ready x.0 s) (sym same) x.1, subst (λ (o : Outbox). Sends Went (option_to_list x.0) a o) (sym counts) x.2) y
-      (λ some. let under : count < limit = below some in (omega (arith, under, fits, is), omega (arith, under, fits, is))) ends
+      → (idle : Bool) → idle ≡ false → EndsInTime (λ shard until. calls.stays_quiet shard new until) now idle after_it → Runs limit next after_it before after old new d
+  heard_round limit count next wait after_it before mid after old last ready heard answered new o a b c d now incoming h asks came readied x same counts y below fits is idle busy ends =
+      one_round limit count next wait after_it before mid after old last ready answered new o a c d now (Some incoming) h asks came readied
+      (x.0, subst (λ (s : S). IsHeardBy calls.hears now incoming ready x.0 s) (sym same) x.1, subst (λ (o : Outbox). Sends e.went (option_to_list x.0) a o) (sym counts) x.2) y
+      (λ some. let under : count < limit = below some in (omega (arith, under, fits, is), omega (arith, under, fits, is)))
+      (subst (λ (b : Bool). EndsInTime (λ shard until. calls.stays_quiet shard new until) now b after_it) busy ends)
 
   -- and of nothing but a moment
-  pub passed_round : (limit count next : ℕ) (wait after_it : Option ℕ) (before mid after : Option (List Receive)) (old last ready passed answered new : S) (a c d : Outbox) (now : ℕ)
-      → Runs limit count wait before mid old last a → IsMoment now
+  pub passed_round : (limit count next : ℕ) (wait after_it : Option ℕ) (before mid after : Option (List Receive)) (old last ready passed answered new : S) (o a c d : Outbox) (now : ℕ)
+      → Runs limit count wait before mid old last o → AreAsked wait None now o a
       → Comes mid after (record { wait = wait; came = None } ∷ []) → Readies now last ready → calls.passes now ready passed → answered ≡ passed → c ≡ a
-      → ((steps : List SettlingStep) × AreStepsBy calls now steps answered new × AreSettled steps × Sends Went (sent_in_steps steps) c d)
-      → next ≡ count → EndsInTime (λ shard until. calls.stays_quiet shard new until) now after_it → Runs limit next after_it before after old new d
-  passed_round limit count next wait after_it before mid after old last ready passed answered new a c d now h moment came readied x same counts y is ends =
-      one_round limit count next wait after_it before mid after old last ready answered new a c d now None h moment came readied
-      (None, (subst (λ (s : S). calls.passes now ready s) (sym same) x, refl), subst (λ (o : Outbox). Sends Went [] a o) (sym counts) (none_sent Went a)) y
-      (λ some. (omega (arith, is), omega (arith, is, (h.2 some).1))) ends
+      → ((steps : List SettlingStep) × AreStepsBy calls now steps answered new × AreSettled steps × Sends e.went (sent_in_steps steps) c d)
+      → next ≡ count → (idle : Bool) → idle ≡ true → EndsInTime (λ shard until. calls.stays_quiet shard new until) now idle after_it → Runs limit next after_it before after old new d
+  passed_round limit count next wait after_it before mid after old last ready passed answered new o a c d now h asks came readied x same counts y is idle quiet ends =
+      one_round limit count next wait after_it before mid after old last ready answered new o a c d now None h asks came readied
+      (None, (subst (λ (s : S). calls.passes now ready s) (sym same) x, refl), subst (λ (o : Outbox). Sends e.went [] a o) (sym counts) (none_sent e.went a)) y
+      (λ some. (omega (arith, is), omega (arith, is, (h.2 some).1)))
+      (subst (λ (b : Bool). EndsInTime (λ shard until. calls.stays_quiet shard new until) now b after_it) quiet ends)

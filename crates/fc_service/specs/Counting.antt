@@ -24,6 +24,10 @@ sent_by share = share.sent
 abbrev pub failed_by : {T : Type 0} → Share T → ℕ
 failed_by share = share.failed
 
+-- what the worker of a share has sent, and what it failed to send
+abbrev pub replies_by : {T : Type 0} → Share T → Replies
+replies_by share = record { sent = sent_by share; failed = failed_by share }
+
 -- what the workers of these shares have sent, and what they failed to send
 abbrev pub replies_of : {T : Type 0} → List (Share T) → Replies
 replies_of shares = record { sent = saturated (sum_by sent_by shares); failed = saturated (sum_by failed_by shares) }

@@ -1,46 +1,61 @@
 -- That what a server on one thread did in all rounds, or for all lines, is one history.
-use Rattle.std.specs.Prelude.{◌≡◌, ℕ, List, [], ◌∷◌, ◌++◌, flat_map}
+use Rattle.std.specs.Prelude.{◌≡◌, ℕ, List, [], ◌∷◌, ◌++◌, Option, Some, None, flat_map}
 use Rattle.std.specs.Option.{option_to_list}
 use Rattle.coap_msg.specs.declared.types.Emission.{Emission}
 use Rattle.fc_core.specs.declared.event.Event.{Event}
-use Rattle.fc_core.specs.declared.event.Event.TheVariants.{Deliver}
+use Rattle.fc_core.specs.declared.event.Event.TheVariants.{Deliver, Tick}
 use Rattle.fc_core.specs.declared.stage.Task.{Task}
-use Rattle.fc_core.specs.History.{Begins, Entry}
+use Rattle.fc_core.specs.History.{Entry}
+use Rattle.fc_server.specs.declared.server.Begin.{Begin}
 use Rattle.fc_core.specs.Laws.{followed_by}
 use Rattle.fc_server.specs.Serving.{Serves}
-use Rattle.fc_server.specs.States.{ServerState}
+use Rattle.fc_server.specs.States.{ServerState, begin_of}
 use Rattle.fc_lines.specs.declared.line.Line.{Line}
 use Rattle.fc_lines.specs.declared.line.Line.TheVariants as lines
 use Rattle.fc_lines.specs.Emissions.{peer_endpoint}
 use Rattle.fc_host.specs.Sockets.{Incoming}
-use Rattle.fc_service.specs.Playing.{PlayedLine}
+use Rattle.fc_service.specs.Playing.{PlayedLine, moment_of}
+use Rattle.fc_service.specs.Rounds.{Round}
 use Rattle.fc_service.specs.Settling.{sent_in_steps}
 
--- the datagram that an event delivers
-abbrev pub delivered_by : Event → List Incoming
-delivered_by (Deliver now from bytes) = record { from = from; bytes = bytes.now } ∷ []
-delivered_by other = []
+-- at a moment a datagram came, or none did and time passed
+pub record Arrival : Type 0 where
+  pub now : ℕ
+  pub came : Option Incoming
 
--- from its beginning at this serial and message id on, a server did these events, of which each emitted what it may; they leave this server; these datagrams
--- were delivered, and this was emitted, the oldest first
-pub record IsOneHistory (serial id : ℕ) (delivered : List Incoming) (emitted : List Emission) (s : ServerState) : Type 0 where
+-- what comes by an event
+abbrev pub arrived_by : Event → List Arrival
+arrived_by (Deliver now from bytes) = record { now = now; came = Some (record { from = from; bytes = bytes.now }) } ∷ []
+arrived_by (Tick now) = record { now = now; came = None } ∷ []
+arrived_by other = []
+
+-- from its beginning on, a server did these events, of which each emitted what it may; they leave this server; just these datagrams
+-- were delivered, and time passed where none came, each at its moment, and this was emitted, the oldest first
+pub record IsOneHistory (begin : Begin) (arrived : List Arrival) (emitted : List Emission) (s : ServerState) : Type 0 where
   pub entries : List Entry
   pub tasks : List Task
-  pub serves : Serves (followed_by (Begins serial id) entries) s tasks
-  pub delivers : flat_map (λ r. delivered_by r.event) entries ≡ delivered
+  pub serves : Serves (followed_by (begin_of begin) entries) s tasks
+  pub arrives : flat_map (λ r. arrived_by r.event) entries ≡ arrived
   pub emits : flat_map (λ r. option_to_list r.emitted) entries ≡ emitted
+
+-- ---- of rounds
+
+-- what came in rounds, and when, the oldest first, where the newest round is first
+abbrev pub arrivals_in : List Round → List Arrival
+arrivals_in [] = []
+arrivals_in (r ∷ rs) = arrivals_in rs ++ record { now = r.now; came = r.received } ∷ []
 
 -- ---- of lines
 
--- the datagram that a line tells
-abbrev pub datagram_in : Line → List Incoming
-datagram_in (lines.Deliver now peer bytes) = record { from = peer_endpoint peer; bytes = bytes.items } ∷ []
-datagram_in other = []
+-- the datagram that a line tells, if it tells one
+abbrev pub datagram_in : Line → Option Incoming
+datagram_in (lines.Deliver now peer bytes) = Some (record { from = peer_endpoint peer; bytes = bytes.items })
+datagram_in other = None
 
--- what lines tell, and what was sent of them, the oldest first, where the newest line is first
-abbrev pub received_in_lines : List PlayedLine → List Incoming
-received_in_lines [] = []
-received_in_lines (p ∷ ps) = received_in_lines ps ++ datagram_in p.line
+-- what lines tell, and when, and what was sent of them, the oldest first, where the newest line is first
+abbrev pub arrivals_in_lines : List PlayedLine → List Arrival
+arrivals_in_lines [] = []
+arrivals_in_lines (p ∷ ps) = arrivals_in_lines ps ++ record { now = moment_of p.line; came = datagram_in p.line } ∷ []
 
 abbrev pub sent_in_lines : List PlayedLine → List Emission
 sent_in_lines [] = []

@@ -54,3 +54,25 @@ pub record IntakeCalls (S : Type 0) : Type 1 where
   pub notifies : ℕ → ℕ → S → S → Notified → Type 0
   -- nothing is late at a shard, and nobody due, before a moment
   pub stays_quiet : ℕ → S → ℕ → Type 0
+
+-- the calls of who waits for the workers of whom these calls are made
+abbrev pub waited_calls : {S : Type 0} → IntakeCalls S → IntakeCalls S
+waited_calls calls = record {
+  hears = IsWaitedFor calls.hears;
+  passes = calls.passes;
+  resends = calls.resends;
+  passes_over = calls.passes_over;
+  notifies = λ shard now old new told. (asked : Notified) × calls.notifies shard now old new asked × IsTurnWaitedFor asked told;
+  stays_quiet = calls.stays_quiet;
+}
+
+-- the calls of a holder of a server, by those of the server
+abbrev pub calls_through : {H S : Type 0} → (H → S) → IntakeCalls S → IntakeCalls H
+calls_through held calls = record {
+  hears = λ now from bytes old new heard reply. calls.hears now from bytes (held old) (held new) heard reply;
+  passes = λ now old new. calls.passes now (held old) (held new);
+  resends = λ shard now old new ticked. calls.resends shard now (held old) (held new) ticked;
+  passes_over = λ shard now old new. calls.passes_over shard now (held old) (held new);
+  notifies = λ shard now old new told. calls.notifies shard now (held old) (held new) told;
+  stays_quiet = λ shard now until. calls.stays_quiet shard (held now) until;
+}

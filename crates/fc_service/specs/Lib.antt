@@ -4,6 +4,8 @@ pub mod Pooled
 pub mod Counting
 pub mod Traffic
 pub mod Settling
+pub mod Options
 pub mod Playing
 pub mod Rounds
 pub mod Histories
+pub mod Policies

@@ -1,9 +1,11 @@
 -- What is done with lines, and what is printed.
-use Rattle.std.specs.Prelude.{◌≡◌, ℕ, ◌<◌, List, [], ◌∷◌, ◌++◌, length, Option, Some, None, IfSome}
+use Rattle.std.specs.Prelude.{◌≡◌, ⊤, ℕ, ◌+◌, ◌<◌, List, [], ◌∷◌, ◌++◌, length, Option, Some, None, IfSome}
 use Rattle.std.specs.Io.BufRead.{DropsThrough, first_piece}
 use Rattle.std.specs.Io.KnownBytes.{Appends, IsAtEnd}
 use Rattle.coap_msg.specs.declared.types.Emission.{Emission}
-use Rattle.fc_core.specs.History.{Begins}
+use Rattle.fc_workers.specs.Answers.{saturated}
+use Rattle.fc_server.specs.States.{begin_of}
+use Rattle.fc_server.specs.declared.server.Begin.{Begin}
 use Rattle.fc_help.specs.Region.{no_readings}
 use Rattle.fc_server.specs.Serving.{Serves}
 use Rattle.fc_lines.specs.declared.line.Line.{Line}
@@ -11,9 +13,13 @@ use Rattle.fc_lines.specs.declared.line.Line.TheVariants.{Deliver, Device, Tick}
 use Rattle.fc_lines.specs.Emissions.{peer_endpoint, printed}
 use Rattle.fc_lines.specs.Lines.{IsLine}
 use Rattle.fc_service.specs.Alone.{HandsAlone, alone_calls}
-use Rattle.fc_service.specs.Intakes.{IntakeCalls, IsHeardBy}
+use Rattle.fc_service.specs.Intakes.{IntakeCalls, IsHeardBy, waited_calls}
+use Rattle.fc_service.specs.Pooled.{IsFedBeside, locked_shop}
 use Rattle.fc_service.specs.Settling.{AreSettled, AreStepsBy, SettlingStep, printed_steps}
 use Rattle.fc_service.specs.declared.alone.Alone.{Alone}
+use Rattle.fc_service.specs.declared.replies.Replies.{Replies}
+use Rattle.fc_core.specs.Exchanges.{first_front}
+use Rattle.fc_workers.specs.declared.dispatcher.Handover.{Handover}
 
 -- what is printed of what is sent
 abbrev pub output_of : Option Emission → List ℕ
@@ -87,14 +93,45 @@ module _ {S : Type 0} (Hands : List ℕ → S → S → Type 0) (calls : IntakeC
     pub read : AreRead lines had left
     pub printed : Appends before after (printed_lines lines)
 
+  -- it stopped at the line of this number, counted from 1: the lines before it were played, and just what they sent was printed
+  pub record StopsAt (number : ℕ) (old new : S) (had before after : Option (List ℕ)) : Type 0 where
+    pub left : Option (List ℕ)
+    pub has : HasPlayed old new had left before after
+    pub number_is : number ≡ saturated (length has.lines + 1)
+
 -- ---- a server on one thread
 
--- all that a reader had was played on one thread, on a server that began at this serial and message id, and whose jobs were handed zeros first
-pub record IsPlayedOut (serial id : ℕ) (had before after : Option (List ℕ)) : Type 0 where
+-- all that a reader had was played on one thread, on a server that began so, and whose jobs were handed zeros first
+pub record IsPlayedOut (begin : Begin) (had before after : Option (List ℕ)) : Type 0 where
   pub first : Alone
   pub last : Alone
-  pub begins : Serves (Begins serial id) first.engine []
+  pub begins : Serves (begin_of begin) first.engine []
   pub handed : first.handed ≡ record { readings = no_readings; random = 0 }
   pub left : Option (List ℕ)
   pub played : HasPlayed HandsAlone alone_calls first last had left before after
   pub end : IsAtEnd left
+
+-- the lines that a reader had were played so up to a bad line, the one of this number
+pub record IsPlayedUpTo (number : ℕ) (begin : Begin) (had before after : Option (List ℕ)) : Type 0 where
+  pub first : Alone
+  pub last : Alone
+  pub begins : Serves (begin_of begin) first.engine []
+  pub handed : first.handed ≡ record { readings = no_readings; random = 0 }
+  pub stops : StopsAt HandsAlone alone_calls number first last had before after
+
+-- ---- a server with workers
+
+-- all that a reader had was played, from this state of a server on, whose workers are waited for after each line
+pub record IsFedByLines {S : Type 0} (calls : IntakeCalls S) (had : Option (List ℕ)) (first : S) : Type 0 where
+  pub last : S
+  pub left : Option (List ℕ)
+  pub before : Option (List ℕ)
+  pub after : Option (List ℕ)
+  pub played : HasPlayed (λ readings old new. new ≡ old) (waited_calls calls) first last had left before after
+  pub end : IsAtEnd left
+
+-- all that a reader had was played so by a new dispatcher beside as many workers, whose server began so. It has sent what its jobs came to, and its device's readings are the lines': of these nothing is known
+abbrev pub IsPlayedBeside : Begin → Handover → ℕ → Option (List ℕ) → Replies → Type 0
+IsPlayedBeside begin handover workers had replies =
+    IsFedBeside (locked_shop (first_front begin.policy begin.id) (λ readings before after. ⊤) (λ now before after. ⊤) (λ random. ⊤) (λ call before after. ⊤))
+    (λ calls lines first last given. IsFedByLines calls lines first) handover workers had (tt {0}) replies

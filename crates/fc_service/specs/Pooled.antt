@@ -1,5 +1,6 @@
 -- What a pool's dispatcher does where it is fed.
-use Rattle.std.specs.Prelude.{◌≡◌, ◌⊎◌, ⊤, ℕ, Bool, List, slice_index, None, true, false}
+use Rattle.std.specs.Prelude.{◌≡◌, ◌⊎◌, ⊤, ℕ, Bool, List, length, slice_index, None, true, false}
+use Rattle.std.specs.List.{All}
 use Rattle.std.specs.Borrow.{Bor}
 use Rattle.coap_msg.specs.declared.types.Emission.{Emission}
 use Rattle.coap_msg.specs.declared.types.Endpoint.{Endpoint}
@@ -7,14 +8,22 @@ use Rattle.fc_core.specs.declared.front.Heard.{Heard}
 use Rattle.fc_observe.specs.declared.observers.Ticked.{Ticked}
 use Rattle.fc_server.specs.Notified.{Notified, is_given, notification_in}
 use Rattle.fc_workers.specs.Answers.{IsSomeQuiet, IsSomeTick}
+use Rattle.fc_core.specs.Exchanges.{FrontState}
 use Rattle.fc_workers.specs.Asked.{IsLoggedCall, IsServerCall}
-use Rattle.fc_workers.specs.Called.{AdvancesFront, AdvancesQuiet, AdvancesShard, BenchCall, LoggedCall, LooksAhead, Shop, WireCall, shop}
+use Rattle.fc_calls.specs.Logged.{AdvancesFront, AdvancesQuiet, AdvancesShard, LoggedCall}
+use Rattle.fc_workers.specs.Called.{BenchCall, LooksAhead, Shop, WireCall, shop}
 use Rattle.fc_workers.specs.Counts.{Tallies}
 use Rattle.fc_workers.specs.Dispatch.{HasCalled, IsTakenIn, IsTurnAsked}
+use Rattle.fc_workers.specs.Shares.{AreSharesOf, new_share}
+use Rattle.fc_jobs.specs.Ends.{Channel, nothing_got, nothing_sent}
 use Rattle.fc_workers.specs.declared.call_log.CallLog.{CallLog}
 use Rattle.fc_workers.specs.declared.dispatcher.Dispatched.{Dispatched}
 use Rattle.fc_workers.specs.declared.dispatcher.Handover.{Handover}
 use Rattle.fc_workers.specs.declared.dispatcher.Handover.TheVariants.{Never}
+use Rattle.fc_workers.specs.declared.seat.Seat.{Seat}
+use Rattle.fc_workers.specs.declared.share.Share.{Share}
+use Rattle.fc_service.specs.Counting.{both_replies, replies_by, replies_of}
+use Rattle.fc_service.specs.declared.replies.Replies.{Replies}
 use Rattle.fc_service.specs.Intakes.{IntakeCalls}
 
 -- a dispatcher as it is seen: which jobs go to workers, and what it has done
@@ -26,6 +35,13 @@ pub record Dispatching (T : Type 0) : Type 0 where
 abbrev pub handover_where : Bool → Handover → Handover
 handover_where true handover = handover
 handover_where false handover = Never
+
+-- a dispatcher of this handover that has sent nothing by this channel, and done nothing, with a new log
+pub record IsNew {T : Type 0} (channel : Channel) (handover : Handover) (d : Dispatching T) : Type 0 where
+  pub handover_is : d.handover ≡ handover
+  pub tallies : T
+  pub log : CallLog
+  pub done : d.done ≡ record { sent = nothing_sent channel; share = new_share (nothing_got channel) tallies log }
 
 module _ {T : Type 0} (s : Shop T) where
   abbrev pub HearsPooled : ℕ → Endpoint → Bor (List ℕ) → Dispatching T → Dispatching T → Heard → Emission → Type 0
@@ -61,19 +77,41 @@ module _ {T : Type 0} (s : Shop T) where
     stays_quiet = StaysQuietPooled;
   }
 
-  -- a feeder fed a dispatcher of this handover, or, where no workers were begun, of none, and gave this
-  pub record IsFed {F X : Type 0} (Feeds : IntakeCalls (Dispatching T) → F → Dispatching T → Dispatching T → X → Type 0) (handover : Handover) (has_workers : Bool) (feeder : F) (given : X) : Type 0 where
+  -- these are the shares of as many workers as there are, which got just the jobs of this channel that they worked off and ended, each with a log of its own that was new
+  pub record AreSharesAt (channel : Channel) (shares : List (Share T)) : Type 0 where
+    pub seats : List (Seat T)
+    pub new : All (λ (seat : Seat T). seat.got ≡ nothing_got channel) seats
+    pub worked : AreSharesOf s seats shares
+
+  -- a feeder fed a new dispatcher of this channel and handover, and gave this, and the dispatcher came to this share
+  pub record FeedsTo {F X : Type 0} (Feeds : IntakeCalls (Dispatching T) → F → Dispatching T → Dispatching T → X → Type 0) (channel : Channel) (handover : Handover) (feeder : F) (given : X) (own : Share T) : Type 0 where
     pub first : Dispatching T
     pub last : Dispatching T
-    pub begins : first.handover ≡ handover_where has_workers handover
+    pub new : IsNew channel handover first
     pub feeds : Feeds pooled_calls feeder first last given
+    pub own_is : own ≡ last.done.share
+
+  -- it was fed so, and the workers of its channel came to these shares
+  pub record IsFed {F X : Type 0} (Feeds : IntakeCalls (Dispatching T) → F → Dispatching T → Dispatching T → X → Type 0) (handover : Handover) (feeder : F) (given : X) (own : Share T) (shares : List (Share T)) : Type 0 where
+    pub channel : Channel
+    pub fed : FeedsTo Feeds channel handover feeder given own
+    pub shares_are : AreSharesAt channel shares
+
+  -- it was fed so beside as many workers, and the replies are those of the dispatcher's own jobs and the workers'
+  pub record IsFedBeside {F X : Type 0} (Feeds : IntakeCalls (Dispatching T) → F → Dispatching T → Dispatching T → X → Type 0) (handover : Handover) (workers : ℕ) (feeder : F) (given : X) (replies : Replies) : Type 0 where
+    pub own : Share T
+    pub shares : List (Share T)
+    pub fed : IsFed Feeds handover feeder given own shares
+    pub count : length shares ≡ workers
+    pub counted : replies ≡ both_replies (replies_of shares) (replies_by own)
 
 -- a shop whose jobs are never held up
-abbrev pub open_shop : {T : Type 0} → (T → ℕ → ℕ) → (T → ℕ) → (BenchCall → Type 0) → (LoggedCall → CallLog → CallLog → Type 0) → (IsMoment IsRandom : ℕ → Type 0)
-    → (WireCall → CallLog → CallLog → Type 0) → Shop T
+abbrev pub open_shop : {T : Type 0} → (T → ℕ → ℕ) → (T → ℕ) → (BenchCall → Type 0) → (LoggedCall → CallLog → CallLog → Type 0)
+    → (IsMoment : ℕ → CallLog → CallLog → Type 0) → (IsRandom : ℕ → Type 0) → (WireCall → CallLog → CallLog → Type 0) → Shop T
 open_shop changes ended bench logged moment random wire = shop changes ended bench logged moment random (λ number before after. ⊤) wire
 
--- that of a server behind locks: with what its device says, its moments and random words, and the calls of its wire
-abbrev pub locked_shop : (List ℕ → Type 0) → (IsMoment IsRandom : ℕ → Type 0) → (WireCall → CallLog → CallLog → Type 0) → Shop Tallies
-locked_shop AreReadings IsMoment IsRandom Wired = open_shop (λ t. slice_index t.changes) (λ t. t.ended) IsServerCall
-    (λ call before after. IsLoggedCall AreReadings call) IsMoment IsRandom Wired
+-- that of a server behind locks: with the front that it begins with, what its device says, its moments and random words, and the calls of its wire
+abbrev pub locked_shop : FrontState → (AreReadings : List ℕ → CallLog → CallLog → Type 0) → (IsMoment : ℕ → CallLog → CallLog → Type 0) → (IsRandom : ℕ → Type 0)
+    → (WireCall → CallLog → CallLog → Type 0) → Shop Tallies
+locked_shop first AreReadings IsMoment IsRandom Wired = open_shop (λ t. slice_index t.changes) (λ t. t.ended) IsServerCall
+    (IsLoggedCall first AreReadings) IsMoment IsRandom Wired

@@ -1,18 +1,23 @@
 -- What a server does with what it receives, round after round; and a server on one thread.
-use Rattle.std.specs.Prelude.{◌≡◌, ◌+◌, ◌<◌, ◌≤◌, ◌⊎◌, ⊤, ℕ, List, [], ◌∷◌, ◌++◌, length, map, Bool, Option, Some, None}
+use Rattle.std.specs.Prelude.{◌≡◌, ◌-◌, ◌<◌, ◌≤◌, ◌⊎◌, ⊤, ℕ, max, min, nat_lt, if◌then◌else◌, List, [], ◌∷◌, ◌++◌, length, map, Bool, false, true, Option, Some, None, is_none}
 use Rattle.std.specs.Option.{option_to_list}
 use Rattle.coap_msg.specs.declared.types.Emission.{Emission}
-use Rattle.fc_core.specs.History.{Begins}
 use Rattle.fc_workers.specs.Counts.{Tallies}
+use Rattle.fc_workers.specs.declared.dispatcher.Handover.TheVariants.{Dear}
+use Rattle.fc_workers.specs.declared.share.Share.{Share}
+use Rattle.fc_jobs.specs.Ends.{Channel}
 use Rattle.fc_workers.specs.declared.call_log.CallLog.{CallLog}
+use Rattle.fc_workers.specs.Called.{Shop}
+use Rattle.fc_core.specs.Exchanges.{FrontState, first_front}
 use Rattle.fc_server.specs.Serving.{Serves}
+use Rattle.fc_server.specs.States.{begin_of}
 use Rattle.fc_server.specs.declared.server.Begin.{Begin}
 use Rattle.fc_host.specs.Sockets.{Comes, Incoming, IsHanded, Receive}
 use Rattle.fc_service.specs.Alone.{ReadiesAlone, alone_calls}
 use Rattle.fc_host.specs.Clocks.{AreReadAt}
-use Rattle.fc_service.specs.Counting.{both_replies}
+use Rattle.fc_service.specs.Counting.{both_replies, replies_by, replies_of}
 use Rattle.fc_service.specs.Intakes.{IntakeCalls, IsHeardBy}
-use Rattle.fc_service.specs.Pooled.{Dispatching, locked_shop, pooled_calls}
+use Rattle.fc_service.specs.Pooled.{AreSharesAt, Dispatching, IsNew, handover_where, locked_shop, pooled_calls}
 use Rattle.fc_service.specs.Settling.{AreSettled, AreStepsBy, SettlingStep, sent_in_steps}
 use Rattle.fc_service.specs.Traffic.{AreHanded, Sending, replies_to}
 use Rattle.fc_service.specs.declared.alone.Alone.{Alone}
@@ -29,10 +34,14 @@ pub record Round : Type 0 where
   pub steps : List SettlingStep
   pub sendings : List Sending
 
+-- the receive that a round begins with
+abbrev pub receive_of : Round → Receive
+receive_of r = record { wait = r.wait; came = r.received }
+
 -- the receives of rounds, what was received in them, and what was handed to the sink, the oldest first, where the newest round is first
 abbrev pub round_receives : List Round → List Receive
 round_receives [] = []
-round_receives (r ∷ rs) = round_receives rs ++ record { wait = r.wait; came = r.received } ∷ []
+round_receives (r ∷ rs) = round_receives rs ++ receive_of r ∷ []
 
 abbrev pub received_in : List Round → List Incoming
 received_in [] = []
@@ -44,22 +53,60 @@ sendings_in (r ∷ rs) = sendings_in rs ++ r.sendings
 
 -- ---- how long a datagram is waited for, by until when each shard is quiet
 
--- before this moment nothing is late at any shard, and nobody due
-abbrev pub AllStayQuiet : (ℕ → ℕ → Type 0) → ℕ → Type 0
-AllStayQuiet StaysQuiet moment = (shard : ℕ) → shard < 8 → (until : ℕ) × StaysQuiet shard until × (moment ≤ until)
+-- the moments that the first shards told, each until when it is quiet, the last one's first
+abbrev pub AreTold : (ℕ → ℕ → Type 0) → List ℕ → Type 0
+AreTold StaysQuiet [] = ⊤
+AreTold StaysQuiet (until ∷ before) = StaysQuiet (length before) until × AreTold StaysQuiet before
 
--- a wait that begins at a moment lasts 100 ms, or ends before there may be something to do; without end, where there is nothing at any moment
-abbrev pub EndsInTime : (ℕ → ℕ → Type 0) → ℕ → Option ℕ → Type 0
-EndsInTime StaysQuiet now (Some wait) = (wait ≡ 100) ⊎ AllStayQuiet StaysQuiet (now + wait)
-EndsInTime StaysQuiet now None = AllStayQuiet StaysQuiet 18446744073709551615
+-- the earliest of them; 2^64 - 1 ms is none
+abbrev pub earliest : List ℕ → ℕ
+earliest [] = 18446744073709551615
+earliest (until ∷ before) = min (earliest before) until
+
+-- each of the eight shards told until when it is quiet, and this is the earliest of these moments
+abbrev pub IsQuietUntil : (ℕ → ℕ → Type 0) → ℕ → Type 0
+IsQuietUntil StaysQuiet moment = (told : List ℕ) × AreTold StaysQuiet told × (length told ≡ 8) × (moment ≡ earliest told)
+
+-- how long a datagram is waited for, from now until a moment: 100 ms at least, and without end if the moment is none
+abbrev pub wait_until : ℕ → ℕ → Option ℕ
+wait_until now moment = if nat_lt moment 18446744073709551615 then Some (max (moment - now) 100) else None
+
+-- after a round that received a datagram, the next is waited for 100 ms; after an idle round, until the earliest moment at which there may be something to do
+abbrev pub EndsInTime : (ℕ → ℕ → Type 0) → ℕ → Bool → Option ℕ → Type 0
+EndsInTime StaysQuiet now false wait = wait ≡ Some 100
+EndsInTime StaysQuiet now true wait = (moment : ℕ) × IsQuietUntil StaysQuiet moment × (wait ≡ wait_until now moment)
 
 -- how long a datagram is waited for first, and after rounds that left a server so
 abbrev pub WaitsAfter : {S : Type 0} → IntakeCalls S → List Round → S → Option ℕ → Type 0
 WaitsAfter calls [] left wait = wait ≡ Some 100
-WaitsAfter calls (r ∷ rs) left wait = EndsInTime (λ shard until. calls.stays_quiet shard left until) r.now wait
+WaitsAfter calls (r ∷ rs) left wait = EndsInTime (λ shard until. calls.stays_quiet shard left until) r.now (is_none r.received) wait
 
--- ---- of a server, by which moments there are, and by what each call does to it
-module _ {S : Type 0} (IsMoment : ℕ → Type 0) (Readies : ℕ → S → S → Type 0) (calls : IntakeCalls S) where
+-- ---- in which order a round calls
+
+-- which calls were made of a source, of who tells moments, and of a sink, each from one state of the caller's log to the next
+pub record RoundCalls : Type 1 where
+  pub received : Receive → CallLog → CallLog → Type 0
+  pub moment : ℕ → CallLog → CallLog → Type 0
+  pub went : Emission → Bool → CallLog → CallLog → Type 0
+
+abbrev pub round_calls : (Receive → CallLog → CallLog → Type 0) → (ℕ → CallLog → CallLog → Type 0) → (Emission → Bool → CallLog → CallLog → Type 0) → RoundCalls
+round_calls received moment went = record { received = received; moment = moment; went = went }
+
+-- a source was asked for a datagram, then the moment was asked for, and then this was handed to a sink, in order. The log has no other call
+pub record IsCalledIn (e : RoundCalls) (r : Round) (before after : CallLog) : Type 0 where
+  pub asked : CallLog
+  pub receives : e.received (receive_of r) before asked
+  pub told : CallLog
+  pub moment : e.moment r.now asked told
+  pub handed : AreHanded e.went r.sendings told after
+
+-- rounds called so one after the other, the newest first
+abbrev pub AreCalledIn : RoundCalls → List Round → CallLog → CallLog → Type 0
+AreCalledIn e [] before after = after ≡ before
+AreCalledIn e (r ∷ rs) before after = (mid : CallLog) × AreCalledIn e rs before mid × IsCalledIn e r mid after
+
+-- ---- of a server, by what each call does to it
+module _ {S : Type 0} (Readies : ℕ → S → S → Type 0) (calls : IntakeCalls S) where
   -- what was received was heard; or nothing was, and time passed
   abbrev pub IsReceivedBy : ℕ → Option Incoming → S → Option Emission → S → Type 0
   IsReceivedBy now (Some incoming) old sent new = IsHeardBy calls.hears now incoming old sent new
@@ -68,7 +115,6 @@ module _ {S : Type 0} (IsMoment : ℕ → Type 0) (Readies : ℕ → S → S →
   -- the server was made ready; what was received was carried out; what was late was sent again, and observers were notified, until nothing was left; and just what this emitted
   -- was handed to the sink, in order
   pub record IsRoundBy (r : Round) (old new : S) : Type 0 where
-    pub moment : IsMoment r.now
     pub ready : S
     pub readied : Readies r.now old ready
     pub answered : S
@@ -82,53 +128,61 @@ module _ {S : Type 0} (IsMoment : ℕ → Type 0) (Readies : ℕ → S → S →
   AreRoundsBy [] old new = new ≡ old
   AreRoundsBy (r ∷ rs) old new = (mid : S) × AreRoundsBy rs old mid × WaitsAfter calls rs mid r.wait × IsRoundBy r mid new
 
-  -- a source's receives were those of these rounds, in order; the sink was handed just what the rounds hand over, in order, from this state of the log on; and the replies are those of
-  -- the rounds, as the sink told
-  pub record HasRounds (Went : Emission → Bool → CallLog → CallLog → Type 0) (rounds : List Round) (before after : Option (List Receive)) (old new : S) (log : CallLog) (outbox : Outbox)
-      : Type 0 where
+  -- a source's receives were those of these rounds, in order; each round's calls were made in order, from this state of the log on; and the replies are those that the
+  -- rounds handed over, as the sink told
+  pub record HasRounds (e : RoundCalls) (rounds : List Round) (before after : Option (List Receive)) (old new : S) (log : CallLog) (outbox : Outbox) : Type 0 where
     pub are_rounds : AreRoundsBy rounds old new
     pub came : Comes before after (round_receives rounds)
-    pub handed : AreHanded Went (sendings_in rounds) log outbox.log
+    pub called : AreCalledIn e rounds log outbox.log
     pub counted : outbox.replies ≡ replies_to (sendings_in rounds)
 
   -- it ended when so many datagrams were received, and where there is a limit at all
-  pub record HasRun (Went : Emission → Bool → CallLog → CallLog → Type 0) (limit : ℕ) (before after : Option (List Receive)) (old new : S) (replies : Replies) : Type 0 where
+  pub record HasRun (e : RoundCalls) (limit : ℕ) (before after : Option (List Receive)) (old new : S) (replies : Replies) : Type 0 where
     pub rounds : List Round
     pub log : CallLog
     pub outbox : Outbox
-    pub has : HasRounds Went rounds before after old new log outbox
+    pub has : HasRounds e rounds before after old new log outbox
     pub replies_are : replies ≡ outbox.replies
     pub limited : 0 < limit
     pub received : length (received_in rounds) ≡ limit
 
 -- a receiver, which makes nothing ready before a round, has run
-abbrev pub HasReceived : {S : Type 0} → IntakeCalls S → (ℕ → Type 0) → (Emission → Bool → CallLog → CallLog → Type 0) → ℕ → Option (List Receive) → Option (List Receive) → S → S → Replies → Type 0
-HasReceived c moments went limit before after first last replies =
-    HasRun moments (λ now old new. new ≡ old) c went limit before after first last replies
+abbrev pub HasReceived : {S : Type 0} → IntakeCalls S → RoundCalls → ℕ → Option (List Receive) → Option (List Receive) → S → S → Replies → Type 0
+HasReceived c e limit before after first last replies = HasRun (λ now old new. new ≡ old) c e limit before after first last replies
 
 -- ---- a server on one thread
 
 -- a server that began at this serial and message id has run on one thread, with these sensors, until so many datagrams were received
-pub record HasServed (sensors : List ℕ → Type 0) (moments : ℕ → Type 0) (went : Emission → Bool → CallLog → CallLog → Type 0) (limit : ℕ) (begin : Begin) (before after : Option (List Receive)) (replies : Replies) : Type 0 where
+pub record HasServed (sensors : List ℕ → Type 0) (e : RoundCalls) (limit : ℕ) (begin : Begin) (before after : Option (List Receive)) (replies : Replies) : Type 0 where
   pub first : Alone
   pub last : Alone
-  pub begins : Serves (Begins begin.serial begin.id) first.engine []
-  pub run : HasRun moments (ReadiesAlone sensors) alone_calls went limit before after first last replies
+  pub begins : Serves (begin_of begin) first.engine []
+  pub run : HasRun (ReadiesAlone sensors) alone_calls e limit before after first last replies
 
 -- ---- a server with workers
 
--- each datagram that was given to a feeder of a server with workers went through one round of its dispatcher; the replies are those of the rounds, and what jobs were answered besides
-pub record HasServedPooled (sensors : List ℕ → Type 0) (moments : ℕ → Type 0) (went : Emission → Bool → CallLog → CallLog → Type 0) (limit : ℕ) (before after : Option (List Receive)) (replies : Replies) : Type 0 where
+-- what a server with workers is asked: its front began as this one, its programs read the clock and these sensors, and its replies go to the sink
+abbrev pub served_shop : (List ℕ → Type 0) → RoundCalls → FrontState → Shop Tallies
+served_shop sensors e front = locked_shop front (AreReadAt e.moment sensors) e.moment (λ random. ⊤) (IsHanded e.went)
+
+-- datagrams were received until there were so many, and each went through a round of one dispatcher, which began new. Runs of 6,000 instructions and more may go to the workers, or no
+-- job where no worker was begun. The replies are those of the rounds, and of the jobs that as many workers and the dispatcher worked off
+pub record HasServedPooled (sensors : List ℕ → Type 0) (e : RoundCalls) (workers limit : ℕ) (front : FrontState) (before after : Option (List Receive)) (replies : Replies) : Type 0 where
+  pub channel : Channel
   pub first : Dispatching Tallies
   pub last : Dispatching Tallies
+  pub has_workers : Bool
+  pub new : IsNew channel (handover_where has_workers (Dear 6000)) first
   pub at_once : Replies
-  pub by_jobs : Replies
-  pub run : HasReceived (pooled_calls (locked_shop (AreReadAt moments sensors) moments (λ random. ⊤) (IsHanded went))) moments went limit before after first last at_once
-  pub all : replies ≡ both_replies at_once by_jobs
+  pub run : HasReceived (pooled_calls (served_shop sensors e front)) e limit before after first last at_once
+  pub shares : List (Share Tallies)
+  pub worked : AreSharesAt (served_shop sensors e front) channel shares
+  pub count : length shares ≡ workers
+  pub all : replies ≡ both_replies at_once (both_replies (replies_of shares) (replies_by last.done.share))
 
 -- ---- a server by so many workers: one is the thread that receives. Its slots begin at serial 0
 
-abbrev pub IsServed : (List ℕ → Type 0) → (Emission → Bool → CallLog → CallLog → Type 0) → Extent → Option (List Receive) → Option (List Receive) → Replies → Type 0
-IsServed sensors went extent before after replies =
-    ((extent.workers ≡ 1) × HasServed sensors (λ now. ⊤) went extent.limit (record { serial = 0; id = extent.first_id }) before after replies)
-    ⊎ ((extent.workers ≡ 1 → ⊥) × HasServedPooled sensors (λ now. ⊤) went extent.limit before after replies)
+abbrev pub IsServed : (List ℕ → Type 0) → RoundCalls → Extent → Option (List Receive) → Option (List Receive) → Replies → Type 0
+IsServed sensors e extent before after replies =
+    ((extent.workers ≡ 1) × HasServed sensors e extent.limit (record { serial = 0; id = extent.first_id; policy = extent.policy }) before after replies)
+    ⊎ ((extent.workers ≡ 1 → ⊥) × HasServedPooled sensors e extent.workers extent.limit (first_front extent.policy extent.first_id) before after replies)

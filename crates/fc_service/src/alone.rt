@@ -1,8 +1,7 @@
 //! A server on one thread, where it is fed: the job of each datagram, and the turn of each observer, is worked off before the call answers.
 ghost use Rattle.std.specs.Prelude.{◌≡◌, ◌≤◌, [], IfOk};
-ghost use Rattle.fc_core.specs.History.{Begins};
 ghost use Rattle.fc_help.specs.Region.{no_readings};
-ghost use Rattle.fc_registry.specs.Slots.{last_serial};
+ghost use Rattle.fc_server.specs.States.{CanBegin, begin_of};
 ghost use Rattle.fc_server.specs.Serving.{Serves};
 ghost use Rattle.fc_service.specs.Alone.{HandsAlone, ReadiesAlone, alone_calls};
 
@@ -16,8 +15,8 @@ use fc_host::clock::device_readings;
 use fc_host::sensors::Sensors;
 use fc_observe::Ticked;
 use fc_registry::SHARDS;
-use fc_server::Engine;
 use fc_server::engine::NotifyOutcome;
+use fc_server::{Begin, Engine};
 use std::alloc::{AllocError, Global};
 use std::sync::Wait;
 
@@ -41,14 +40,14 @@ impl Alone {
     ///
     /// # Errors
     /// There was no memory for it.
-    pub(crate) fn new(alloc: Global, first_serial: u64, first_id: u16) -> Result<Alone, AllocError>
-        requires { first_serial ≤ last_serial }
-        ensures begins { IfOk result (λ alone. Serves (Begins first_serial first_id) alone.engine []) }
+    pub(crate) fn new(alloc: Global, begin: &Begin) -> Result<Alone, AllocError>
+        requires { CanBegin begin.now }
+        ensures begins { IfOk result (λ alone. Serves (begin_of begin.now) alone.engine []) }
         ensures handed { IfOk result (λ alone. alone.handed ≡ record { readings = no_readings; random = 0 }) }
     {
         Ok(Alone {
             alloc,
-            engine: Engine::new(alloc, first_serial, first_id)?,
+            engine: Engine::new(alloc, begin)?,
             handed: Handed {
                 readings: NO_READINGS,
                 random: 0,

@@ -1,5 +1,5 @@
 //! The command line of the server's program, and what its help tells.
-use clap::{Arg, Command, Error, value_parser};
+use clap::{Arg, ArgAction, Command, Error, value_parser};
 use fc_cli::command_line::VERSION;
 use std::alloc::Global;
 
@@ -82,7 +82,11 @@ fn play_command<'a>(alloc: Global) -> Result<Command<'a>, Error> {
         Command::new(alloc, "play")
             .about("Play the lines of standard input")
             .after_help(LINES)
-            .arg(workers)?,
+            .arg(workers)?
+            .arg(managers(alloc))?
+            .arg(exchanges(alloc))?
+            .arg(share(alloc))?
+            .arg(confirm_after(alloc))?,
     )
 }
 
@@ -94,6 +98,10 @@ fn serve_command<'a>(alloc: Global) -> Result<Command<'a>, Error> {
             .arg(port(alloc))?
             .arg(bind(alloc))?
             .arg(dear_workers(alloc))?
+            .arg(managers(alloc))?
+            .arg(exchanges(alloc))?
+            .arg(share(alloc))?
+            .arg(confirm_after(alloc))?
             .arg(readings(alloc))?
             .arg(limit(alloc))?
             .arg(log(alloc))?,
@@ -123,6 +131,48 @@ fn readings<'a>(alloc: Global) -> Arg<'a> {
         "FILE",
         "What programs read behind the clock: the file's first 56 bytes",
     )
+}
+
+fn managers<'a>(alloc: Global) -> Arg<'a> {
+    option(
+        alloc,
+        "managers",
+        "A.B.C.D/BITS",
+        "Addresses that may upload and remove programs; up to four times",
+    )
+    .action(ArgAction::Append)
+    .default_value("0.0.0.0/0")
+}
+
+fn exchanges<'a>(alloc: Global) -> Arg<'a> {
+    option(
+        alloc,
+        "exchanges",
+        "N",
+        "How many requests are remembered for 247 s: 1 to 65536",
+    )
+    .value_parser(value_parser!(u32).range(1..65_537))
+    .default_value("1024")
+}
+
+fn share<'a>(alloc: Global) -> Arg<'a> {
+    option(
+        alloc,
+        "share",
+        "N",
+        "How many of these may be of one address: 1 to 65536",
+    )
+    .value_parser(value_parser!(u32).range(1..65_537))
+}
+
+fn confirm_after<'a>(alloc: Global) -> Arg<'a> {
+    option(
+        alloc,
+        "confirm-after",
+        "SECONDS",
+        "After how many seconds a notification is confirmable: 1 to 86400, the default",
+    )
+    .value_parser(value_parser!(u32).range(1..86_401))
 }
 
 fn limit<'a>(alloc: Global) -> Arg<'a> {

@@ -1,5 +1,5 @@
 //! What the definitions of the service come to, in plainer words: each function is a law, and its contract says it.
-ghost use Rattle.std.specs.Prelude.{◌≡◌, ◌+◌, ◌*◌, ◌%◌, ◌<◌, ◌≤◌, ◌↔◌, ◌⊎◌, ℕ, Bool, List, None, Option, Some, false, flat_map, map, true};
+ghost use Rattle.std.specs.Prelude.{◌≡◌, ◌+◌, ◌*◌, ◌%◌, ◌<◌, ◌≤◌, ◌↔◌, ◌⊎◌, ℕ, Bool, List, [], ◌∷◌, None, Option, Some, false, flat_map, map, true};
 ghost use Rattle.fc_core.specs.declared.front.Heard.TheVariants.{Job, Nothing, Reply, Signal};
 ghost use Rattle.fc_observe.specs.declared.observers.Ticked.{Ticked};
 ghost use Rattle.fc_observe.specs.declared.observers.Ticked.TheVariants.{Quiet};
@@ -10,17 +10,18 @@ ghost use Rattle.fc_server.specs.Steps.{shard_turn};
 ghost use Rattle.fc_server.specs.declared.server.Begin.{Begin};
 ghost use Rattle.fc_host.specs.Sockets.{Receive};
 ghost use Rattle.fc_service.specs.Alone.{NotifiesAlone, ResendsAlone};
-ghost use Rattle.fc_service.specs.Histories.{IsOneHistory, received_in_lines, sent_in_lines};
+ghost use Rattle.fc_service.specs.Histories.{IsOneHistory, arrivals_in, arrivals_in_lines, sent_in_lines};
 ghost use Rattle.fc_service.specs.Intakes.{is_reply};
 ghost use Rattle.fc_lines.specs.Emissions.{printed};
-ghost use Rattle.fc_service.specs.Playing.{IsPlayedOut, PlayedLine, printed_lines};
-ghost use Rattle.fc_service.specs.Rounds.{EndsInTime, HasServed, received_in, sendings_in};
+ghost use Rattle.fc_service.specs.Playing.{IsNextText, IsPlayedOut, PlayedLine, printed_lines};
+ghost use Rattle.fc_service.specs.Rounds.{EndsInTime, HasServed, WaitsAfter, round_calls, sendings_in};
 ghost use Rattle.fc_service.specs.Settling.{most_steps};
 ghost use Rattle.fc_service.specs.declared.alone.Alone.{Alone};
 ghost use Rattle.fc_service.specs.declared.replies.Replies.{Replies};
 
+use crate::pool::Intake;
 use fc_host::sensors::Sensors;
-use fc_host::socket::Sink;
+use fc_host::socket::{Sink, Source};
 use fc_workers::Moments;
 
 /// Settling takes more steps at one moment than there are: each of the 32 observers of 64 slots is sent one notification again at most, and notified once,
@@ -46,29 +47,41 @@ pub fn shards_tell_what_is_so()
         → ((told ≡ Nobody) ↔ (shard_turn now (shard_at old.engine.shards (shard % 8)) ≡ None)) }
 {}
 
-/// A datagram is waited for 100 ms where a shard has told of no moment until which it is quiet. Else it is waited for 100 ms, or up to such a moment of each shard and
-/// no longer; without end only where none of these is before 2^64 - 1 ms.
+/// The first datagram is waited for 100 ms.
+pub fn first_wait_is_100_ms<N: Intake>()
+    ensures { (left : N) (wait : Option ℕ) → WaitsAfter N.calls [] left wait → wait ≡ Some 100 }
+{}
+
+/// A line that is played ends before a line feed, the byte 10: the first of `a`, a line feed, `b` is `a`.
+pub fn lines_end_before_line_feeds()
+    ensures { (text : List ℕ) (left : Option (List ℕ)) → IsNextText text (Some (97 ∷ 10 ∷ 98 ∷ [])) left → text ≡ 97 ∷ [] }
+{}
+
+/// After a round that received a datagram, the next is waited for 100 ms. After an idle round, the wait is until the earliest moment that one of the eight shards told,
+/// and 100 ms at least. It has no end only if each shard told 2^64 - 1 ms, which is no moment. So a quiet server sleeps, and doesn't wake up before there may be something to do.
 pub fn waits_end_in_time()
-    ensures untold { (told : ℕ → Option ℕ) (now shard : ℕ) (wait : Option ℕ) → shard < 8 → told shard ≡ None
-        → EndsInTime (λ i until. told i ≡ Some until) now wait → wait ≡ Some 100 }
-    ensures told { (told : ℕ → Option ℕ) (now shard until wait : ℕ) → shard < 8 → told shard ≡ Some until
-        → EndsInTime (λ i at. told i ≡ Some at) now (Some wait) → (wait ≡ 100) ⊎ (now + wait ≤ until) }
-    ensures endless { (told : ℕ → Option ℕ) (now shard until : ℕ) → shard < 8 → told shard ≡ Some until
-        → EndsInTime (λ i at. told i ≡ Some at) now None → 18446744073709551615 ≤ until }
+    ensures received { (told : ℕ → ℕ) (now : ℕ) (wait : Option ℕ) → EndsInTime (λ shard until. until ≡ told shard) now false wait → wait ≡ Some 100 }
+    ensures soon { (told : ℕ → ℕ) (now shard : ℕ) (wait : Option ℕ) → shard < 8 → told shard ≤ now + 100 → now + 100 < 18446744073709551615
+        → EndsInTime (λ shard until. until ≡ told shard) now true wait → wait ≡ Some 100 }
+    ensures later { (told : ℕ → ℕ) (now shard later : ℕ) (wait : Option ℕ) → shard < 8 → told shard ≡ now + later → 100 ≤ later → now + later < 18446744073709551615
+        → ((other : ℕ) → other < 8 → now + later ≤ told other) → EndsInTime (λ shard until. until ≡ told shard) now true wait → wait ≡ Some later }
+    ensures endless { (told : ℕ → ℕ) (now : ℕ) (wait : Option ℕ) → ((shard : ℕ) → shard < 8 → told shard ≡ 18446744073709551615)
+        → EndsInTime (λ shard until. until ≡ told shard) now true wait → wait ≡ None }
 {}
 
 /// What a server on one thread does in all of its rounds is one history of events, from the serial and the message id that it begins with on, in which each event
-/// emitted what it may: just the datagrams that were received are delivered, in order, and what its events emitted, in that order, is what the rounds handed to the sink, once
-/// each, and nothing besides with the log of these calls (`HasServed`).
-pub fn served_rounds_are_one_history<Z: Sensors, M: Moments, K: Sink>()
+/// emitted what it may: just the datagrams that were received are delivered, in order, each at its round's moment, and time passes at the moments of the other rounds; and what its
+/// events emitted, in that order, is what the rounds handed to the sink, once each, and nothing besides with the log of these calls (`HasServed`).
+pub fn served_rounds_are_one_history<Z: Sensors, S: Source, M: Moments, K: Sink>()
     ensures { (limit : ℕ) (begin : Begin) (before after : Option (List Receive)) (replies : Replies)
-        (w : HasServed Z.are_sensed M.is_moment K.went limit begin before after replies)
-        → IsOneHistory begin.serial begin.id (received_in w.run.rounds) (map (λ s. s.emission) (sendings_in w.run.rounds)) w.last.engine }
+        (w : HasServed Z.are_sensed (round_calls S.received M.is_moment K.went) limit begin before after replies)
+        → IsOneHistory begin (arrivals_in w.run.rounds) (map (λ s. s.emission) (sendings_in w.run.rounds)) w.last.engine }
 {}
 
-/// And so is what it does for all the lines that it plays: just the datagrams that they tell are delivered, in order, and just what its events emitted is printed.
+/// And so is what it does for all the lines that it plays: just the datagrams that they tell are delivered, in order, each at its line's moment, time passes at the moments of the
+/// other lines, and just what its events emitted is printed.
 pub fn played_lines_are_one_history()
-    ensures history { (serial id : ℕ) (had before after : Option (List ℕ)) (w : IsPlayedOut serial id had before after)
-        → IsOneHistory serial id (received_in_lines w.played.lines) (sent_in_lines w.played.lines) w.last.engine }
+    ensures history { (begin : Begin) (had before after : Option (List ℕ)) (w : IsPlayedOut begin had before after)
+        → IsOneHistory begin (arrivals_in_lines w.played.lines) (sent_in_lines w.played.lines) w.last.engine }
     ensures printed { (lines : List PlayedLine) → printed_lines lines ≡ flat_map printed (sent_in_lines lines) }
 {}

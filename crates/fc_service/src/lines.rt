@@ -1,9 +1,11 @@
 //! Lines: each is carried out by who takes them in, and what it sends is printed.
-ghost use Rattle.std.specs.Prelude.{◌≡◌, ◌++◌, ⊤, ℕ, List, Option, OnOk};
+ghost use Rattle.std.specs.Prelude.{◌≡◌, ◌++◌, ⊤, ℕ, Err, List, Option, OnOk};
 ghost use Rattle.std.specs.Io.KnownBytes.{Appends, IsAtEnd};
 ghost use Rattle.coap_msg.specs.declared.types.Emission.{Emission};
+ghost use Rattle.fc_cli.specs.declared.stop.Stop.TheVariants.{BadLine};
 ghost use Rattle.fc_core.specs.Receiving.{emission_if};
-ghost use Rattle.fc_service.specs.Playing.{HasPlayed, IsCarriedOutBy, IsHandedBy, IsPlayedBy, PlayedLine, moment_of, output_by, output_of};
+ghost use Rattle.fc_lines.specs.Lines.{IsNoLine};
+ghost use Rattle.fc_service.specs.Playing.{HasPlayed, IsCarriedOutBy, IsHandedBy, IsPlayedBy, PlayedLine, StopsAt, moment_of, output_by, output_of};
 ghost use Rattle.fc_service.specs.Settling.{AreSettled, AreStepsBy, SettlingStep, printed_steps};
 
 use crate::pool::Intake;
@@ -33,15 +35,17 @@ pub(crate) trait LineIntake: Intake {
 /// observers are told, at the line's moment.
 ///
 /// # Errors
-/// A line is bad, reading or writing failed, or there was no memory for a line.
+/// A line is bad, and then the lines before it were played, and just what they sent was printed. Or reading or writing failed, or there was no memory for a line.
 pub(crate) fn play_lines<N: LineIntake, R: BufRead + Drop, W: Write>(
     alloc: Global,
     intake: &mut N,
     input: R,
     out: &mut W,
 ) -> Result<(), Stop>
-    ensures { OnOk result ((left : Option (List ℕ)) × HasPlayed N.hands N.calls intake.old intake.new
+    ensures played { OnOk result ((left : Option (List ℕ)) × HasPlayed N.hands N.calls intake.old intake.new
         (R.remaining input) left (W.contents out.old) (W.contents out.new) × IsAtEnd left) }
+    ensures bad { (number : ℕ) → result ≡ Err (BadLine number)
+        → StopsAt N.hands N.calls number intake.old intake.new (R.remaining input) (W.contents out.old) (W.contents out.new) }
 {
     let mut reply = blank_emission();
     let mut number = 0u64;
@@ -64,16 +68,22 @@ fn play_line<N: LineIntake, W: Write>(
     number: u64,
     out: &mut W,
 ) -> Result<(), Stop>
-    ensures { OnOk result ((p : PlayedLine) × (p.text ≡ text.now)
+    ensures played { OnOk result ((p : PlayedLine) × (p.text ≡ text.now)
         × IsPlayedBy N.hands N.calls p intake.old intake.new
         × Appends (W.contents out.old) (W.contents out.new) (output_by p)) }
+    ensures bad { (stop : ℕ) → result ≡ Err (BadLine stop)
+        → (stop ≡ number) × IsNoLine text.now × (intake.new ≡ intake.old) × (W.contents out.new ≡ W.contents out.old) }
 {
     match parse(alloc, text) {
         Ok(line) => {
             hand(intake, &line);
-            carry_out(intake, reply, &line, out)?;
-            settle(intake, moment(&line), reply, out)?;
-            Ok(())
+            if let Err(error) = carry_out(intake, reply, &line, out) {
+                return Err(Stop::Output(error));
+            }
+            match settle(intake, moment(&line), reply, out) {
+                Ok(()) => Ok(()),
+                Err(error) => Err(Stop::Output(error)),
+            }
         }
         Err(LineError::Bad) => Err(Stop::BadLine(number)),
         Err(LineError::NoMemory) => Err(Stop::Memory(AllocError)),

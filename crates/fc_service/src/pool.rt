@@ -3,12 +3,15 @@ ghost use Rattle.std.specs.Prelude.{◌≡◌, ◌+◌, ◌<◌, ◌≤◌, ℕ,
 ghost use Rattle.std.specs.Borrow.{Bor};
 ghost use Rattle.coap_msg.specs.declared.types.Emission.{Emission};
 ghost use Rattle.coap_msg.specs.declared.types.Endpoint.{Endpoint};
+ghost use Rattle.fc_core.specs.Exchanges.{first_front};
 ghost use Rattle.fc_core.specs.declared.front.Heard.{Heard};
 ghost use Rattle.fc_observe.specs.declared.observers.Ticked.{Ticked};
-ghost use Rattle.fc_registry.specs.Slots.{last_serial};
+ghost use Rattle.fc_server.specs.States.{CanBegin};
+ghost use Rattle.fc_jobs.specs.Ends.{nothing_got, nothing_sent};
 ghost use Rattle.fc_server.specs.Notified.{Notified, notified_as};
+ghost use Rattle.fc_service.specs.Counting.{both_replies, replies_by, replies_of};
 ghost use Rattle.fc_service.specs.Intakes.{IntakeCalls};
-ghost use Rattle.fc_service.specs.Pooled.{IsFed, locked_shop, open_shop, pooled_calls};
+ghost use Rattle.fc_service.specs.Pooled.{FeedsTo, IsFed, IsFedBeside, handover_where, locked_shop, open_shop, pooled_calls};
 ghost use Rattle.fc_workers.specs.Answers.{IsSomeQuiet};
 ghost use Rattle.fc_workers.specs.Called.{shop};
 ghost use Rattle.fc_workers.specs.Closing.{HasCountedAll};
@@ -240,10 +243,10 @@ pub fn run_pool<
     pool: &Pool<'_, W, M, D>,
     feeder: F,
 ) -> Result<Fed<X>, AllocError>
-    requires { pool.now.begin.serial ≤ last_serial }
+    requires { CanBegin pool.now.begin }
     ensures counted { IfOk result (λ fed. HasCountedAll fed.closed) }
-    ensures fed { let shop = locked_shop D.are_readings M.is_moment M.is_random W.called in
-        IfOk result (λ fed. IsFed shop (F.feeds _) pool.now.handover fed.has_workers feeder fed.given) }
+    ensures fed { let shop = locked_shop (first_front pool.now.begin.policy pool.now.begin.id) D.are_readings M.is_moment M.is_random W.called in
+        IfOk result (λ fed. IsFedBeside shop (F.feeds _) (handover_where fed.has_workers pool.now.handover) pool.now.workers feeder fed.given fed.replies) }
 {
     let blanks = Blanks::new(u64::from(pool.workers) + 2);
     run_named::<Brand, R, W, M, D, E, X, F>(rt, alloc, err, pool, feeder, blanks)
@@ -267,13 +270,14 @@ fn run_named<
     feeder: F,
     blanks: Blanks,
 ) -> Result<Fed<X>, AllocError>
-    requires serial { pool.now.begin.serial ≤ last_serial }
+    requires begin { CanBegin pool.now.begin }
     requires parts { blanks.parts ≡ pool.now.workers + 2 }
     requires names { AreNamed blanks B.names }
     requires books { blanks.parts ≡ B.parts }
+    requires front { B.first ≡ first_front pool.now.begin.policy pool.now.begin.id }
     ensures counted { IfOk result (λ fed. HasCountedAll fed.closed) }
-    ensures fed { let shop = locked_shop D.are_readings M.is_moment M.is_random W.called in
-        IfOk result (λ fed. IsFed shop (F.feeds _) pool.now.handover fed.has_workers feeder fed.given) }
+    ensures fed { let shop = locked_shop B.first D.are_readings M.is_moment M.is_random W.called in
+        IfOk result (λ fed. IsFedBeside shop (F.feeds _) (handover_where fed.has_workers pool.now.handover) pool.now.workers feeder fed.given fed.replies) }
 {
     let Begun {
         server,
@@ -292,14 +296,22 @@ fn begin<'a, B: Books, D: Device>(
     device: &'a D,
     blanks: Blanks,
 ) -> Result<Begun<'a, B, D>, AllocError>
-    requires serial { begin.serial ≤ last_serial }
+    requires begin { CanBegin begin }
     requires parts { blanks.parts ≡ workers + 2 }
     requires names { AreNamed blanks B.names }
     requires books { blanks.parts ≡ B.parts }
-    ensures some { IfOk result (λ b. 0 < vec_len b.tallies) }
+    requires front { B.first ≡ first_front begin.policy begin.id }
+    ensures count { IfOk result (λ b. vec_len b.tallies ≡ workers + 1) }
     ensures parts { IfOk result (λ b. b.reserve.parts + vec_len b.tallies ≡ B.parts) }
 {
-    let (server, mut reserve) = Locked::<B, D>::new(alloc, begin.serial, begin.id, device, blanks)?;
+    let (server, mut reserve) = Locked::<B, D>::new(
+        alloc,
+        begin.serial,
+        begin.id,
+        &begin.policy,
+        device,
+        blanks,
+    )?;
     let tallies = reserve.split_each(alloc, usize::from(workers) + 1)?;
     Ok(Begun {
         server,
@@ -318,6 +330,7 @@ fn close<B: Books, D: Device, X: Drop>(
     ensures counted { HasCountedAll result.closed }
     ensures given { result.given ≡ ended.given }
     ensures workers { result.has_workers ≡ ended.has_workers }
+    ensures replies { result.replies ≡ both_replies (replies_of ended.shares.items) (replies_by ended.own) }
 {
     let Ended {
         given,
@@ -361,7 +374,7 @@ where
     requires { 0 < vec_len tallies }
     ensures shares { IfOk result (λ ended. vec_len ended.shares + 1 ≡ vec_len tallies) }
     ensures fed { let shop = open_shop B.changes B.ended B.called B.logged M.is_moment M.is_random W.called in
-        IfOk result (λ ended. IsFed shop (F.feeds _) pool.now.handover ended.has_workers feeder ended.given) }
+        IfOk result (λ ended. IsFed shop (F.feeds _) (handover_where ended.has_workers pool.now.handover) feeder ended.given ended.own ended.shares.items) }
 {
     let (jobs, sent, mut seats) = make_seats(alloc, tallies)?;
     let Some(own) = seats.pop() else {
@@ -386,16 +399,15 @@ where
         channel,
         seats,
         move |has_workers| -> (X, bool, Share<B::Tallies>)
-            requires { sent.channel ≡ channel.now }
+            requires sent { sent ≡ nothing_sent channel.now }
+            requires got { own.got ≡ nothing_got channel.now }
             ensures { let shop = open_shop B.changes B.ended B.called B.logged M.is_moment M.is_random W.called in
-                IsFed shop (F.feeds _) handover result.1 feeder result.0 }
+                FeedsTo shop (F.feeds _) channel.entry.now (handover_where result.1 handover) feeder result.0 result.2 }
         {
-            let handover = if has_workers {
-                handover
-            } else {
+            if !has_workers {
                 tell_alone(err);
-                Handover::Never
-            };
+            }
+            let handover = handover_where(has_workers, handover);
             let mut intake = Dispatching {
                 rt,
                 dispatcher: Dispatcher::new(workshop, channel, sent, own, handover),
@@ -412,6 +424,17 @@ where
         own,
         shares: shares?,
     })
+}
+
+// Returns which jobs go to workers, by whether workers were begun.
+fn handover_where(has_workers: bool, handover: Handover) -> Handover
+    ensures { result ≡ handover_where has_workers handover }
+{
+    if has_workers {
+        handover
+    } else {
+        Handover::Never
+    }
 }
 
 // Tells that there is no worker. What can't be told changes nothing.

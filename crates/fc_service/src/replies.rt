@@ -1,6 +1,6 @@
 //! Replies, counted: those that went out, and those that didn't.
 ghost use Rattle.std.specs.Prelude.{◌≡◌};
-ghost use Rattle.fc_service.specs.Counting.{both_replies, counted, failed_by, no_replies, replies_of, sent_by};
+ghost use Rattle.fc_service.specs.Counting.{both_replies, counted, no_replies, replies_by, replies_of};
 
 use fc_workers::{CallLog, Share};
 use std::fmt;
@@ -22,7 +22,7 @@ impl Replies {
 
     /// Counts the replies of a worker.
     pub fn by<T: Drop>(share: &Share<T>) -> Replies
-        ensures { result ≡ record { sent = sent_by share.now; failed = failed_by share.now } }
+        ensures { result ≡ replies_by share.now }
     {
         Replies {
             sent: share.sent,

@@ -4,7 +4,7 @@ ghost use Rattle.std.specs.Option.{option_to_list};
 ghost use Rattle.coap_msg.specs.declared.types.Emission.{Emission};
 ghost use Rattle.fc_core.specs.Receiving.{emission_if};
 ghost use Rattle.fc_service.specs.Intakes.{IsHeardBy, is_reply};
-ghost use Rattle.fc_service.specs.Rounds.{AllStayQuiet, EndsInTime, HasRun};
+ghost use Rattle.fc_service.specs.Rounds.{EndsInTime, HasRun, IsQuietUntil, round_calls};
 ghost use Rattle.fc_service.specs.Settling.{AreSettled, AreStepsBy, SettlingStep, sent_in_steps};
 ghost use Rattle.fc_service.specs.Traffic.{Sends};
 
@@ -55,7 +55,7 @@ pub(crate) fn run_rounds<R: Wait, N: Intake, P: Preparation<N>, S: Source, K: Si
     moments: &M,
     limit: u32,
 ) -> Replies
-    ensures { HasRun M.is_moment P.readies N.calls K.went limit (S.came source.old) (S.came source.new) intake.old intake.new result }
+    ensures { HasRun P.readies N.calls (round_calls S.received M.is_moment K.went) limit (S.came source.old) (S.came source.new) intake.old intake.new result }
 {
     let mut reply = blank_emission();
     let mut buffer = [0; BUFFER];
@@ -66,9 +66,9 @@ pub(crate) fn run_rounds<R: Wait, N: Intake, P: Preparation<N>, S: Source, K: Si
         if limit > 0 && received >= limit {
             break;
         }
-        let came = source.receive(wait, &mut buffer);
+        let came = source.receive(wait, &mut buffer, &mut outbox.log);
         let idle = came.is_none();
-        let now = moments.now(rt);
+        let now = moments.now(rt, &mut outbox.log);
         preparation.ready(rt, intake, now);
         match came {
             Some((count, from)) => {
@@ -84,9 +84,10 @@ pub(crate) fn run_rounds<R: Wait, N: Intake, P: Preparation<N>, S: Source, K: Si
     outbox.replies
 }
 
-// How long a datagram is waited for after a round at a moment in milliseconds; `None` is without end. After one that received a datagram no shard is asked.
+// Returns how long a datagram is waited for after a round at a moment in milliseconds; `None` is without end. After a round that received a datagram the wait
+// is 100 ms, and no shard is asked. After an idle round the wait is until the earliest moment at which there may be something to do, and 100 ms at least.
 fn next_wait<N: Intake>(intake: &N, now: u64, idle: bool) -> Option<u64>
-    ensures { EndsInTime (λ shard until. N.calls.stays_quiet shard intake.now until) now result }
+    ensures { EndsInTime (λ shard until. N.calls.stays_quiet shard intake.now until) now idle result }
 {
     if !idle {
         return Some(SHORTEST_WAIT);
@@ -97,9 +98,9 @@ fn next_wait<N: Intake>(intake: &N, now: u64, idle: bool) -> Option<u64>
     }
 }
 
-// A moment before which nothing is late at any shard, and nobody due.
+// Returns the earliest of the moments until which the eight shards are quiet, in milliseconds. `u64::MAX` is none.
 fn quiet_until<N: Intake>(intake: &N) -> u64
-    ensures { AllStayQuiet (λ shard until. N.calls.stays_quiet shard intake.now until) result }
+    ensures { IsQuietUntil (λ shard until. N.calls.stays_quiet shard intake.now until) result }
 {
     let mut until = u64::MAX;
     for shard in 0..SHARDS {

@@ -1,7 +1,7 @@
 //! A server on a socket: datagrams are received on one thread, and their jobs are worked off by others, or by the same.
 ghost use Rattle.std.specs.Prelude.{◌≡◌, ◌≤◌, ◌⊎◌, ⊤, IfOk, IfSome, None};
-ghost use Rattle.fc_registry.specs.Slots.{last_serial};
-ghost use Rattle.fc_service.specs.Rounds.{HasReceived, HasServed, IsServed};
+ghost use Rattle.fc_server.specs.States.{CanBegin};
+ghost use Rattle.fc_service.specs.Rounds.{HasReceived, HasServed, IsServed, round_calls};
 ghost use Rattle.fc_service.specs.declared.replies.Replies.{Replies as Counts};
 ghost use Rattle.fc_cli.specs.declared.status.Status.TheVariants.{Done, Failed};
 
@@ -10,6 +10,7 @@ use crate::pool::{Feeder, Intake, Pool, run_pool};
 use crate::replies::Replies;
 use crate::rounds::{Unprepared, run_rounds};
 use fc_cli::status::{Status, tell};
+use fc_core::Policy;
 use fc_host::clock::{Elapsed, SensingDevice};
 use fc_host::sensors::Sensors;
 use fc_host::socket::{Receiving, Replying, Sink, Source, open};
@@ -32,12 +33,13 @@ const FIRST_SERIAL: u64 = 0;
 /// of a program. A cheaper job is worked off by the thread that received it.
 const DEAR: u32 = 6_000;
 
-/// By how many workers a server works jobs off, 1 to 16, after how many datagrams it ends, where 0 is never, and the first message id of its own.
+/// By how many workers a server works jobs off, 1 to 16, after how many datagrams it ends, where 0 is never, the first message id of its own, and its policy.
 #[derive(Clone, Copy)]
 pub struct Extent {
     pub workers: u8,
     pub limit: u32,
     pub first_id: u16,
+    pub policy: Policy,
 }
 
 // Why a server doesn't start.
@@ -70,7 +72,8 @@ pub fn serve<R: Threads + Wait + Clock + Net + Sync, L: Log, E: Write, Z: Sensor
     extent: Extent,
 ) -> Status
     ensures status { (result ≡ Done) ⊎ (result ≡ Failed) }
-    ensures served { result ≡ Done → (replies : Counts) × IsServed Z.are_sensed (λ emission out before after. ⊤) extent None None replies }
+    ensures served { result ≡ Done → (replies : Counts) × IsServed Z.are_sensed
+        (round_calls (λ receive before after. after ≡ before) (λ now before after. after ≡ before) (λ emission out before after. ⊤)) extent None None replies }
 {
     let address = listening.address;
     match open(rt, address) {
@@ -113,7 +116,8 @@ pub fn serve_at<
     sink: &K,
     extent: Extent,
 ) -> Option<S>
-    ensures { IfSome result (λ left. (replies : Counts) × IsServed Z.are_sensed K.went extent (S.came source) (S.came left) replies) }
+    ensures { IfSome result (λ left. (replies : Counts)
+        × IsServed Z.are_sensed (round_calls S.received (λ now before after. after ≡ before) K.went) extent (S.came source) (S.came left) replies) }
 {
     match serve_to_end(rt, alloc, err, sensors, source, sink, extent) {
         Ok(Received { source, replies }) => {
@@ -150,12 +154,13 @@ fn serve_to_end<
     sink: &K,
     extent: Extent,
 ) -> Result<Received<S>, ServeStop>
-    ensures { IfOk result (λ r. IsServed Z.are_sensed K.went extent (S.came source) (S.came r.source) r.replies) }
+    ensures { IfOk result (λ r. IsServed Z.are_sensed (round_calls S.received (λ now before after. after ≡ before) K.went) extent (S.came source) (S.came r.source) r.replies) }
 {
     let moments = Elapsed::start(rt).map_err(ServeStop::Clock)?;
     let begin = Begin {
         serial: FIRST_SERIAL,
         id: extent.first_id,
+        policy: extent.policy,
     };
     let limit = extent.limit;
     if extent.workers == 1 {
@@ -197,7 +202,7 @@ struct Receiver<'a, S: Source + Drop, K: Sink, M: Moments> {
 
 impl<'a, S: Source + Drop, K: Sink, M: Moments> Feeder<Received<S>> for Receiver<'a, S, K, M> {
     ghost feeds = { λ T calls self first last given.
-        HasReceived calls M.is_moment K.went self.limit (S.came self.source) (S.came given.source) first last given.replies };
+        HasReceived calls (round_calls S.received M.is_moment K.went) self.limit (S.came self.source) (S.came given.source) first last given.replies };
 
     fn feed<N: Intake, R: Wait>(self, rt: &R, intake: &mut N) -> Received<S> {
         let Receiver {
@@ -222,10 +227,10 @@ fn serve_alone<R: Wait, S: Source + Drop, K: Sink, M: Moments, Z: Sensors>(
     moments: &M,
     limit: u32,
 ) -> Result<Received<S>, AllocError>
-    requires { begin.serial ≤ last_serial }
-    ensures { IfOk result (λ r. HasServed Z.are_sensed M.is_moment K.went limit begin (S.came source) (S.came r.source) r.replies) }
+    requires { CanBegin begin }
+    ensures { IfOk result (λ r. HasServed Z.are_sensed (round_calls S.received M.is_moment K.went) limit begin (S.came source) (S.came r.source) r.replies) }
 {
-    let mut alone = Alone::new(alloc, begin.serial, begin.id)?;
+    let mut alone = Alone::new(alloc, &begin)?;
     let sensed = Sensed { sensors };
     let replies = run_rounds(rt, &mut alone, &sensed, &mut source, sink, moments, limit);
     Ok(Received { source, replies })

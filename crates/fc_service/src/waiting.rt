@@ -1,6 +1,6 @@
 //! Who plays lines by workers, and waits for the one that has a line's job.
-ghost use Rattle.fc_server.specs.Notified.{Notified};
-ghost use Rattle.fc_service.specs.Intakes.{IsTurnWaitedFor, IsWaitedFor};
+ghost use Rattle.std.specs.Prelude.{◌≡◌};
+ghost use Rattle.fc_service.specs.Intakes.{calls_through, waited_calls};
 
 use crate::lines::LineIntake;
 use crate::pool::Intake;
@@ -21,14 +21,7 @@ pub(crate) struct Waiting<'a, 'b, R: Wait, N: Intake> {
 }
 
 impl<'a, 'b, R: Wait, N: Intake> Intake for Waiting<'a, 'b, R, N> {
-    ghost calls = { record {
-      hears = λ now from bytes old new heard reply. IsWaitedFor N.calls.hears now from bytes old.intake.now new.intake.now heard reply;
-      passes = λ now old new. N.calls.passes now old.intake.now new.intake.now;
-      resends = λ shard now old new ticked. N.calls.resends shard now old.intake.now new.intake.now ticked;
-      passes_over = λ shard now old new. N.calls.passes_over shard now old.intake.now new.intake.now;
-      notifies = λ shard now old new told. (asked : Notified) × N.calls.notifies shard now old.intake.now new.intake.now asked × IsTurnWaitedFor asked told;
-      stays_quiet = λ shard now until. N.calls.stays_quiet shard now.intake.now until;
-    } };
+    ghost calls = { calls_through (λ waiting. waiting.intake.now) (waited_calls N.calls) };
 
     fn hear(&mut self, now: u64, from: Endpoint, bytes: &[u8], reply: &mut Emission) -> Heard {
         self.board.begin(self.rt, now);
@@ -77,6 +70,8 @@ impl<'a, 'b, R: Wait, N: Intake> Intake for Waiting<'a, 'b, R, N> {
 }
 
 impl<'a, 'b, R: Wait, N: Intake> LineIntake for Waiting<'a, 'b, R, N> {
+    ghost hands = { λ readings old new. new.intake.now ≡ old.intake.now };
+
     fn hand(&mut self, readings: &Readings) {
         self.board.set(self.rt, *readings);
     }

@@ -1,6 +1,11 @@
 //! Playing lines by workers: the job of a line is worked off by one of them, before the next line is read.
-ghost use Rattle.std.specs.Prelude.{◌≤◌};
-ghost use Rattle.fc_registry.specs.Slots.{last_serial};
+ghost use Rattle.std.specs.Prelude.{◌≡◌, Bool, OnOk};
+ghost use Rattle.fc_cli.specs.declared.status.Status.TheVariants.{Done};
+ghost use Rattle.fc_server.specs.States.{CanBegin};
+ghost use Rattle.fc_service.specs.Playing.{IsFedByLines, IsPlayedBeside};
+ghost use Rattle.fc_service.specs.Pooled.{handover_where};
+ghost use Rattle.fc_service.specs.declared.replies.Replies.{Replies as Counts};
+ghost use Rattle.fc_workers.specs.declared.dispatcher.Handover.TheVariants.{Every};
 
 use crate::lines::play_lines;
 use crate::pool::{Feeder, Intake, Pool, run_pool};
@@ -25,6 +30,8 @@ struct Player<'a, I: BufRead + Drop, W: Write> {
 }
 
 impl<'a, I: BufRead + Drop, W: Write> Feeder<Result<(), Stop>> for Player<'a, I, W> {
+    ghost feeds = { λ S calls self first last given. OnOk given (IsFedByLines calls (I.remaining self.input) first) };
+
     fn feed<N: Intake, R: Wait>(self, rt: &R, intake: &mut N) -> Result<(), Stop> {
         let Player {
             alloc,
@@ -49,7 +56,8 @@ pub fn play_by_workers<R: Threads + Wait + Sync, I: BufRead + Drop, W: Write, E:
     workers: u8,
     begin: Begin,
 ) -> Status
-    requires { begin.serial ≤ last_serial }
+    requires { CanBegin begin }
+    ensures { result ≡ Done → (has_workers : Bool) × (replies : Counts) × IsPlayedBeside begin (handover_where has_workers Every) workers (I.remaining input) replies }
 {
     match play_in_pool(rt, alloc, input, out, err, workers, begin) {
         Ok(()) => Status::Done,
@@ -67,7 +75,8 @@ fn play_in_pool<R: Threads + Wait + Sync, I: BufRead + Drop, W: Write, E: Write>
     workers: u8,
     begin: Begin,
 ) -> Result<(), Stop>
-    requires { begin.serial ≤ last_serial }
+    requires { CanBegin begin }
+    ensures { OnOk result ((has_workers : Bool) × (replies : Counts) × IsPlayedBeside begin (handover_where has_workers Every) workers (I.remaining input) replies) }
 {
     let board = Board::new();
     let pool = Pool {

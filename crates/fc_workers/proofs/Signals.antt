@@ -2,7 +2,8 @@
 use Rattle.std.proofs.Common.{ℕ, ◌+◌, suc, Bool, refl, arith, subst}
 use Rattle.coap_msg.specs.declared.types.Endpoint.{Endpoint}
 use Rattle.fc_workers.specs.declared.call_log.CallLog.{CallLog}
-use Rattle.fc_workers.specs.Called.{HandsSignal, Shop}
+use Rattle.fc_calls.specs.Logged.{HandsSignal}
+use Rattle.fc_workers.specs.Called.{Shop}
 use Rattle.fc_workers.specs.Dispatch.{AreSignalled}
 
 -- none had it yet

@@ -41,7 +41,8 @@ use Rattle.fc_core.specs.Steps.{Call, Takes, Commits, Installs, Lists, Matches, 
 use Rattle.fc_workers.specs.declared.share.Share.{Share}
 use Rattle.fc_workers.specs.Answers.{AreTallied, commit_changes, commit_overtakings, ended_by, install_changes, removal_changes, saturated, taking_refusals, IsTakingWith, IsSomeInstall, IsSomeReceipt, IsSomeRemoval, IsSomeTaking}
 use Rattle.fc_workers.specs.declared.call_log.CallLog.{CallLog}
-use Rattle.fc_workers.specs.Called.{InstallsProgram, LoggedCall, LooksAt, RaisesWord, RemovesProgram, Shop, TellsReceipt}
+use Rattle.fc_calls.specs.Logged.{InstallsProgram, LoggedCall, LooksAt, RaisesWord, RemovesProgram, TellsReceipt}
+use Rattle.fc_workers.specs.Called.{Shop}
 use Rattle.fc_workers.specs.Steps.{AreSeen, AsksRun, Follows, IsReady, IsStep, IsUntaken, ListsOn, Walked, taken_at}
 use Rattle.fc_workers.specs.Work.{AreCalls, IsCallAt, IsCommitted, IsWorkedOff, HasCounted, stage_after, change_by, overtaking_by, refusal_by, takings_made, total}
 
@@ -249,14 +250,14 @@ module _ {T : Type 0} (shop : Shop T) (number : ℕ) (job : Job) where
     failed = refl;
   }
 
-  pub describe_step : (x : Option Receipt) (p : Share T) {next : Stage} → shop.bench (TellsReceipt job x) → IsSomeReceipt x → next ≡ ToAnswer (told x)
-      → IsStep shop number job ToDescribe next p p
-  describe_step x p tells is e = is_step ToDescribe e refl (record {
+  pub describe_step : (x : Option Receipt) (p : Share T) (log : CallLog) {next : Stage} → shop.logged (TellsReceipt job x) p.log log → IsSomeReceipt x
+      → next ≡ ToAnswer (told x) → IsStep shop number job ToDescribe next p (record p { log = log })
+  describe_step x p log tells is e = is_step ToDescribe e refl (record {
     call = Describes x;
-    is = (refl, (tells, is, refl));
+    is = (refl, (tells, is));
     next = refl;
     follows = told_follows job x;
-    counted = logged_only (Describes x) p p.log refl refl refl;
+    counted = logged_only (Describes x) p log refl refl refl;
   })
 
   pub match_step : (word : ℕ) (p : Share T) (log : CallLog) {next : Stage} → shop.logged (LooksAt job.origin.slot word) p.log log

@@ -33,7 +33,7 @@ use Rattle.fc_registry.specs.declared.shard.Removal.{Removal}
 use Rattle.fc_registry.specs.declared.shard.Removal.TheVariants.{Removed}
 use Rattle.fc_registry.specs.Calls.{IsTaking, IsCommit, install_in, receipt_at, remove_from}
 use Rattle.fc_workers.specs.declared.call_log.CallLog.{CallLog}
-use Rattle.fc_workers.specs.Called.{GivesReadings, LoggedCall, TakesForJob}
+use Rattle.fc_calls.specs.Logged.{GivesReadings, LoggedCall, TakesForJob}
 
 -- a delivery at a moment to some front brings this
 pub record IsSomeDelivery (now : ℕ) (to : Endpoint) (bytes : List ℕ) (brings : Delivered) : Type 0 where

@@ -2,11 +2,13 @@
 -- others change it between two calls.
 use Rattle.std.specs.Prelude.{◌≡◌, ℕ, ◌%◌, ◌<◌, true, false, List}
 use Rattle.fc_core.specs.Exchanges.{FrontState}
+use Rattle.fc_workers.specs.Fronts.{BeganAt}
+use Rattle.fc_workers.specs.declared.call_log.CallLog.{CallLog}
 use Rattle.fc_registry.specs.Slots.{Shard}
-use Rattle.fc_workers.specs.Called.{BenchCall, TellsReceipt, LeavesUnquiet, LooksAhead}
-use Rattle.fc_workers.specs.Called.{LoggedCall, HearsDatagram, DrawsId, AnswersRequest, TakesForJob, CommitsRun, InstallsProgram, RemovesProgram}
-use Rattle.fc_workers.specs.Called.{GivesReadings, LooksAt, AdvancesFront, HandsSignal, AdvancesQuiet, AdvancesShard, GivesTurn, NotesTurn, GivesUpTurn, RaisesWord}
-use Rattle.fc_workers.specs.Doings.{AdvancesTo, AnswersAt, CommitsAt, DescribesTo, DrawsAt, GivesTurnAt, GivesUpAt, HandsOn, HearsAt, InstallsTo, NotesAt, PassesIfQuiet, RemovesFrom, TakesTo, TellsQuietUntil, TicksAt}
+use Rattle.fc_workers.specs.Called.{BenchCall, LeavesUnquiet, LooksAhead}
+use Rattle.fc_calls.specs.Logged.{LoggedCall, HearsDatagram, DrawsId, AnswersRequest, TakesForJob, CommitsRun, InstallsProgram, RemovesProgram, TellsReceipt}
+use Rattle.fc_calls.specs.Logged.{GivesReadings, LooksAt, AdvancesFront, HandsSignal, AdvancesQuiet, AdvancesShard, GivesTurn, NotesTurn, GivesUpTurn, RaisesWord}
+use Rattle.fc_calls.specs.Doings.{AdvancesTo, AnswersAt, CommitsAt, DescribesTo, DrawsAt, GivesTurnAt, GivesUpAt, HandsOn, HearsAt, InstallsTo, NotesAt, PassesIfQuiet, RemovesFrom, TakesTo, TellsQuietUntil, TicksAt}
 
 -- a call that does this to a shard was asked of the shard of an index, 0 to 7
 pub record IsAsked (index : ℕ) (Does : Shard → Shard → Type 0) : Type 0 where
@@ -15,35 +17,36 @@ pub record IsAsked (index : ℕ) (Does : Shard → Shard → Type 0) : Type 0 wh
   pub of : index < 8 → before.index ≡ index
   pub does : Does before after
 
--- a call that does this to the front was asked of it
-pub record IsFrontAsked (Does : FrontState → FrontState → Type 0) : Type 0 where
+-- a call that does this to the front was asked of it, which began with this message id
+pub record IsFrontAsked (first : FrontState) (Does : FrontState → FrontState → Type 0) : Type 0 where
   pub before : FrontState
   pub after : FrontState
+  pub began : ∥ BeganAt first before ∥₁
   pub does : Does before after
 
 -- what a call of a server says: the shard of that index was asked, or of that slot
 abbrev pub IsServerCall : BenchCall → Type 0
-IsServerCall (TellsReceipt job receipt) = IsAsked (job.origin.slot % 8) (λ before after. DescribesTo job before receipt after)
 IsServerCall (LeavesUnquiet shard now) = IsAsked shard (λ before after. PassesIfQuiet now before false after)
 IsServerCall (LooksAhead shard until) = IsAsked shard (λ before after. TellsQuietUntil before until after)
 
--- and of each that a worker's log has: its readings are of the device, and the front was asked, or a shard. A look at a head word and a raise take no lock: what they
+-- and of each that a worker's log has: its readings are of the device, and the front was asked, which began with this message id, or a shard. A look at a head word and a raise take no lock: what they
 -- find and do is said of the worker's seat
-abbrev pub IsLoggedCall : (List ℕ → Type 0) → LoggedCall → Type 0
-IsLoggedCall AreReadings (GivesReadings readings) = AreReadings readings
-IsLoggedCall AreReadings (LooksAt slot word) = Unit {0}
-IsLoggedCall AreReadings (HearsDatagram now from bytes brings) = IsFrontAsked (HearsAt now from bytes brings)
-IsLoggedCall AreReadings (AdvancesFront now) = IsFrontAsked (AdvancesTo now)
-IsLoggedCall AreReadings (DrawsId now id) = IsFrontAsked (DrawsAt now id)
-IsLoggedCall AreReadings (AnswersRequest now job content sent) = IsFrontAsked (AnswersAt now job content sent)
-IsLoggedCall AreReadings (TakesForJob job readings taken) = IsAsked (job.origin.slot % 8) (λ before after. TakesTo job readings before taken after)
-IsLoggedCall AreReadings (CommitsRun now ran ticket committed) = IsAsked (ticket.origin.slot % 8) (λ before after. CommitsAt now ran ticket before committed after)
-IsLoggedCall AreReadings (InstallsProgram job program made) = IsAsked (job.origin.slot % 8) (λ before after. InstallsTo job program before made after)
-IsLoggedCall AreReadings (RemovesProgram job removal) = IsAsked (job.origin.slot % 8) (λ before after. RemovesFrom job before removal after)
-IsLoggedCall AreReadings (HandsSignal shard from id reset) = IsAsked shard (λ before after. HandsOn reset from id before after)
-IsLoggedCall AreReadings (AdvancesQuiet shard now) = IsAsked shard (λ before after. PassesIfQuiet now before true after)
-IsLoggedCall AreReadings (AdvancesShard shard now ticked) = IsAsked shard (λ before after. TicksAt now before ticked after)
-IsLoggedCall AreReadings (GivesTurn shard now turn) = IsAsked shard (λ before after. GivesTurnAt now before turn after)
-IsLoggedCall AreReadings (NotesTurn turn id now random told noted) = IsAsked (turn.slot % 8) (λ before after. NotesAt turn id now random told before noted after)
-IsLoggedCall AreReadings (GivesUpTurn turn now) = IsAsked (turn.slot % 8) (λ before after. GivesUpAt now turn before after)
-IsLoggedCall AreReadings (RaisesWord slot word) = Unit {0}
+abbrev pub IsLoggedCall : FrontState → (List ℕ → CallLog → CallLog → Type 0) → LoggedCall → CallLog → CallLog → Type 0
+IsLoggedCall first AreReadings (GivesReadings readings) before after = AreReadings readings before after
+IsLoggedCall first AreReadings (TellsReceipt job receipt) before after = IsAsked (job.origin.slot % 8) (λ before after. DescribesTo job before receipt after)
+IsLoggedCall first AreReadings (LooksAt slot word) before after = Unit {0}
+IsLoggedCall first AreReadings (HearsDatagram now from bytes brings) before after = IsFrontAsked first (HearsAt now from bytes brings)
+IsLoggedCall first AreReadings (AdvancesFront now) before after = IsFrontAsked first (AdvancesTo now)
+IsLoggedCall first AreReadings (DrawsId now drawn) before after = IsFrontAsked first (DrawsAt now drawn)
+IsLoggedCall first AreReadings (AnswersRequest now job content sent) before after = IsFrontAsked first (AnswersAt now job content sent)
+IsLoggedCall first AreReadings (TakesForJob job readings taken) before after = IsAsked (job.origin.slot % 8) (λ before after. TakesTo job readings before taken after)
+IsLoggedCall first AreReadings (CommitsRun now ran ticket committed) before after = IsAsked (ticket.origin.slot % 8) (λ before after. CommitsAt now ran ticket before committed after)
+IsLoggedCall first AreReadings (InstallsProgram job program made) before after = IsAsked (job.origin.slot % 8) (λ before after. InstallsTo job program before made after)
+IsLoggedCall first AreReadings (RemovesProgram job removal) before after = IsAsked (job.origin.slot % 8) (λ before after. RemovesFrom job before removal after)
+IsLoggedCall first AreReadings (HandsSignal shard from message reset) before after = IsAsked shard (λ before after. HandsOn reset from message before after)
+IsLoggedCall first AreReadings (AdvancesQuiet shard now) before after = IsAsked shard (λ before after. PassesIfQuiet now before true after)
+IsLoggedCall first AreReadings (AdvancesShard shard now ticked) before after = IsAsked shard (λ before after. TicksAt now before ticked after)
+IsLoggedCall first AreReadings (GivesTurn shard now turn) before after = IsAsked shard (λ before after. GivesTurnAt now before turn after)
+IsLoggedCall first AreReadings (NotesTurn turn message now random told noted) before after = IsAsked (turn.slot % 8) (λ before after. NotesAt turn message now random told before noted after)
+IsLoggedCall first AreReadings (GivesUpTurn turn now) before after = IsAsked (turn.slot % 8) (λ before after. GivesUpAt now turn before after)
+IsLoggedCall first AreReadings (RaisesWord slot word) before after = Unit {0}

@@ -16,7 +16,8 @@ use Rattle.fc_workers.specs.declared.dispatcher.Handover.{Handover}
 use Rattle.fc_workers.specs.declared.dispatcher.Handover.TheVariants.{Every, Dear, Never}
 use Rattle.fc_workers.specs.declared.call_log.CallLog.{CallLog}
 use Rattle.fc_workers.specs.Answers.{IsSomeDelivery, IsSomeTurn, saturated}
-use Rattle.fc_workers.specs.Called.{GivesTurn, HandsSignal, HearsDatagram, Shop, TellsReceipt}
+use Rattle.fc_calls.specs.Logged.{GivesTurn, HandsSignal, HearsDatagram, TellsReceipt}
+use Rattle.fc_workers.specs.Called.{Shop}
 use Rattle.fc_workers.specs.Steps.{AsksRun, HasTaken}
 use Rattle.fc_workers.specs.Work.{IsReplied}
 use Rattle.fc_workers.specs.declared.share.Share.{Share}
@@ -39,12 +40,16 @@ abbrev pub HasCalled : {T : Type 0} → Dispatched T → Dispatched T → Type 0
 HasCalled before after = after ≡ logged_at after.share.log before
 
 module _ {T : Type 0} (s : Shop T) where
-  -- a job of a run, and the receipt that was told of its slot, of a cost of so many instructions or more
-  pub record IsDear (least : ℕ) (job : Job) : Type 0 where
+  -- a job of a run, and the receipt that was told of its slot when it came, of a cost of so many instructions or more. The log has no other call
+  pub record IsDear (least : ℕ) (job : Job) (before after : CallLog) : Type 0 where
     pub asks : AsksRun job.ask
     pub receipt : Receipt
-    pub told : s.bench (TellsReceipt job (Some receipt))
+    pub told : s.logged (TellsReceipt job (Some receipt)) before after
     pub cost : least ≤ receipt.cost
+
+  -- the receipt of a job's slot was told, or it wasn't asked for. The log has no other call
+  abbrev pub IsPriced : Job → CallLog → CallLog → Type 0
+  IsPriced job before after = (after ≡ before) ⊎ ((receipt : Option Receipt) × s.logged (TellsReceipt job receipt) before after)
 
   -- a request's job of a run was looked up here, or wasn't, and took once, and what it found costs so many instructions or more. The log has no other call
   pub record IsFoundDear (least : ℕ) (job : Job) (before after : Share T) : Type 0 where
@@ -55,10 +60,10 @@ module _ {T : Type 0} (s : Shop T) where
     pub dear : IsDearAt least stage
     pub ended : s.ended after.tallies ≡ s.ended before.tallies
 
-  -- it may go to workers, by what was done for it here: nothing, or it took
+  -- it may go to workers, by what was done for it here: nothing, its slot's receipt was told, or it took
   abbrev pub MayGo : Handover → Job → Share T → Share T → Type 0
   MayGo Every job before after = after ≡ before
-  MayGo (Dear least) job before after = (IsDear least job × (after ≡ before)) ⊎ IsFoundDear least job before after
+  MayGo (Dear least) job before after = (IsDear least job before.log after.log × (after ≡ record before { log = after.log })) ⊎ IsFoundDear least job before after
   MayGo Never job before after = ⊥
 
   -- a job that may was sent to the workers, under the next number
@@ -66,10 +71,12 @@ module _ {T : Type 0} (s : Shop T) where
     pub sent : after.sent ≡ with_sent before.sent job
     pub may_go : MayGo handover job before.share after.share
 
-  -- a job was worked off here, and ended; its reply is sent and counted
+  -- a job was worked off here, after its slot's receipt was told, if it was asked for, and ended; its reply is sent and counted
   pub record IsWorkedHere (job : Job) (before after : Dispatched T) : Type 0 where
     pub sent : after.sent ≡ before.sent
-    pub worked : IsReplied s unsent job before.share after.share
+    pub log : CallLog
+    pub priced : IsPriced job before.share.log log
+    pub worked : IsReplied s unsent job (record before.share { log = log }) after.share
     pub ends : s.ended after.share.tallies ≡ saturated (s.ended before.share.tallies + 1)
 
   -- it went to the workers, where it may, or was worked off here

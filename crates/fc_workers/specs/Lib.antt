@@ -3,7 +3,7 @@ pub mod Answers
 pub mod Asked
 pub mod Closing
 pub mod Counts
-pub mod Doings
+pub mod Fronts
 pub mod Outgoing
 pub mod Work
 pub mod Steps

@@ -6,22 +6,17 @@ use Rattle.fc_registry.specs.declared.job.Job.{Job}
 use Rattle.fc_registry.specs.declared.note.Noted.{Noted}
 use Rattle.fc_registry.specs.declared.note.Noted.TheVariants.{Send}
 use Rattle.fc_registry.specs.declared.note.Notification.{Notification}
-use Rattle.fc_registry.specs.declared.note.Notification.TheVariants as tells
 use Rattle.fc_registry.specs.Taken.{Taken}
 use Rattle.fc_registry.specs.Taken.{Given, Missing, Stale, Refused}
-use Rattle.fc_registry.specs.Calls.{run_of}
 use Rattle.fc_registry.specs.Notes.{sent_of}
 use Rattle.fc_registry.specs.Slots.{Ticket}
 use Rattle.fc_core.specs.Contents.{Content}
+use Rattle.fc_calls.specs.Doings.{SaysFound}
 use Rattle.fc_workers.specs.declared.share.Share.{Share}
 use Rattle.fc_workers.specs.Answers.{IsSomeAnswer, IsSomeDraw, IsSomeNote, saturated}
 use Rattle.fc_workers.specs.declared.call_log.CallLog.{CallLog}
-use Rattle.fc_workers.specs.Called.{AnswersRequest, DrawsId, GivesUpTurn, NotesTurn, SendsReply, Shop}
-
--- what is told is the run of the ticket that was found, or that the slot was found empty
-abbrev pub SaysFound : Notification → Option Ticket → Type 0
-SaysFound (tells.Ran outcome ticket) found = (found ≡ Some ticket.now) × (outcome.now ≡ run_of ticket.now)
-SaysFound tells.Gone found = found ≡ None
+use Rattle.fc_calls.specs.Logged.{AnswersRequest, DrawsId, GivesUpTurn, NotesTurn}
+use Rattle.fc_workers.specs.Called.{SendsReply, Shop}
 
 -- a share that has counted a reply by whether it went out
 abbrev pub with_reply : {T : Type 0} → Bool → Share T → Share T
@@ -30,51 +25,56 @@ with_reply out share = if out then record share { sent = saturated (share.sent +
 module _ {T : Type 0} (s : Shop T) where
   -- ---- a request
 
-  -- at some moment of the workshop's some front answers the job so, and this is to go out, or nothing
+  -- the moment was asked for, and then some front answers the job so at it, and this is to go out, or nothing
   pub record GivesAnswer (job : Job) (content : Content) (reply : Option Emission) (before after : CallLog) : Type 0 where
     pub now : ℕ
-    pub moment : s.moment now
-    pub answers : s.logged (AnswersRequest now job content reply) before after
+    pub asked : CallLog
+    pub moment : s.moment now before asked
+    pub answers : s.logged (AnswersRequest now job content reply) asked after
     pub answer : IsSomeAnswer now job content reply
 
   -- ---- a turn
 
-  -- at some moment of the workshop's this is told the observer of the turn, by this message id, and this is to go out, or nothing
+  -- the moment was asked for, and then this is told the observer of the turn at it, by this message id, and this is to go out, or nothing
   pub record IsNoteSent (told : Notification) (turn : Turn) (id : ℕ) (reply : Option Emission) (before after : CallLog) : Type 0 where
     pub now : ℕ
-    pub moment : s.moment now
+    pub asked : CallLog
+    pub moment : s.moment now before asked
     pub random : ℕ
     pub random_is : s.random random
     pub noted : Noted
-    pub notes : s.logged (NotesTurn turn id now random told noted) before after
+    pub notes : s.logged (NotesTurn turn id now random told noted) asked after
     pub note : IsSomeNote now told turn id noted
     pub reply_is : reply ≡ sent_of noted
 
-  -- what was found is told by a message id that some front drew
+  -- the moment was asked for, a message id was drawn at it, and what was found is told by this message id
   pub record IsNotification (turn : Turn) (found : Option Ticket) (reply : Option Emission) (before after : CallLog) : Type 0 where
     pub drawn : ℕ
-    pub moment : s.moment drawn
+    pub asked : CallLog
+    pub moment : s.moment drawn before asked
     pub id : ℕ
     pub log : CallLog
-    pub draws : s.logged (DrawsId drawn (Some id)) before log
+    pub draws : s.logged (DrawsId drawn (Some id)) asked log
     pub draw : IsSomeDraw drawn (Some id)
     pub told : Notification
     pub tells : SaysFound told found
     pub noted : IsNoteSent told turn id reply log after
 
-  -- at some moment of the workshop's the turn was given up, and nothing goes out
+  -- the moment was asked for, and then the turn was given up at it, and nothing goes out
   pub record IsGivenUp (turn : Turn) (reply : Option Emission) (before after : CallLog) : Type 0 where
     pub now : ℕ
-    pub moment : s.moment now
-    pub gives_up : s.logged (GivesUpTurn turn now) before after
+    pub asked : CallLog
+    pub moment : s.moment now before asked
+    pub gives_up : s.logged (GivesUpTurn turn now) asked after
     pub nothing : reply ≡ None
 
   -- no message id was free, and the turn was given up
   pub record IsStarved (turn : Turn) (reply : Option Emission) (before after : CallLog) : Type 0 where
     pub now : ℕ
-    pub moment : s.moment now
+    pub asked : CallLog
+    pub moment : s.moment now before asked
     pub log : CallLog
-    pub draws : s.logged (DrawsId now None) before log
+    pub draws : s.logged (DrawsId now None) asked log
     pub draw : IsSomeDraw now None
     pub given_up : IsGivenUp turn reply log after
 

@@ -10,7 +10,8 @@ use Rattle.fc_core.specs.Stages.{takings}
 use Rattle.fc_core.specs.Steps.{Call, next_stage}
 use Rattle.fc_workers.specs.declared.share.Share.{Share}
 use Rattle.fc_workers.specs.declared.call_log.CallLog.{CallLog}
-use Rattle.fc_workers.specs.Called.{LoggedCall, LooksAt, Shop}
+use Rattle.fc_calls.specs.Logged.{LoggedCall, LooksAt}
+use Rattle.fc_workers.specs.Called.{Shop}
 use Rattle.fc_workers.specs.Work.{AreCalls, HasCounted, IsCallAt, stage_after, takings_made, total}
 
 -- it asks for a run

@@ -21,7 +21,8 @@ use Rattle.fc_core.specs.Stages.{asked_stage, image_of, takings}
 use Rattle.fc_core.specs.Steps.{Call, Matches, Lists, Takes, Commits, Installs, Rejects, Refuses, Removes, Describes, Raises, called_at, next_stage}
 use Rattle.fc_workers.specs.Answers.{IsTakingWith, IsSomeCommit, IsSomeInstall, IsSomeReceipt, IsSomeRemoval, AreTallied, HasRisen, commit_changes, commit_overtakings, install_changes, removal_changes, taking_refusals}
 use Rattle.fc_workers.specs.declared.call_log.CallLog.{CallLog}
-use Rattle.fc_workers.specs.Called.{CommitsRun, EndsJob, InstallsProgram, LooksAt, RaisesWord, RemovesProgram, Shop, TellsReceipt}
+use Rattle.fc_calls.specs.Logged.{CommitsRun, InstallsProgram, LooksAt, RaisesWord, RemovesProgram, TellsReceipt}
+use Rattle.fc_workers.specs.Called.{EndsJob, Shop}
 use Rattle.fc_workers.specs.Outgoing.{GivesAnswer, IsSent, IsTurnReply}
 use Rattle.fc_workers.specs.declared.share.Share.{Share}
 
@@ -61,13 +62,14 @@ stage_after job (call ∷ calls) = next_stage call
 module _ {T : Type 0} (s : Shop T) where
   -- ---- a call
 
-  -- the gate let the job of this number go on, and then a ticket's own run was committed, at some moment of the workshop's
+  -- the gate let the job of this number go on, then the moment was asked for, and then a ticket's own run was committed at it
   pub record IsCommitted (number : ℕ) (t : Ticket) (committed : Committed) (before after : CallLog) : Type 0 where
     pub passed : CallLog
     pub gate : s.gate number before passed
     pub now : ℕ
-    pub moment : s.moment now
-    pub commits : s.logged (CommitsRun now (run_of t) t committed) passed after
+    pub asked : CallLog
+    pub moment : s.moment now passed asked
+    pub commits : s.logged (CommitsRun now (run_of t) t committed) asked after
     pub commit : IsSomeCommit (run_of t) t committed
 
   -- a call for the job of this number, by the logs before and after it. A look is at the head word of its slot, whose client has the answers of the job's serials, or of the next one
@@ -84,7 +86,7 @@ module _ {T : Type 0} (s : Shop T) where
       ((f : Fault) × IsRefusal (image_of job.ask) (Broken f) × (content ≡ refused (Broken f))) × (after ≡ before)
   IsCallOf number job Refuses before after = IsRefusal (image_of job.ask) NoMemory × (after ≡ before)
   IsCallOf number job (Removes removal) before after = s.logged (RemovesProgram job removal) before after × IsSomeRemoval removal
-  IsCallOf number job (Describes receipt) before after = s.bench (TellsReceipt job receipt) × IsSomeReceipt receipt × (after ≡ before)
+  IsCallOf number job (Describes receipt) before after = s.logged (TellsReceipt job receipt) before after × IsSomeReceipt receipt
   IsCallOf number job (Raises word content) before after = s.logged (RaisesWord job.origin.slot word) before after
   IsCallOf number job other before after = ⊥
 

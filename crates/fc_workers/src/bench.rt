@@ -7,11 +7,11 @@ ghost use Rattle.fc_registry.specs.Notes.{noted_as};
 ghost use Rattle.fc_registry.specs.Turns.{written_if};
 ghost use Rattle.fc_registry.specs.Views.{HasSize, taken_with};
 ghost use Rattle.fc_heads.specs.Heads.{IsRaised, fresh, peeked, word_of};
-ghost use Rattle.fc_workers.specs.Called.{BenchCall, LeavesUnquiet, LooksAhead, TellsReceipt};
-ghost use Rattle.fc_workers.specs.Called.{AdvancesFront, AdvancesQuiet, GivesReadings, HandsSignal, LooksAt};
-ghost use Rattle.fc_workers.specs.Called.{AdvancesShard, AnswersRequest, CommitsRun, DrawsId, GivesTurn, GivesUpTurn, HearsDatagram};
-ghost use Rattle.fc_workers.specs.Called.{InstallsProgram};
-ghost use Rattle.fc_workers.specs.Called.{LoggedCall, NotesTurn, RaisesWord, RemovesProgram, TakesForJob};
+ghost use Rattle.fc_workers.specs.Called.{BenchCall, LeavesUnquiet, LooksAhead};
+ghost use Rattle.fc_calls.specs.Logged.{AdvancesFront, AdvancesQuiet, GivesReadings, HandsSignal, LooksAt};
+ghost use Rattle.fc_calls.specs.Logged.{AdvancesShard, AnswersRequest, CommitsRun, DrawsId, GivesTurn, GivesUpTurn, HearsDatagram};
+ghost use Rattle.fc_calls.specs.Logged.{InstallsProgram};
+ghost use Rattle.fc_calls.specs.Logged.{LoggedCall, NotesTurn, RaisesWord, RemovesProgram, TakesForJob, TellsReceipt};
 ghost use Rattle.fc_workers.specs.declared.call_log.CallLog.{CallLog as Log};
 ghost use Rattle.fc_workers.specs.Answers.{AreTallied, IsSomeAnswer, IsSomeCommit, IsSomeDelivery, IsSomeDraw, IsSomeInstall, IsSomeNote};
 ghost use Rattle.fc_workers.specs.Answers.{IsSomeQuiet, IsSomeReceipt, IsSomeRemoval, IsSomeTaking, IsSomeTick, IsSomeTurn, commit_changes};
@@ -227,10 +227,10 @@ pub trait Bench {
             changes tallies.new shard ≡ changes tallies.old shard }
         ensures ended { ended tallies.new ≡ saturated (ended tallies.old + 1) };
 
-    /// What the program in the slot of a job is, as [`Shard::receipt`](fc_registry::Shard::receipt) tells it.
-    fn receipt<R: Wait>(&self, rt: &R, job: &Job) -> Option<Receipt>
+    /// Returns what the program in the slot of a job is, as [`Shard::receipt`](fc_registry::Shard::receipt) does.
+    fn receipt<R: Wait>(&self, rt: &R, job: &Job, log: &mut CallLog) -> Option<Receipt>
         ensures receipt { IsSomeReceipt result }
-        ensures called { called (TellsReceipt job.now result) };
+        ensures logged { logged (TellsReceipt job.now result) log.old log.new };
 
     /// A seat at the head words for a worker, which has seen and raised nothing.
     fn head_seat(&self) -> HeadSeat

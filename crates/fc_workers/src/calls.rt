@@ -5,8 +5,8 @@ ghost use Rattle.fc_registry.specs.Slots.{IsOwned, Shard as Seen};
 ghost use Rattle.fc_registry.specs.Turns.{written_if};
 ghost use Rattle.fc_workers.specs.Answers.{commit_changes, install_changes, removal_changes};
 ghost use Rattle.fc_workers.specs.Counts.{HasEightSlots, serials};
-ghost use Rattle.fc_workers.specs.Doings.{CommitsAt, DescribesTo, GivesTurnAt, GivesUpAt, HandsOn, InstallsTo, NotesAt, PassesIfQuiet};
-ghost use Rattle.fc_workers.specs.Doings.{RemovesFrom, TakesInto, TellsQuietUntil, TicksAt};
+ghost use Rattle.fc_calls.specs.Doings.{CommitsAt, DescribesTo, GivesTurnAt, GivesUpAt, HandsOn, InstallsTo, NotesAt, PassesIfQuiet};
+ghost use Rattle.fc_calls.specs.Doings.{RemovesFrom, TakesInto, TellsQuietUntil, TicksAt};
 
 use coap_msg::{Emission, Endpoint};
 use fc_help::Readings;
@@ -208,7 +208,7 @@ impl ShardCall for Signal {
 
     ghost does = { λ call before answer room after. HandsOn call.reset call.endpoint call.id before after };
 
-    #[tactic(auto, unfolding(crate::specs::Doings::HandsOn))]
+    #[tactic(auto, unfolding(fc_calls::specs::Doings::HandsOn))]
     fn call(self, shard: &mut Shard, _: &mut ()) {
         shard.signal(self.endpoint, self.id, self.reset);
     }
@@ -331,7 +331,7 @@ impl ShardCall for GiveUp {
 
     ghost does = { λ call before answer room after. GivesUpAt call.now call.turn before after };
 
-    #[tactic(auto, unfolding(crate::specs::Doings::GivesUpAt))]
+    #[tactic(auto, unfolding(fc_calls::specs::Doings::GivesUpAt))]
     fn call(self, shard: &mut Shard, _: &mut ()) {
         shard.give_up(self.turn, self.now);
     }

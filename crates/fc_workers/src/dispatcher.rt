@@ -2,8 +2,10 @@
 ghost use Rattle.std.specs.Prelude.{◌≡◌, ◌<◌, true, MatchBool, None};
 ghost use Rattle.fc_jobs.specs.Ends.{with_sent};
 ghost use Rattle.fc_workers.specs.Answers.{IsSomeQuiet, IsSomeTick};
-ghost use Rattle.fc_workers.specs.Called.{AdvancesFront, AdvancesQuiet, AdvancesShard, LeavesUnquiet, LooksAhead, shop};
-ghost use Rattle.fc_workers.specs.Dispatch.{AreSignalled, HasCalled, IsDear, IsDearAt, IsDispatched, IsTakenIn, IsTurnAsked, IsWorkedHere, MayGo};
+ghost use Rattle.fc_calls.specs.Logged.{AdvancesFront, AdvancesQuiet, AdvancesShard};
+ghost use Rattle.fc_workers.specs.Called.{LeavesUnquiet, LooksAhead, shop};
+ghost use Rattle.fc_workers.specs.Dispatch.{AreSignalled, HasCalled, IsDear, IsDearAt, IsDispatched, IsPriced, IsTakenIn, IsTurnAsked, IsWorkedHere, MayGo, logged_at};
+ghost use Rattle.fc_workers.specs.declared.call_log.CallLog.{CallLog as Log};
 ghost use Rattle.fc_workers.specs.declared.dispatcher.Handover.TheVariants.{Dear};
 ghost use Rattle.fc_workers.specs.Shares.{new_share};
 
@@ -261,10 +263,12 @@ impl<'a, B: Bench, G: Gate, W: Wire, M: Moments> Dispatcher<'a, B, G, W, M> {
         }
     }
 
-    // Works its job off.
+    // Works its job off, whose slot's receipt was told since its log was so, or wasn't asked for.
     fn work<R: Wait>(&mut self, rt: &R)
-        ensures worked { IsWorkedHere (shop B.changes B.ended B.called B.logged M.is_moment M.is_random G.passed W.called)
-            self.old.job self.old.done self.new.done }
+        ensures worked { (log : Log)
+            → IsPriced (shop B.changes B.ended B.called B.logged M.is_moment M.is_random G.passed W.called) self.old.job log self.old.done.share.log
+            → IsWorkedHere (shop B.changes B.ended B.called B.logged M.is_moment M.is_random G.passed W.called)
+            self.old.job (logged_at log self.old.done) self.new.done }
         ensures handover { self.new.handover ≡ self.old.handover }
     {
         let done = &mut self.done;
@@ -272,14 +276,23 @@ impl<'a, B: Bench, G: Gate, W: Wire, M: Moments> Dispatcher<'a, B, G, W, M> {
             .work(rt, &mut self.tools, UNSENT, &self.job, &mut done.share);
     }
 
-    // Whether its job may go to the workers as it came. Before one of them has asked for a job, none does: where all are to go, that is waited for.
-    fn may_go<R: Wait>(&self, rt: &R) -> bool
+    // Returns whether its job may go to the workers as it came. Before one of them has asked for a job, none does: if all are to go, that is waited for.
+    fn may_go<R: Wait>(&mut self, rt: &R) -> bool
         ensures may { result ≡ true → MayGo (shop B.changes B.ended B.called B.logged M.is_moment M.is_random G.passed W.called)
-            self.now.handover self.now.job self.now.done.share self.now.done.share }
+            self.old.handover self.old.job self.old.done.share self.new.done.share }
+        ensures priced { IsPriced (shop B.changes B.ended B.called B.logged M.is_moment M.is_random G.passed W.called)
+            self.old.job self.old.done.share.log self.new.done.share.log }
+        ensures kept { HasCalled self.old.done self.new.done }
+        ensures job { self.new.job ≡ self.old.job }
+        ensures tools { self.new.tools ≡ self.old.tools }
+        ensures handover { self.new.handover ≡ self.old.handover }
     {
         match self.handover {
             Handover::Every => self.jobs.await_worker(rt),
-            Handover::Dear(least) => self.jobs.is_served() && self.is_dear(rt, least),
+            Handover::Dear(least) => {
+                let log = &mut self.done.share.log;
+                self.jobs.is_served() && self.workshop.is_dear(rt, least, &self.job, log)
+            }
             Handover::Never => false,
         }
     }
@@ -290,20 +303,6 @@ impl<'a, B: Bench, G: Gate, W: Wire, M: Moments> Dispatcher<'a, B, G, W, M> {
     {
         match &self.tools.stage.step {
             Step::ToCommit(_, program) => program.cost() >= least && self.jobs.is_served(),
-            _ => false,
-        }
-    }
-
-    // Whether its job asks for a run of so many instructions or more, by the program that its slot has now.
-    fn is_dear<R: Wait>(&self, rt: &R, least: u32) -> bool
-        ensures { result ≡ true → IsDear (shop B.changes B.ended B.called B.logged M.is_moment M.is_random G.passed W.called)
-            least self.now.job }
-    {
-        match &self.job.ask {
-            Ask::Run(_) => match self.workshop.bench.receipt(rt, &self.job) {
-                Some(receipt) => receipt.cost >= least,
-                None => false,
-            },
             _ => false,
         }
     }
@@ -321,6 +320,22 @@ impl<'a, B: Bench, G: Gate, W: Wire, M: Moments> Dispatcher<'a, B, G, W, M> {
 }
 
 impl<'a, B: Bench, G: Gate, W: Wire, M: Moments> Workshop<'a, B, G, W, M> {
+    // Returns whether a job asks for a run of so many instructions or more, by the program that its slot has now.
+    fn is_dear<R: Wait>(&self, rt: &R, least: u32, job: &Job, log: &mut CallLog) -> bool
+        ensures dear { result ≡ true → IsDear (shop B.changes B.ended B.called B.logged M.is_moment M.is_random G.passed W.called)
+            least job.now log.old log.new }
+        ensures priced { IsPriced (shop B.changes B.ended B.called B.logged M.is_moment M.is_random G.passed W.called)
+            job.now log.old log.new }
+    {
+        match &job.ask {
+            Ask::Run(_) => match self.bench.receipt(rt, job, log) {
+                Some(receipt) => receipt.cost >= least,
+                None => false,
+            },
+            _ => false,
+        }
+    }
+
     // Hands a signal to each shard, once.
     fn signal<R: Wait>(&self, rt: &R, from: Endpoint, id: u16, reset: bool, log: &mut CallLog)
         ensures { AreSignalled (shop B.changes B.ended B.called B.logged M.is_moment M.is_random G.passed W.called)

@@ -43,15 +43,15 @@
 //!
 //! - **A worker's calls**: each of those that its log has leads the log on from where the one before it left it. So none was made twice,
 //!   out of order, or besides, with this log. That a worker hands its calls no other log is read: one is made in `Share::new` alone. What
-//!   isn't in the log changes nothing: receipts, moments and random words, until when a shard is quiet, and that it is not quiet now. Of
-//!   these an earlier call that was answered the same does for a later one; but a receipt is told of one job.
+//!   isn't in the log changes nothing: random words, until when a shard is quiet, and that it is not quiet now. Of
+//!   these an earlier call that was answered the same does for a later one.
 //! - **A request's job** comes to what it is to be answered by a list of calls from its first stage: each is the call that its stage needs,
 //!   answered as the shard does at some slot, and eight take at most. A look is at the head word of the job's slot, or, for a list, of each
 //!   slot in order, and the word of the job's slot is raised to the one that its change told.
 //! - Right before each taking the bench is asked for readings, once, and the taking is handed these: a worker that takes with zeros of its
 //!   own, or with those of an earlier taking, has no proof.
-//! - Each run is committed at a moment that was asked for, after the gate had let the job go on, once for each. Then some front answers the
-//!   job so, once, at a moment that was asked for, by a datagram or by none.
+//! - Each run is committed after the gate had let the job go on, once for each, and then at the moment that is asked for next. Then some front answers the
+//!   job so, once, at a moment that is asked for right before, by a datagram or by none.
 //! - **A turn's job** takes once and changes no slot. Some shard tells its observer what was found, once, by a message id that some front
 //!   drew, and with a random word that was asked for, and sends a datagram or none; or the taking was stale: then there is none; or no id was
 //!   free, or memory was refused: then there is none, and that turn was given up at a moment that was asked for.
@@ -66,8 +66,9 @@
 //!   advances the front to the moment that it is handed, once. Its calls are in its share's log, as a worker's are. A dear job is a run: a
 //!   request's, which was looked up here or not, took once and found a program of such a cost, and of which the log has no other call; or
 //!   one of whose slot a receipt was told, of such a cost. A request that took here and stays is worked off from there, by eight takings at
-//!   most in all.
-//! - **A server behind nine locks** answers a taking, an install, a removal and a receipt as a shard of the index of the job's slot does in
+//!   most in all. The receipt is asked for once, right before the job is sent or worked off.
+//! - **A server behind nine locks** asks its calls of a front that began with the message id that it is made with, and has been asked only calls of a front since. It
+//!   answers a taking, an install, a removal and a receipt as a shard of the index of the job's slot does in
 //!   some state, and a notification as one of that of the turn's does: of the turn, the message id, the moment and what is told that it is
 //!   handed. It answers a delivery, a draw of a message id, a turn, a tick, a notification and a job at the moment that it is handed or a
 //!   later one, each as some front or shard does, and counts each change of a slot on the worker's tally; closed, the serials of each shard
@@ -79,9 +80,10 @@
 //!   its shard is handed, that it gives up the turn that it is told to, and that a call returns.
 //!
 //! By the contracts of `Workshop::work_off`, `Workshop::work`, `worker`, `run_workers`, `feed_workers`, `Dispatcher::hear`,
-//! `Dispatcher::notify`, the clauses of `Bench`, `ShardCall`, `Counted`, `Locked::new`, `close`.
+//! `Dispatcher::notify`, the clauses of `Bench`, `ShardCall`, `Counted`, `Locked::new`, `close`, `laws`.
 #![tactic(auto)]
 
+mod begun_front;
 pub mod bench;
 pub mod blanks;
 pub mod books;
@@ -91,6 +93,7 @@ pub mod closed;
 pub mod counted_shard;
 pub mod device;
 pub mod dispatcher;
+pub mod laws;
 mod locked_shard;
 pub mod notify;
 pub mod pool;

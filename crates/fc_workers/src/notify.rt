@@ -82,7 +82,7 @@ impl<'a, B: Bench, G: Gate, W: Wire, M: Moments> Workshop<'a, B, G, W, M> {
             share.old share.new }
         ensures ended { B.ended share.new.tallies ≡ saturated (B.ended share.old.tallies + 1) }
     {
-        let now = self.moments.now(rt);
+        let now = self.moments.now(rt, &mut share.log);
         let Some(id) = self.bench.fresh_id(rt, now, &mut share.log) else {
             self.give_up(rt, turn, share);
             return false;
@@ -120,9 +120,9 @@ impl<'a, B: Bench, G: Gate, W: Wire, M: Moments> Workshop<'a, B, G, W, M> {
             share.old share.new }
         ensures ended { B.ended share.new.tallies ≡ saturated (B.ended share.old.tallies + 1) }
     {
-        let now = self.moments.now(rt);
-        let random = self.moments.random(rt);
         let Share { tallies, log, .. } = share;
+        let now = self.moments.now(rt, log);
+        let random = self.moments.random(rt);
         let noted = self
             .bench
             .note(rt, turn, id, now, random, told, reply, tallies, log);
@@ -139,7 +139,7 @@ impl<'a, B: Bench, G: Gate, W: Wire, M: Moments> Workshop<'a, B, G, W, M> {
         ensures ended { B.ended share.new.tallies ≡ saturated (B.ended share.old.tallies + 1) }
     {
         let log = &mut share.log;
-        let now = self.moments.now(rt);
+        let now = self.moments.now(rt, log);
         self.bench.give_up(rt, turn, now, &mut share.tallies, log);
     }
 }

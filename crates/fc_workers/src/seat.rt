@@ -188,11 +188,11 @@ impl<'a, B: Bench, G: Gate, W: Wire, M: Moments> Workshop<'a, B, G, W, M> {
         ensures ended { B.ended share.new.tallies ≡ saturated (B.ended share.old.tallies + 1) }
         ensures got { share.new.got ≡ share.old.got }
     {
-        let now = self.moments.now(rt);
         let Some(answer) = tools.stage.content() else {
             unreachable!()
         };
         let Share { tallies, log, .. } = share;
+        let now = self.moments.now(rt, log);
         self.bench
             .respond(rt, now, job, answer, &mut tools.reply, tallies, log)
     }

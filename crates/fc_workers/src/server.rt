@@ -2,11 +2,11 @@
 //!
 //! Each shard's changes are counted in a ledger of its own, which a type stands for. One type parameter names all eight
 //! ([`Books`](crate::books::Books)): a function that opens a server is generic in it. Its caller gives it `Brand`, and picks in
-//! its `Invariants.antt` the names and the parts of the ledgers, from the function's argument `blanks`:
+//! its `Invariants.antt` the names and the parts of the ledgers, from the function's argument `blanks`, and the front that the server begins with:
 //!
 //! ```text
 //! abbrev pub ghosts-run : goal.ghosts-run
-//! ghosts-run a = record { names = names_of a.blanks; parts = a.blanks.parts }
+//! ghosts-run a = record { names = names_of a.blanks; parts = a.blanks.parts; first = first_front a.policy.now a.first_id }
 //! ```
 //!
 //! No type of that function's signature may name a ledger: it opens the server, splits the reserve into the tallies of its
@@ -14,6 +14,7 @@
 ghost use Rattle.std.specs.Prelude.{◌≡◌, ◌+◌, ◌*◌, ◌-◌, ◌<◌, ◌≤◌, ◌%◌, map, slice_index, take, vec_len, IfOk};
 ghost use Rattle.coap_msg.specs.declared.types.Emission.{Emission as Emitted};
 ghost use Rattle.fc_core.specs.Answering.{emission_of, responded};
+ghost use Rattle.fc_core.specs.Exchanges.{first_front};
 ghost use Rattle.fc_core.specs.Contents.{IsOf};
 ghost use Rattle.fc_core.specs.Receiving.{emission_if};
 ghost use Rattle.fc_registry.specs.Notes.{noted_as};
@@ -22,12 +23,12 @@ ghost use Rattle.fc_registry.specs.Slots.{IsOwned, Shard as Seen, last_serial};
 ghost use Rattle.fc_registry.specs.Turns.{written_if};
 ghost use Rattle.fc_registry.specs.Views.{HasSize, taken_with};
 ghost use Rattle.fc_workers.specs.Asked.{IsAsked, IsLoggedCall, IsServerCall};
-ghost use Rattle.fc_workers.specs.Doings.{AdvancesTo};
 ghost use Rattle.fc_workers.specs.Naming.{AreNamed};
 ghost use Rattle.fc_workers.specs.Counts.{no_changes, serials, sums};
 ghost use Rattle.fc_workers.specs.Answers.{AreTallied, IsSomeCommit, IsSomeInstall, IsSomeNote, IsSomeReceipt, IsSomeRemoval, IsSomeTaking};
 ghost use Rattle.fc_workers.specs.Answers.{IsSomeTick, IsSomeTurn, commit_changes, install_changes, removal_changes, saturated};
 
+use crate::begun_front::BegunFront;
 use crate::bench::Bench;
 use crate::blanks::Blanks;
 use crate::books::{BookOf, Books};
@@ -43,7 +44,7 @@ use crate::reserve::Reserve;
 use crate::tallies::Tallies;
 use crate::tally::Tally;
 use coap_msg::{Emission, Endpoint};
-use fc_core::{Answer, Front, Heard, Responded};
+use fc_core::{Answer, Front, Heard, Policy, Responded};
 use fc_heads::{HeadSeat, Heads};
 use fc_help::Readings;
 use fc_machine::Outcome;
@@ -115,7 +116,7 @@ fn shard_of(slot: SlotNumber) -> u8
 pub struct Locked<'a, B: Books, D: Device> {
     device: &'a D,
     heads: Heads,
-    front: Mutex<Front>,
+    front: Mutex<BegunFront<B>>,
     shard0: LockedShard<0, B>,
     shard1: LockedShard<1, B>,
     shard2: LockedShard<2, B>,
@@ -128,7 +129,7 @@ pub struct Locked<'a, B: Books, D: Device> {
 
 impl<'a, B: Books, D: Device> Locked<'a, B, D> {
     /// Makes a server that holds nothing, with slots 0 to 63 empty, each at the first serial, and that draws this message id
-    /// first. Its programs find this device's readings. It opens the books; the reserve has all their parts.
+    /// first, with this policy. Its programs find this device's readings. It opens the books; the reserve has all their parts.
     ///
     /// # Errors
     /// There was no memory for it.
@@ -136,17 +137,19 @@ impl<'a, B: Books, D: Device> Locked<'a, B, D> {
         alloc: Global,
         first_serial: u64,
         first_id: u16,
+        policy: &Policy,
         device: &'a D,
         blanks: Blanks,
     ) -> Result<(Locked<'a, B, D>, Reserve<B>), AllocError>
         requires serial { first_serial ≤ last_serial }
         requires names { AreNamed blanks B.names }
         requires books { blanks.parts ≡ B.parts }
+        requires front { B.first ≡ first_front policy.now first_id }
         ensures { IfOk result (λ r. r.1 ≡ record { parts = blanks.parts; changes = no_changes; ended = 0 }) }
     {
         let (heads, _seat) = Heads::new(alloc)?;
-        let front = Front::new(alloc, first_id)?;
-        let mut shards = make_shards(alloc, first_serial)?;
+        let front = Front::new(alloc, policy, first_id)?;
+        let mut shards = make_shards(alloc, first_serial, policy.confirm_after)?;
         let shard7 = last_of(&mut shards);
         let shard6 = last_of(&mut shards);
         let shard5 = last_of(&mut shards);
@@ -166,7 +169,7 @@ impl<'a, B: Books, D: Device> Locked<'a, B, D> {
         let server = Locked {
             device,
             heads,
-            front: Mutex::new(front),
+            front: Mutex::new(BegunFront::new(front)),
             shard0,
             shard1,
             shard2,
@@ -264,7 +267,7 @@ impl<'a, B: Books, D: Device> Locked<'a, B, D> {
 impl<'a, B: Books, D: Device> Bench for Locked<'a, B, D> {
     ghost called = { IsServerCall };
 
-    ghost logged = { λ call before after. IsLoggedCall D.are_readings call };
+    ghost logged = { IsLoggedCall B.first D.are_readings };
 
     type Tallies = Tallies<B>;
 
@@ -292,7 +295,7 @@ impl<'a, B: Books, D: Device> Bench for Locked<'a, B, D> {
     fn tick<R: Wait>(&self, rt: &R, now: u64, log: &mut CallLog) {
         let _ = log;
         let mut front = self.front.lock(rt);
-        advance(&mut front, now);
+        front.tick(now);
     }
 
     fn fresh_id<R: Wait>(&self, rt: &R, now: u64, log: &mut CallLog) -> Option<u16> {
@@ -302,8 +305,7 @@ impl<'a, B: Books, D: Device> Bench for Locked<'a, B, D> {
     }
 
     fn readings<R: Wait>(&self, rt: &R, log: &mut CallLog) -> Readings {
-        let _ = log;
-        self.device.readings(rt)
+        self.device.readings(rt, log)
     }
 
     fn take<R: Wait>(
@@ -449,7 +451,8 @@ impl<'a, B: Books, D: Device> Bench for Locked<'a, B, D> {
         self.change(rt, job.origin.slot, Remove { job }, &mut (), tallies)
     }
 
-    fn receipt<R: Wait>(&self, rt: &R, job: &Job) -> Option<Receipt> {
+    fn receipt<R: Wait>(&self, rt: &R, job: &Job, log: &mut CallLog) -> Option<Receipt> {
+        let _ = log;
         self.ask(rt, shard_of(job.origin.slot), Describe { job }, &mut ())
     }
 
@@ -482,14 +485,6 @@ impl<'a, B: Books, D: Device> Bench for Locked<'a, B, D> {
         let mut front = self.front.lock(rt);
         is_sent(front.respond(now, job, answer, reply))
     }
-}
-
-// Advances a front to a moment in milliseconds.
-#[tactic(auto, unfolding(crate::specs::Doings::AdvancesTo))]
-fn advance(front: &mut Front, now: u64)
-    ensures { AdvancesTo now front.old front.new }
-{
-    front.tick(now);
 }
 
 // Whether an answer is sent.

@@ -88,7 +88,8 @@ impl<'a, B: Bench, G: Gate, W: Wire, M: Moments> Workshop<'a, B, G, W, M> {
                 Step::ToInstall => self.install(rt, job, stage, share),
                 Step::ToRemove => self.remove(rt, job, stage, share),
                 Step::ToDescribe => {
-                    let receipt = self.bench.receipt(rt, job);
+                    let log = &mut share.log;
+                    let receipt = self.bench.receipt(rt, job, log);
                     stage.told(receipt);
                 }
                 Step::ToList => {
@@ -229,7 +230,7 @@ impl<'a, B: Bench, G: Gate, W: Wire, M: Moments> Workshop<'a, B, G, W, M> {
             ticket.vars(),
             ticket.readings(),
         );
-        let now = self.moments.now(rt);
+        let now = self.moments.now(rt, log);
         let committed = self
             .bench
             .commit(rt, now, &outcome, &ticket, &mut share.tallies, log);

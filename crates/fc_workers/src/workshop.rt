@@ -39,15 +39,15 @@ pub trait Wire {
 /// What moment it is, in milliseconds since a start of its own, and random words. It may run backwards: who is handed a moment keeps the
 /// greatest.
 pub trait Moments {
-    // Which moments it tells. It says of a call's moment that it was asked for.
-    ghost is_moment: { ℕ → Type 0 } = { λ _. ⊤ };
+    // Which moments it tells. It says of a call's moment that it was asked for, and from which state of the caller's log to which that led.
+    ghost is_moment: { ℕ → Log → Log → Type 0 } = { λ now before after. ⊤ };
 
     // Which random words it tells. It says of a call's word that it was asked for.
     ghost is_random: { ℕ → Type 0 } = { λ _. ⊤ };
 
-    /// The moment of the call.
-    fn now<R: Wait>(&self, rt: &R) -> u64
-        ensures { is_moment result };
+    /// Returns the moment of the call.
+    fn now<R: Wait>(&self, rt: &R, log: &mut CallLog) -> u64
+        ensures { is_moment result log.old log.new };
 
     /// A random word, which says how long a confirmable notification is waited for.
     fn random<R: Wait>(&self, rt: &R) -> u16

@@ -7,7 +7,9 @@ use Rattle.fc_registry.specs.Record.{IsChain, IsRing}
 use Rattle.fc_registry.specs.Shards.{slot_in_shards}
 use Rattle.fc_registry.specs.Slots.{new_slot}
 use Rattle.fc_core.specs.declared.event.Event.{Event}
-use Rattle.fc_core.specs.History.{Begins, Entry, History, Then, did, history_after, seen}
+use Rattle.fc_server.specs.States.{begin_of}
+use Rattle.fc_server.specs.declared.server.Begin.{Begin}
+use Rattle.fc_core.specs.History.{Entry, History, Then, did, history_after, seen}
 use Rattle.fc_core.specs.Legal.{AllMean, IsLegal}
 use Rattle.fc_core.specs.declared.stage.Task.{Task}
 use Rattle.fc_server.specs.Agreement.{Agrees, Parts}
@@ -16,20 +18,20 @@ use Rattle.fc_server.specs.States.{ServerState}
 use Rattle.fc_server.specs.Steps.{Step}
 
 -- what holds after so many events of a list
-pub record RunsTo (serial id : ℕ) (es : List Event) (i : ℕ) (os : List (Option Emission)) (w : Parts) : Type 0 where
+pub record RunsTo (b : Begin) (es : List Event) (i : ℕ) (os : List (Option Emission)) (w : Parts) : Type 0 where
   pub long : length os ≡ i
-  pub legal : IsLegal (history_after (Begins serial id) (take i es) os)
-  pub means : AllMean (history_after (Begins serial id) (take i es) os)
-  pub agrees : Agrees (seen (history_after (Begins serial id) (take i es) os)) w
-  pub first : (seen (history_after (Begins serial id) (take i es) os)).first_serial ≡ serial
+  pub legal : IsLegal (history_after (begin_of b) (take i es) os)
+  pub means : AllMean (history_after (begin_of b) (take i es) os)
+  pub agrees : Agrees (seen (history_after (begin_of b) (take i es) os)) w
+  pub first : (seen (history_after (begin_of b) (take i es) os)).first_serial ≡ b.serial
 
 -- nothing is carried out yet
-pub starts : (serial id : ℕ) (es : List Event) (os : List (Option Emission)) (s : ServerState) (tasks : List Task) → os ≡ [] → Serves (Begins serial id) s [] → tasks ≡ [] → RunsTo serial id es 0 os (with_tasks s tasks)
+pub starts : (b : Begin) (es : List Event) (os : List (Option Emission)) (s : ServerState) (tasks : List Task) → os ≡ [] → Serves (begin_of b) s [] → tasks ≡ [] → RunsTo b es 0 os (with_tasks s tasks)
 unfolding seen
-starts serial id es os s tasks fresh v none =
-    let started : RunsTo serial id es 0 [] (with_tasks s []) = record { long = refl; legal = v.legal; means = v.means; agrees = v.agrees; first = refl } in
-    let later : RunsTo serial id es 0 [] (with_tasks s tasks) = subst (λ (ts : List Task). RunsTo serial id es 0 [] (with_tasks s ts)) (sym none) started in
-    subst (λ (xs : List (Option Emission)). RunsTo serial id es 0 xs (with_tasks s tasks)) (sym fresh) later
+starts b es os s tasks fresh v none =
+    let started : RunsTo b es 0 [] (with_tasks s []) = record { long = refl; legal = v.legal; means = v.means; agrees = v.agrees; first = refl } in
+    let later : RunsTo b es 0 [] (with_tasks s tasks) = subst (λ (ts : List Task). RunsTo b es 0 [] (with_tasks s ts)) (sym none) started in
+    subst (λ (xs : List (Option Emission)). RunsTo b es 0 xs (with_tasks s tasks)) (sym fresh) later
 
 -- one more event
 history_snoc : (h : History) (es : List Event) (os : List (Option Emission)) (e : Event) (o : Option Emission) → length es ≡ length os → history_after h (es ++ e ∷ []) (os ++ o ∷ []) ≡ Then (history_after h es os) (did e o)
@@ -38,12 +40,12 @@ history_snoc h [] (p ∷ os) e o l = absurd (omega (arith, l))
 history_snoc h (f ∷ es) [] e o l = absurd (omega (arith, l))
 history_snoc h (f ∷ es) (p ∷ os) e o l = history_snoc (Then h (did f p)) es os e o (omega (arith, l))
 
-pub runs_on : (serial id : ℕ) (es : List Event) (i : ℕ) (d : Event) (os later : List (Option Emission)) (o : Option Emission) (old new : Parts) → i < length es → RunsTo serial id es i os old → later ≡ os ++ o ∷ [] → Step (get_or es i d) o new (seen (history_after (Begins serial id) (take i es) os)) → RunsTo serial id es (i + 1) later new
+pub runs_on : (b : Begin) (es : List Event) (i : ℕ) (d : Event) (os later : List (Option Emission)) (o : Option Emission) (old new : Parts) → i < length es → RunsTo b es i os old → later ≡ os ++ o ∷ [] → Step (get_or es i d) o new (seen (history_after (begin_of b) (take i es) os)) → RunsTo b es (i + 1) later new
 unfolding seen
-runs_on serial id es i d os later o old new lt r pushed s =
+runs_on b es i d os later o old new lt r pushed s =
     let entry : Entry = did (get_or es i d) o in
-    let grows : history_after (Begins serial id) (take (i + 1) es) later ≡ Then (history_after (Begins serial id) (take i es) os) entry =
-    (λ k. history_after (Begins serial id) (take_more es i d lt k) (pushed k)) ∙ history_snoc (Begins serial id) (take i es) os (get_or es i d) o (length-take i es ∙ omega (arith, r.long)) in
+    let grows : history_after (begin_of b) (take (i + 1) es) later ≡ Then (history_after (begin_of b) (take i es) os) entry =
+    (λ k. history_after (begin_of b) (take_more es i d lt k) (pushed k)) ∙ history_snoc (begin_of b) (take i es) os (get_or es i d) o (length-take i es ∙ omega (arith, r.long)) in
     record {
       long = ap length pushed ∙ (length-append os (o ∷ []) ∙ ap (λ (k : ℕ). k + 1) r.long);
       legal = subst IsLegal (sym grows) (s.emits, r.legal);
@@ -53,24 +55,24 @@ runs_on serial id es i d os later o old new lt r pushed s =
     }
 
 -- what holds at the end of a list
-pub record HasRun (serial id : ℕ) (es : List Event) (os : List (Option Emission)) (w : Parts) : Type 0 where
+pub record HasRun (b : Begin) (es : List Event) (os : List (Option Emission)) (w : Parts) : Type 0 where
   pub count : length os ≡ length es
-  pub legal : IsLegal (history_after (Begins serial id) es os)
-  pub means : AllMean (history_after (Begins serial id) es os)
-  pub agrees : Agrees (seen (history_after (Begins serial id) es os)) w
-  pub chain : (n : ℕ) → IsChain (new_slot serial) ((seen (history_after (Begins serial id) es os)).changes n)
+  pub legal : IsLegal (history_after (begin_of b) es os)
+  pub means : AllMean (history_after (begin_of b) es os)
+  pub agrees : Agrees (seen (history_after (begin_of b) es os)) w
+  pub chain : (n : ℕ) → IsChain (new_slot b.serial) ((seen (history_after (begin_of b) es os)).changes n)
   pub ring : (n : ℕ) → n < 64 → IsRing (slot_in_shards w.shards n)
 
-pub has_run : {serial id : ℕ} {es : List Event} {i : ℕ} {os : List (Option Emission)} {w : Parts} → RunsTo serial id es i os w → i ≤ length es → length es ≤ i → HasRun serial id es os w
-has_run {serial} {id} {es} {i} {os} {w} r within past =
+pub has_run : {b : Begin} {es : List Event} {i : ℕ} {os : List (Option Emission)} {w : Parts} → RunsTo b es i os w → i ≤ length es → length es ≤ i → HasRun b es os w
+has_run {b} {es} {i} {os} {w} r within past =
     let whole : take i es ≡ es = take_all i es past in
-    let agrees : Agrees (seen (history_after (Begins serial id) es os)) w = subst (λ (t : List Event). Agrees (seen (history_after (Begins serial id) t os)) w) whole r.agrees in
-    let first : (seen (history_after (Begins serial id) es os)).first_serial ≡ serial = subst (λ (t : List Event). (seen (history_after (Begins serial id) t os)).first_serial ≡ serial) whole r.first in
-    let s = seen (history_after (Begins serial id) es os) in
+    let agrees : Agrees (seen (history_after (begin_of b) es os)) w = subst (λ (t : List Event). Agrees (seen (history_after (begin_of b) t os)) w) whole r.agrees in
+    let first : (seen (history_after (begin_of b) es os)).first_serial ≡ b.serial = subst (λ (t : List Event). (seen (history_after (begin_of b) t os)).first_serial ≡ b.serial) whole r.first in
+    let s = seen (history_after (begin_of b) es os) in
     record {
       count = r.long ∙ omega (arith, within, past);
-      legal = subst (λ (t : List Event). IsLegal (history_after (Begins serial id) t os)) whole r.legal;
-      means = subst (λ (t : List Event). AllMean (history_after (Begins serial id) t os)) whole r.means;
+      legal = subst (λ (t : List Event). IsLegal (history_after (begin_of b) t os)) whole r.legal;
+      means = subst (λ (t : List Event). AllMean (history_after (begin_of b) t os)) whole r.means;
       agrees = agrees;
       chain = λ n. subst (λ (k : ℕ). IsChain (new_slot k) (s.changes n)) first (agrees.sound.chain n);
       ring = λ n lt. subst IsRing (sym (agrees.shards.slot n lt)) (rings_follow s.first_serial (s.changes n) (agrees.sound.chain n));

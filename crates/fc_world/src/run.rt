@@ -2,7 +2,8 @@
 ghost use Rattle.std.specs.Prelude.{◌≡◌, ℕ, ◌<◌, ◌≤◌, length, IfOk};
 ghost use Rattle.fc_registry.specs.Record.{IsChain, IsRing};
 ghost use Rattle.fc_registry.specs.Shards.{AreShards, shard_at, slot_in_shards};
-ghost use Rattle.fc_registry.specs.Slots.{last_serial, new_slot};
+ghost use Rattle.fc_registry.specs.Slots.{new_slot};
+ghost use Rattle.fc_server.specs.States.{CanBegin};
 ghost use Rattle.fc_core.specs.History.{history_of, seen, slot_at};
 ghost use Rattle.fc_core.specs.Legal.{IsLegal, AllMean};
 ghost use Rattle.fc_world.specs.Histories.{history_from};
@@ -11,7 +12,7 @@ use crate::state::WorldState;
 use coap_msg::Emission;
 use fc_core::Event;
 use fc_registry::Shard;
-use fc_server::Begin;
+use fc_server::{Begin, DEFAULT_BEGIN};
 use std::alloc::{AllocError, Global};
 
 /// What each event emitted, and the eight shards at the end.
@@ -43,30 +44,30 @@ pub fn run_world(alloc: Global, events: &[Event<'_>]) -> Result<World, AllocErro
     ensures rings { IfOk result (λ w. (n : ℕ) → n < 64 → IsRing (slot_in_shards w.shards.items n)) }
     ensures means { IfOk result (λ w. AllMean (history_of events.now w.emissions.items)) }
 {
-    run_world_from(alloc, Begin { serial: 0, id: 0 }, events)
+    run_world_from(alloc, &DEFAULT_BEGIN, events)
 }
 
-/// Carries out a list of events, as `run_world` does, from empty slots at a serial, on a server that draws this message id first.
+/// Carries out a list of events, as `run_world` does, from empty slots at a serial, on a server that draws this message id first and has this policy.
 ///
 /// # Errors
 /// There was no memory, and nothing is said.
 pub fn run_world_from(
     alloc: Global,
-    begin: Begin,
+    begin: &Begin,
     events: &[Event<'_>],
 ) -> Result<World, AllocError>
-    requires { begin.serial ≤ last_serial }
-    ensures legal { IfOk result (λ w. IsLegal (history_from begin events.now w.emissions.items)) }
+    requires { CanBegin begin.now }
+    ensures legal { IfOk result (λ w. IsLegal (history_from begin.now events.now w.emissions.items)) }
     ensures count { IfOk result (λ w. length w.emissions.items ≡ length events.now) }
     ensures shards { IfOk result (λ w. AreShards w.shards.items) }
     ensures slots { IfOk result (λ w. (n : ℕ) → n < 64 →
-        slot_in_shards w.shards.items n ≡ slot_at (seen (history_from begin events.now w.emissions.items)) n) }
+        slot_in_shards w.shards.items n ≡ slot_at (seen (history_from begin.now events.now w.emissions.items)) n) }
     ensures moments { IfOk result (λ w. (i : ℕ) → i < 8 →
-        (shard_at w.shards.items i).now ≡ (seen (history_from begin events.now w.emissions.items)).shard_moment i) }
+        (shard_at w.shards.items i).now ≡ (seen (history_from begin.now events.now w.emissions.items)).shard_moment i) }
     ensures chains { IfOk result (λ w. (n : ℕ) → n < 64 →
-        IsChain (new_slot begin.serial) ((seen (history_from begin events.now w.emissions.items)).changes n)) }
+        IsChain (new_slot begin.now.serial) ((seen (history_from begin.now events.now w.emissions.items)).changes n)) }
     ensures rings { IfOk result (λ w. (n : ℕ) → n < 64 → IsRing (slot_in_shards w.shards.items n)) }
-    ensures means { IfOk result (λ w. AllMean (history_from begin events.now w.emissions.items)) }
+    ensures means { IfOk result (λ w. AllMean (history_from begin.now events.now w.emissions.items)) }
 {
     let mut state = WorldState::new(alloc, begin)?;
     let mut emissions = Vec::new(alloc);

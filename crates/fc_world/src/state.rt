@@ -1,10 +1,9 @@
 //! The state of a world, and what each event does to it.
-ghost use Rattle.std.specs.Prelude.{◌≡◌, ◌≤◌, [], None, Some, length, IfOk, OnOk};
+ghost use Rattle.std.specs.Prelude.{◌≡◌, [], None, Some, length, IfOk, OnOk};
 ghost use Rattle.fc_core.specs.declared.event.Event.{Event};
-ghost use Rattle.fc_core.specs.History.{Begins};
 ghost use Rattle.fc_core.specs.Rows.{names};
-ghost use Rattle.fc_registry.specs.Slots.{last_serial};
 ghost use Rattle.fc_server.specs.Serving.{Serves};
+ghost use Rattle.fc_server.specs.States.{CanBegin, begin_of};
 ghost use Rattle.fc_server.specs.Steps.{DeliveredTo, Done, IsReached, Steps};
 ghost use Rattle.fc_world.specs.Parts.{parts};
 
@@ -89,13 +88,13 @@ impl WorldState {
 }
 
 impl WorldState {
-    pub(crate) fn new(alloc: Global, begin: Begin) -> Result<WorldState, AllocError>
-        requires { begin.serial ≤ last_serial }
-        ensures serves { IfOk result (λ w. Serves (Begins begin.serial begin.id) w.server []) }
+    pub(crate) fn new(alloc: Global, begin: &Begin) -> Result<WorldState, AllocError>
+        requires { CanBegin begin.now }
+        ensures serves { IfOk result (λ w. Serves (begin_of begin.now) w.server []) }
         ensures none { IfOk result (λ w. w.tasks.items ≡ []) }
     {
         Ok(WorldState {
-            server: Server::new(alloc, begin.serial, begin.id)?,
+            server: Server::new(alloc, begin)?,
             tasks: Vec::new(alloc),
         })
     }

@@ -5,18 +5,21 @@ use clap::ArgMatches;
 use fc_cli::Status;
 use fc_cli::command_line::{exit_code, parse, words};
 use fc_cli::message_id::random_id;
+use fc_core::Policy;
 use fc_host::sensors::{FileSensors, NoSensors};
 use fc_lines::LineLimit;
 use fc_server::Begin;
 use fc_service::command::command;
+use fc_service::options::{BadOption, ServeOptions, serve_options};
 use fc_service::play::play;
-use fc_service::serve::{Extent, Listening, serve};
+use fc_service::policy::policy_in;
+use fc_service::serve::{Extent, serve};
 use fc_service::workers::play_by_workers;
 use log::sink::Console;
 use log::{LevelFilter, Logged};
 use std::io;
 use std::io::{BufReader, BufWriter, Write};
-use std::net::{Ipv4Addr, Net, SocketAddrV4};
+use std::net::Net;
 use std::process::ExitCode;
 use std::random::RandomSource;
 use std::rt::Runtime;
@@ -53,7 +56,10 @@ fn obey<R: Runtime + AllocGlobal + Threads + Wait + Net + RandomSource + Sync, E
     match matches.subcommand() {
         Some(("play", matches)) => {
             let workers = matches.get_one::<u8>("workers");
-            play_input(rt, err, workers)
+            match policy_in(matches) {
+                Some(policy) => play_input(rt, err, workers, policy),
+                None => tell_bad(err, BadOption::Managers),
+            }
         }
         Some(("serve", matches)) => serve_socket(rt, files, err, matches),
         _ => Ok(Status::Bad),
@@ -65,6 +71,7 @@ fn play_input<R: Runtime + AllocGlobal + Threads + Wait + Net + Sync, E: Write>(
     rt: &R,
     err: &mut E,
     workers: Option<u8>,
+    policy: Policy,
 ) -> anyhow::Result<Status> {
     let alloc = rt.alloc();
     let input = BufReader::new(alloc, LineLimit::new(rt.reader()))?;
@@ -72,9 +79,10 @@ fn play_input<R: Runtime + AllocGlobal + Threads + Wait + Net + Sync, E: Write>(
     let begin = Begin {
         serial: FIRST_SERIAL,
         id: FIRST_ID,
+        policy,
     };
     Ok(match workers {
-        None => play(alloc, input, &mut out, err, FIRST_SERIAL, FIRST_ID),
+        None => play(alloc, input, &mut out, err, begin),
         Some(count) => play_by_workers(rt, alloc, input, &mut out, err, count, begin),
     })
 }
@@ -86,39 +94,32 @@ fn serve_socket<R: Runtime + AllocGlobal + Threads + Wait + Net + RandomSource +
     err: &mut E,
     matches: &ArgMatches<'_>,
 ) -> anyhow::Result<Status> {
-    let (Some(port), Some(workers), Some(limit)) = (
-        matches.get_one::<u16>("port"),
-        matches.get_one::<u8>("workers"),
-        matches.get_one::<u32>("limit"),
-    ) else {
-        return Ok(Status::Bad);
+    let options = match serve_options(matches) {
+        Ok(options) => options,
+        Err(bad) => return tell_bad(err, bad),
     };
-    let Some(ip) = matches.get_str("bind").and_then(ip_of) else {
-        writeln!(
-            err,
-            "error: `--bind` is to be an IPv4 address, as 127.0.0.1"
-        )?;
-        return Ok(Status::Bad);
-    };
-    let told = matches.get_str("log") == Some("info");
-    let level = if told {
+    let ServeOptions {
+        listening,
+        workers,
+        limit,
+        policy,
+        readings,
+    } = options;
+    let level = if listening.told {
         LevelFilter::Info
     } else {
         LevelFilter::Off
     };
     let log = Logged::new(rt, level, Console(rt));
-    let listening = Listening {
-        address: SocketAddrV4::new(ip, port),
-        told,
-    };
     let first_id = random_id(rt).map_err(|error| anyhow::anyhow!("random bytes: {error}"))?;
     let extent = Extent {
         workers,
         limit,
         first_id,
+        policy,
     };
     let alloc = rt.alloc();
-    Ok(match matches.get_str("readings") {
+    Ok(match readings {
         Some(path) => {
             let sensors = FileSensors::new(files, path);
             serve(rt, alloc, &log, err, &sensors, listening, extent)
@@ -127,8 +128,10 @@ fn serve_socket<R: Runtime + AllocGlobal + Threads + Wait + Net + RandomSource +
     })
 }
 
-fn ip_of(text: &str) -> Option<Ipv4Addr> {
-    text.parse::<Ipv4Addr>().ok()
+// Reports that an option has no meaning.
+fn tell_bad<E: Write>(err: &mut E, bad: BadOption) -> anyhow::Result<Status> {
+    writeln!(err, "{bad}")?;
+    Ok(Status::Bad)
 }
 
 fn main(rt: HostRuntime) -> ExitCode {

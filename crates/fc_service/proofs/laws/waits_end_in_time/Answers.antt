@@ -1,37 +1,44 @@
-use Rattle.std.proofs.Common.{◌≡◌, ℕ, ◌+◌, ◌<◌, ◌≤◌, inl, inr, Option, Some, None, ap, arith}
-use Rattle.std.specs.Prelude.{◌⊎◌}
-use Rattle.fc_service.specs.Rounds.{AllStayQuiet, EndsInTime}
+use Rattle.std.proofs.Common.{◌≡◌, ℕ, ◌+◌, ◌-◌, ◌<◌, ◌≤◌, Option, Some, None, ap, arith, refl, subst, sym, ◌∙◌, true}
+use Rattle.std.specs.Prelude.{max, nat_lt}
+use Rattle.fc_service.specs.Rounds.{EndsInTime, wait_until}
+use Rattle.fc_service.proofs.Waits.{at_most, no_earlier, no_later, wait_to}
 use Rattle.fc_service.proofs.laws.waits_end_in_time.Goals as goal
 
--- the shards are quiet until the moments that they told
-abbrev AreQuiet : (ℕ → Option ℕ) → ℕ → Type 0
-AreQuiet told moment = AllStayQuiet (λ i until. told i ≡ Some until) moment
+abbrev Ends : (ℕ → ℕ) → ℕ → Option ℕ → Type 0
+Ends told now wait = EndsInTime (λ shard until. until ≡ told shard) now true wait
 
--- one of them is quiet no longer than it told
-no_longer : (told : ℕ → Option ℕ) (shard until moment : ℕ) → shard < 8 → told shard ≡ Some until → AreQuiet told moment → moment ≤ until
-no_longer told shard until moment lt is quiet =
-    let w = quiet shard lt in
-    let same : w.0 ≡ until = cc (is, w.1) in
-    omega (arith, same, w.2)
+soon : (told : ℕ → ℕ) (now shard : ℕ) (wait : Option ℕ) → shard < 8 → told shard ≤ now + 100 → now + 100 < 18446744073709551615 → Ends told now wait → wait ≡ Some 100
+soon told now shard wait lt early fits (moment, (moments, are, count, is), waits) =
+    let le = no_later told moments shard are (omega (arith, lt, count)) in
+    let some : moment < 18446744073709551615 = omega (arith, is, le, early, fits) in
+    let short : max (moment - now) 100 ≡ 100 = omega (arith, is, le, early) in
+    waits ∙ (wait_to now moment some ∙ ap (λ (n : ℕ). Some n) short)
 
--- none told of no moment
-some_moment : (told : ℕ → Option ℕ) (shard moment : ℕ) → shard < 8 → told shard ≡ None → AreQuiet told moment → ⊥
-some_moment told shard moment lt none quiet = let w = quiet shard lt in absurd (cc (none, w.1))
+in_time : (told : ℕ → ℕ) (now shard later : ℕ) (wait : Option ℕ) → shard < 8 → told shard ≡ now + later → 100 ≤ later → now + later < 18446744073709551615
+    → ((other : ℕ) → other < 8 → now + later ≤ told other) → Ends told now wait → wait ≡ Some later
+in_time told now shard more wait lt first long fits each (moment, (moments, are, count, is), waits) =
+    let le = no_later told moments shard are (omega (arith, lt, count)) in
+    let ge = no_earlier told moments (now + more) are (λ other below. each other (omega (arith, below, count))) (omega (arith, fits)) in
+    let same : moment ≡ now + more = omega (arith, is, le, ge, first) in
+    let some : moment < 18446744073709551615 = omega (arith, same, fits) in
+    let rest : max (moment - now) 100 ≡ more = omega (arith, same, long) in
+    waits ∙ (wait_to now moment some ∙ ap (λ (n : ℕ). Some n) rest)
 
-at_once : (told : ℕ → Option ℕ) (now shard : ℕ) (wait : Option ℕ) → shard < 8 → told shard ≡ None → EndsInTime (λ i until. told i ≡ Some until) now wait → wait ≡ Some 100
-at_once told now shard None lt none ends = absurd (some_moment told shard 18446744073709551615 lt none ends)
-at_once told now shard (Some wait) lt none (inl is) = ap (λ (n : ℕ). Some n) is
-at_once told now shard (Some wait) lt none (inr quiet) = absurd (some_moment told shard (now + wait) lt none quiet)
+endless : (told : ℕ → ℕ) (now : ℕ) (wait : Option ℕ) → ((shard : ℕ) → shard < 8 → told shard ≡ 18446744073709551615) → Ends told now wait → wait ≡ None
+endless told now wait each (moment, (moments, are, count, is), waits) =
+    let ge = no_earlier told moments 18446744073709551615 are (λ shard lt. let at : told shard ≡ 18446744073709551615 = each shard (omega (arith, lt, count)) in omega (arith, at)) (omega arith) in
+    let le = at_most told moments in
+    let never : moment ≡ 18446744073709551615 = omega (arith, is, ge, le) in
+    waits ∙ ap (wait_until now) never
 
-in_time : (told : ℕ → Option ℕ) (now shard until wait : ℕ) → shard < 8 → told shard ≡ Some until → EndsInTime (λ i at. told i ≡ Some at) now (Some wait) → (wait ≡ 100) ⊎ (now + wait ≤ until)
-in_time told now shard until wait lt is (inl short) = inl short
-in_time told now shard until wait lt is (inr quiet) = inr (no_longer told shard until (now + wait) lt is quiet)
+pub returns-clause-received : goal.returns-clause-received
+returns-clause-received c = λ told now wait is. is
 
-pub returns-clause-untold : goal.returns-clause-untold
-returns-clause-untold c = at_once
+pub returns-clause-soon : goal.returns-clause-soon
+returns-clause-soon c = soon
 
-pub returns-clause-told : goal.returns-clause-told
-returns-clause-told c = in_time
+pub returns-clause-later : goal.returns-clause-later
+returns-clause-later c = in_time
 
 pub returns-clause-endless : goal.returns-clause-endless
-returns-clause-endless c = λ told now shard until lt is quiet. no_longer told shard until 18446744073709551615 lt is quiet
+returns-clause-endless c = endless

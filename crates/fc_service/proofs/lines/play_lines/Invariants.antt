@@ -1,11 +1,13 @@
-use Rattle.std.proofs.Common.{◌≡◌}
+use Rattle.std.proofs.Common.{◌≡◌, length}
 use Rattle.std.specs.Io.Iter.{split_byte, split_known_bytes}
 use Rattle.fc_service.specs.Playing.{HasPlayed}
+use Rattle.fc_workers.specs.Answers.{saturated}
 use Rattle.fc_service.proofs.lines.play_lines.Given as goal
 
--- the lines so far
+-- the lines so far, which are counted
 abbrev pub invariant-loop-text : goal.invariant-loop-text
 invariant-loop-text g l =
     (split_byte l.text-iterator ≡ 10)
-    × HasPlayed g.N.LineIntake.hands g.N.Intake.calls l.fn.intake l.intake
-    (g.R.Read.remaining l.fn.input) (split_known_bytes g.R.Read.remaining l.text-iterator) (g.W.Write.contents l.fn.out) (g.W.Write.contents l.out)
+    × (h : HasPlayed g.N.LineIntake.hands g.N.Intake.calls l.fn.intake l.intake
+    (g.R.Read.remaining l.fn.input) (split_known_bytes g.R.Read.remaining l.text-iterator) (g.W.Write.contents l.fn.out) (g.W.Write.contents l.out))
+    × (l.number ≡ saturated (length h.lines))

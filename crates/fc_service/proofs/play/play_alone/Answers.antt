@@ -1,5 +1,9 @@
 use Rattle.fc_service.proofs.Played.{played_out}
 use Rattle.fc_service.proofs.play.play_alone.Goals as goal
 
-pub returns : goal.returns
-returns g c = played_out c.args.first_serial c.args.first_id _ c.play_lines.new.intake _ _ _ c.play_lines.result c.in_ok-alone.ensures.begins c.in_ok-alone.ensures.handed c.play_lines.ensures
+pub returns-clause-done : goal.returns-clause-done
+returns-clause-done g c = played_out c.args.begin _ c.play_lines.new.intake _ _ _ c.play_lines.result c.in-Ok.ensures.begins c.in-Ok.ensures.handed c.play_lines.ensures.played
+
+pub returns-clause-bad : goal.returns-clause-bad
+returns-clause-bad g c = λ number stops.
+    record { first = _; last = _; begins = c.in-Ok.ensures.begins; handed = c.in-Ok.ensures.handed; stops = c.play_lines.ensures.bad number stops }

@@ -1,9 +1,10 @@
 use Rattle.fc_service.proofs.Runs.{Runs}
+use Rattle.fc_service.specs.Rounds.{round_calls}
 use Rattle.fc_service.proofs.rounds.run_rounds.Given as goal
 
 -- the rounds so far
 abbrev pub invariant-loop : goal.invariant-loop
 invariant-loop g l =
     (goal.iterator-loop g).can_next l.iterator' × (goal.iterator-loop g).is_finite l.iterator'
-    × Runs g.M.Moments.is_moment g.P.Preparation.readies g.N.Intake.calls g.K.Sink.went
+    × Runs g.P.Preparation.readies g.N.Intake.calls (round_calls g.S.Source.received g.M.Moments.is_moment g.K.Sink.went)
     l.limit l.received l.wait (g.S.Source.came l.fn.source) (g.S.Source.came l.source) l.fn.intake l.intake l.outbox

@@ -7,14 +7,14 @@ use Rattle.fc_world.specs.Parts.{parts}
 use Rattle.fc_world.proofs.run.run_world_from.Goals as goal
 
 pub loop-event-init : goal.loop-event-init
-loop-event-init c = starts c.args.begin.serial c.args.begin.id c.args.events.now c.new-emissions.result.items c.in_ok-state.state.server c.in_ok-state.state.tasks.items c.new-emissions.ensures.items c.in_ok-state.ensures.serves c.in_ok-state.ensures.none
+loop-event-init c = starts c.args.begin.now c.args.events.now c.new-emissions.result.items c.in_ok-state.state.server c.in_ok-state.state.tasks.items c.new-emissions.ensures.items c.in_ok-state.ensures.serves c.in_ok-state.ensures.none
 
 pub step-requires : goal.step-requires
 step-requires c = record { seen = _; agrees = c.loop-event.invariant.agrees }
 
 pub loop-event-preserved : goal.loop-event-preserved
 loop-event-preserved c =
-    runs_on c.args.begin.serial c.args.begin.id c.args.events.now c.loop-event.event-index _ c.loop-event.emissions.items _ _ (parts c.loop-event.state) _ c.loop-event-test.true c.loop-event.invariant c.in_ok-push.ensures.items
+    runs_on c.args.begin.now c.args.events.now c.loop-event.event-index _ c.loop-event.emissions.items _ _ (parts c.loop-event.state) _ c.loop-event-test.true c.loop-event.invariant c.in_ok-push.ensures.items
     (c.in_ok-emitted.ensures _ c.loop-event.invariant.agrees)
 
 pub returns-clause-legal : goal.returns-clause-legal

@@ -1,12 +1,14 @@
-use Rattle.std.proofs.Common.{◌∙◌, ℕ, inl, inr, refl, subst, sym}
+use Rattle.std.proofs.Common.{◌∙◌, ◌+◌, ℕ, ap, inl, inr, refl, subst, sym}
 use Rattle.fc_core.specs.Stage.{Stage, ToCommit}
 use Rattle.fc_registry.specs.declared.job.Job.{Job}
 use Rattle.fc_workers.specs.declared.dispatcher.Dispatched.{Dispatched}
 use Rattle.fc_workers.specs.declared.dispatcher.Handover.TheVariants.{Dear}
 use Rattle.fc_workers.specs.declared.tools.Tools.{Tools}
 use Rattle.fc_workers.specs.Called.{shop}
-use Rattle.fc_workers.specs.Dispatch.{IsDearAt, IsDispatched}
-use Rattle.fc_workers.specs.Steps.{IsReady, IsToCommit}
+use Rattle.fc_workers.specs.Answers.{saturated}
+use Rattle.fc_workers.specs.Dispatch.{IsDearAt, IsDispatched, unsent}
+use Rattle.fc_workers.specs.Steps.{IsReady, IsToCommit, Walked}
+use Rattle.fc_workers.specs.Work.{IsReplied}
 use Rattle.fc_workers.proofs.dispatcher.Dispatcher.dispatch_request.Goals as goal
 
 pub work_begun-requires-clause-ready : goal.work_begun-requires-clause-ready
@@ -31,3 +33,24 @@ returns-then-sent-clause-dispatched g c =
       sent = refl;
       may_go = inr (record { asks = found.0; request = c.requires; stage = stage; took = found.1; dear = dear; ended = c.begin.ensures.ended });
     }))
+
+-- the job that stays was begun here, and is worked on from there
+pub returns-else-sent-clause-dispatched : goal.returns-else-sent-clause-dispatched
+returns-else-sent-clause-dispatched g c =
+    let s = (shop g.B.Bench.changes g.B.Bench.ended g.B.Bench.called g.B.Bench.logged
+    g.M.Moments.is_moment g.M.Moments.is_random g.G.Gate.passed g.W.Wire.called) in
+    let before = c.args.self.now.done in
+    let now = c.send_if-sent.new.self in
+    let is = c.if-sent.ensures.sent.0 in
+    let same = c.if-sent.ensures.sent.1 in
+    let begun = c.begin.ensures.begun unsent in
+    let stands = subst (λ (t : Tools). Walked s unsent c.args.self.now.job t.stage before.share c.begin.new.share) (sym c.send_if-sent.ensures.tools) begun in
+    let kept = subst (λ (d : Dispatched _). Walked s unsent c.args.self.now.job now.tools.stage before.share d.share) (sym is) stands in
+    let walked = subst (λ (j : Job). Walked s unsent j now.tools.stage before.share now.done.share) (sym same) kept in
+    inr (record {
+      sent = ap (λ (d : Dispatched _). d.sent) is;
+      log = before.share.log;
+      priced = inl refl;
+      worked = subst (λ (j : Job). IsReplied s unsent j before.share c.work_begun.new.share) same (c.work_begun.ensures.worked before.share walked);
+      ends = c.work_begun.ensures.ended ∙ (ap (λ (d : Dispatched _). saturated (g.B.Bench.ended d.share.tallies + 1)) is ∙ ap (λ (n : ℕ). saturated (n + 1)) c.begin.ensures.ended);
+    })

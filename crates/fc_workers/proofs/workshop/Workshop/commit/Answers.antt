@@ -6,7 +6,8 @@ use Rattle.fc_registry.specs.Taken.{ticket_with}
 use Rattle.fc_core.specs.Stage.{Stage, ToCommit}
 use Rattle.fc_core.specs.declared.stage.Step.TheVariants as steps
 use Rattle.fc_workers.specs.Answers.{IsSomeCommit}
-use Rattle.fc_workers.specs.Called.{CommitsRun, shop}
+use Rattle.fc_calls.specs.Logged.{CommitsRun}
+use Rattle.fc_workers.specs.Called.{shop}
 use Rattle.fc_workers.specs.Steps.{IsReady}
 use Rattle.fc_workers.specs.Work.{IsCommitted}
 use Rattle.fc_workers.proofs.Steps.{commit_step, from_stage, is_run, stands_at}
@@ -28,12 +29,13 @@ returns-clause-step g c =
     let ready = subst (λ (x : Stage). IsReady c.args.job.now x) at c.requires.ready in
     let answer = c.commit-committed.result in
     let passed = c.between.new.log in
+    let asked = c.now-now.new.log in
     let log = c.commit-committed.new.log in
     let own = is_run c.run-outcome.result t _ _ _ _ c.run-outcome.ensures.made c.program.ensures c.request.ensures c.vars.ensures.vars c.readings.ensures in
-    let commits = subst (λ (r : Ran). g.B.Bench.logged (CommitsRun c.now-now.result r t answer) passed log) own c.commit-committed.ensures.logged in
+    let commits = subst (λ (r : Ran). g.B.Bench.logged (CommitsRun c.now-now.result r t answer) asked log) own c.commit-committed.ensures.logged in
     let commit = subst (λ (r : Ran). IsSomeCommit r t answer) own c.commit-committed.ensures.committed in
     let is : IsCommitted s c.args.number t answer c.args.share.now.log log = record
-    { passed = passed; gate = c.between.ensures; now = c.now-now.result; moment = c.now-now.ensures; commits = commits; commit = commit } in
+    { passed = passed; gate = c.between.ensures; now = c.now-now.result; asked = asked; moment = c.now-now.ensures; commits = commits; commit = commit } in
     let step = commit_step s c.args.number c.args.job.now count t answer c.args.share.now c.commit-committed.new.tallies log ready is
     c.commit-committed.ensures.changes (c.committed.ensures room.found room.seen).0 c.count_commit.ensures in
     from_stage s c.args.number c.args.job.now at step

@@ -3,7 +3,8 @@ use Rattle.fc_kinds.specs.Meaning.{Program}
 use Rattle.fc_registry.specs.declared.receipt.Receipt.{Receipt}
 use Rattle.fc_core.specs.Stages.{made}
 use Rattle.fc_workers.specs.Answers.{IsSomeInstall}
-use Rattle.fc_workers.specs.Called.{InstallsProgram, shop}
+use Rattle.fc_calls.specs.Logged.{InstallsProgram}
+use Rattle.fc_workers.specs.Called.{shop}
 use Rattle.fc_workers.proofs.Steps.{install_step, refuse_step}
 use Rattle.fc_workers.proofs.workshop.Workshop.install_program.Goals as goal
 

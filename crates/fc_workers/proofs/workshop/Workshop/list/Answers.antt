@@ -1,7 +1,7 @@
 use Rattle.std.proofs.Common.{◌≡◌, ◌∙◌, ◌++◌, ◌+◌, ◌<◌, ℕ, List, [], ◌∷◌, Result, Ok, Err, ap, append_assoc, arith, length, length-append, subst}
 use Rattle.std.specs.Prelude.{OnErr, OnOk}
 use Rattle.fc_heads.specs.Heads.{HeadSeat}
-use Rattle.fc_workers.specs.Called.{LooksAt}
+use Rattle.fc_calls.specs.Logged.{LooksAt}
 use Rattle.fc_workers.proofs.Steps.{more_seen}
 use Rattle.fc_workers.proofs.workshop.Workshop.list.Goals as goal
 

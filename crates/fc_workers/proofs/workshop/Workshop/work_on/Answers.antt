@@ -99,7 +99,7 @@ calls-preserved-in-ToDescribe-1 g c =
     let room = c.stage.inside in
     let at : c.calls.tools.stage ≡ ToDescribe =
     stands_at c.calls.tools.stage room.step steps.ToDescribe room.found room.seen room.answer c.stage.view_is c.in-ToDescribe.is in
-    let step = describe_step s c.args.number c.args.job.now c.receipt-receipt.result c.calls.share c.receipt-receipt.ensures.called
+    let step = describe_step s c.args.number c.args.job.now c.receipt-receipt.result c.calls.share c.receipt-receipt.new.log c.receipt-receipt.ensures.logged
     c.receipt-receipt.ensures.receipt c.told.ensures in (
       c.calls.invariant.0,
       step.follows.ready,

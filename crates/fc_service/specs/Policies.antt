@@ -1,0 +1,32 @@
+-- The policy that a command line gives.
+use Rattle.std.specs.Prelude.{◌≡◌, ◌<◌, ◌^◌, ℕ, List, Option, Some, None, codes, option_map}
+use Rattle.clap.specs.declared.parser.matches.Found.{Found}
+use Rattle.clap.specs.Matches.{first_value, matched_of, raw_values}
+use Rattle.fc_core.specs.declared.policy.Policy.{Policy}
+use Rattle.fc_lines.specs.Fields.{IsNoNumber, IsNumber}
+use Rattle.fc_lines.specs.Policies.{IsPolicyOf}
+
+-- the decimal number of an option's value, or this one if the option isn't given
+abbrev pub IsValueOr : ℕ → Option (List ℕ) → ℕ → Type 0
+IsValueOr default None n = n ≡ default
+IsValueOr default (Some text) n = IsNumber text n
+
+-- an option is given, and its value is no number below 2^64
+abbrev pub IsNoValueOr : Option (List ℕ) → Type 0
+IsNoValueOr None = ⊥
+IsNoValueOr (Some text) = IsNoNumber text (2 ^ 64)
+
+-- the policy of the values of `--managers`, `--exchanges`, `--share` and `--confirm-after`; without these 1,024 exchanges are held, a
+-- share is no less, and a notification is confirmable after 86,400 s
+pub record IsPolicyIn (f : Found) (p : Policy) : Type 0 where
+  pub texts : List (List ℕ)
+  pub seconds : ℕ
+  pub managers : option_map raw_values (matched_of f (codes "managers")) ≡ Some texts
+  pub exchanges : IsValueOr 1024 (first_value f (codes "exchanges")) p.limits.exchanges
+  pub share : IsValueOr 65536 (first_value f (codes "share")) p.limits.share
+  pub confirm_after : IsValueOr 86400 (first_value f (codes "confirm-after")) seconds
+  pub policy : IsPolicyOf texts p.limits.exchanges p.limits.share seconds p
+
+-- they are the values of no policy whose share is below 2^64, as each `usize` is
+pub record IsNoPolicyIn (f : Found) : Type 0 where
+  pub none : (p : Policy) → p.limits.share < 2 ^ 64 → IsPolicyIn f p → ⊥

@@ -1,0 +1,34 @@
+//! The policy that a command line gives.
+ghost use Rattle.std.specs.Prelude.{MatchOption};
+ghost use Rattle.clap.specs.Matches.{first_value, found_of};
+ghost use Rattle.fc_service.specs.Policies.{IsNoPolicyIn, IsNoValueOr, IsPolicyIn, IsValueOr};
+
+use clap::ArgMatches;
+use coap_dedup::{EXCHANGES, MOST_EXCHANGES};
+use fc_core::Policy;
+use fc_lines::line::number;
+use fc_lines::policy::{DEFAULT_SECONDS, policy};
+
+/// Returns the policy that the options give, or `None` exactly if they give none: if `--managers` has no value, a value that is no network, or more than
+/// four, if `--exchanges` isn't 1 to 65,536, `--share` is 0, `--confirm-after` isn't 1 to 86,400, or one of them is no number below 2^64.
+pub fn policy_in(matches: &ArgMatches<'_>) -> Option<Policy>
+    ensures { let found = found_of matches.now in MatchOption result (IsNoPolicyIn found) (IsPolicyIn found) }
+{
+    policy(
+        matches.get_strs("managers")?,
+        value(matches, "exchanges", EXCHANGES as u64)? as usize,
+        value(matches, "share", MOST_EXCHANGES as u64)? as usize,
+        value(matches, "confirm-after", DEFAULT_SECONDS)?,
+    )
+}
+
+// The number of an option, or the default if it isn't given.
+fn value(matches: &ArgMatches<'_>, name: &str, default: u64) -> Option<u64>
+    ensures { let text = first_value (found_of matches.now) name.now in
+        MatchOption result (IsNoValueOr text) (IsValueOr default text) }
+{
+    match matches.get_str(name) {
+        Some(text) => number(text.as_bytes()),
+        None => Some(default),
+    }
+}

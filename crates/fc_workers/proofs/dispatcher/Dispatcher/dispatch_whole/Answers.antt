@@ -1,0 +1,20 @@
+use Rattle.std.proofs.Common.{◌∙◌, ap, inr, subst, sym}
+use Rattle.fc_registry.specs.declared.job.Job.{Job}
+use Rattle.fc_workers.specs.Called.{shop}
+use Rattle.fc_workers.specs.Dispatch.{IsPriced, IsWorkedHere, logged_at}
+use Rattle.fc_workers.specs.declared.call_log.CallLog.{CallLog}
+use Rattle.fc_workers.specs.declared.dispatcher.Dispatched.{Dispatched}
+use Rattle.fc_workers.proofs.dispatcher.Dispatcher.dispatch_whole.Goals as goal
+
+-- the job that stays is the one that came, whose slot's receipt was told since
+pub returns-then-not-sent-clause-dispatched : goal.returns-then-not-sent-clause-dispatched
+returns-then-not-sent-clause-dispatched g c =
+    let s = (shop g.B.Bench.changes g.B.Bench.ended g.B.Bench.called g.B.Bench.logged
+    g.M.Moments.is_moment g.M.Moments.is_random g.G.Gate.passed g.W.Wire.called) in
+    let before = c.args.self.now.done in
+    let same = c.if-not-sent.ensures.sent.1 ∙ c.may_go-goes.ensures.job in
+    let is = c.if-not-sent.ensures.sent.0 ∙ c.may_go-goes.ensures.kept in
+    let priced = subst (IsPriced s c.args.self.now.job before.share.log) (sym (ap (λ (d : Dispatched _). d.share.log) c.if-not-sent.ensures.sent.0)) c.may_go-goes.ensures.priced in
+    let worked = c.work.ensures.worked before.share.log (subst (λ (j : Job). IsPriced s j before.share.log c.send_if-sent.new.self.done.share.log) (sym same) priced) in
+    inr (subst (λ (d : Dispatched _). IsWorkedHere s c.args.self.now.job d c.work.new.self.done) (ap (logged_at before.share.log) is)
+    (subst (λ (j : Job). IsWorkedHere s j (logged_at before.share.log c.send_if-sent.new.self.done) c.work.new.self.done) same worked))

@@ -1,0 +1,77 @@
+//! A front behind a server's lock, and that it began as the server's books name it.
+ghost use Rattle.std.specs.Prelude.{◌≡◌};
+ghost use Rattle.fc_core.specs.Answering.{emission_of, responded};
+ghost use Rattle.fc_core.specs.Contents.{IsOf};
+ghost use Rattle.fc_core.specs.Receiving.{heard};
+ghost use Rattle.fc_workers.specs.Asked.{IsFrontAsked};
+ghost use Rattle.fc_calls.specs.Doings.{AdvancesTo, AnswersAt, DrawsAt, HearsAt};
+ghost use Rattle.fc_workers.specs.Fronts.{BeganAt};
+
+use crate::books::Books;
+use coap_msg::{Emission, Endpoint};
+use fc_core::{Answer, Front, Heard, Responded};
+use fc_registry::Job;
+use std::marker::PhantomData;
+
+/// A front that began as the first front of its server, and was asked calls since.
+#[derive(Drop)]
+pub(crate) struct BegunFront<B: Books> {
+    front: Front,
+    of: PhantomData<B>,
+    ghost began: { ∥ BeganAt B.first front ∥₁ },
+}
+
+impl<B: Books> BegunFront<B> {
+    /// Takes a front that has been asked nothing.
+    pub(crate) fn new(front: Front) -> BegunFront<B>
+        requires { front ≡ B.first }
+    {
+        BegunFront {
+            front,
+            of: PhantomData,
+        }
+    }
+
+    /// Takes a datagram in, as [`Front::hear`] does.
+    pub(crate) fn hear(
+        &mut self,
+        now: u64,
+        endpoint: Endpoint,
+        bytes: &[u8],
+        job: &mut Job,
+        reply: &mut Emission,
+    ) -> Heard
+        ensures { IsFrontAsked B.first (HearsAt now endpoint bytes.now (heard result job.new reply.new)) }
+    {
+        self.front.hear(now, endpoint, bytes, job, reply)
+    }
+
+    /// Advances the clock to a moment in milliseconds, as [`Front::tick`] does.
+    #[tactic(auto, unfolding(fc_calls::specs::Doings::AdvancesTo))]
+    pub(crate) fn tick(&mut self, now: u64)
+        ensures { IsFrontAsked B.first (AdvancesTo now) }
+    {
+        self.front.tick(now);
+    }
+
+    /// Allocates a message id, as [`Front::fresh_id`] does.
+    pub(crate) fn fresh_id(&mut self, now: u64) -> Option<u16>
+        ensures { IsFrontAsked B.first (DrawsAt now result) }
+    {
+        self.front.fresh_id(now)
+    }
+
+    /// Answers a job, as [`Front::respond`] does.
+    pub(crate) fn respond(
+        &mut self,
+        now: u64,
+        job: &Job,
+        answer: &Answer,
+        reply: &mut Emission,
+    ) -> Responded
+        requires { IsOf job.now answer.now }
+        ensures { IsFrontAsked B.first (AnswersAt now job.now answer.now (emission_of (responded result reply.new))) }
+    {
+        self.front.respond(now, job, answer, reply)
+    }
+}

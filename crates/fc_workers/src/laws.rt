@@ -1,0 +1,22 @@
+//! What the definitions of workers come to, in plainer words: each function is a law, and its contract says it.
+ghost use Rattle.std.specs.Prelude.{ℕ, Bool};
+ghost use Rattle.coap_msg.specs.declared.types.Endpoint.{Endpoint};
+ghost use Rattle.fc_core.specs.declared.front.Delivered.TheVariants.{Signal};
+ghost use Rattle.fc_calls.specs.Logged.{HandsSignal};
+ghost use Rattle.fc_workers.specs.Called.{shop};
+ghost use Rattle.fc_workers.specs.Dispatch.{IsDone};
+ghost use Rattle.fc_workers.specs.declared.call_log.CallLog.{CallLog as Log};
+ghost use Rattle.fc_workers.specs.declared.dispatcher.Dispatched.{Dispatched};
+ghost use Rattle.fc_workers.specs.declared.dispatcher.Handover.{Handover};
+
+use crate::bench::Bench;
+use crate::workshop::{Gate, Moments, Wire};
+
+/// A dispatcher that hears a Reset message or an Acknowledgement hands it to shards 0 to 7, once each, in this order, as it was heard; its log has no other call.
+pub fn signals_reach_eight_shards<B: Bench, G: Gate, W: Wire, M: Moments>()
+    ensures { (handover : Handover) (from : Endpoint) (id : ℕ) (reset : Bool) (old new : Dispatched B.Tallies)
+        → IsDone (shop B.changes B.ended B.called B.logged M.is_moment M.is_random G.passed W.called) handover from (Signal id reset) old new
+        → (a b c d e f g : Log) × B.logged (HandsSignal 0 from id reset) old.share.log a × B.logged (HandsSignal 1 from id reset) a b
+        × B.logged (HandsSignal 2 from id reset) b c × B.logged (HandsSignal 3 from id reset) c d × B.logged (HandsSignal 4 from id reset) d e
+        × B.logged (HandsSignal 5 from id reset) e f × B.logged (HandsSignal 6 from id reset) f g × B.logged (HandsSignal 7 from id reset) g new.share.log }
+{}
