@@ -5,6 +5,7 @@ use clap::{Arg, Command, Error};
 use fc_cli::Status;
 use fc_cli::command_line::{VERSION, exit_code, parse, words};
 use fc_isa::ImageVersion;
+use fc_server::DEFAULT_BEGIN;
 use fc_service::play::play;
 use fc_tools::tools::{check, image_of};
 use std::alloc::Global;
@@ -113,7 +114,7 @@ fn show<R: Files + AllocGlobal, W: Write, E: Write>(
     let digits = hex::encode(alloc, &image)?;
     let lines = format!(in alloc; "0 1 40030001b1700130ff{digits}\n{}", example.requests)?;
     writeln!(out, "\n{lines}")?;
-    let played = play(alloc, lines.as_bytes(), out, err, 0, 0);
+    let played = play(alloc, lines.as_bytes(), out, err, DEFAULT_BEGIN);
     writeln!(out)?;
     Ok(played)
 }

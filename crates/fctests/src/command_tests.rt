@@ -1,6 +1,10 @@
-// What is told where help or the version is asked for: the first line is the program's, by the convention of `NAME VERSION`.
+// The command line of the server's program. The first line of the version is the program's, by the convention of `NAME VERSION`; the values of options are those that
+// docs/COMMANDS.md gives.
+use fc_core::Network;
 use fc_service::command::{LINES, command};
+use fc_service::options::{BadOption, ServeOptions, serve_options};
 use std::alloc::Global;
+use std::net::{Ipv4Addr, SocketAddrV4};
 use std::process::Abort;
 use std::test::Fail;
 
@@ -18,9 +22,116 @@ fn told(alloc: Global, word: &str) -> Result<String, Fail> {
 fn version_and_help_are_told(rt: HostRuntime) -> Result<(), Fail> {
     let version = told(rt.alloc(), "--version")?;
     assert!(rt;
-        version.as_str() == "fcd 0.1.0, proved with rattle-kit-13f logic dac8208d650f15bf\n"
+        version.as_str()
+            == "fcd 0.1.0, of sources that rattle-kit-13f logic dac8208d650f15bf proves\n"
     );
     let help = told(rt.alloc(), "--help")?;
     assert!(rt; help.as_str().contains(LINES));
+    Ok(())
+}
+
+const EVERYONE: Network = Network {
+    ip: [0, 0, 0, 0],
+    bits: 0,
+};
+
+const EXAMPLES: Network = Network {
+    ip: [192, 0, 2, 0],
+    bits: 24,
+};
+
+#[test]
+fn serve_has_its_defaults(rt: HostRuntime) -> Result<(), Fail> {
+    let words = ["fcd", "serve", "--port", "5683"];
+    let matches = command(rt.alloc())?.try_get_matches_from(&words)?;
+    let Some(Ok(options)) = matches.subcommand_matches("serve").map(serve_options) else {
+        panic!(rt; "no `serve`")
+    };
+    let address = SocketAddrV4::new(Ipv4Addr::new(127, 0, 0, 1), 5683);
+    assert_eq!(rt; options.listening.address, address);
+    assert!(rt; !options.listening.told);
+    assert_eq!(rt; options.workers, 2);
+    assert_eq!(rt; options.limit, 0);
+    assert_eq!(rt; options.readings, None);
+    assert!(rt; options.policy.managers == [EVERYONE; 4]);
+    assert_eq!(rt; options.policy.limits.exchanges, 1024);
+    assert_eq!(rt; options.policy.limits.share, 65_536);
+    assert_eq!(rt; options.policy.confirm_after, 86_400_000);
+    Ok(())
+}
+
+#[test]
+fn serve_has_the_options_that_it_is_given(rt: HostRuntime) -> Result<(), Fail> {
+    let words = [
+        "fcd",
+        "serve",
+        "--port",
+        "61616",
+        "--bind",
+        "0.0.0.0",
+        "--workers",
+        "16",
+        "--limit",
+        "7",
+        "--log",
+        "info",
+        "--readings",
+        "sensors",
+        "--managers",
+        "192.0.2.0/24",
+        "--exchanges",
+        "16384",
+        "--share",
+        "32",
+        "--confirm-after",
+        "60",
+    ];
+    let matches = command(rt.alloc())?.try_get_matches_from(&words)?;
+    let Some(Ok(options)) = matches.subcommand_matches("serve").map(serve_options) else {
+        panic!(rt; "no `serve`")
+    };
+    let address = SocketAddrV4::new(Ipv4Addr::new(0, 0, 0, 0), 61_616);
+    assert_eq!(rt; options.listening.address, address);
+    assert!(rt; options.listening.told);
+    assert_eq!(rt; options.workers, 16);
+    assert_eq!(rt; options.limit, 7);
+    assert_eq!(rt; options.readings, Some("sensors"));
+    assert!(rt; options.policy.managers == [EXAMPLES; 4]);
+    assert_eq!(rt; options.policy.limits.exchanges, 16_384);
+    assert_eq!(rt; options.policy.limits.share, 32);
+    assert_eq!(rt; options.policy.confirm_after, 60_000);
+    Ok(())
+}
+
+#[test]
+fn an_address_and_a_network_of_serve_are_checked(rt: HostRuntime) -> Result<(), Fail> {
+    let no_address = ["fcd", "serve", "--port", "5683", "--bind", "localhost"];
+    let matches = command(rt.alloc())?.try_get_matches_from(&no_address)?;
+    let Some(result) = matches.subcommand_matches("serve").map(serve_options) else {
+        panic!(rt; "no `serve`")
+    };
+    assert!(rt; matches!(result, Err(BadOption::Bind)));
+    let no_network = ["fcd", "serve", "--port", "5683", "--managers", "192.0.2.0"];
+    let matches = command(rt.alloc())?.try_get_matches_from(&no_network)?;
+    let Some(result) = matches.subcommand_matches("serve").map(serve_options) else {
+        panic!(rt; "no `serve`")
+    };
+    assert!(rt; matches!(result, Err(BadOption::Managers)));
+    Ok(())
+}
+
+// `--exchanges` takes 1 to 65,536.
+#[test]
+fn exchanges_have_a_range(rt: HostRuntime) -> Result<(), Fail> {
+    let most = ["fcd", "serve", "--port", "5683", "--exchanges", "65536"];
+    let matches = command(rt.alloc())?.try_get_matches_from(&most)?;
+    let Some(Ok(options)) = matches.subcommand_matches("serve").map(serve_options) else {
+        panic!(rt; "no `serve`")
+    };
+    assert_eq!(rt; options.policy.limits.exchanges, 65_536);
+    let more = ["fcd", "serve", "--port", "5683", "--exchanges", "65537"];
+    assert!(rt; command(rt.alloc())?.try_get_matches_from(&more).is_err());
+    let none = ["fcd", "serve", "--port", "5683", "--exchanges", "0"];
+    assert!(rt; command(rt.alloc())?.try_get_matches_from(&none).is_err());
     Ok(())
 }

@@ -5,6 +5,7 @@ use crate::job_tests::job;
 use crate::overtaking_tests::COUNTER;
 use fc_help::{Method, NO_READINGS, Request};
 use fc_machine::{Frame, run};
+use fc_observe::CONFIRM_AFTER;
 use fc_registry::{Ask, Committed, Found, Job, Shard, SlotNumber, Taken, Ticket};
 use fc_verify::verify;
 use fc_workers::calls::Take;
@@ -60,7 +61,7 @@ fn change<L: Ledger>(alloc: Global, blank: Blank) -> Result<(u64, u64), Fail>
     requires name { blank.name ≡ L.name }
     requires parts { (blank.parts ≡ L.parts) × (0 < blank.parts) }
 {
-    let shard = Shard::new(alloc, 3, 7)?;
+    let shard = Shard::new(alloc, 3, 7, CONFIRM_AFTER)?;
     let (mut counted, mut tally) = Counted::<L>::open(shard, blank);
     let job = post();
     let program = Arc::new(alloc, verify(alloc, COUNTER).map_err(|_| "accepted")?)?;

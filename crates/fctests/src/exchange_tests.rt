@@ -1,7 +1,7 @@
 //! What a caller sees of the exchanges that are held.
 ghost use Rattle.std.specs.Prelude.{◌≡◌, ◌≤◌};
 
-use coap_dedup::{Closed, Exchanges, Looked};
+use coap_dedup::{Closed, DEFAULT_LIMITS, Exchanges, Looked, Room};
 use coap_msg::{Datagram, Endpoint};
 use std::alloc::AllocError;
 use std::process::Abort;
@@ -18,10 +18,13 @@ fn arrives(exchanges: &mut Exchanges, now: u64, from: Endpoint, id: u16) -> bool
     ensures { exchanges.new.now ≡ now }
 {
     match exchanges.look(now, from, id) {
-        Looked::New => {
-            exchanges.open(now, from, id, true);
-            true
-        }
+        Looked::New => match exchanges.room(from.ip) {
+            Room::Free => {
+                exchanges.open(now, from, id, true);
+                true
+            }
+            Room::Full | Room::OverShare => false,
+        },
         _ => false,
     }
 }
@@ -29,7 +32,7 @@ fn arrives(exchanges: &mut Exchanges, now: u64, from: Endpoint, id: u16) -> bool
 // Exchanges end in the order in which they were opened, and a key that is opened again comes last.
 #[test]
 fn exchanges_end_in_order_of_arrival(rt: HostRuntime) -> Result<(), AllocError> {
-    let mut exchanges = Exchanges::new(rt.alloc())?;
+    let mut exchanges = Exchanges::new(rt.alloc(), DEFAULT_LIMITS)?;
     assert!(rt; arrives(&mut exchanges, 0, CLIENT, 1));
     assert!(rt; arrives(&mut exchanges, 1, CLIENT, 2));
     assert!(rt; arrives(&mut exchanges, 2, CLIENT, 3));
@@ -46,7 +49,7 @@ fn exchanges_end_in_order_of_arrival(rt: HostRuntime) -> Result<(), AllocError> 
 // A look compares no key where none is held, and else begins in the middle; what follows it compares none that is counted.
 #[test]
 fn looks_count_their_comparisons(rt: HostRuntime) -> Result<(), AllocError> {
-    let mut exchanges = Exchanges::new(rt.alloc())?;
+    let mut exchanges = Exchanges::new(rt.alloc(), DEFAULT_LIMITS)?;
     assert!(rt; arrives(&mut exchanges, 0, CLIENT, 1) && exchanges.probes() == 0);
     assert!(rt; arrives(&mut exchanges, 0, CLIENT, 2) && exchanges.probes() == 1);
     assert!(rt; arrives(&mut exchanges, 0, CLIENT, 3) && exchanges.probes() == 1);
@@ -105,7 +108,7 @@ fn find_all(rt: &impl Abort, exchanges: &mut Exchanges)
 
 #[test]
 fn each_of_1024_exchanges_is_found(rt: HostRuntime) -> Result<(), Fail> {
-    let mut exchanges = Exchanges::new(rt.alloc())?;
+    let mut exchanges = Exchanges::new(rt.alloc(), DEFAULT_LIMITS)?;
     assert_eq!(rt; exchanges.probes(), 0);
     fill(&rt, &mut exchanges);
     find_all(&rt, &mut exchanges);

@@ -3,6 +3,7 @@ ghost use Rattle.std.specs.Prelude.{◌≤◌, IfSome, length};
 
 use crate::socket_tests::{check_logged, put_datagram};
 use coap_msg::{Emission, Endpoint};
+use fc_core::DEFAULT_POLICY;
 use fc_host::sensors::NoSensors;
 use fc_host::socket::{Buffer, Sink, Source};
 use fc_service::serve::{Extent, serve_at};
@@ -52,7 +53,13 @@ struct Letters {
 }
 
 impl Source for Letters {
-    fn receive(&mut self, wait: Option<u64>, buffer: &mut Buffer) -> Option<(usize, Endpoint)> {
+    fn receive(
+        &mut self,
+        wait: Option<u64>,
+        buffer: &mut Buffer,
+        log: &mut CallLog,
+    ) -> Option<(usize, Endpoint)> {
+        let _ = log;
         let _ = wait;
         let call = self.calls;
         self.calls = call.saturating_add(1);
@@ -111,6 +118,7 @@ fn check_served<R: Abort + AllocGlobal + Threads + Wait + Clock + Sync>(
         workers,
         limit: 8,
         first_id: 0,
+        policy: DEFAULT_POLICY,
     };
     let served = serve_at(
         rt, alloc, &log, &mut err, &NoSensors, letters, &matching, extent,

@@ -1,12 +1,12 @@
 // The message ids of the server's own (RFC 7252, 4.4).
-use fc_core::Front;
+use fc_core::{DEFAULT_POLICY, Front};
 use std::process::Abort;
 use std::test::Fail;
 
 // Each message id is drawn once in a window, in order.
 #[test]
 fn an_id_comes_again_behind_its_window(rt: HostRuntime) -> Result<(), Fail> {
-    let mut front = Front::new(rt.alloc(), 0)?;
+    let mut front = Front::new(rt.alloc(), &DEFAULT_POLICY, 0)?;
     for id in 0..=u16::MAX {
         assert!(rt; front.fresh_id(0) == Some(id), "{id}");
     }

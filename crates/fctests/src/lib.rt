@@ -25,6 +25,8 @@ mod faulty;
 #[cfg(test)]
 mod feeder;
 #[cfg(test)]
+mod fetch_tests;
+#[cfg(test)]
 mod head_tests;
 #[cfg(test)]
 mod hostile_tests;
@@ -34,6 +36,8 @@ mod id_tests;
 mod isa_tests;
 #[cfg(test)]
 mod job_tests;
+#[cfg(test)]
+mod listening_tests;
 #[cfg(test)]
 mod lock_tests;
 #[cfg(test)]
@@ -49,7 +53,11 @@ mod observer_tests;
 #[cfg(test)]
 mod overtaking_tests;
 #[cfg(test)]
+mod peer_tests;
+#[cfg(test)]
 mod play_tests;
+#[cfg(test)]
+mod policy_tests;
 #[cfg(test)]
 mod pool_tests;
 #[cfg(test)]

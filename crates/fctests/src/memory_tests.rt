@@ -1,15 +1,15 @@
 // Each call that asks for memory, once with ample memory, and nothing else beside it: tests/refused-memory refuses each of its requests.
 use crate::overtaking_tests::COUNTER;
 use coap_block::Uploads;
-use coap_dedup::Exchanges;
+use coap_dedup::{DEFAULT_LIMITS, Exchanges};
 use coap_msg::Endpoint;
 use fc_asm::{assemble, disassemble};
-use fc_core::Front;
+use fc_core::{DEFAULT_POLICY, Front};
 use fc_heads::Heads;
 use fc_isa::{Insn, decode, encode, is_program};
 use fc_jobs::Jobs;
 use fc_machine::Frame;
-use fc_observe::Observers;
+use fc_observe::{CONFIRM_AFTER, Observers};
 use fc_registry::{Shard, SlotNumber};
 use fc_verify::verify;
 use fc_world::{Event, run_world};
@@ -63,7 +63,7 @@ fn a_frame_is_made(rt: HostRuntime) -> Result<(), AllocError> {
 
 #[test]
 fn exchanges_are_made(rt: HostRuntime) -> Result<(), AllocError> {
-    assert!(rt; Exchanges::new(rt.alloc())?.probes() == 0);
+    assert!(rt; Exchanges::new(rt.alloc(), DEFAULT_LIMITS)?.probes() == 0);
     Ok(())
 }
 
@@ -75,19 +75,19 @@ fn transfers_are_made(rt: HostRuntime) -> Result<(), AllocError> {
 
 #[test]
 fn observers_are_made(rt: HostRuntime) -> Result<(), AllocError> {
-    assert!(rt; Observers::new(rt.alloc(), 1)?.is_empty());
+    assert!(rt; Observers::new(rt.alloc(), 1, CONFIRM_AFTER)?.is_empty());
     Ok(())
 }
 
 #[test]
 fn a_front_is_made(rt: HostRuntime) -> Result<(), AllocError> {
-    assert!(rt; Front::new(rt.alloc(), 7)?.fresh_id(0) == Some(7));
+    assert!(rt; Front::new(rt.alloc(), &DEFAULT_POLICY, 7)?.fresh_id(0) == Some(7));
     Ok(())
 }
 
 #[test]
 fn a_shard_is_made(rt: HostRuntime) -> Result<(), AllocError> {
-    let shard = Shard::new(rt.alloc(), 3, 41)?;
+    let shard = Shard::new(rt.alloc(), 3, 41, CONFIRM_AFTER)?;
     assert!(rt; shard.serial(SlotNumber::new(3)) == 41);
     Ok(())
 }

@@ -1,13 +1,15 @@
 // Observers of a server that follows a script (RFC 7641): the datagrams are worked out by hand.
+use crate::faulty::{Full, Unflushed};
 use crate::scripted::{Scripted, check_sent, comes, comes_at, follows};
 use crate::socket_tests::free_port;
 use coap_client::notice::{is_newer, notice_of};
+use coap_client::peer::BUFFER;
 use coap_client::{Errand, FetchFault, Notice, Observer, Path, RequestTarget};
 use coap_msg::read;
-use coap_msg::types::DATAGRAM;
 use coap_opts::Method;
 use fc_cli::Status;
-use fc_fetch::observer::{NotesError, ObservationExtent, print_notes};
+use fc_fetch::observer::{NotesError, ObservationExtent, print_notes, print_to_end};
+use fc_fetch::printer::{PrintError, write_note};
 use fc_fetch::{Observing, Shown, observe};
 use std::alloc::{AllocError, Global};
 use std::test::Fail;
@@ -108,7 +110,7 @@ fn printed(
         seconds: Some(60),
     };
     let mut out = Vec::new(alloc);
-    let mut buffer = [0; DATAGRAM];
+    let mut buffer = [0; BUFFER];
     print_notes(
         alloc,
         server,
@@ -242,7 +244,7 @@ fn ended(alloc: Global, server: &mut Scripted, errand: &Errand<'_>) -> Result<()
         token: TOKEN,
         id: 0xffff,
     };
-    let mut buffer = [0; DATAGRAM];
+    let mut buffer = [0; BUFFER];
     observer.deregister(alloc, server, &mut buffer)
 }
 
@@ -265,6 +267,83 @@ fn an_observer_ends(rt: HostRuntime) -> Result<(), Fail> {
     let silence = ended(alloc, &mut silent, &errand);
     assert!(rt; matches!(&silence, Err(FetchFault::Silence)));
     assert!(rt; silent.waits.as_slice() == [2, 4, 8, 16, 32].as_slice());
+    Ok(())
+}
+
+// Whether an observation ends by its output, which takes three bytes and no more.
+fn ends_by_its_output(alloc: Global, server: &mut Scripted, errand: &Errand<'_>) -> bool {
+    let observer = Observer {
+        errand,
+        token: TOKEN,
+        id: 7,
+    };
+    let extent = ObservationExtent {
+        count: None,
+        seconds: None,
+    };
+    let mut buffer = [0; BUFFER];
+    let shown = print_to_end(
+        alloc,
+        server,
+        &mut Full(3),
+        &observer,
+        Shown::Hex,
+        extent,
+        &mut buffer,
+    );
+    matches!(&shown, Err(NotesError::Print(_)))
+}
+
+// The answer can't be printed: the deregistration is sent by the whole schedule all the same.
+#[test]
+fn an_observer_that_fails_deregisters_by_the_schedule(rt: HostRuntime) -> Result<(), Fail> {
+    let alloc = rt.alloc();
+    let errand = slot_one(alloc)?;
+    let mut server = follows(alloc);
+    comes_with(&mut server, 0, b"\x64\x45\x00\x07", b"\x61\x02\xff\x61")?;
+    assert!(rt; ends_by_its_output(alloc, &mut server, &errand));
+    assert!(rt; server.waits.as_slice() == [2, 2, 4, 8, 16, 32].as_slice());
+    assert!(rt; server.sent.len() == 6);
+    for place in 1..6 {
+        check_sent(
+            &rt,
+            &server,
+            place,
+            b"\x44\x01\x00\x08\x01\x02\x03\x04\x61\x01\x51\x72\x01\x31",
+            &[],
+        );
+    }
+    Ok(())
+}
+
+// A first state that goes on in further blocks is a fault (Block2 with number 0, more, 1,024 bytes).
+#[test]
+fn a_first_state_of_more_blocks_is_a_fault(rt: HostRuntime) -> Result<(), Fail> {
+    let alloc = rt.alloc();
+    let errand = slot_one(alloc)?;
+    let mut server = follows(alloc);
+    comes_with(
+        &mut server,
+        0,
+        b"\x64\x45\x00\x07",
+        b"\x61\x02\xd1\x04\x0e\xff\x61",
+    )?;
+    let shown = printed(alloc, &mut server, &errand, 3);
+    assert!(rt; matches!(&shown, Err(NotesError::Fault(FetchFault::Part))));
+    Ok(())
+}
+
+// A line that can't be handed on isn't printed: each is flushed when it is written.
+#[test]
+fn each_line_of_an_observer_is_flushed(rt: HostRuntime) -> Result<(), Fail> {
+    let alloc = rt.alloc();
+    let (error, note) = (b"\x60\x84\x00\x07", b"\x60\x45\x00\x07\xff\x61");
+    for bytes in [error.as_slice(), note.as_slice()] {
+        if let Ok(message) = read(bytes) {
+            let shown = write_note(alloc, &mut Unflushed, Shown::Text, &message);
+            assert!(rt; matches!(&shown, Err(PrintError::Output(_))), "{bytes:?}");
+        }
+    }
     Ok(())
 }
 

@@ -84,7 +84,7 @@ static TICKS: [(u64, Did); 11] = [
 
 #[test]
 fn late_notifications_are_sent_again(rt: HostRuntime) -> Result<(), Fail> {
-    let mut observers = Observers::new(rt.alloc(), 1)?;
+    let mut observers = Observers::new(rt.alloc(), 1, DAY)?;
     assert!(rt; register(&mut observers, 0, 1, 0x6f, 7) == Registered::Entered);
     assert!(rt; notify(&mut observers, DAY - 1, 8, 0, 8) == Some((1, false)));
     assert!(rt; notify(&mut observers, DAY, 8, 1, 8) == None);
@@ -102,8 +102,17 @@ fn late_notifications_are_sent_again(rt: HostRuntime) -> Result<(), Fail> {
 }
 
 #[test]
+fn notifications_are_confirmable_once_their_time_has_passed(rt: HostRuntime) -> Result<(), Fail> {
+    let mut observers = Observers::new(rt.alloc(), 1, 1_000)?;
+    register(&mut observers, 5, 1, 0x6f, 7);
+    assert!(rt; notify(&mut observers, 1_004, 8, 0, 8) == Some((1, false)));
+    assert!(rt; notify(&mut observers, 1_005, 9, 1, 9) == Some((1, true)));
+    Ok(())
+}
+
+#[test]
 fn acknowledgements_end_the_wait(rt: HostRuntime) -> Result<(), Fail> {
-    let mut observers = Observers::new(rt.alloc(), 1)?;
+    let mut observers = Observers::new(rt.alloc(), 1, DAY)?;
     register(&mut observers, 0, 1, 0x6f, 7);
     assert!(rt; notify(&mut observers, DAY, 8, 5, 8) == Some((1, true)));
     observers.acked(peer(2), 5);
@@ -117,7 +126,7 @@ fn acknowledgements_end_the_wait(rt: HostRuntime) -> Result<(), Fail> {
 
 #[test]
 fn resets_and_cancelling_remove(rt: HostRuntime) -> Result<(), Fail> {
-    let mut observers = Observers::new(rt.alloc(), 1)?;
+    let mut observers = Observers::new(rt.alloc(), 1, DAY)?;
     register(&mut observers, 0, 1, 0x6f, 7);
     register(&mut observers, 0, 2, 0x6f, 7);
     register(&mut observers, 0, 3, 0x6f, 7);
@@ -133,7 +142,7 @@ fn resets_and_cancelling_remove(rt: HostRuntime) -> Result<(), Fail> {
 
 #[test]
 fn renewed_observers_are_one(rt: HostRuntime) -> Result<(), Fail> {
-    let mut observers = Observers::new(rt.alloc(), 1)?;
+    let mut observers = Observers::new(rt.alloc(), 1, DAY)?;
     for port in 0..32 {
         assert!(rt; register(&mut observers, 0, port, 1, 0) == Registered::Entered);
     }
@@ -150,7 +159,7 @@ fn renewed_observers_are_one(rt: HostRuntime) -> Result<(), Fail> {
 
 #[test]
 fn turns_are_given_up(rt: HostRuntime) -> Result<(), Fail> {
-    let mut observers = Observers::new(rt.alloc(), 1)?;
+    let mut observers = Observers::new(rt.alloc(), 1, DAY)?;
     register(&mut observers, 0, 1, 0x6f, 7);
     let first = observers.next_due(10, 8).ok_or("due")?;
     assert!(rt; first == Turn { slot: 1, number: 0 });
@@ -176,7 +185,7 @@ fn turns_are_given_up(rt: HostRuntime) -> Result<(), Fail> {
 
 #[test]
 fn turns_keep_that_the_slot_was_empty(rt: HostRuntime) -> Result<(), Fail> {
-    let mut observers = Observers::new(rt.alloc(), 1)?;
+    let mut observers = Observers::new(rt.alloc(), 1, DAY)?;
     register(&mut observers, 0, 1, 0x6f, 7);
     register(&mut observers, 0, 2, 0x6f, 7);
     let first = observers.next_due(1, 8).ok_or("due")?;
@@ -193,7 +202,7 @@ fn turns_keep_that_the_slot_was_empty(rt: HostRuntime) -> Result<(), Fail> {
 
 #[test]
 fn a_list_is_quiet_until_it_has_something_to_do(rt: HostRuntime) -> Result<(), Fail> {
-    let mut observers = Observers::new(rt.alloc(), 1)?;
+    let mut observers = Observers::new(rt.alloc(), 1, DAY)?;
     assert!(rt; observers.quiet_until(8) == u64::MAX);
     register(&mut observers, 0, 1, 0x6f, 7);
     assert!(rt; observers.quiet_until(7) == u64::MAX && observers.quiet_until(8) == 0);

@@ -1,5 +1,7 @@
 // Jobs that overtake one another: in which order they are answered, and what the workers count.
 ghost use Rattle.std.specs.Prelude.{◌≡◌, ◌+◌, ◌<◌};
+ghost use Rattle.fc_core.specs.Exchanges.{first_front};
+ghost use Rattle.fc_core.specs.Policies.{default_policy};
 ghost use Rattle.fc_workers.specs.Naming.{AreNamed};
 
 use crate::feeder::{Feeder, Request};
@@ -8,6 +10,7 @@ use crate::lock_tests::{Locks, ShardHeld};
 use crate::told_tests::Told;
 use arrayvec::ArrayVec;
 use coap_msg::Emission;
+use fc_core::DEFAULT_POLICY;
 use fc_help::{NO_READINGS, Readings};
 use fc_jobs::Sent;
 use fc_registry::SlotNumber;
@@ -131,8 +134,9 @@ impl Wire for Replies {
 }
 
 impl Moments for Replies {
-    fn now<R: Wait>(&self, rt: &R) -> u64 {
+    fn now<R: Wait>(&self, rt: &R, log: &mut CallLog) -> u64 {
         let _ = rt;
+        let _ = log;
         0
     }
 
@@ -402,8 +406,9 @@ impl Bare {
 }
 
 impl Device for Bare {
-    fn readings<R: Wait>(&self, rt: &R) -> Readings {
+    fn readings<R: Wait>(&self, rt: &R, log: &mut CallLog) -> Readings {
         let _ = rt;
+        let _ = log;
         let _before = self.reads.fetch_add(1, Ordering::SeqCst);
         NO_READINGS
     }
@@ -431,9 +436,17 @@ fn hold_named<B: Books + Send + Sync, R: Threads + Wait + Clock + Sync>(
     requires parts { blanks.parts ≡ tallies + 1 }
     requires names { AreNamed blanks B.names }
     requires books { blanks.parts ≡ B.parts }
+    requires front { B.first ≡ first_front default_policy 0 }
 {
     let device = Bare::new();
-    let (server, mut reserve) = Locked::<B, Bare>::new(alloc, 0, 0, &device, blanks)?;
+    let (server, mut reserve) = Locked::<B, Bare>::new(
+        alloc,
+        0,
+        0,
+        &DEFAULT_POLICY,
+        &device,
+        blanks,
+    )?;
     let tallies = reserve.split_each(alloc, usize::from(tallies))?;
     let held = trial.hold(rt, alloc, &server, tallies)?;
     let mut changes = Vec::new(alloc);

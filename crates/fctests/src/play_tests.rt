@@ -4,7 +4,7 @@ use clap::Error;
 use fc_cli::Status;
 use fc_cli::command_line::explain;
 use fc_lines::LineLimit;
-use fc_server::Begin;
+use fc_server::DEFAULT_BEGIN;
 use fc_service::play::play;
 use fc_service::workers::play_by_workers;
 use std::alloc::{AllocError, Global};
@@ -23,7 +23,7 @@ fn plays<R: BufRead + Drop>(
 ) -> bool {
     let mut out = Vec::new(alloc);
     let mut err = Vec::new(alloc);
-    play(alloc, input, &mut out, &mut err, 0, 0) == status
+    play(alloc, input, &mut out, &mut err, DEFAULT_BEGIN) == status
         && out.as_slice() == printed.as_bytes()
         && err.as_slice() == told.as_bytes()
 }
@@ -88,7 +88,7 @@ fn a_line_without_end_is_bad(rt: HostRuntime) -> Result<(), Fail> {
 fn status_of_line(alloc: Global, start: &[u8], zeros: u64) -> io::Result<Status> {
     let line = LineLimit::new(start.chain(io::repeat(b'0').take(zeros)));
     let input = BufReader::new(alloc, line)?;
-    Ok(play(alloc, input, &mut Full(0), &mut Full(99), 0, 0))
+    Ok(play(alloc, input, &mut Full(0), &mut Full(99), DEFAULT_BEGIN))
 }
 
 // The longest line has the greatest moment, peer 255 and 65,507 bytes, which are ignored. With a zero in front it is too long.
@@ -103,7 +103,13 @@ fn the_longest_line_is_read(rt: HostRuntime) -> Result<(), Fail> {
 
 // The status of a play whose output, and then whose faults, have room for so many bytes.
 fn status_in(alloc: Global, input: &[u8], out_room: usize, err_room: usize) -> Status {
-    play(alloc, input, &mut Full(out_room), &mut Full(err_room), 0, 0)
+    play(
+        alloc,
+        input,
+        &mut Full(out_room),
+        &mut Full(err_room),
+        DEFAULT_BEGIN,
+    )
 }
 
 #[test]
@@ -122,7 +128,15 @@ fn failed_writing_is_status_3(rt: HostRuntime) {
 #[test]
 fn failed_flushing_is_status_3(rt: HostRuntime) {
     let input: &[u8] = b"0 1 4101123471b1720130\n";
-    assert!(rt; play(rt.alloc(), input, &mut Unflushed, &mut Full(99), 0, 0) == Status::Failed);
+    assert!(rt;
+        play(
+            rt.alloc(),
+            input,
+            &mut Unflushed,
+            &mut Full(99),
+            DEFAULT_BEGIN
+        ) == Status::Failed
+    );
 }
 
 // A command line that finds no memory isn't a bad one.
@@ -138,7 +152,7 @@ fn jobs_are_worked_off_without_workers(rt: HostRuntime) {
     let alloc = rt.alloc();
     let mut out = Vec::new(alloc);
     let mut err = Vec::new(alloc);
-    let begin = Begin { serial: 0, id: 0 };
+    let begin = DEFAULT_BEGIN;
     let input =
         b"0 1 4103123370b1700130ff46434231000002000200000000000000b7000000450000009500000000000000\n\
         1 1 4101123471b1720130\n"

@@ -1,6 +1,7 @@
 //! Pools: what a server comes to when its workers have come to their end.
 use crate::feeder::{PEER, Request, datagram};
 use crate::overtaking_tests::{Bare, COUNTER, Replies};
+use fc_core::DEFAULT_POLICY;
 use fc_core::front::blank_emission;
 use fc_registry::SlotNumber;
 use fc_server::Begin;
@@ -36,7 +37,11 @@ fn a_pool_counts_the_changes_of_each_shard(rt: HostRuntime) -> Result<(), Fail> 
     let pool = Pool {
         workers: 2,
         handover: Handover::Every,
-        begin: Begin { serial: 7, id: 0 },
+        begin: Begin {
+            serial: 7,
+            id: 0,
+            policy: DEFAULT_POLICY,
+        },
         wire: &replies,
         moments: &replies,
         device: &Bare::new(),

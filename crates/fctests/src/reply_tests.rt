@@ -2,6 +2,7 @@
 // options, worked out by hand.
 use crate::tooling::assembled;
 use fc_cli::Status;
+use fc_server::DEFAULT_BEGIN;
 use fc_service::play::play;
 use std::alloc::Global;
 use std::process::Abort;
@@ -24,7 +25,7 @@ fn printed<R: Abort + AllocGlobal>(
     )?;
     let mut out = Vec::new(alloc);
     let mut err = Vec::new(alloc);
-    let status = play(alloc, input.as_bytes(), &mut out, &mut err, 0, 0);
+    let status = play(alloc, input.as_bytes(), &mut out, &mut err, DEFAULT_BEGIN);
     assert!(rt; status == Status::Done && err.is_empty());
     Ok(out)
 }

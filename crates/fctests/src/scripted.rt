@@ -1,4 +1,5 @@
 // A server that follows a script, for tests of the client.
+use coap_client::peer::{BUFFER, Buffer};
 use coap_client::{Errand, FetchFault, Fetched, Path, Peer, RequestTarget, fetch};
 use coap_msg::Datagram;
 use coap_opts::Method;
@@ -26,7 +27,7 @@ impl Peer for Scripted {
     }
 
     // Of each datagram it is the moment that its place in the script is told by.
-    fn now(&self) -> io::Result<u64> {
+    fn now(&mut self) -> io::Result<u64> {
         let moments = &self.moments;
         Ok(
             moments
@@ -41,16 +42,17 @@ impl Peer for Scripted {
         Ok(())
     }
 
-    fn receive(&mut self, buffer: &mut [u8]) -> io::Result<Option<usize>> {
+    fn receive(&mut self, buffer: &mut Buffer) -> io::Result<Option<usize>> {
         let Some(bytes) = self.script.get(self.place) else {
             return Ok(None);
         };
         self.place = self.place.saturating_add(1);
-        let Some(place) = buffer.get_mut(..bytes.len()) else {
+        let count = bytes.len();
+        if count == 0 || count >= BUFFER {
             return Ok(None);
-        };
-        place.copy_from_slice(bytes);
-        Ok((!bytes.is_empty()).then_some(bytes.len()))
+        }
+        buffer[..count].copy_from_slice(bytes);
+        Ok(Some(count))
     }
 }
 

@@ -1,5 +1,6 @@
 // A server whose programs read a file: over a socket, while the file changes.
 use crate::socket_tests::{at_port, client_of, install_reader, readings_of, serve_while};
+use fc_core::DEFAULT_POLICY;
 use fc_host::sensors::{FileSensors, Sensors};
 use fc_service::serve::Extent;
 use std::net::{Net, SocketAddrV4, UdpSocket};
@@ -60,6 +61,7 @@ fn check_sensed<
         workers,
         limit: 6,
         first_id: 0,
+        policy: DEFAULT_POLICY,
     };
     let _memory = serve_while(rt, sensors, extent, |port| write_and_ask(rt, port, path))?;
     Ok(())

@@ -5,6 +5,7 @@ use crate::tooling::assembled;
 use coap_msg::{Emission, Endpoint};
 use coap_opts::Method;
 use fc_cli::Status;
+use fc_core::DEFAULT_POLICY;
 use fc_fetch::{FetchOptions, Shown, fetch};
 use fc_host::sensors::{NoSensors, Sensors};
 use fc_host::socket::{Buffer, Receiving, Sink, Source, open};
@@ -144,6 +145,7 @@ fn serve_counter<R: Abort + AllocGlobal + Threads + Wait + Clock + Net + RandomS
         workers,
         limit: 4,
         first_id: 0,
+        policy: DEFAULT_POLICY,
     };
     let memory = serve_while(rt, &NoSensors, extent, |port| ask_counter(rt, port))?;
     check_logged(rt, memory, "sent 4 failed 0");
@@ -178,6 +180,7 @@ fn a_taken_port_is_status_3(rt: HostRuntime) -> Result<(), Fail> {
         workers: 1,
         limit: 1,
         first_id: 0,
+        policy: DEFAULT_POLICY,
     };
     let listening = Listening {
         address: at_port(port),
@@ -266,6 +269,7 @@ fn bodies_go_and_come_by_blocks(rt: HostRuntime) -> Result<(), Fail> {
         workers: 2,
         limit: 8,
         first_id: 0,
+        policy: DEFAULT_POLICY,
     };
     let memory = serve_while(&rt, &NoSensors, extent, |port| ask_by_blocks(&rt, port))?;
     check_logged(&rt, memory, "sent 8 failed 0");
@@ -297,7 +301,13 @@ pub(crate) fn put_datagram(bytes: &[u8], buffer: &mut [u8]) -> Option<(usize, En
 }
 
 impl Source for Script {
-    fn receive(&mut self, wait: Option<u64>, buffer: &mut Buffer) -> Option<(usize, Endpoint)> {
+    fn receive(
+        &mut self,
+        wait: Option<u64>,
+        buffer: &mut Buffer,
+        log: &mut CallLog,
+    ) -> Option<(usize, Endpoint)> {
+        let _ = log;
         let _ = wait;
         self.calls = self.calls.saturating_add(1);
         match self.calls {
@@ -340,6 +350,7 @@ fn serve_script<R: Abort + AllocGlobal + Threads + Wait + Clock + Sync>(
         workers,
         limit: 2,
         first_id: 0,
+        policy: DEFAULT_POLICY,
     };
     let served = serve_at(
         rt, alloc, &log, &mut err, &NoSensors, script, &lossy, extent,
@@ -494,6 +505,7 @@ fn eight_clients_count_right(rt: HostRuntime) -> Result<(), Fail> {
         workers: 2,
         limit: 978,
         first_id: 0,
+        policy: DEFAULT_POLICY,
     };
     let memory = serve_while(&rt, &NoSensors, extent, |port| ask_by_eight(&rt, port))?;
     check_logged(&rt, memory, "sent 978 failed 0");
@@ -575,6 +587,7 @@ fn check_clock<R: Abort + AllocGlobal + Threads + Wait + Clock + Net + RandomSou
         workers,
         limit: 2,
         first_id: 0,
+        policy: DEFAULT_POLICY,
     };
     let _memory = serve_while(rt, &NoSensors, extent, |port| ask_for_readings(rt, port))?;
     Ok(())

@@ -52,8 +52,9 @@ impl Watch {
 }
 
 impl Moments for Watch {
-    fn now<R: Wait>(&self, rt: &R) -> u64 {
+    fn now<R: Wait>(&self, rt: &R, log: &mut CallLog) -> u64 {
         let _ = rt;
+        let _ = log;
         self.now.load(Ordering::SeqCst)
     }
 

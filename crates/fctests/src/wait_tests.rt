@@ -4,6 +4,7 @@ ghost use Rattle.std.specs.Prelude.{◌≤◌, IfSome, length};
 use crate::failing_tests::{POST, PUT};
 use crate::socket_tests::put_datagram;
 use coap_msg::{Emission, Endpoint};
+use fc_core::DEFAULT_POLICY;
 use fc_host::sensors::NoSensors;
 use fc_host::socket::{Buffer, Sink, Source};
 use fc_service::serve::{Extent, serve_at};
@@ -12,8 +13,10 @@ use log::sink::Memory;
 use log::{LevelFilter, Logged};
 use std::process::Abort;
 use std::sync::Wait;
+use std::sync::atomic::{AtomicUsize, Ordering};
+use std::thread;
 use std::thread::Threads;
-use std::time::Clock;
+use std::time::{Clock, Duration};
 
 // Slot 1 is observed, and no longer.
 const REGISTER: &[u8] = b"\x40\x01\x00\x03\x60\x51\x72\x01\x31";
@@ -42,7 +45,13 @@ struct Listed {
 }
 
 impl Source for Listed {
-    fn receive(&mut self, wait: Option<u64>, buffer: &mut Buffer) -> Option<(usize, Endpoint)> {
+    fn receive(
+        &mut self,
+        wait: Option<u64>,
+        buffer: &mut Buffer,
+        log: &mut CallLog,
+    ) -> Option<(usize, Endpoint)> {
+        let _ = log;
         let (expected, bytes) = RECEIVES.get(self.calls)?;
         self.calls = self.calls.saturating_add(1);
         if wait == *expected {
@@ -75,6 +84,7 @@ fn check_waits<R: Abort + AllocGlobal + Threads + Wait + Clock + Sync>(rt: &R, w
         workers,
         limit: 5,
         first_id: 0,
+        policy: DEFAULT_POLICY,
     };
     let served = serve_at(
         rt,
@@ -93,4 +103,95 @@ fn check_waits<R: Abort + AllocGlobal + Threads + Wait + Clock + Sync>(rt: &R, w
 fn a_server_that_has_nothing_to_do_waits_without_end(rt: HostRuntime) {
     check_waits(&rt, 1);
     check_waits(&rt, 2);
+}
+
+// A PUT of a program into slot 1 that takes 8,207 steps at most: four times 1,024 turns of two.
+static PUT_DEAR: &[u8] =
+    b"\x40\x03\x00\x01\xb1\x70\x01\x31\xff\x46\x43\x42\x32\x00\x00\x08\x00\x0f\x20\x00\x00\x00\x00\x00\x00\xb7\x06\x00\x00\x00\x00\x00\x00\xb7\x07\x00\x00\x00\x00\x00\x00\x07\x07\x00\x00\x01\x00\x00\x00\xa5\x07\xfe\xff\x00\x04\x00\x00\x07\x06\x00\x00\x01\x00\x00\x00\xa5\x06\xfb\xff\x04\x00\x00\x00\xb7\x00\x00\x00\x00\x00\x00\x00\x95\x00\x00\x00\x00\x00\x00\x00";
+
+// A source that gives a dear program and a POST to it, which a worker has been asking for by then, and then nothing: it keeps how long it is to wait while the job is at work.
+#[derive(Drop)]
+struct Busy<'a, C: Clock> {
+    clock: &'a C,
+    calls: usize,
+    seen: &'a AtomicUsize,
+}
+
+// The wait was 100 ms while the job was at work, or another.
+const SHORT: usize = 1;
+
+const LONG: usize = 2;
+
+impl<'a, C: Clock> Source for Busy<'a, C> {
+    fn receive(
+        &mut self,
+        wait: Option<u64>,
+        buffer: &mut Buffer,
+        log: &mut CallLog,
+    ) -> Option<(usize, Endpoint)> {
+        let _ = log;
+        self.calls = self.calls.saturating_add(1);
+        match self.calls {
+            1 => {
+                thread::sleep(self.clock, Duration::from_millis(500));
+                put_datagram(PUT_DEAR, buffer)
+            }
+            2 | 5 => put_datagram(POST, buffer),
+            4 => {
+                let seen = if wait == Some(100) { SHORT } else { LONG };
+                self.seen.store(seen, Ordering::SeqCst);
+                None
+            }
+            _ => None,
+        }
+    }
+}
+
+// A sink that holds the answer to a POST up until that wait is known, and for five seconds at most.
+#[derive(Drop)]
+struct HeldUp<'a, C: Clock> {
+    clock: &'a C,
+    seen: &'a AtomicUsize,
+}
+
+impl<'a, C: Clock> Sink for HeldUp<'a, C> {
+    fn send(&self, emission: &Emission, log: &mut CallLog) -> bool {
+        let _ = log;
+        if emission.bytes.as_slice().starts_with(b"\x60\x44") {
+            for _ in 0..250u16 {
+                if self.seen.load(Ordering::SeqCst) != 0 {
+                    break;
+                }
+                thread::sleep(self.clock, Duration::from_millis(20));
+            }
+        }
+        true
+    }
+}
+
+// While a worker has a job, the next datagram is waited for 100 ms.
+#[test]
+fn a_server_does_not_sleep_while_a_job_is_at_work(rt: HostRuntime) {
+    let alloc = rt.alloc();
+    let seen = AtomicUsize::new(0);
+    let busy = Busy {
+        clock: &rt,
+        calls: 0,
+        seen: &seen,
+    };
+    let held = HeldUp {
+        clock: &rt,
+        seen: &seen,
+    };
+    let memory = Memory::new(alloc);
+    let log = Logged::new(&rt, LevelFilter::Off, &memory);
+    let mut err = Vec::new(alloc);
+    let extent = Extent {
+        workers: 2,
+        limit: 3,
+        first_id: 0,
+        policy: DEFAULT_POLICY,
+    };
+    let served = serve_at(&rt, alloc, &log, &mut err, &NoSensors, busy, &held, extent);
+    assert!(rt; served.is_some() && seen.load(Ordering::SeqCst) == SHORT);
 }

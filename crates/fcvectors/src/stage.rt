@@ -1,8 +1,11 @@
 //! The stages of a command: each is a function of the libraries, which a program calls.
 use crate::case::Output;
+use coap_dedup::{EXCHANGES, MOST_EXCHANGES};
 use fc_cli::Status;
 use fc_cli::status::tell;
+use fc_core::Policy;
 use fc_help::Method;
+use fc_lines::policy::{DEFAULT_SECONDS, policy};
 use fc_replay::replay::replay;
 use fc_server::Begin;
 use fc_service::play::play;
@@ -113,7 +116,17 @@ fn play_from<R: AllocGlobal + Threads + Wait + Sync>(
     input: &[u8],
     output: &mut Output,
 ) -> Option<Status> {
-    if !are_options(options, &["--serial", "--id"]) {
+    if !are_options(
+        options,
+        &[
+            "--serial",
+            "--id",
+            "--managers",
+            "--exchanges",
+            "--share",
+            "--confirm-after",
+        ],
+    ) {
         return None;
     }
     let serial = option(options, "--serial")
@@ -125,21 +138,39 @@ fn play_from<R: AllocGlobal + Threads + Wait + Sync>(
         return None;
     }
     let alloc = rt.alloc();
+    let begin = Begin {
+        serial,
+        id,
+        policy: policy_in(alloc, options)?,
+    };
     let Output { stdout, stderr, .. } = output;
     Some(match workers {
-        None => play(alloc, input, stdout, stderr, serial, id),
-        Some(count) => {
-            play_by_workers(
-                rt,
-                alloc,
-                input,
-                stdout,
-                stderr,
-                count,
-                Begin { serial, id },
-            )
-        }
+        None => play(alloc, input, stdout, stderr, begin),
+        Some(count) => { play_by_workers(rt, alloc, input, stdout, stderr, count, begin) }
     })
+}
+
+// The policy that the options give: commas part its networks, and without an option it is the default's.
+fn policy_in(alloc: Global, options: &str) -> Option<Policy> {
+    let networks = option(options, "--managers").unwrap_or("0.0.0.0/0");
+    let networks = networks.split(',').collect::<Vec<_>>(alloc).ok()?;
+    policy(
+        &networks,
+        limit(options, "--exchanges", EXCHANGES)?,
+        limit(options, "--share", MOST_EXCHANGES)?,
+        number_in(options, "--confirm-after", DEFAULT_SECONDS)?,
+    )
+}
+
+fn limit(options: &str, name: &str, default: usize) -> Option<usize> {
+    usize::try_from(number_in(options, name, default as u64)?).ok()
+}
+
+fn number_in(options: &str, name: &str, default: u64) -> Option<u64> {
+    match option(options, name) {
+        Some(text) => text.parse::<u64>().ok(),
+        None => Some(default),
+    }
 }
 
 fn write_image(

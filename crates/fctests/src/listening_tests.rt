@@ -1,0 +1,252 @@
+// Where `serve` listens, by a client at another address of this host; and what a server has of its host: its socket, waits and random words.
+use crate::socket_tests::{at_port, free_port};
+use coap_msg::Endpoint;
+use fc_cli::Status;
+use fc_core::DEFAULT_POLICY;
+use fc_core::front::blank_emission;
+use fc_host::clock::Elapsed;
+use fc_host::sensors::NoSensors;
+use fc_host::socket::{BUFFER, Receiving, Sink, Source, open};
+use fc_service::serve::{Extent, Listening, serve};
+use fc_workers::{CallLog, Moments};
+use log::sink::Memory;
+use log::{LevelFilter, Logged};
+use std::io::Write;
+use std::net::{Ipv4Addr, Net, SocketAddrV4, UdpSocket};
+use std::process::Abort;
+use std::sync::Wait;
+use std::sync::atomic::{AtomicUsize, Ordering};
+use std::test::Fail;
+use std::thread::Threads;
+use std::time::{Clock, Duration, Instant};
+use std::{io, thread};
+
+// A port at another address of this host than 127.0.0.1.
+fn at_other(port: u16) -> SocketAddrV4 {
+    SocketAddrV4::new(Ipv4Addr::new(127, 0, 0, 2), port)
+}
+
+// A writer that counts what it is told.
+#[derive(Drop)]
+struct Told<'a> {
+    writes: &'a AtomicUsize,
+}
+
+impl<'a> Write for Told<'a> {
+    fn write(&mut self, buf: &[u8]) -> io::Result<usize> {
+        let _before = self.writes.fetch_add(1, Ordering::SeqCst);
+        Ok(buf.len())
+    }
+
+    fn flush(&mut self) -> io::Result<()> {
+        Ok(())
+    }
+}
+
+// Returns whether a GET of slot 0, which is empty, is answered 4.04 in time.
+fn is_answered(client: &UdpSocket, server: SocketAddrV4, id: u8) -> bool {
+    let _sent = client.send_to(&[0x40, 0x01, 0x00, id, 0xb1, b'r', 0x01, b'0'], server);
+    let mut answer = [0; 16];
+    match client.recv_from(&mut answer) {
+        Ok((count, _from)) => answer[..count] == [0x60, 0x84, 0x00, id],
+        Err(_) => false,
+    }
+}
+
+// A client at another address of this host, which waits so many milliseconds.
+fn other_client<R: Net>(rt: &R, wait: u64) -> io::Result<UdpSocket> {
+    let client = open(rt, at_other(0))?;
+    client.set_read_timeout(Some(Duration::from_millis(wait)))?;
+    Ok(client)
+}
+
+// Serves at an address, up to so many datagrams, while a client asks, once the server has told where it listens.
+fn serve_at_address<
+    R: Abort + AllocGlobal + Threads + Wait + Clock + Net + Sync,
+    F: FnOnce() -> Result<(), Fail> + Send,
+>(rt: &R, address: SocketAddrV4, limit: u32, ask: F) -> Result<(), Fail>
+    requires { F.IsAlwaysCallable ask }
+{
+    let alloc = rt.alloc();
+    let writes = AtomicUsize::new(0);
+    let extent = Extent {
+        workers: 2,
+        limit,
+        first_id: 0,
+        policy: DEFAULT_POLICY,
+    };
+    let listening = Listening {
+        address,
+        told: true,
+    };
+    let (asked, status) = thread::join(
+        rt,
+        || -> Result<(), Fail>
+            requires { F.IsAlwaysCallable ask }
+        {
+            for _ in 0..500u16 {
+                if writes.load(Ordering::SeqCst) > 0 {
+                    break;
+                }
+                thread::sleep(rt, Duration::from_millis(10));
+            }
+            ask()
+        },
+        || {
+            let memory = Memory::new(alloc);
+            let log = Logged::new(rt, LevelFilter::Off, &memory);
+            let mut err = Told { writes: &writes };
+            serve(rt, alloc, &log, &mut err, &NoSensors, listening, extent)
+        },
+    );
+    asked?;
+    assert!(rt; status == Status::Done && writes.load(Ordering::SeqCst) > 0);
+    Ok(())
+}
+
+// At 0.0.0.0 a server listens at each address of this host, and answers to the one that asked.
+#[test]
+fn a_server_listens_at_every_address_where_it_is_told_to(rt: HostRuntime) -> Result<(), Fail> {
+    let port = free_port(&rt)?;
+    let client = other_client(&rt, 5000)?;
+    let every = SocketAddrV4::new(Ipv4Addr::UNSPECIFIED, port);
+    serve_at_address(&rt, every, 1, || -> Result<(), Fail> {
+        assert!(rt; is_answered(&client, at_other(port), 1));
+        Ok(())
+    })
+}
+
+// At 127.0.0.1 it listens there alone: what is sent to 127.0.0.2 reaches nobody.
+#[test]
+fn a_server_listens_at_its_own_address_alone(rt: HostRuntime) -> Result<(), Fail> {
+    let port = free_port(&rt)?;
+    let client = other_client(&rt, 5000)?;
+    let hasty = other_client(&rt, 300)?;
+    serve_at_address(&rt, at_port(port), 2, || -> Result<(), Fail> {
+        assert!(rt; is_answered(&client, at_port(port), 1));
+        assert!(rt; !is_answered(&hasty, at_other(port), 2));
+        assert!(rt; is_answered(&client, at_port(port), 3));
+        Ok(())
+    })
+}
+
+// A socket is bound at the address and the port that it is to have.
+#[test]
+fn a_socket_has_the_address_that_it_is_opened_at(rt: HostRuntime) -> Result<(), Fail> {
+    let address = at_other(free_port(&rt)?);
+    let socket = open(&rt, address)?;
+    assert!(rt; socket.local_addr()? == std::net::SocketAddr::V4(address));
+    Ok(())
+}
+
+// What a receive brings that waits so long, and after how many milliseconds, while a datagram comes after 1,500 ms.
+fn received_in<R: Threads + Clock + Net + Sync>(
+    rt: &R,
+    wait: Option<u64>,
+) -> Result<(Option<usize>, u128), Fail> {
+    let socket = open(rt, at_port(0))?;
+    let server = socket.local_addr()?;
+    let client = open(rt, at_port(0))?;
+    let start = Instant::now(rt)?;
+    let (count, sent) = thread::join(
+        rt,
+        || {
+            let mut buffer = [0; BUFFER];
+            Receiving::new(&socket)
+                .receive(wait, &mut buffer, &mut CallLog::new())
+                .map(|it| it.0)
+        },
+        || {
+            thread::sleep(rt, Duration::from_millis(1500));
+            client.send_to(b"late", server)
+        },
+    );
+    let _sent = sent?;
+    Ok((count, start.elapsed(rt)?.as_millis()))
+}
+
+// A receive of 250 ms ends before the datagram comes, and one without end waits for it.
+#[test]
+fn a_receive_waits_as_long_as_it_is_told(rt: HostRuntime) -> Result<(), Fail> {
+    let (count, _) = received_in(&rt, Some(250))?;
+    assert!(rt; count.is_none());
+    let (count, took) = received_in(&rt, None)?;
+    assert!(rt; count == Some(4) && took >= 1500, "{took}");
+    Ok(())
+}
+
+// How many bytes two receives bring, the first without end and the second of 250 ms: a datagram comes at once, and another one after 1,500 ms.
+fn received_twice<R: Threads + Clock + Net + Sync>(
+    rt: &R,
+) -> Result<(Option<usize>, Option<usize>), Fail> {
+    let socket = open(rt, at_port(0))?;
+    let server = socket.local_addr()?;
+    let client = open(rt, at_port(0))?;
+    let (counts, sent) = thread::join(
+        rt,
+        || {
+            let mut buffer = [0; BUFFER];
+            let mut source = Receiving::new(&socket);
+            let first = source.receive(None, &mut buffer, &mut CallLog::new());
+            let second = source.receive(Some(250), &mut buffer, &mut CallLog::new());
+            (first.map(|it| it.0), second.map(|it| it.0))
+        },
+        || {
+            let sent = client.send_to(b"one", server);
+            thread::sleep(rt, Duration::from_millis(1500));
+            sent.and(client.send_to(b"late", server))
+        },
+    );
+    let _sent = sent?;
+    Ok(counts)
+}
+
+#[test]
+fn a_receive_after_one_without_end_ends_in_time(rt: HostRuntime) -> Result<(), Fail> {
+    let (first, second) = received_twice(&rt)?;
+    assert!(rt; first == Some(3) && second.is_none());
+    Ok(())
+}
+
+// The longest message has 1,280 bytes. A datagram comes whole up to one more.
+#[test]
+fn a_datagram_comes_whole(rt: HostRuntime) -> Result<(), Fail> {
+    let socket = open(&rt, at_port(0))?;
+    let address = socket.local_addr()?;
+    let bytes = [7; 1281];
+    for count in [1153, 1280, 1281] {
+        socket.send_to(bytes.get(..count).unwrap_or(&[]), address)?;
+        let mut buffer = [0; BUFFER];
+        let came = Receiving::new(&socket).receive(Some(5000), &mut buffer, &mut CallLog::new());
+        assert!(rt; came.map(|it| it.0) == Some(count), "{count}");
+    }
+    Ok(())
+}
+
+// No datagram goes to port 0, which the system refuses.
+#[test]
+fn a_refused_datagram_counts_as_failed(rt: HostRuntime) -> Result<(), Fail> {
+    let socket = open(&rt, at_port(0))?;
+    let mut emission = blank_emission();
+    emission.to = Endpoint {
+        ip: [127, 0, 0, 1],
+        port: 0,
+    };
+    assert!(rt; !Sink::send(&socket, &emission, &mut CallLog::new()));
+    Ok(())
+}
+
+// A random word is what the clock's low bits are, so that it differs from one moment to another; a moment is told in milliseconds.
+#[test]
+fn a_random_word_is_of_the_clock(rt: HostRuntime) -> Result<(), Fail> {
+    let elapsed = Elapsed::start(&rt)?;
+    thread::sleep(&rt, Duration::from_millis(300));
+    let now = elapsed.now(&rt, &mut CallLog::new());
+    let word = elapsed.random(&rt);
+    assert!(rt; now >= 300 && now < 30_000, "{now}");
+    assert!(rt;
+        u64::from(word) >= now && u64::from(word) < now + 10_000,
+        "{word}"
+    );
+    Ok(())
+}

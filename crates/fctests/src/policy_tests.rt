@@ -1,0 +1,102 @@
+//! A server with a policy, and clients at two addresses of this host: the expected bytes are worked out by hand.
+use crate::socket_tests::{at_port, check_logged, serve_while};
+use coap_dedup::Limits;
+use fc_core::{MOST_NETWORKS, Network, Policy};
+use fc_host::sensors::NoSensors;
+use fc_host::socket::open;
+use fc_observe::CONFIRM_AFTER;
+use fc_service::serve::Extent;
+use std::io;
+use std::net::{Ipv4Addr, Net, SocketAddrV4, UdpSocket};
+use std::process::Abort;
+use std::sync::Wait;
+use std::test::Fail;
+use std::thread::Threads;
+use std::time::{Clock, Duration};
+
+// 127.0.0.1 alone is a manager, and an address has two exchanges.
+const POLICY: Policy = Policy {
+    managers: [Network {
+        ip: [127, 0, 0, 1],
+        bits: 32,
+    }; MOST_NETWORKS],
+    limits: Limits {
+        exchanges: 1024,
+        share: 2,
+    },
+    confirm_after: CONFIRM_AFTER,
+};
+
+// DELETE /p/0 and GET /r/0, confirmable, with these ids; and a GET that isn't confirmable.
+const DELETE_1: [u8; 8] = [0x40, 0x04, 0x00, 0x01, 0xb1, b'p', 0x01, b'0'];
+
+const GET_2: [u8; 8] = [0x40, 0x01, 0x00, 0x02, 0xb1, b'r', 0x01, b'0'];
+
+const GET_3: [u8; 8] = [0x40, 0x01, 0x00, 0x03, 0xb1, b'r', 0x01, b'0'];
+
+const NON_4: [u8; 8] = [0x50, 0x01, 0x00, 0x04, 0xb1, b'r', 0x01, b'0'];
+
+// A client at an address of this host.
+fn client_at<R: Net>(rt: &R, ip: Ipv4Addr) -> io::Result<UdpSocket> {
+    open(rt, SocketAddrV4::new(ip, 0))
+}
+
+// The first four bytes of what a datagram is answered within so many milliseconds; zeros where nothing comes.
+fn answered(client: &UdpSocket, port: u16, datagram: &[u8], wait: u64) -> io::Result<[u8; 4]> {
+    client.set_read_timeout(Some(Duration::from_millis(wait)))?;
+    client.send_to(datagram, at_port(port))?;
+    let mut answer = [0; 64];
+    match client.recv_from(&mut answer) {
+        Ok(_) => Ok([answer[0], answer[1], answer[2], answer[3]]),
+        Err(_) => Ok([0; 4]),
+    }
+}
+
+// Another address is forbidden to remove a program, its repeat gets the same, and above its share it is answered 5.03 or not at all; the manager removes.
+fn ask_from_two<R: Abort + Net>(rt: &R, port: u16) -> Result<(), Fail> {
+    let other = client_at(rt, Ipv4Addr::new(127, 0, 0, 2))?;
+    let manager = client_at(rt, Ipv4Addr::LOCALHOST)?;
+    assert_eq!(rt;
+        answered(&other, port, &DELETE_1, 10_000)?,
+        [0x60, 0x83, 0x00, 0x01]
+    );
+    assert_eq!(rt;
+        answered(&other, port, &DELETE_1, 10_000)?,
+        [0x60, 0x83, 0x00, 0x01]
+    );
+    assert_eq!(rt;
+        answered(&other, port, &GET_2, 10_000)?,
+        [0x60, 0x84, 0x00, 0x02]
+    );
+    assert_eq!(rt;
+        answered(&other, port, &GET_3, 10_000)?,
+        [0x60, 0xa3, 0x00, 0x03]
+    );
+    assert_eq!(rt; answered(&other, port, &NON_4, 300)?, [0, 0, 0, 0]);
+    assert_eq!(rt;
+        answered(&manager, port, &DELETE_1, 10_000)?,
+        [0x60, 0x42, 0x00, 0x01]
+    );
+    Ok(())
+}
+
+fn serve_two<R: Abort + AllocGlobal + Threads + Wait + Clock + Net + Sync>(
+    rt: &R,
+    workers: u8,
+) -> Result<(), Fail> {
+    let extent = Extent {
+        workers,
+        limit: 6,
+        first_id: 0,
+        policy: POLICY,
+    };
+    let memory = serve_while(rt, &NoSensors, extent, |port| ask_from_two(rt, port))?;
+    check_logged(rt, memory, "sent 5 failed 0");
+    Ok(())
+}
+
+#[test]
+fn a_policy_is_of_addresses(rt: HostRuntime) -> Result<(), Fail> {
+    serve_two(&rt, 1)?;
+    serve_two(&rt, 2)
+}
