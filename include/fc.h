@@ -166,6 +166,57 @@ FC_HELPER(7, notify, void);                         /* observers are told of the
         reply_put(fc_text, sizeof fc_text);    \
     })
 
+/* Bytes at a computed place, for a loop or an index without a known bound: as request->payload[i] and request->query[i], with 0 past the end. The
+   query's costs some 20 steps, and no pointer. */
+FC_INLINE fc_u64 fc_payload_at(fc_u64 i)
+{
+    fc_u64 byte = payload_byte(i);
+    return byte & ((byte >> 63) - 1) & 255;
+}
+
+FC_INLINE fc_u64 fc_query_at(const struct fc_request *request, fc_u64 i)
+{
+    const fc_u64 *words = (const fc_u64 *)request->query;
+    fc_u64 word = 0;
+    switch (i >> 3) {
+#define FC_WORD(n)                                                                             \
+    case n:                                                                                    \
+        word = words[n];                                                                       \
+        fc_keep(word);                                                                         \
+        break;
+        FC_WORD(0) FC_WORD(1) FC_WORD(2) FC_WORD(3) FC_WORD(4) FC_WORD(5) FC_WORD(6) FC_WORD(7)
+#undef FC_WORD
+    }
+    return word >> 8 * (i & 7) & 255;
+}
+
+/* Adds a number in decimal to the reply, without leading zeros. A function: it stands once. */
+#define fc_reply_decimal(n) fc_decimal_(n)
+FC_FUNCTION __attribute__((unused)) fc_u64 fc_decimal_(fc_u64 n)
+{
+    fc_u64 unit = 10000000000000000000u;
+    for (fc_u64 i = 0; i < 20; i++) {
+        if (n >= unit || unit == 1)
+            reply_byte('0' + n / unit % 10);
+        unit /= 10;
+    }
+    return 0;
+}
+
+/* The same of a signed number. */
+#define fc_reply_signed(n)                                                                     \
+    __extension__({                                                                            \
+        fc_i64 fc_n = (n);                                                                     \
+        if (fc_n < 0)                                                                          \
+            reply_byte('-');                                                                   \
+        fc_reply_decimal(fc_n < 0 ? -(fc_u64)fc_n : (fc_u64)fc_n);                             \
+    })
+
+/* Each argument is computed once. The types of the two must be alike in sign. */
+#define fc_min(a, b) __extension__({ __auto_type fc_a = (a); __auto_type fc_b = (b); fc_a < fc_b ? fc_a : fc_b; })
+#define fc_max(a, b) __extension__({ __auto_type fc_a = (a); __auto_type fc_b = (b); fc_a > fc_b ? fc_a : fc_b; })
+#define fc_clamp(x, low, high) fc_min(fc_max(x, low), high)
+
 _Static_assert(sizeof(struct fc_request) == 1104 && sizeof(struct fc_readings) == 64, "the regions");
 _Static_assert(__builtin_offsetof(struct fc_request, length) == 2 && __builtin_offsetof(struct fc_request, format) == 4, "the region");
 _Static_assert(__builtin_offsetof(struct fc_request, has_format) == 6 && __builtin_offsetof(struct fc_request, query_length) == 7, "the region");

@@ -131,12 +131,18 @@ class Flow:
 
     def __init__(self, name, blocks, first, homes):
         self.name, self.blocks, self.first, self.homes = name, blocks, first, homes
+        self.ranges = {}  # by a loop's head and a register or home: between which ends its number is there, whatever the turn
         self.spare = max(blocks) + 1  # the name of the next block that is made
 
     def add(self, block):
         self.spare += 1
         self.blocks[self.spare] = block
         return self.spare
+
+    def return_number(self):
+        """Has R0, which is unset where a function begins, be 0 there: a function that returns nothing on some way returns a number then."""
+        first = next(it for it in self.blocks[self.first].code)
+        self.first = self.add(Block([first.like(MOVE, to=0)], falls=self.first))
 
     def before(self):
         """The blocks that lead to each."""
@@ -282,7 +288,8 @@ class Flow:
                 if name in loops:
                     changed = self.changed(loops[name].blocks)
                     left = {it: one for it, one in at[name].items() if it not in lost.get(name, ())}
-                    at[name] = {it: any_such(one) if it in changed else one for it, one in left.items()}
+                    ranges = self.ranges if by_homes else {}
+                    at[name] = {it: in_any_turn(one, ranges.get((name, it))) if it in changed else one for it, one in left.items()}
                 now, block = dict(at[name]), self.blocks[name]
                 for one in block.code:
                     self.step(one, now, by_homes)
@@ -374,6 +381,11 @@ def is_number(known):
 
 def is_pointer(known):
     return known == POINTER or isinstance(known, Request)
+
+
+def in_any_turn(known, ends):
+    """What is known of what a loop changes: a number's ends, if they are known."""
+    return ends if is_number(known) and ends else any_such(known)
 
 
 def any_such(known):

@@ -14,6 +14,7 @@ from loads import ask_for_bytes
 MOST_TURNS, MOST_BOUND, MOST_REWRITINGS = 1024, 1024, 1000
 MIRROR = {1: 1, 5: 5, 2: 10, 10: 2, 3: 11, 11: 3, 6: 12, 12: 6, 7: 13, 13: 7}  # of a jump's code, where its sides change places
 SIGNED = (6, 7, 12, 13)
+SHIFT_UP, SHIFT_DOWN, DIVIDE, AND, AND_REGISTER, MODULO = 0x67, 0x77, 0x37, 0x57, 0x5F, 0x97  # of 64 bits
 CUTS = {0x67: "up", 0x77: "low", 0xC7: "signed"}  # shifts by 32: up and down again they cut a number to its low half, without sign or with it
 
 
@@ -25,11 +26,16 @@ class Unfit(Exception):
         self.instead, self.places = instead, places
 
 
-class Test:
-    """A way out that bounds a loop: the block that ends with it, where it leads, and the most turns; is_exact where it is never fewer."""
+class Unbounded(Unfit):
+    """Loops of which nothing tells how many turns they have; its places are one for each loop."""
 
-    def __init__(self, block, out, turns, is_exact):
-        self.block, self.out, self.turns, self.is_exact = block, out, turns, is_exact
+
+class Test:
+    """A way out that bounds a loop: the block that ends with it, where it leads, and the most turns; is_exact if it is never fewer. `others` are further ways out, if
+    each turn comes to one of them; `asks` is the comparison if another one in its place might go on for ever."""
+
+    def __init__(self, block, out, turns, is_exact, asks=None, others=()):
+        self.block, self.out, self.turns, self.is_exact, self.asks, self.others = block, out, turns, is_exact, asks, others
 
 
 class Shift(NamedTuple):
@@ -39,6 +45,14 @@ class Shift(NamedTuple):
     base: object
     number: int
     cut: object = None
+
+
+class Most(NamedTuple):
+    """A number that is at most a register's value at the turn's start, divided by a constant; or that, shifted up by 32."""
+
+    base: object
+    by: int
+    is_up: bool = False
 
 
 class Counter:
@@ -58,11 +72,25 @@ def mend_loops(flow, needs, start, frame, may_count, room):
             first = next(one for it in flow.blocks.values() for one in it.code)
             raise Unfit("a loop into whose middle a jump leads", "`for`, `while` or `do`", first)
         verified = flow.known(start, by_homes=False)
-        loop = next((it for it in loops.values() if not (may_count and is_counted(flow, it, begins(flow, it, verified, start)))), None)
-        if loop is None:
+        left = [it for it in loops.values() if not (may_count and is_counted(flow, it, begins(flow, it, verified, start)))]
+        if not left:
             return
-        Rewriting(flow, loop.head, needs, start, frame).mend(may_count, room)
+        mend_one(flow, left, needs, start, frame, may_count, room)
     raise Unfit("too many loops", "fewer loops", next(one for it in flow.blocks.values() for one in it.code))
+
+
+def mend_one(flow, loops, needs, start, frame, may_count, room):
+    """Gives the first of these loops the accepted form whose turns are bounded: that may bound another's. If none is bounded, each is told. A loop with an
+    unbounded one inside waits, since its turns might be written out."""
+    unbounded = []
+    for loop in loops:
+        one = Rewriting(flow, loop.head, needs, start, frame)
+        if one.test() is None:
+            unbounded.append(one)
+        elif not any(it.loop.blocks < loop.blocks for it in unbounded):
+            return one.mend(may_count, room)
+    instead = "count up to a constant, `for (fc_u64 i = 0; i < 64; i++)`, and leave it before that by `break`"
+    raise Unbounded(f"a loop of which nothing tells that it has at most {MOST_TURNS} turns", instead, *dict.fromkeys(it.shown for it in unbounded))
 
 
 def begins(flow, loop, known, start):
@@ -119,9 +147,6 @@ class Rewriting:
 
     def mend(self, may_count, room):
         test, pointer = self.test(), self.pointer()
-        if test is None:
-            instead = "count up to a constant, `for (fc_u64 i = 0; i < 64; i++)`, and leave it before that by `break`"
-            raise Unfit(f"a loop of which nothing tells that it has at most {MOST_TURNS} turns", instead, self.shown)
         if may_count and pointer is None:
             try:
                 return self.count(test)
@@ -133,39 +158,90 @@ class Rewriting:
         if not self.fits(test, room):
             if may_count and pointer is not None and ask_for_bytes(self):
                 return None
-            size = f"written out its {test.turns} turns have {self.size(test)} slots, of {room}"
+            left = room - sum(it.slots for name, it in self.flow.blocks.items() if name not in self.loop.blocks)
+            size = f"written out its {test.turns} turns have {self.size(test)} slots, of {max(left, 0)} that are left"
             if pointer is None:
                 raise Unfit(f"a loop, which version 1 hasn't; {size}", "fewer turns, or --format 2", self.shown)
-            instead = "payload_byte(i), var_get(i), var_put(i, x); for a table a FC_FUNCTION that is given the index; or fewer turns"
+            instead = "fc_payload_at(i), var_get(i), var_put(i, x), as tools/fcc makes of it; for a table a FC_FUNCTION that is given the index; or fewer turns"
             raise Unfit(f"a loop that can't be counted, since a turn makes a pointer ({pointer.where}); {size}", instead, self.shown, pointer)
         return self.write_out(test)
 
     # How many turns it has
 
     def test(self):
-        """The way out that bounds the loop most narrowly: a comparison of what goes on by the same number in each turn."""
-        ends, found = self.shifts(), []
+        """The way out that bounds the loop most narrowly: a comparison of what goes on by the same number in each turn. If none is passed in each turn, several of
+        which one is."""
+        ends = self.shifts()
         steps = self.steps(ends)
-        for name in self.once:
-            block = self.blocks[name]
-            outs = [it for it in block.after if it not in self.loop.blocks]
-            if block.jumps is None or len(outs) != 1 or block.code[-1].kind != JMP:
-                continue
-            jump = block.code[-1]
-            code = jump.opcode >> 4
-            code = INVERSE.get(code) if block.jumps == outs[0] else code  # by which it goes on
-            left, right = ends[name].get(jump.to), ends[name].get(jump.by) if jump.takes_register else Shift(None, jump.imm)
-            if left is None or left.base not in steps:
-                left, right, code = right, left, MIRROR.get(code)
-            if left is None or right is None or left.base not in steps or code is None:
-                continue
-            by, bound = steps[left.base], self.bound(right)
-            if code == 1 and left._replace(cut=None) == right._replace(cut=None) and {left.cut, right.cut} == {"low", "mixed"}:
-                left, by, code, bound = left._replace(cut=None), by._replace(cut=None), 10, single(1 << 32)  # its own low half: it is below 2^32
-            goes_on = turns_on(code, self.begins.get(left.base), left, by, bound)
-            if goes_on is not None and goes_on[0] < MOST_TURNS:
-                found.append(Test(name, outs[0], 1 + goes_on[0], goes_on[1]))
-        return min(found, key=lambda it: (it.turns, not it.is_exact), default=None)
+        found = [it for name in self.once for it in self.tests(name, ends, steps)]
+        return min(found, key=lambda it: (it.turns, not it.is_exact), default=None) or self.joint_test(ends, steps)
+
+    def joint_test(self, ends, steps):
+        """For each way back a test that is passed before it. What each compares goes on by the same number in each turn, so in a turn past all their bounds none
+        goes on; of tests of equality that holds only if all are the same one."""
+        dominators, nested = self.flow.dominators(), set().union(*(it.blocks for it in self.inner.values()))
+        found = [it for name in self.blocks if name not in nested for it in self.tests(name, ends, steps)]
+        chosen = [min((it for it in found if it.block in dominators[back]), key=lambda it: it.turns, default=None) for back in self.loop.backs]
+        if None in chosen or len({it.asks for it in chosen}) > 1 and any(it.asks for it in chosen):
+            return None
+        chosen = list(dict.fromkeys(chosen))
+        return Test(chosen[0].block, chosen[0].out, max(it.turns for it in chosen), False, others=chosen[1:])
+
+    def tests(self, name, ends, steps):
+        """The test at a block's end, if it bounds the turns in which it goes on."""
+        block = self.blocks[name]
+        outs = [it for it in block.after if it not in self.loop.blocks]
+        if block.jumps is None or len(outs) != 1 or block.code[-1].kind != JMP:
+            return
+        jump = block.code[-1]
+        code = jump.opcode >> 4
+        code = INVERSE.get(code) if block.jumps == outs[0] else code  # by which it goes on
+        divided = self.divided(ends[name], jump, code)
+        if divided is not None and divided < MOST_TURNS:
+            yield Test(name, outs[0], 1 + divided, False, ("divided", name))
+        left, right = ends[name].get(jump.to), ends[name].get(jump.by) if jump.takes_register else Shift(None, jump.imm)
+        if left is None or left.base not in steps:
+            left, right, code = right, left, MIRROR.get(code)
+        if left is None or right is None or left.base not in steps or code is None:
+            return
+        by, bound = steps[left.base], self.bound(right)
+        if code == 1 and left._replace(cut=None) == right._replace(cut=None) and {left.cut, right.cut} == {"low", "mixed"}:
+            left, by, code, bound = left._replace(cut=None), by._replace(cut=None), 10, single(1 << 32)  # its own low half: it is below 2^32
+        goes_on = turns_on(code, self.begins.get(left.base), left, by, bound) or turns_below(code, left, by, bound)
+        if goes_on is not None and goes_on[0] < MOST_TURNS:
+            yield Test(name, outs[0], 1 + goes_on[0], goes_on[1], (code, left, right) if code in (1, 5) else None)
+
+    def divided(self, now, jump, code):
+        """How often at most a comparison goes on of what each turn divides: a register that is at most its value at the turn's start, divided
+        by a constant above 1, and is zero or small in the end. None if it isn't such."""
+        left, right = jump.to, now.get(jump.by) if jump.takes_register else Shift(None, jump.imm)
+        if jump.takes_register and right is not None and right.base is not None:
+            left, right, code = jump.by, now.get(jump.to), MIRROR.get(code)
+        most = now.get(("most", left))
+        if most is None or most.is_up or right is None or right.base is not None or right.cut or not 0 <= right.number < 1 << 31:
+            return None
+        least = {2: right.number + 1, 6: right.number + 1, 3: right.number, 7: right.number}.get(code, 1 if code == 5 and right.number == 0 else 0)
+        if not least:
+            return None
+        base, by, count = most.base, most.by, 0
+        last = self.divided_by(base)
+        if last and last.base != base and by == 1:  # in the next turn it is what another register becomes
+            base, by, count = last.base, last.by, 1
+            last = self.divided_by(base)
+        if not last or last.base != base:
+            return None
+        begins = self.begins.get(base)
+        value = begins[1] if is_number(begins) else (1 << 64) - 1
+        while value // by >= least:
+            value, count = value // last.by, count + 1
+        return count
+
+    def divided_by(self, register):
+        """What a register is at most in the next turn: another one's value, or its own, divided by a constant above 1; None if it isn't such."""
+        turns = [self.ends[it].get(("most", register)) for it in self.loop.backs]
+        if not all(it and it.base == turns[0].base and not it.is_up and it.by > 1 for it in turns):
+            return None
+        return Most(turns[0].base, min(it.by for it in turns))
 
     def bound(self, right):
         """What is known of a comparison's right side, if it is the same in each turn."""
@@ -181,10 +257,11 @@ class Rewriting:
     def shifts(self):
         """What each register is at each block's end: a Shift, or None."""
         order, self.starts, self.ends = list(self.blocks), {}, {}
-        at, ends = {self.loop.head: {it: Shift(it, 0) for it in (*range(11), *self.flow.homes)}}, self.ends
+        places = (*range(11), *self.flow.homes)
+        at, ends = {self.loop.head: {it: Shift(it, 0) for it in places} | {("most", it): Most(it, 1) for it in places}}, self.ends
         for number, name in enumerate(order):
             changed = self.flow.changed(self.inner[name].blocks) if name in self.inner else ()
-            ends[name] = now = {it: one for it, one in at[name].items() if it not in changed}
+            ends[name] = now = {it: one for it, one in at[name].items() if (it[1] if isinstance(it, tuple) else it) not in changed}
             self.starts[name] = dict(now)
             for one in self.blocks[name].code:
                 self.shift(one, now)
@@ -192,8 +269,30 @@ class Rewriting:
                 at[to] = {it: one for it, one in now.items() if at.get(to, now).get(it) == one}
         return ends
 
+    def most(self, one, now):
+        """What each register and home is at most behind an instruction."""
+        of, home = now.get(("most", one.to)), self.flow.home(one, LDX, ST, STX)
+        if one.kind in (ST, STX):
+            if home is not None:
+                put(now, ("most", home), now.get(("most", one.by)) if one.kind == STX else None)
+        elif one.kind == LDX:
+            put(now, ("most", one.to), now.get(("most", home)) if home is not None else None)
+        elif one.opcode == MOVE_REGISTER and not one.offset:
+            put(now, ("most", one.to), now.get(("most", one.by)))
+        elif one.opcode == SHIFT_UP and one.imm == 32:
+            put(now, ("most", one.to), of._replace(is_up=True) if of and not of.is_up else None)
+        elif one.opcode == SHIFT_DOWN and 0 <= one.imm < 64:
+            by = one.imm - 32 if of and of.is_up else one.imm
+            put(now, ("most", one.to), Most(of.base, of.by << by) if of and by >= 0 else None)
+        elif one.opcode == DIVIDE and one.imm > 0 and not one.offset:
+            put(now, ("most", one.to), Most(of.base, of.by * one.imm) if of and not of.is_up else None)
+        elif not (one.opcode in (AND, AND_REGISTER) or one.opcode == MODULO and not one.offset) or of and of.is_up:
+            for it in one.writes():
+                now.pop(("most", it), None)
+
     def shift(self, one, now):
         """What each register and home is behind an instruction."""
+        self.most(one, now)
         of = now.get(one.to)
         if one.kind in (ST, STX):
             home = self.flow.home(one, ST, STX)
@@ -225,7 +324,7 @@ class Rewriting:
     def steps(self, ends):
         """The registers and homes that go on by the same number in each turn, and their Shift by a turn; also those that are set to what such a
         one is, and begin as far from it as they are then."""
-        last = {it: one for it, one in ends[self.loop.backs[0]].items() if all(ends[back].get(it) == one for back in self.loop.backs)}
+        last = {it: one for it, one in ends[self.loop.backs[0]].items() if isinstance(one, Shift) and all(ends[back].get(it) == one for back in self.loop.backs)}
         found = {it: one for it, one in last.items() if one.base == it and one.number and one.cut != "up"}
         for it, one in last.items():
             leader, mine, its = found.get(one.base), self.begins.get(it), self.begins.get(one.base)
@@ -260,7 +359,8 @@ class Rewriting:
             copies.append({name: flow.add(Block(list(block.code), block.falls, block.jumps)) for name, block in self.blocks.items()})
         for here, after in zip(copies, [*copies[1:], None]):
             if after is None:
-                flow.blocks[here[test.block]].settle(test.out)
+                for it in (test, *test.others):
+                    flow.blocks[here[it.block]].settle(it.out)
             elif test.is_exact:
                 flow.blocks[here[test.block]].settle(next(it for it in self.blocks[test.block].after if it in self.blocks))
             for name in here.values():
@@ -293,18 +393,31 @@ class Rewriting:
         if counter is None:
             raise Unfit("a loop that leaves no register for its count", "fewer values that are kept from turn to turn", self.shown)
         ends = [it for it in dict.fromkeys(to for _, to in outs) if it != test.out] + [test.out]
-        flag, is_kept = self.flag(free, ends) if outs else (None, False)
+        flag, is_kept = self.flag(free, ends, counter.register) if outs else (None, False)
         if is_last:
             flow.blocks[test.block].settle(loop.head)
         is_jumped_to = jumps_to(flow, loop)
         end, before = self.begin_and_end(counter)
+        ranges = self.ranges(test)
         if outs:
-            self.gather(outs, ends, flag, self.frame.take() if is_kept else None, end, before, flow.blocks[test.block] if is_last else None)
+            head = self.gather(outs, ends, flag, self.frame.take() if is_kept else None, end, before, flow.blocks[test.block] if is_last else None)
         else:
-            flow.blocks[end].falls = test.out
+            flow.blocks[end].falls, head = test.out, loop.head
+        flow.ranges.update({(head, it): ends for it, ends in ranges.items()})
         if is_jumped_to and not flow.blocks[before].code:
             keeps = self.made(MOVE_REGISTER, to=counter.register, by=counter.register)  # for what jumps to the loop, which leads here
             flow.blocks[before].code.append(keeps)
+
+    def ranges(self, test):
+        """Between which ends a number is at each turn's start that goes on by a constant in each turn, also in the turns that are left."""
+        found = {}
+        for it, one in self.steps(self.ends).items():
+            begins = self.begins.get(it)
+            if is_number(begins) and not one.cut:
+                least, most = sorted((0, one.number * test.turns))
+                if 0 <= begins[0] + least and begins[1] + most < 1 << 63:
+                    found[it] = begins[0] + least, begins[1] + most
+        return found
 
     def made(self, opcode, **fields):
         return Instruction(opcode, where=self.shown.where, line=self.shown.line, **fields)
@@ -357,6 +470,7 @@ class Rewriting:
             return False
         register, codes = min(plans, key=lambda it: sum(len(code) for code in it[1].values()))
         flow.homes.add(home)
+        flow.ranges = {place: ends for place, ends in flow.ranges.items() if place[1] != register}
         for name, block in self.blocks.items():
             block.code = codes[name]
             for to in dict.fromkeys(block.after):
@@ -399,7 +513,9 @@ class Rewriting:
         if other is None or one.opcode == CALL:
             return None
         changed = one.copy()
-        changed.to, changed.by = (other if it == register else it for it in (one.to, one.by))
+        has_by = one.kind in (LDX, STX) or one.kind >= 4 and one.takes_register and one.opcode >> 4 != 13  # 13: a change of the order of bytes
+        changed.to, changed.by = (other if it == register else it for it in (one.to, one.by if has_by else None))
+        changed.by = changed.by if has_by else one.by  # a field that isn't used stays
         loads = [self.made(LOAD, to=other, by=FRAME, offset=home)] if reads else []
         return [*loads, changed, *([self.made(STORE_REGISTER, to=FRAME, by=other, offset=home)] if writes else [])]
 
@@ -425,12 +541,12 @@ class Rewriting:
         flow.blocks[loop.head].code[:0] = [self.made(LOAD, to=it, by=FRAME, offset=home) for it, home in homes.items()]
         return end, before
 
-    def flag(self, free, ends):
+    def flag(self, free, ends, counter):
         """The register that tells whether the loop was left, and whether it is kept on the stack, and is only read at the turn's start."""
         if free:
             return free[0], False
         needed = self.needed[self.loop.head].union(*(self.needed[it] for it in ends))
-        flag = next((it for it in range(6) if it not in needed), None)
+        flag = next((it for it in range(6) if it not in needed and it != counter), None)
         if flag is None:
             raise Unfit("a loop that leaves no register for whether it was left", "fewer values that are kept from turn to turn", self.shown)
         return flag, True
@@ -471,11 +587,21 @@ class Rewriting:
                 behind = following
             else:
                 behind.falls = leads
+        return at
 
 
 def more(of, number):
     """A Shift and a number; None where that is none."""
     return of._replace(number=of.number + number, cut="mixed" if of.cut else None) if of and of.cut != "up" else None
+
+
+def turns_below(code, left, by, bound):
+    """The same of a number that is below a bound, wherever it begins: it goes through what is below it once, up or down, and then the loop is
+    left. None if it isn't such."""
+    if code not in (10, 11) or bound is None or left.cut not in (None, "low") or by.cut or not 0 < abs(by.number) < 1 << 20:
+        return None
+    end = bound[1] + (code == 11)
+    return (-(-end // abs(by.number)), False) if end <= 1 << 20 else None
 
 
 def turns_on(code, begins, left, by, bound):
