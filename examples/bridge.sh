@@ -1,39 +1,105 @@
 #!/bin/bash
-# A bridge between a server and what it can't reach: it has a resource's program look at the sensors, by a POST a second, and runs a command with each of the
-# program's answers behind it, when it registers and at each change.
+# A bridge between a server and a device such as a relay. Once a second it POSTs to a resource, so that the program looks at its sensors, and runs a command with
+# the state in the response, unless that is the state of the last successful run.
 #
-# Use: examples/bridge.sh PORT PATH COMMAND..      at the top of the repository, whose fcreq is built, or with FCREQ=PROGRAM
+# Use: examples/bridge.sh [-s STATE] [-t SECONDS] PORT PATH COMMAND..      at the top of the repository, whose fcreq is built, or with FCREQ=PROGRAM
+#      examples/bridge.sh -l [-s STATE] [-t SECONDS] URI COMMAND..         by libcoap's client, of Debian's package libcoap3-bin
 #
-# The command's input is empty: else it would read the answers, which come by a pipe. A server that is gone is asked again each second. At SIGTERM or SIGINT the
-# bridge ends, and what it started with it.
-set -m # each job is a group of its own, and ends as one
-port=$1 path=$2
-shift 2
-fcreq=${FCREQ:-crates/fcreq/out/fcreq}
+# -s STATE    the safe state. The command runs with it if no successful response has come for SECONDS, and when the bridge ends by SIGTERM or SIGINT
+# -t SECONDS  10 if not given. A command that takes longer is ended, and counts as failed
+#
+# A response is successful if its code is 2.04; by libcoap's client, if it has a payload. A command that fails runs again a second later. Standard error says when
+# responses cease and come again, each code other than 2.04, and that a command failed.
+set -m # the loop is a job with a group of its own, which ends as one
+safe='' has_safe='' limit=10 client=fcreq
+while getopts ls:t: word; do
+    case $word in
+    l) client=libcoap ;;
+    s) safe=$OPTARG has_safe=yes ;;
+    t) limit=$OPTARG ;;
+    *) exit 2 ;;
+    esac
+done
+shift $((OPTIND - 1))
+[ "$client" = libcoap ] || { port=$1 && shift; }
+target=$1
+shift
+if [ $# = 0 ] || ! [ "$limit" -gt 0 ]; then
+    sed -n 's/^# \(Use: .*\)/\1/p' "$0" >&2
+    exit 2
+fi
 
-look() {
-    while sleep 1; do
-        "$fcreq" --port "$port" -f /dev/null post "$path"
-    done
+say() {
+    echo "bridge: $target: $*" >&2
 }
 
-# Registers anew each ten minutes, since a server that began anew knows no observer.
-watch() {
-    while sleep 1; do
-        "$fcreq" --port "$port" --text --seconds 600 observe "$path"
-    done
+# Sets `now`, in seconds: by a clock that nobody sets.
+look_at_clock() {
+    read -r now _ </proc/uptime
+    now=${now%.*}
 }
 
+# POSTs, for at most $1 seconds. Sets `code`, empty without a response, and `state`.
+ask() {
+    code='' state=''
+    if [ "$client" = libcoap ]; then
+        state=$(timeout --foreground "$1" coap-client-notls -v 2 -B "$1" -m post "$target" 2>/dev/null)
+        [ -z "$state" ] || code=2.04
+    else
+        { read -r code && read -r state; } < <(timeout --foreground "$1" "${FCREQ:-crates/fcreq/out/fcreq}" --port "$port" --text -f /dev/null post "$target" 2>/dev/null)
+    fi
+}
+
+# Runs the command with state $1, unless its last successful run had that state.
 act() {
-    while read -r code state; do
-        case $code in
-        2.05) "$@" "$state" </dev/null ;;
-        *) echo "bridge: $path: $code" >&2 ;;
-        esac
+    [ "$is_set" ] && [ "$1" = "$last" ] && return
+    if timeout --foreground "$limit" "${command[@]}" "$1" </dev/null; then
+        is_set=yes last=$1
+    else
+        is_set=''
+        say "the command failed with $1"
+    fi
+}
+
+follow() {
+    local is_set='' last='' code='' seen=2.04 is_lost='' left state now heard parent
+    look_at_clock
+    heard=$now
+    while sleep 1; do
+        read -r _ _ _ parent _ <"/proc/$BASHPID/stat"
+        if [ "$parent" != $$ ]; then # the script was killed, and this loop is what is left of it
+            say "the bridge was killed"
+            [ -z "$has_safe" ] || act "$safe"
+            exit 1
+        fi
+        look_at_clock
+        left=$((heard + limit - now))
+        ask $((left < 1 ? 1 : left < 5 ? left : 5))
+        look_at_clock
+        [ "$code" = "$seen" ] || [ -z "$code" ] || say "$code"
+        seen=${code:-$seen}
+        if [ "$code" = 2.04 ]; then
+            [ -z "$is_lost" ] || say "successful responses again"
+            heard=$now is_lost=''
+            act "$state"
+        elif [ $((now - heard)) -ge "$limit" ]; then
+            [ "$is_lost" ] || say "no successful response for $limit seconds${has_safe:+: the state is set to $safe}"
+            is_lost=yes
+            [ -z "$has_safe" ] || act "$safe"
+        fi
     done
 }
 
-trap 'kill %1 %2; exit' INT TERM
-look >/dev/null 2>&1 &
-watch | act "$@" &
+# Ends the loop, and what it has started, and sets the safe state.
+end() {
+    trap '' INT TERM
+    kill %1 2>/dev/null
+    wait %1 2>/dev/null
+    [ -z "$has_safe" ] || act "$safe"
+    exit
+}
+
+command=("$@")
+trap end INT TERM
+follow &
 wait

@@ -1,0 +1,5 @@
+#!/bin/sh
+# Sets the relays to a state such as `heater=on vent=off alarm=off`: on a device pins, here a file for each in the folder PINS.
+for it in $1; do
+    echo "${it#*=}" >"${PINS:-pins}/${it%%=*}" || exit 1
+done
