@@ -1,8 +1,8 @@
 -- Pools that were fed.
 use Rattle.std.proofs.Common.{ℕ, Bool, List, Option, Result, Ok, Err, OnOk}
 use Rattle.std.specs.Prelude.{⊤}
-use Rattle.fc_core.specs.Exchanges.{first_front}
 use Rattle.fc_server.specs.declared.server.Begin.{Begin}
+use Rattle.fc_workers.specs.Fronts.{beginning}
 use Rattle.fc_service.specs.Intakes.{IntakeCalls}
 use Rattle.fc_service.specs.Playing.{IsFedByLines, IsPlayedBeside}
 use Rattle.fc_service.specs.Pooled.{Dispatching, IsFedBeside, handover_where, locked_shop, pooled_calls}
@@ -32,7 +32,7 @@ fed_as s Feeds Told handover workers feeder given other told replies lifts w =
 
 -- lines that a feeder played beside workers, if it played them to the end
 pub played_beside : {F E : Type 0} (begin : Begin) (workers : ℕ) (lines : F → Option (List ℕ)) (feeder : F) (r : Result (Unit {0}) E) (has_workers : Bool) (replies : Replies)
-    → IsFedBeside (locked_shop (first_front begin.policy begin.id) (λ readings before after. ⊤) (λ now before after. ⊤) (λ random. ⊤) (λ call before after. ⊤))
+    → IsFedBeside (locked_shop (beginning begin.policy begin.id) (λ readings before after. ⊤) (λ now before after. ⊤) (λ random. ⊤) (λ call before after. ⊤))
     (λ calls f first last given. OnOk given (IsFedByLines calls (lines f) first)) (handover_where has_workers Every) workers feeder r replies
     → OnOk r ((workers_begun : Bool) × (counted : Replies) × IsPlayedBeside begin (handover_where workers_begun Every) workers (lines feeder) counted)
 played_beside begin workers lines feeder (Ok x) has_workers replies w = (has_workers, replies, fed_as _ _ _ _ workers feeder (Ok x) (lines feeder) (tt {0}) replies (λ first last fed. fed) w)

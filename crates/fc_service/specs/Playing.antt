@@ -3,6 +3,7 @@ use Rattle.std.specs.Prelude.{◌≡◌, ⊤, ℕ, ◌+◌, ◌<◌, List, [], �
 use Rattle.std.specs.Io.BufRead.{DropsThrough, first_piece}
 use Rattle.std.specs.Io.KnownBytes.{Appends, IsAtEnd}
 use Rattle.coap_msg.specs.declared.types.Emission.{Emission}
+use Rattle.fc_workers.specs.Fronts.{beginning}
 use Rattle.fc_workers.specs.Answers.{saturated}
 use Rattle.fc_server.specs.States.{begin_of}
 use Rattle.fc_server.specs.declared.server.Begin.{Begin}
@@ -18,7 +19,6 @@ use Rattle.fc_service.specs.Pooled.{IsFedBeside, locked_shop}
 use Rattle.fc_service.specs.Settling.{AreSettled, AreStepsBy, SettlingStep, printed_steps}
 use Rattle.fc_service.specs.declared.alone.Alone.{Alone}
 use Rattle.fc_service.specs.declared.replies.Replies.{Replies}
-use Rattle.fc_core.specs.Exchanges.{first_front}
 use Rattle.fc_workers.specs.declared.dispatcher.Handover.{Handover}
 
 -- what is printed of what is sent
@@ -133,5 +133,5 @@ pub record IsFedByLines {S : Type 0} (calls : IntakeCalls S) (had : Option (List
 -- all that a reader had was played so by a new dispatcher beside as many workers, whose server began so. It has sent what its jobs came to, and its device's readings are the lines': of these nothing is known
 abbrev pub IsPlayedBeside : Begin → Handover → ℕ → Option (List ℕ) → Replies → Type 0
 IsPlayedBeside begin handover workers had replies =
-    IsFedBeside (locked_shop (first_front begin.policy begin.id) (λ readings before after. ⊤) (λ now before after. ⊤) (λ random. ⊤) (λ call before after. ⊤))
+    IsFedBeside (locked_shop (beginning begin.policy begin.id) (λ readings before after. ⊤) (λ now before after. ⊤) (λ random. ⊤) (λ call before after. ⊤))
     (λ calls lines first last given. IsFedByLines calls lines first) handover workers had (tt {0}) replies

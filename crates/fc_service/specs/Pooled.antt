@@ -8,11 +8,11 @@ use Rattle.fc_core.specs.declared.front.Heard.{Heard}
 use Rattle.fc_observe.specs.declared.observers.Ticked.{Ticked}
 use Rattle.fc_server.specs.Notified.{Notified, is_given, notification_in}
 use Rattle.fc_workers.specs.Answers.{IsSomeQuiet, IsSomeTick}
-use Rattle.fc_core.specs.Exchanges.{FrontState}
 use Rattle.fc_workers.specs.Asked.{IsLoggedCall, IsServerCall}
 use Rattle.fc_calls.specs.Logged.{AdvancesFront, AdvancesQuiet, AdvancesShard, LoggedCall}
 use Rattle.fc_workers.specs.Called.{BenchCall, LooksAhead, Shop, WireCall, shop}
 use Rattle.fc_workers.specs.Counts.{Tallies}
+use Rattle.fc_workers.specs.Fronts.{Beginning}
 use Rattle.fc_workers.specs.Dispatch.{HasCalled, IsTakenIn, IsTurnAsked}
 use Rattle.fc_workers.specs.Shares.{AreSharesOf, new_share}
 use Rattle.fc_jobs.specs.Ends.{Channel, nothing_got, nothing_sent}
@@ -110,8 +110,8 @@ abbrev pub open_shop : {T : Type 0} → (T → ℕ → ℕ) → (T → ℕ) → 
     → (IsMoment : ℕ → CallLog → CallLog → Type 0) → (IsRandom : ℕ → Type 0) → (WireCall → CallLog → CallLog → Type 0) → Shop T
 open_shop changes ended bench logged moment random wire = shop changes ended bench logged moment random (λ number before after. ⊤) wire
 
--- that of a server behind locks: with the front that it begins with, what its device says, its moments and random words, and the calls of its wire
-abbrev pub locked_shop : FrontState → (AreReadings : List ℕ → CallLog → CallLog → Type 0) → (IsMoment : ℕ → CallLog → CallLog → Type 0) → (IsRandom : ℕ → Type 0)
+-- that of a server behind locks, which began so, by the readings of its device, its moments and random words, and the calls of its wire
+abbrev pub locked_shop : Beginning → (AreReadings : List ℕ → CallLog → CallLog → Type 0) → (IsMoment : ℕ → CallLog → CallLog → Type 0) → (IsRandom : ℕ → Type 0)
     → (WireCall → CallLog → CallLog → Type 0) → Shop Tallies
-locked_shop first AreReadings IsMoment IsRandom Wired = open_shop (λ t. slice_index t.changes) (λ t. t.ended) IsServerCall
+locked_shop first AreReadings IsMoment IsRandom Wired = open_shop (λ t. slice_index t.changes) (λ t. t.ended) (IsServerCall first)
     (IsLoggedCall first AreReadings) IsMoment IsRandom Wired

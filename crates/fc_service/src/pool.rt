@@ -3,7 +3,7 @@ ghost use Rattle.std.specs.Prelude.{◌≡◌, ◌+◌, ◌<◌, ◌≤◌, ℕ,
 ghost use Rattle.std.specs.Borrow.{Bor};
 ghost use Rattle.coap_msg.specs.declared.types.Emission.{Emission};
 ghost use Rattle.coap_msg.specs.declared.types.Endpoint.{Endpoint};
-ghost use Rattle.fc_core.specs.Exchanges.{first_front};
+ghost use Rattle.fc_workers.specs.Fronts.{beginning};
 ghost use Rattle.fc_core.specs.declared.front.Heard.{Heard};
 ghost use Rattle.fc_observe.specs.declared.observers.Ticked.{Ticked};
 ghost use Rattle.fc_server.specs.States.{CanBegin};
@@ -245,7 +245,7 @@ pub fn run_pool<
 ) -> Result<Fed<X>, AllocError>
     requires { CanBegin pool.now.begin }
     ensures counted { IfOk result (λ fed. HasCountedAll fed.closed) }
-    ensures fed { let shop = locked_shop (first_front pool.now.begin.policy pool.now.begin.id) D.are_readings M.is_moment M.is_random W.called in
+    ensures fed { let shop = locked_shop (beginning pool.now.begin.policy pool.now.begin.id) D.are_readings M.is_moment M.is_random W.called in
         IfOk result (λ fed. IsFedBeside shop (F.feeds _) (handover_where fed.has_workers pool.now.handover) pool.now.workers feeder fed.given fed.replies) }
 {
     let blanks = Blanks::new(u64::from(pool.workers) + 2);
@@ -274,7 +274,7 @@ fn run_named<
     requires parts { blanks.parts ≡ pool.now.workers + 2 }
     requires names { AreNamed blanks B.names }
     requires books { blanks.parts ≡ B.parts }
-    requires front { B.first ≡ first_front pool.now.begin.policy pool.now.begin.id }
+    requires first { B.first ≡ beginning pool.now.begin.policy pool.now.begin.id }
     ensures counted { IfOk result (λ fed. HasCountedAll fed.closed) }
     ensures fed { let shop = locked_shop B.first D.are_readings M.is_moment M.is_random W.called in
         IfOk result (λ fed. IsFedBeside shop (F.feeds _) (handover_where fed.has_workers pool.now.handover) pool.now.workers feeder fed.given fed.replies) }
@@ -300,7 +300,7 @@ fn begin<'a, B: Books, D: Device>(
     requires parts { blanks.parts ≡ workers + 2 }
     requires names { AreNamed blanks B.names }
     requires books { blanks.parts ≡ B.parts }
-    requires front { B.first ≡ first_front begin.policy begin.id }
+    requires first { B.first ≡ beginning begin.policy begin.id }
     ensures count { IfOk result (λ b. vec_len b.tallies ≡ workers + 1) }
     ensures parts { IfOk result (λ b. b.reserve.parts + vec_len b.tallies ≡ B.parts) }
 {

@@ -18,13 +18,13 @@ use std::marker::PhantomData;
 pub(crate) struct BegunFront<B: Books> {
     front: Front,
     of: PhantomData<B>,
-    ghost began: { ∥ BeganAt B.first front ∥₁ },
+    ghost began: { ∥ BeganAt B.first.front front ∥₁ },
 }
 
 impl<B: Books> BegunFront<B> {
     /// Takes a front that has been asked nothing.
     pub(crate) fn new(front: Front) -> BegunFront<B>
-        requires { front ≡ B.first }
+        requires { front ≡ B.first.front }
     {
         BegunFront {
             front,
@@ -41,7 +41,7 @@ impl<B: Books> BegunFront<B> {
         job: &mut Job,
         reply: &mut Emission,
     ) -> Heard
-        ensures { IsFrontAsked B.first (HearsAt now endpoint bytes.now (heard result job.new reply.new)) }
+        ensures { IsFrontAsked B.first.front (HearsAt now endpoint bytes.now (heard result job.new reply.new)) }
     {
         self.front.hear(now, endpoint, bytes, job, reply)
     }
@@ -49,14 +49,14 @@ impl<B: Books> BegunFront<B> {
     /// Advances the clock to a moment in milliseconds, as [`Front::tick`] does.
     #[tactic(auto, unfolding(fc_calls::specs::Doings::AdvancesTo))]
     pub(crate) fn tick(&mut self, now: u64)
-        ensures { IsFrontAsked B.first (AdvancesTo now) }
+        ensures { IsFrontAsked B.first.front (AdvancesTo now) }
     {
         self.front.tick(now);
     }
 
     /// Allocates a message id, as [`Front::fresh_id`] does.
     pub(crate) fn fresh_id(&mut self, now: u64) -> Option<u16>
-        ensures { IsFrontAsked B.first (DrawsAt now result) }
+        ensures { IsFrontAsked B.first.front (DrawsAt now result) }
     {
         self.front.fresh_id(now)
     }
@@ -70,7 +70,7 @@ impl<B: Books> BegunFront<B> {
         reply: &mut Emission,
     ) -> Responded
         requires { IsOf job.now answer.now }
-        ensures { IsFrontAsked B.first (AnswersAt now job.now answer.now (emission_of (responded result reply.new))) }
+        ensures { IsFrontAsked B.first.front (AnswersAt now job.now answer.now (emission_of (responded result reply.new))) }
     {
         self.front.respond(now, job, answer, reply)
     }

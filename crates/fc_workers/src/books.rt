@@ -1,18 +1,18 @@
 //! Which ledgers the changes of a server's shards are counted in.
 ghost use Rattle.std.specs.Prelude.{ℕ};
-ghost use Rattle.fc_core.specs.Exchanges.{FrontState, first_front};
 ghost use Rattle.fc_core.specs.Policies.{default_policy};
+ghost use Rattle.fc_workers.specs.Fronts.{Beginning, beginning};
 
 use std::marker::{Brand, PhantomData};
 use std::sync::ledger::Ledger;
 
-/// The names of the ledgers of a server, by the index of their shard, and the parts that each of them is cut into; and the front that the server begins with.
+/// The names of the ledgers of a server, by the index of their shard, and the parts that each of them is cut into; and what the server begins with.
 pub trait Books {
     ghost names: { ℕ → ℕ };
 
     ghost parts: { ℕ };
 
-    ghost first: { FrontState };
+    ghost first: { Beginning };
 }
 
 impl Books for Brand {
@@ -20,7 +20,7 @@ impl Books for Brand {
 
     ghost parts = { 0 };
 
-    ghost first = { first_front default_policy 0 };
+    ghost first = { beginning default_policy 0 };
 }
 
 /// The ledger of the shard of an index.

@@ -3,6 +3,7 @@ ghost use Rattle.std.specs.Prelude.{◌≡◌, ℕ, ◌+◌, ⊤, if◌then◌el
 ghost use Rattle.fc_registry.specs.Notes.{noted_as};
 ghost use Rattle.fc_registry.specs.Slots.{IsOwned, Shard as Seen};
 ghost use Rattle.fc_registry.specs.Turns.{written_if};
+ghost use Rattle.fc_workers.specs.Asked.{confirm_times};
 ghost use Rattle.fc_workers.specs.Answers.{commit_changes, install_changes, removal_changes};
 ghost use Rattle.fc_workers.specs.Counts.{HasEightSlots, serials};
 ghost use Rattle.fc_calls.specs.Doings.{CommitsAt, DescribesTo, GivesTurnAt, GivesUpAt, HandsOn, InstallsTo, NotesAt, PassesIfQuiet};
@@ -18,7 +19,7 @@ use fc_registry::{
 use fc_verify::Verified;
 use std::sync::Arc;
 
-/// A call of a shard, with all that it hands in. It keeps the shard's index, and its answer tells how much the serials of the
+/// A call of a shard, with all that it hands in. It keeps the shard's index and the time after which its notifications are confirmable again, and its answer tells how much the serials of the
 /// shard's slots rise, which is what a tally counts. Where that is 0, no slot changes. What is large it writes
 /// into the caller's room, where nothing is moved.
 pub trait ShardCall {
@@ -43,6 +44,7 @@ pub trait ShardCall {
         requires may { may_ask self shard.old }
         ensures does { does self shard.old result room.new shard.new }
         ensures index { shard.new.index ≡ shard.old.index }
+        ensures confirms { confirm_times shard.new ≡ confirm_times shard.old }
         ensures kept { changes result ≡ 0 → shard.new.slots ≡ shard.old.slots }
         ensures eight { HasEightSlots shard.new }
         ensures risen { serials shard.new ≡ serials shard.old + changes result };

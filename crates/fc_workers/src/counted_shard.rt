@@ -4,6 +4,7 @@ ghost use Rattle.fc_registry.specs.Slots.{IsOwned, slot_in, with_slot};
 ghost use Rattle.fc_registry.specs.Changes.{after_changes};
 ghost use Rattle.fc_registry.specs.Calls.{CommitsTo, install_in, remove_from};
 ghost use Rattle.fc_workers.specs.Answers.{commit_changes, install_changes, removal_changes};
+ghost use Rattle.fc_workers.specs.Asked.{confirm_times};
 ghost use Rattle.fc_workers.specs.Counts.{HasEightSlots, serials, counts};
 
 use crate::calls::{Change, Commit, Install, Remove, ShardCall};
@@ -63,6 +64,7 @@ impl<L: Ledger> Counted<L> {
         ensures does { C.does call self.old.shard result room.new self.new.shard }
         ensures slots { self.new.shard.slots ≡ self.old.shard.slots }
         ensures index { self.new.shard.index ≡ self.old.shard.index }
+        ensures confirms { confirm_times self.new.shard ≡ confirm_times self.old.shard }
         ensures opened { self.new.opened ≡ self.old.opened }
     {
         call.call(&mut self.shard, room)
@@ -78,6 +80,7 @@ impl<L: Ledger> Counted<L> {
         requires { C.may_ask call self.old.shard }
         ensures does { C.does call self.old.shard result room.new self.new.shard }
         ensures index { self.new.shard.index ≡ self.old.shard.index }
+        ensures confirms { confirm_times self.new.shard ≡ confirm_times self.old.shard }
         ensures opened { self.new.opened ≡ self.old.opened }
         ensures tally { tally.new ≡ counts tally.old (C.changes result) }
     {

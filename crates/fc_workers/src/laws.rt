@@ -1,8 +1,16 @@
 //! What the definitions of workers come to, in plainer words: each function is a law, and its contract says it.
-ghost use Rattle.std.specs.Prelude.{ℕ, Bool};
+ghost use Rattle.std.specs.Prelude.{◌≡◌, ◌<◌, ◌≤◌, ℕ, Bool};
 ghost use Rattle.coap_msg.specs.declared.types.Endpoint.{Endpoint};
 ghost use Rattle.fc_core.specs.declared.front.Delivered.TheVariants.{Signal};
-ghost use Rattle.fc_calls.specs.Logged.{HandsSignal};
+ghost use Rattle.fc_calls.specs.Logged.{HandsSignal, NotesTurn};
+ghost use Rattle.fc_core.specs.Policies.{default_policy};
+ghost use Rattle.fc_observe.specs.Observers.{ObserverList};
+ghost use Rattle.fc_observe.specs.declared.entry.Turn.{Turn};
+ghost use Rattle.fc_registry.specs.Notes.{IsNoted};
+ghost use Rattle.fc_registry.specs.declared.note.Noted.{Noted};
+ghost use Rattle.fc_registry.specs.declared.note.Notification.{Notification};
+ghost use Rattle.fc_workers.specs.Asked.{IsLoggedCall};
+ghost use Rattle.fc_workers.specs.Fronts.{beginning};
 ghost use Rattle.fc_workers.specs.Called.{shop};
 ghost use Rattle.fc_workers.specs.Dispatch.{IsDone};
 ghost use Rattle.fc_workers.specs.declared.call_log.CallLog.{CallLog as Log};
@@ -10,6 +18,8 @@ ghost use Rattle.fc_workers.specs.declared.dispatcher.Dispatched.{Dispatched};
 ghost use Rattle.fc_workers.specs.declared.dispatcher.Handover.{Handover};
 
 use crate::bench::Bench;
+use crate::books::Books;
+use crate::device::Device;
 use crate::workshop::{Gate, Moments, Wire};
 
 /// A dispatcher that hears a Reset message or an Acknowledgement hands it to shards 0 to 7, once each, in this order, as it was heard; its log has no other call.
@@ -19,4 +29,13 @@ pub fn signals_reach_eight_shards<B: Bench, G: Gate, W: Wire, M: Moments>()
         → (a b c d e f g : Log) × B.logged (HandsSignal 0 from id reset) old.share.log a × B.logged (HandsSignal 1 from id reset) a b
         × B.logged (HandsSignal 2 from id reset) b c × B.logged (HandsSignal 3 from id reset) c d × B.logged (HandsSignal 4 from id reset) d e
         × B.logged (HandsSignal 5 from id reset) e f × B.logged (HandsSignal 6 from id reset) f g × B.logged (HandsSignal 7 from id reset) g new.share.log }
+{}
+
+/// A server behind locks notifies by the time of the policy that it began with: the observers of the turn are confirmable again after just so many
+/// milliseconds, where the shard is handed the moment of the call or has had a later one. By default that is 86,400,000 ms, 24 hours (RFC 7641, 4.5).
+pub fn locked_shards_confirm_in_time<B: Books, D: Device>()
+    ensures default { (id : ℕ) → (beginning default_policy id).confirm_after ≡ 86400000 }
+    ensures noted { (turn : Turn) (id now random : ℕ) (told : Notification) (noted : Noted) (before after : Log)
+        → turn.slot < 64 → IsLoggedCall B.first D.are_readings (NotesTurn turn id now random told noted) before after
+        → (watch : ObserverList) × (serial : ℕ) × (at : ℕ) × (watch.confirm_after ≡ B.first.confirm_after) × (now ≤ at) × IsNoted told turn id at serial watch noted }
 {}

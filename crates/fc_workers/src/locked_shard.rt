@@ -1,7 +1,7 @@
 //! A shard behind a lock.
-ghost use Rattle.std.specs.Prelude.{◌≡◌, ℕ, ◌+◌, ◌*◌, ◌<◌};
+ghost use Rattle.std.specs.Prelude.{◌≡◌, ℕ, ◌+◌, ◌*◌, ◌<◌, replicate};
 ghost use Rattle.fc_registry.specs.Slots.{Shard as Seen};
-ghost use Rattle.fc_workers.specs.Asked.{IsAsked};
+ghost use Rattle.fc_workers.specs.Asked.{IsAsked, confirm_times};
 ghost use Rattle.fc_workers.specs.Counts.{HasEightSlots, counts, serials};
 
 use crate::books::{BookOf, Books};
@@ -9,16 +9,25 @@ use crate::calls::{Change, ShardCall};
 use crate::counted_shard::Counted;
 use crate::tally::Tally;
 use fc_registry::Shard;
-use std::sync::ledger::Blank;
+use std::marker::PhantomData;
+use std::sync::ledger::{Blank, Ledger};
 use std::sync::{Mutex, Wait};
 
-// The shard of an index beside its book, and the serial that each of its slots began with.
+// A shard beside its book, whose notifications are confirmable by the time that the server began with.
+#[derive(Drop)]
+struct BegunShard<B: Books, L: Ledger> {
+    counted: Counted<L>,
+    of: PhantomData<B>,
+    ghost confirms: { confirm_times counted.shard ≡ replicate 8 B.first.confirm_after },
+}
+
+// The shard of an index, and the serial that each of its slots began with.
 #[derive(Drop)]
 struct ShardState<const INDEX: u8, B: Books> {
-    counted: Counted<BookOf<B, INDEX>>,
+    begun: BegunShard<B, BookOf<B, INDEX>>,
     first_serial: u64,
-    ghost index: { counted.shard.index ≡ INDEX },
-    ghost opened: { counted.opened ≡ 8 * first_serial },
+    ghost index: { begun.counted.shard.index ≡ INDEX },
+    ghost opened: { begun.counted.opened ≡ 8 * first_serial },
 }
 
 /// The shard of an index, 0 to 7, and its book, behind a lock of their own.
@@ -37,12 +46,17 @@ impl<const INDEX: u8, B: Books> LockedShard<INDEX, B> {
         requires index { shard.index ≡ INDEX }
         requires slots { HasEightSlots shard }
         requires serials { serials shard ≡ 8 * first_serial }
+        requires confirms { confirm_times shard ≡ replicate 8 B.first.confirm_after }
         requires book { (blank.name ≡ B.names INDEX) × (blank.parts ≡ B.parts) × (0 < blank.parts) }
         ensures { result.1 ≡ record { parts = blank.parts; changes = 0 } }
     {
         let (counted, tally) = Counted::open(shard, blank);
-        let state = ShardState {
+        let begun = BegunShard {
             counted,
+            of: PhantomData,
+        };
+        let state = ShardState {
+            begun,
             first_serial,
         };
         let locked = LockedShard {
@@ -60,9 +74,9 @@ impl<const INDEX: u8, B: Books> LockedShard<INDEX, B> {
     ) -> C::Answer
         requires may { (shard : Seen) → shard.index ≡ INDEX → C.may_ask call shard }
         requires none { (answer : C.Answer) → C.changes answer ≡ 0 }
-        ensures { IsAsked INDEX (λ before after. C.does call before result room.new after) }
+        ensures { IsAsked B.first INDEX (λ before after. C.does call before result room.new after) }
     {
-        self.state.lock(rt).counted.ask(call, room)
+        self.state.lock(rt).begun.counted.ask(call, room)
     }
 
     /// Asks the shard what may change a slot, while its lock is held. The tally counts it.
@@ -74,10 +88,10 @@ impl<const INDEX: u8, B: Books> LockedShard<INDEX, B> {
         tally: &mut Tally<BookOf<B, INDEX>>,
     ) -> C::Answer
         requires { (shard : Seen) → shard.index ≡ INDEX → C.may_ask call shard }
-        ensures does { IsAsked INDEX (λ before after. C.does call before result room.new after) }
+        ensures does { IsAsked B.first INDEX (λ before after. C.does call before result room.new after) }
         ensures tally { tally.new ≡ counts tally.old (C.changes result) }
     {
-        self.state.lock(rt).counted.change(call, room, tally)
+        self.state.lock(rt).begun.counted.change(call, room, tally)
     }
 
     /// Closes the book, for the tally that has all its parts: the shard, whose serials have risen by the changes that were
@@ -88,9 +102,9 @@ impl<const INDEX: u8, B: Books> LockedShard<INDEX, B> {
         ensures tally { all.new ≡ all.old }
     {
         let ShardState {
-            counted,
+            begun,
             first_serial,
         } = self.state.into_inner();
-        (counted.close(all), first_serial)
+        (begun.counted.close(all), first_serial)
     }
 }

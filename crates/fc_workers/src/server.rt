@@ -2,11 +2,11 @@
 //!
 //! Each shard's changes are counted in a ledger of its own, which a type stands for. One type parameter names all eight
 //! ([`Books`](crate::books::Books)): a function that opens a server is generic in it. Its caller gives it `Brand`, and picks in
-//! its `Invariants.antt` the names and the parts of the ledgers, from the function's argument `blanks`, and the front that the server begins with:
+//! its `Invariants.antt` the names and the parts of the ledgers, from the function's argument `blanks`, and what the server begins with:
 //!
 //! ```text
 //! abbrev pub ghosts-run : goal.ghosts-run
-//! ghosts-run a = record { names = names_of a.blanks; parts = a.blanks.parts; first = first_front a.policy.now a.first_id }
+//! ghosts-run a = record { names = names_of a.blanks; parts = a.blanks.parts; first = beginning a.policy.now a.first_id }
 //! ```
 //!
 //! No type of that function's signature may name a ledger: it opens the server, splits the reserve into the tallies of its
@@ -14,7 +14,6 @@
 ghost use Rattle.std.specs.Prelude.{◌≡◌, ◌+◌, ◌*◌, ◌-◌, ◌<◌, ◌≤◌, ◌%◌, map, slice_index, take, vec_len, IfOk};
 ghost use Rattle.coap_msg.specs.declared.types.Emission.{Emission as Emitted};
 ghost use Rattle.fc_core.specs.Answering.{emission_of, responded};
-ghost use Rattle.fc_core.specs.Exchanges.{first_front};
 ghost use Rattle.fc_core.specs.Contents.{IsOf};
 ghost use Rattle.fc_core.specs.Receiving.{emission_if};
 ghost use Rattle.fc_registry.specs.Notes.{noted_as};
@@ -23,6 +22,7 @@ ghost use Rattle.fc_registry.specs.Slots.{IsOwned, Shard as Seen, last_serial};
 ghost use Rattle.fc_registry.specs.Turns.{written_if};
 ghost use Rattle.fc_registry.specs.Views.{HasSize, taken_with};
 ghost use Rattle.fc_workers.specs.Asked.{IsAsked, IsLoggedCall, IsServerCall};
+ghost use Rattle.fc_workers.specs.Fronts.{beginning};
 ghost use Rattle.fc_workers.specs.Naming.{AreNamed};
 ghost use Rattle.fc_workers.specs.Counts.{no_changes, serials, sums};
 ghost use Rattle.fc_workers.specs.Answers.{AreTallied, IsSomeCommit, IsSomeInstall, IsSomeNote, IsSomeReceipt, IsSomeRemoval, IsSomeTaking};
@@ -144,7 +144,7 @@ impl<'a, B: Books, D: Device> Locked<'a, B, D> {
         requires serial { first_serial ≤ last_serial }
         requires names { AreNamed blanks B.names }
         requires books { blanks.parts ≡ B.parts }
-        requires front { B.first ≡ first_front policy.now first_id }
+        requires first { B.first ≡ beginning policy.now first_id }
         ensures { IfOk result (λ r. r.1 ≡ record { parts = blanks.parts; changes = no_changes; ended = 0 }) }
     {
         let (heads, _seat) = Heads::new(alloc)?;
@@ -196,7 +196,7 @@ impl<'a, B: Books, D: Device> Locked<'a, B, D> {
     ) -> C::Answer
         requires may { (shard : Seen) → (index < 8 → shard.index ≡ index) → C.may_ask call shard }
         requires none { (answer : C.Answer) → C.changes answer ≡ 0 }
-        ensures { IsAsked index (λ before after. C.does call before result room.new after) }
+        ensures { IsAsked B.first index (λ before after. C.does call before result room.new after) }
     {
         match index {
             0 => self.shard0.ask(rt, call, room),
@@ -220,7 +220,7 @@ impl<'a, B: Books, D: Device> Locked<'a, B, D> {
         tallies: &mut Tallies<B>,
     ) -> C::Answer
         requires { (shard : Seen) → IsOwned shard slot → C.may_ask call shard }
-        ensures does { IsAsked (slot % 8) (λ before after. C.does call before result room.new after) }
+        ensures does { IsAsked B.first (slot % 8) (λ before after. C.does call before result room.new after) }
         ensures changes { AreTallied (slice_index tallies.old.changes) (slice_index tallies.new.changes)
             slot (C.changes result) }
         ensures ended { tallies.new.ended ≡ tallies.old.ended }
@@ -265,7 +265,7 @@ impl<'a, B: Books, D: Device> Locked<'a, B, D> {
 }
 
 impl<'a, B: Books, D: Device> Bench for Locked<'a, B, D> {
-    ghost called = { IsServerCall };
+    ghost called = { IsServerCall B.first };
 
     ghost logged = { IsLoggedCall B.first D.are_readings };
 

@@ -1,6 +1,6 @@
 // Jobs that overtake one another: in which order they are answered, and what the workers count.
 ghost use Rattle.std.specs.Prelude.{◌≡◌, ◌+◌, ◌<◌};
-ghost use Rattle.fc_core.specs.Exchanges.{first_front};
+ghost use Rattle.fc_workers.specs.Fronts.{beginning};
 ghost use Rattle.fc_core.specs.Policies.{default_policy};
 ghost use Rattle.fc_workers.specs.Naming.{AreNamed};
 
@@ -436,7 +436,7 @@ fn hold_named<B: Books + Send + Sync, R: Threads + Wait + Clock + Sync>(
     requires parts { blanks.parts ≡ tallies + 1 }
     requires names { AreNamed blanks B.names }
     requires books { blanks.parts ≡ B.parts }
-    requires front { B.first ≡ first_front default_policy 0 }
+    requires first { B.first ≡ beginning default_policy 0 }
 {
     let device = Bare::new();
     let (server, mut reserve) = Locked::<B, Bare>::new(

@@ -3,6 +3,7 @@ use Rattle.std.specs.Prelude.{length, sum_by}
 use Rattle.fc_registry.specs.Slots.{Shard, Slot}
 use Rattle.fc_registry.specs.Watches.{after_due, at_time, due_place}
 use Rattle.fc_workers.specs.Counts.{serial_of}
+use Rattle.fc_workers.proofs.Confirming.{due_confirms}
 use Rattle.fc_workers.proofs.calls.NextDueShardCall.call.Goals as goal
 
 -- a turn changes no slot
@@ -20,3 +21,8 @@ pub returns-clause-risen : goal.returns-clause-risen
 returns-clause-risen c =
     ap (λ (slots : List Slot). sum_by serial_of slots) (given_slots c.args.shard.now c.write_due.new.self c.args.self.now c.write_due.ensures.after)
     ∙ sym (add-zero (sum_by serial_of c.args.shard.now.slots))
+
+pub returns-clause-confirms : goal.returns-clause-confirms
+returns-clause-confirms c =
+    let at = at_time c.args.shard.now c.args.self.now in
+    due_confirms (due_place at) at c.write_due.new.self c.write_due.ensures.after
