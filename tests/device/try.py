@@ -128,6 +128,21 @@ def kinds_of_files(path):
     yield "there again", b"y" * 56
 
 
+def told_of(path):
+    """The lines on standard error for the files of each kind: one at each change between whole, unread, a FIFO and short."""
+    missing = "zeros stand for what is missing"
+    return [
+        f"readings {path}: No such file or directory (os error 2): {missing}",
+        f"readings {path}: 3 bytes of 56: {missing}",
+        f"readings {path}: whole again",
+        f"readings {path}: Is a directory (os error 21): {missing}",
+        f"readings {path}: a FIFO isn't read, since that waits for its writer: {missing}",
+        f"readings {path}: whole again",
+        f"readings {path}: Input/output error (os error 5): {missing}",
+        f"readings {path}: whole again",
+    ]
+
+
 def read_files(workers):
     """Asks a server for its readings while its file changes; returns how many answers are wrong."""
     wrong, port = 0, free_port()
@@ -146,7 +161,7 @@ def read_files(workers):
         finally:
             server.terminate()
             told = server.communicate()[1].splitlines()
-    return wrong + row(f"{workers} workers, told once", told == [f"readings {path}: No such file or directory (os error 2): zeros stand for what is missing"], f"{told}")
+    return wrong + row(f"{workers} workers, told at each change", told == told_of(path), f"{told}")
 
 
 # ---- libcoap's server

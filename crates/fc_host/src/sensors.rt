@@ -53,16 +53,36 @@ enum Trouble {
     Short(usize),
 }
 
-// What a file said last, and at which moment; and whether standard error was told that it doesn't say all.
+impl Trouble {
+    fn state(&self) -> FileState {
+        match self {
+            Trouble::Unread(_) => FileState::Unread,
+            Trouble::Fifo => FileState::Fifo,
+            Trouble::Short(_) => FileState::Short,
+        }
+    }
+}
+
+// Whether a file says what the sensors say.
+#[derive(Clone, Copy, PartialEq, Eq)]
+enum FileState {
+    Whole,
+    Unread,
+    Fifo,
+    Short,
+}
+
+// What a file said last, at which moment, and in which state it was then.
 #[derive(Drop)]
 struct KeptReadings {
     at: Option<u64>,
     sensed: Sensed,
-    told: bool,
+    state: FileState,
 }
 
 /// Sensors whose first 56 bytes a file has: it is read when they are asked for, and again at a later moment: where moments come out of order, an earlier
-/// one reads what a later one has read. Zeros stand for what is missing, which standard error is told, once.
+/// one reads what a later one has read. Zeros stand for what is missing. Standard error gets a line when the file can't be read, is a FIFO or is too short, and
+/// another one at each change of that.
 #[derive(Drop)]
 pub struct FileSensors<'a, F: Files + Eprint> {
     files: &'a F,
@@ -76,7 +96,7 @@ impl<'a, F: Files + Eprint> FileSensors<'a, F> {
         let kept = KeptReadings {
             at: None,
             sensed: NOTHING,
-            told: false,
+            state: FileState::Whole,
         };
         FileSensors {
             files,
@@ -98,11 +118,15 @@ impl<'a, F: Files + Eprint> FileSensors<'a, F> {
         }
     }
 
-    fn tell(&self, trouble: &Trouble) {
+    // Reports a change of the file's state.
+    fn tell(&self, read: &Result<(), Trouble>) {
         let path = self.path;
-        let _told = eprintln!(self.files;
-            "readings {path}: {trouble}: zeros stand for what is missing"
-        );
+        let _told = match read {
+            Ok(()) => eprintln!(self.files; "readings {path}: whole again"),
+            Err(trouble) => eprintln!(self.files;
+                "readings {path}: {trouble}: zeros stand for what is missing"
+            ),
+        };
     }
 }
 
@@ -112,11 +136,14 @@ impl<'a, F: Files + Eprint> Sensors for FileSensors<'a, F> {
         // a moment that is passed is that of a run which was held up: what was read since is newer
         if kept.at < Some(now) {
             kept.at = Some(now);
-            if let Err(trouble) = self.read(&mut kept.sensed)
-                && !kept.told
-            {
-                kept.told = true;
-                self.tell(&trouble);
+            let read = self.read(&mut kept.sensed);
+            let state = match &read {
+                Ok(()) => FileState::Whole,
+                Err(trouble) => trouble.state(),
+            };
+            if state != kept.state {
+                kept.state = state;
+                self.tell(&read);
             }
         }
         kept.sensed
