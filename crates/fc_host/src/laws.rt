@@ -1,7 +1,10 @@
 //! What the definitions of readings and datagrams come to, in plainer words: each function is a law, and its contract says it.
-ghost use Rattle.std.specs.Prelude.{◌≡◌, ◌<◌, ℕ, ◌∷◌, List, length};
+ghost use Rattle.std.specs.Prelude.{◌≡◌, ◌+◌, ◌*◌, ◌-◌, ◌<◌, ◌≤◌, ◌^◌, ℕ, [], ◌∷◌, List, None, Option, Some, length};
+ghost use Rattle.std.specs.List.{All};
 ghost use Rattle.coap_msg.specs.Wire.{Message, SpellsMessage};
 ghost use Rattle.fc_host.specs.Clocks.{device_readings, no_sensors};
+ghost use Rattle.fc_host.specs.Timers.{EndsWithin, new_timer, next_beat, put_off, request_bytes, until_due};
+ghost use Rattle.fc_host.specs.declared.timer.Timer.{Timer};
 
 use crate::socket::{BUFFER, SHORTEST_WAIT};
 
@@ -22,4 +25,30 @@ pub fn cut_datagrams_spell_no_message()
 /// The shortest time that a server waits for a datagram is 100 ms.
 pub fn shortest_wait_is_100_ms()
     ensures { SHORTEST_WAIT ≡ 100 }
+{}
+
+/// A timer's request is a non-confirmable message of version 1 without a token, with the method POST, a message id of two bytes, and the Uri-Path options
+/// `r` and the slot's number (RFC 7252, 3 and 5.10).
+pub fn timers_post_to_their_slot()
+    ensures seven { request_bytes 0 7 ≡ 0x50 ∷ 0x02 ∷ 0 ∷ 0 ∷ 0xb1 ∷ 0x72 ∷ 0x01 ∷ 0x37 ∷ [] }
+    ensures last { request_bytes 258 63 ≡ 0x50 ∷ 0x02 ∷ 1 ∷ 2 ∷ 0xb1 ∷ 0x72 ∷ 0x02 ∷ 0x36 ∷ 0x33 ∷ [] }
+{}
+
+/// A timer of 1,000 ms is due at 1,000 ms first, and then at 2,000 ms; if it is late by 3,300 ms, it is due at 5,000 ms next: beats that were missed are none. Each timer is put off to
+/// a later moment, by whole periods, and by no more than one period from now on.
+pub fn timers_keep_their_beat()
+    ensures first { (slot : ℕ) → (new_timer 1000 slot).due ≡ 1000 }
+    ensures next { (slot : ℕ) → (put_off 1000 (new_timer 1000 slot)).due ≡ 2000 }
+    ensures late { (slot : ℕ) → (put_off 4300 (new_timer 1000 slot)).due ≡ 5000 }
+    ensures later { (now : ℕ) (t : Timer) → t.due ≤ now → 0 < t.every → now + t.every < 2 ^ 64 → now < next_beat now t }
+    ensures soon { (now : ℕ) (t : Timer) → t.due ≤ now → next_beat now t ≤ now + t.every }
+    ensures whole { (now : ℕ) (t : Timer) → t.due ≤ now → now + t.every < 2 ^ 64 → (beats : ℕ) × (next_beat now t ≡ t.due + beats * t.every) }
+{}
+
+/// At 4,200 ms, with timers due at 5,000 and 7,000 ms, a datagram is waited for 800 ms at most, and no longer than it would be without them. No wait goes on after a timer is due.
+pub fn waits_end_when_a_timer_is_due()
+    ensures endless { (t : Timer) → until_due 4200 (record t { due = 5000 } ∷ record t { due = 7000 } ∷ []) None ≡ Some 800 }
+    ensures shorter { (t : Timer) → until_due 4200 (record t { due = 5000 } ∷ record t { due = 7000 } ∷ []) (Some 100) ≡ Some 100 }
+    ensures all { (now : ℕ) (ts : List Timer) (wait : Option ℕ) → All (λ t. EndsWithin (t.due - now) (until_due now ts wait)) ts }
+    ensures none { (now : ℕ) (wait : Option ℕ) → until_due now [] wait ≡ wait }
 {}

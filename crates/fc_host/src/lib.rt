@@ -38,3 +38,5 @@ pub mod clock;
 pub mod laws;
 pub mod sensors;
 pub mod socket;
+pub mod timer;
+pub mod timers;

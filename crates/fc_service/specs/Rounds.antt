@@ -8,11 +8,13 @@ use Rattle.fc_workers.specs.declared.share.Share.{Share}
 use Rattle.fc_jobs.specs.Ends.{Channel}
 use Rattle.fc_workers.specs.declared.call_log.CallLog.{CallLog}
 use Rattle.fc_workers.specs.Called.{Shop}
-use Rattle.fc_core.specs.Exchanges.{FrontState, first_front}
+use Rattle.fc_workers.specs.Fronts.{Beginning, beginning}
 use Rattle.fc_server.specs.Serving.{Serves}
 use Rattle.fc_server.specs.States.{begin_of}
 use Rattle.fc_server.specs.declared.server.Begin.{Begin}
 use Rattle.fc_host.specs.Sockets.{Comes, Incoming, IsHanded, Receive}
+use Rattle.fc_host.specs.Timers.{GoesPastTimers, IsTimedReceive}
+use Rattle.fc_host.specs.declared.timer.Timer.{Timer}
 use Rattle.fc_service.specs.Alone.{ReadiesAlone, alone_calls}
 use Rattle.fc_host.specs.Clocks.{AreReadAt}
 use Rattle.fc_service.specs.Counting.{both_replies, replies_by, replies_of}
@@ -161,22 +163,22 @@ pub record HasServed (sensors : List ℕ → Type 0) (e : RoundCalls) (limit : �
 
 -- ---- a server with workers
 
--- what a server with workers is asked: its front began as this one, its programs read the clock and these sensors, and its replies go to the sink
-abbrev pub served_shop : (List ℕ → Type 0) → RoundCalls → FrontState → Shop Tallies
-served_shop sensors e front = locked_shop front (AreReadAt e.moment sensors) e.moment (λ random. ⊤) (IsHanded e.went)
+-- the calls of a server with workers that began so: its programs read the clock and these sensors, and its replies go to the sink
+abbrev pub served_shop : (List ℕ → Type 0) → RoundCalls → Beginning → Shop Tallies
+served_shop sensors e begin = locked_shop begin (AreReadAt e.moment sensors) e.moment (λ random. ⊤) (IsHanded e.went)
 
 -- datagrams were received until there were so many, and each went through a round of one dispatcher, which began new. Runs of 6,000 instructions and more may go to the workers, or no
 -- job where no worker was begun. The replies are those of the rounds, and of the jobs that as many workers and the dispatcher worked off
-pub record HasServedPooled (sensors : List ℕ → Type 0) (e : RoundCalls) (workers limit : ℕ) (front : FrontState) (before after : Option (List Receive)) (replies : Replies) : Type 0 where
+pub record HasServedPooled (sensors : List ℕ → Type 0) (e : RoundCalls) (workers limit : ℕ) (begin : Beginning) (before after : Option (List Receive)) (replies : Replies) : Type 0 where
   pub channel : Channel
   pub first : Dispatching Tallies
   pub last : Dispatching Tallies
   pub has_workers : Bool
   pub new : IsNew channel (handover_where has_workers (Dear 6000)) first
   pub at_once : Replies
-  pub run : HasReceived (pooled_calls (served_shop sensors e front)) e limit before after first last at_once
+  pub run : HasReceived (pooled_calls (served_shop sensors e begin)) e limit before after first last at_once
   pub shares : List (Share Tallies)
-  pub worked : AreSharesAt (served_shop sensors e front) channel shares
+  pub worked : AreSharesAt (served_shop sensors e begin) channel shares
   pub count : length shares ≡ workers
   pub all : replies ≡ both_replies at_once (both_replies (replies_of shares) (replies_by last.done.share))
 
@@ -185,4 +187,16 @@ pub record HasServedPooled (sensors : List ℕ → Type 0) (e : RoundCalls) (wor
 abbrev pub IsServed : (List ℕ → Type 0) → RoundCalls → Extent → Option (List Receive) → Option (List Receive) → Replies → Type 0
 IsServed sensors e extent before after replies =
     ((extent.workers ≡ 1) × HasServed sensors e extent.limit (record { serial = 0; id = extent.first_id; policy = extent.policy }) before after replies)
-    ⊎ ((extent.workers ≡ 1 → ⊥) × HasServedPooled sensors e extent.workers extent.limit (first_front extent.policy extent.first_id) before after replies)
+    ⊎ ((extent.workers ≡ 1 → ⊥) × HasServedPooled sensors e extent.workers extent.limit (beginning extent.policy extent.first_id) before after replies)
+
+-- ---- timers beside a source
+
+-- the calls of rounds by a source and timers: their requests come between the datagrams of the source, and their responses don't reach the sink
+abbrev pub timed_calls : (Receive → CallLog → CallLog → Type 0) → (ℕ → CallLog → CallLog → Type 0) → (Emission → Bool → CallLog → CallLog → Type 0) → RoundCalls
+timed_calls received moment went = round_calls (IsTimedReceive moment received) moment (GoesPastTimers went)
+
+-- a server on a source that nobody knows, beside timers or none
+abbrev pub IsServedBeside : List Timer → (List ℕ → Type 0) → (Receive → CallLog → CallLog → Type 0) → (ℕ → CallLog → CallLog → Type 0) → (Emission → Bool → CallLog → CallLog → Type 0)
+    → Extent → Replies → Type 0
+IsServedBeside [] sensors received moment went extent replies = IsServed sensors (round_calls received moment went) extent None None replies
+IsServedBeside (t ∷ ts) sensors received moment went extent replies = IsServed sensors (timed_calls received moment went) extent None None replies

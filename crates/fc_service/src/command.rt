@@ -25,6 +25,11 @@ The server speaks CoAP on UDP, at 127.0.0.1, so that this host alone reaches it,
 address that `--bind` names; 0.0.0.0 is each of this host's. Whoever reaches it may upload
 programs and remove them.
 
+`--every MS:N` has the program of slot N asked each MS milliseconds, by a POST without a payload
+whose response nobody gets: it can look at the readings and notify its observers. A beat that was
+missed isn't made up for. A request of a timer counts as a datagram, and holds an exchange for
+247 s: all timers together may hold half of `--exchanges`.
+
 One thread receives datagrams, and runs the programs that take less than 6,000 instructions;
 W others run those that may take more. With `--workers 1` there are no others: the one thread
 runs all. After each datagram observers are notified. Programs of the second version read the
@@ -103,6 +108,7 @@ fn serve_command<'a>(alloc: Global) -> Result<Command<'a>, Error> {
             .arg(share(alloc))?
             .arg(confirm_after(alloc))?
             .arg(readings(alloc))?
+            .arg(every(alloc))?
             .arg(limit(alloc))?
             .arg(log(alloc))?,
     )
@@ -131,6 +137,16 @@ fn readings<'a>(alloc: Global) -> Arg<'a> {
         "FILE",
         "What programs read behind the clock: the file's first 56 bytes",
     )
+}
+
+fn every<'a>(alloc: Global) -> Arg<'a> {
+    option(
+        alloc,
+        "every",
+        "MS:N",
+        "Asks the program of slot N each MS milliseconds; may be repeated",
+    )
+    .action(ArgAction::Append)
 }
 
 fn managers<'a>(alloc: Global) -> Arg<'a> {

@@ -68,6 +68,7 @@
 
 mod alone;
 pub mod command;
+pub mod every;
 pub mod laws;
 mod lines;
 pub mod options;

@@ -1,7 +1,7 @@
 //! A server on a socket: datagrams are received on one thread, and their jobs are worked off by others, or by the same.
-ghost use Rattle.std.specs.Prelude.{◌≡◌, ◌≤◌, ◌⊎◌, ⊤, IfOk, IfSome, None};
+ghost use Rattle.std.specs.Prelude.{◌≡◌, ◌≤◌, ◌⊎◌, ⊤, if◌then◌else◌, IfOk, IfSome, None};
 ghost use Rattle.fc_server.specs.States.{CanBegin};
-ghost use Rattle.fc_service.specs.Rounds.{HasReceived, HasServed, IsServed, round_calls};
+ghost use Rattle.fc_service.specs.Rounds.{HasReceived, HasServed, IsServed, IsServedBeside, round_calls, timed_calls};
 ghost use Rattle.fc_service.specs.declared.replies.Replies.{Replies as Counts};
 ghost use Rattle.fc_cli.specs.declared.status.Status.TheVariants.{Done, Failed};
 
@@ -14,6 +14,8 @@ use fc_core::Policy;
 use fc_host::clock::{Elapsed, SensingDevice};
 use fc_host::sensors::Sensors;
 use fc_host::socket::{Receiving, Replying, Sink, Source, open};
+use fc_host::timer::Timer;
+use fc_host::timers::{PastTimers, Timed, Timers};
 use fc_server::Begin;
 use fc_workers::{Handover, Moments};
 use log::{Log, info};
@@ -60,7 +62,7 @@ pub struct Listening {
     pub told: bool,
 }
 
-/// Serves on UDP at an address and a port of this host, as [`serve_at`] does; `err` is told that it listens, where that is asked for. It fails, and `err` is told why, where
+/// Serves on UDP at an address and a port of this host, as [`serve_at`] does, and the requests of timers between the datagrams; `err` is told that it listens, where that is asked for. It fails, and `err` is told why, where
 /// the socket can't be had as well.
 pub fn serve<R: Threads + Wait + Clock + Net + Sync, L: Log, E: Write, Z: Sensors + Sync>(
     rt: &R,
@@ -69,11 +71,12 @@ pub fn serve<R: Threads + Wait + Clock + Net + Sync, L: Log, E: Write, Z: Sensor
     err: &mut E,
     sensors: &Z,
     listening: Listening,
+    timers: Vec<Timer>,
     extent: Extent,
 ) -> Status
     ensures status { (result ≡ Done) ⊎ (result ≡ Failed) }
-    ensures served { result ≡ Done → (replies : Counts) × IsServed Z.are_sensed
-        (round_calls (λ receive before after. after ≡ before) (λ now before after. after ≡ before) (λ emission out before after. ⊤)) extent None None replies }
+    ensures served { result ≡ Done → (replies : Counts) × IsServedBeside timers.items Z.are_sensed
+        (λ receive before after. after ≡ before) (λ now before after. after ≡ before) (λ emission out before after. ⊤) extent replies }
 {
     let address = listening.address;
     match open(rt, address) {
@@ -82,13 +85,61 @@ pub fn serve<R: Threads + Wait + Clock + Net + Sync, L: Log, E: Write, Z: Sensor
                 let _told = writeln!(err, "listening on {address}");
             }
             let source = Receiving::new(&socket);
-            match serve_at(rt, alloc, log, err, sensors, source, &socket, extent) {
-                Some(_) => Status::Done,
-                None => Status::Failed,
+            if timers.is_empty() {
+                return done_if(serve_at(
+                    rt, alloc, log, err, sensors, source, &socket, extent,
+                ).is_some());
             }
+            let timers = Timers::new(timers);
+            serve_timed(
+                rt, alloc, log, err, sensors, source, &socket, timers, extent,
+            )
         }
         Err(error) => tell(err, &ServeStop::Socket(address, error), Status::Failed),
     }
+}
+
+// Serves datagrams of a source, and the requests of timers between them, whose responses don't reach the sink.
+fn serve_timed<
+    R: Threads + Wait + Clock + Sync,
+    S: Source + Drop,
+    K: Sink + Sync,
+    L: Log,
+    E: Write,
+    Z: Sensors + Sync,
+>(
+    rt: &R,
+    alloc: Global,
+    log: &L,
+    err: &mut E,
+    sensors: &Z,
+    source: S,
+    sink: &K,
+    timers: Timers,
+    extent: Extent,
+) -> Status
+    ensures status { (result ≡ Done) ⊎ (result ≡ Failed) }
+    ensures served { result ≡ Done → (replies : Counts)
+        × IsServed Z.are_sensed (timed_calls S.received (λ now before after. after ≡ before) K.went) extent None None replies }
+{
+    let moments = match Elapsed::start(rt) {
+        Ok(moments) => moments,
+        Err(error) => return tell(err, &ServeStop::Clock(error), Status::Failed),
+    };
+    let timed = Timed {
+        source,
+        timers,
+        moments: &moments,
+        rt,
+    };
+    let sink = PastTimers { sink };
+    done_if(serve_at(rt, alloc, log, err, sensors, timed, &sink, extent).is_some())
+}
+
+fn done_if(done: bool) -> Status
+    ensures { (result ≡ (if done then Done else Failed)) }
+{
+    if done { Status::Done } else { Status::Failed }
 }
 
 /// Serves datagrams of a source, on a new server of empty slots, until so many were received. Programs read the milliseconds since the start, and what the sensors say. This thread answers each whose job is cheap before it receives the

@@ -10,6 +10,7 @@ use fc_host::sensors::{FileSensors, NoSensors};
 use fc_lines::LineLimit;
 use fc_server::Begin;
 use fc_service::command::command;
+use fc_service::every::{BadTimer, timers_in};
 use fc_service::options::{BadOption, ServeOptions, serve_options};
 use fc_service::play::play;
 use fc_service::policy::policy_in;
@@ -105,6 +106,11 @@ fn serve_socket<R: Runtime + AllocGlobal + Threads + Wait + Net + RandomSource +
         policy,
         readings,
     } = options;
+    let alloc = rt.alloc();
+    let timers = match timers_in(alloc, matches, policy.limits) {
+        Ok(timers) => timers,
+        Err(bad) => return tell_bad_timer(err, &bad),
+    };
     let level = if listening.told {
         LevelFilter::Info
     } else {
@@ -118,13 +124,12 @@ fn serve_socket<R: Runtime + AllocGlobal + Threads + Wait + Net + RandomSource +
         first_id,
         policy,
     };
-    let alloc = rt.alloc();
     Ok(match readings {
         Some(path) => {
             let sensors = FileSensors::new(files, path);
-            serve(rt, alloc, &log, err, &sensors, listening, extent)
+            serve(rt, alloc, &log, err, &sensors, listening, timers, extent)
         }
-        None => serve(rt, alloc, &log, err, &NoSensors, listening, extent),
+        None => serve(rt, alloc, &log, err, &NoSensors, listening, timers, extent),
     })
 }
 
@@ -132,6 +137,15 @@ fn serve_socket<R: Runtime + AllocGlobal + Threads + Wait + Net + RandomSource +
 fn tell_bad<E: Write>(err: &mut E, bad: BadOption) -> anyhow::Result<Status> {
     writeln!(err, "{bad}")?;
     Ok(Status::Bad)
+}
+
+// Reports that `--every` gives no timers: 3 for want of memory, else 2.
+fn tell_bad_timer<E: Write>(err: &mut E, bad: &BadTimer) -> anyhow::Result<Status> {
+    writeln!(err, "{bad}")?;
+    Ok(match bad {
+        BadTimer::Memory(_) => Status::Failed,
+        BadTimer::Form | BadTimer::TooMany(_) => Status::Bad,
+    })
 }
 
 fn main(rt: HostRuntime) -> ExitCode {

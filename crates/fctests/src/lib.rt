@@ -79,6 +79,8 @@ mod smaller_block_tests;
 #[cfg(test)]
 mod socket_tests;
 #[cfg(test)]
+mod timer_tests;
+#[cfg(test)]
 mod told_tests;
 #[cfg(test)]
 mod tool_tests;

@@ -96,7 +96,10 @@ fn serve_at_address<
             let memory = Memory::new(alloc);
             let log = Logged::new(rt, LevelFilter::Off, &memory);
             let mut err = Told { writes: &writes };
-            serve(rt, alloc, &log, &mut err, &NoSensors, listening, extent)
+            let timers = Vec::new(alloc);
+            serve(
+                rt, alloc, &log, &mut err, &NoSensors, listening, timers, extent,
+            )
         },
     );
     asked?;

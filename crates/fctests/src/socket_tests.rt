@@ -186,7 +186,10 @@ fn a_taken_port_is_status_3(rt: HostRuntime) -> Result<(), Fail> {
         address: at_port(port),
         told: true,
     };
-    let status = serve(&rt, alloc, &log, &mut err, &NoSensors, listening, extent);
+    let timers = Vec::new(alloc);
+    let status = serve(
+        &rt, alloc, &log, &mut err, &NoSensors, listening, timers, extent,
+    );
     let told = format!(in alloc; "UDP 127.0.0.1:{port}: Address already in use (os error 98)\n")?;
     assert!(rt; status == Status::Failed && err.as_slice() == told.as_bytes());
     Ok(())

@@ -1,0 +1,247 @@
+//! Timers: requests that a server makes itself, each at every so many milliseconds. They reach the server as datagrams do, between those of a source.
+ghost use Rattle.std.specs.Prelude.{◌≡◌, ◌<◌, ◌≤◌, ◌/◌, ◌+◌, ◌⊎◌, IfSome, MatchOption, length, take};
+ghost use Rattle.fc_host.specs.Sockets.{incoming_in};
+ghost use Rattle.fc_host.specs.Timers.{Asks, AsksSource, ComesByTimer, GoesPastTimers, IsFirstDue, IsTimed, IsTimedReceive, NoneDue, at_most, new_timer, put_off};
+ghost use Rattle.fc_host.specs.Timers.{request_bytes, timers, until_due};
+
+use crate::socket::{Buffer, Sink, Source};
+use crate::timer::{Period, Timer};
+use coap_msg::types::WINDOW;
+use coap_msg::{Emission, Endpoint};
+use fc_registry::SlotNumber;
+use fc_workers::{CallLog, Moments};
+use std::sync::Wait;
+
+/// The endpoint of timers, 0.0.0.0:0: no peer has it (RFC 1122, 3.2.1.3). A datagram that names it otherwise is dropped.
+pub const TIMERS: Endpoint = Endpoint {
+    ip: [0; 4],
+    port: 0,
+};
+
+impl Timer {
+    /// Makes a timer that is due first after one period.
+    pub fn new(every: Period, slot: SlotNumber) -> Timer
+        ensures { result ≡ new_timer every slot }
+    {
+        Timer {
+            every,
+            slot,
+            due: every.milliseconds(),
+        }
+    }
+
+    /// Returns how many exchanges its requests hold at a time, at most: each holds one for 247 s.
+    pub fn exchanges(&self) -> u64
+        ensures { result ≡ 247000 / self.now.every + 1 }
+    {
+        WINDOW / self.every.milliseconds() + 1
+    }
+
+    // Puts it off to its first beat after a moment at which it is due.
+    fn put_off(&mut self, now: u64)
+        requires { self.old.due ≤ now }
+        ensures { self.new ≡ put_off now self.old }
+    {
+        let every = self.every.milliseconds();
+        let missed = (now - self.due) / every * every;
+        self.due = self.due.saturating_add(missed).saturating_add(every);
+    }
+}
+
+/// Timers, and the message id of their next request. An id is used again after 65,536 requests.
+#[derive(Drop)]
+pub struct Timers {
+    timers: Vec<Timer>,
+    next_id: u16,
+}
+
+impl Timers {
+    /// Takes timers, whose first request has message id 0.
+    pub fn new(timers: Vec<Timer>) -> Timers
+        ensures { result ≡ record { timers = timers; next_id = 0 } }
+    {
+        Timers { timers, next_id: 0 }
+    }
+
+    // Writes the request of the first timer that is due at a moment, and puts it off. Returns how many bytes the request has.
+    fn ask(&mut self, now: u64, buffer: &mut Buffer) -> Option<usize>
+        ensures fits { IfSome result (λ count. count ≤ length buffer.new) }
+        ensures asked { MatchOption result (NoneDue now self.old.timers.items × (self.new ≡ self.old))
+            (λ count. Asks now self.old self.new (take count buffer.new)) }
+    {
+        let place = self.first_due(now)?;
+        let slot = self.timers[place].slot;
+        self.timers[place].put_off(now);
+        let id = self.next_id;
+        self.next_id = id.wrapping_add(1);
+        Some(write_request(id, slot, buffer))
+    }
+
+    // Finds the first timer that is due at a moment.
+    fn first_due(&self, now: u64) -> Option<usize>
+        ensures { MatchOption result (NoneDue now self.now.timers.items) (IsFirstDue now self.now.timers.items) }
+    {
+        self.timers.iter().position(|timer| timer.due <= now)
+    }
+
+    // Returns for how long a datagram is waited for, from a moment on: no longer than until the first timer is due.
+    fn until_due(&self, now: u64, wait: Option<u64>) -> Option<u64>
+        ensures { result ≡ until_due now self.now.timers.items wait }
+    {
+        self.timers.iter().fold(
+            wait,
+            |wait, timer| at_most(timer.due.saturating_sub(now), wait),
+        )
+    }
+}
+
+// Shortens a wait to so many milliseconds. `None` is without end.
+fn at_most(ms: u64, wait: Option<u64>) -> Option<u64>
+    ensures { result ≡ at_most ms wait }
+{
+    match wait {
+        Some(wait) => Some(wait.min(ms)),
+        None => Some(ms),
+    }
+}
+
+// Writes a non-confirmable POST of a slot's resource, without a token and a payload. Returns how many bytes it has (RFC 7252, 3).
+fn write_request(id: u16, slot: SlotNumber, buffer: &mut Buffer) -> usize
+    ensures fits { result ≤ 9 }
+    ensures bytes { take result buffer.new ≡ request_bytes id slot }
+{
+    let (bytes, count) = request(id, slot.number());
+    buffer[..REQUEST].copy_from_slice(&bytes);
+    count
+}
+
+// The bytes of a request, and how many of them it has: eight, or nine if its slot has two digits.
+fn request(id: u16, slot: u8) -> ([u8; REQUEST], usize)
+    requires { slot < 64 }
+    ensures fits { (result.1 ≡ 8) ⊎ (result.1 ≡ 9) }
+    ensures bytes { take result.1 result.0 ≡ request_bytes id slot }
+{
+    let high = (id / 256) as u8;
+    let low = (id % 256) as u8;
+    let ones = b'0' + slot % 10;
+    if slot < 10 {
+        return ([NON, POST, high, low, FIRST_SEGMENT, b'r', 1, ones, 0], 8);
+    }
+    let tens = b'0' + slot / 10;
+    (
+        [NON, POST, high, low, FIRST_SEGMENT, b'r', 2, tens, ones],
+        9,
+    )
+}
+
+// The most bytes of a request.
+const REQUEST: usize = 9;
+
+// Version 1, a non-confirmable message without a token (RFC 7252, 3).
+const NON: u8 = 0x50;
+
+// The method POST (RFC 7252, 12.1.1).
+const POST: u8 = 2;
+
+// A Uri-Path option of one byte as the first option (RFC 7252, 3.1 and 5.10). The next Uri-Path option has its length alone in its first byte.
+const FIRST_SEGMENT: u8 = 0xb1;
+
+/// A source, and timers, whose requests come when they are due: a datagram of the source is waited for no longer than until the next is. What names the
+/// endpoint of timers at the source is dropped.
+#[derive(Drop)]
+pub struct Timed<'a, S: Source + Drop, M: Moments, R: Wait> {
+    pub source: S,
+    pub timers: Timers,
+    pub moments: &'a M,
+    pub rt: &'a R,
+}
+
+impl<'a, S: Source + Drop, M: Moments, R: Wait> Timed<'a, S, M, R> {
+    // The request of a timer that is due, or the next datagram of the source.
+    fn next(
+        &mut self,
+        wait: Option<u64>,
+        buffer: &mut Buffer,
+        log: &mut CallLog,
+    ) -> Option<(usize, Endpoint)>
+        ensures fits { IfSome result (λ r. r.0 ≤ length buffer.new) }
+        ensures timed { IsTimed M.is_moment S.received self.old.timers self.new.timers (record { wait = wait; came = incoming_in buffer.new result }) log.old log.new }
+    {
+        let now = self.moments.now(self.rt, log);
+        if let Some(asked) = self.ask(now, buffer) {
+            return Some(asked);
+        }
+        self.wait_for(now, wait, buffer, log)
+    }
+
+    // The request of a timer that is due at a moment.
+    fn ask(&mut self, now: u64, buffer: &mut Buffer) -> Option<(usize, Endpoint)>
+        ensures fits { IfSome result (λ r. r.0 ≤ length buffer.new) }
+        ensures asked { ComesByTimer now self.old.timers self.new.timers (incoming_in buffer.new result) }
+        ensures source { self.new.source ≡ self.old.source }
+    {
+        let count = self.timers.ask(now, buffer)?;
+        Some((count, TIMERS))
+    }
+
+    // Waits for a datagram of the source, and for the next timer.
+    fn wait_for(
+        &mut self,
+        now: u64,
+        wait: Option<u64>,
+        buffer: &mut Buffer,
+        log: &mut CallLog,
+    ) -> Option<(usize, Endpoint)>
+        requires { NoneDue now self.old.timers.timers.items }
+        ensures fits { IfSome result (λ r. r.0 ≤ length buffer.new) }
+        ensures waited { AsksSource M.is_moment S.received now self.old.timers self.new.timers (record { wait = wait; came = incoming_in buffer.new result }) log.old log.new }
+    {
+        let wait = self.timers.until_due(now, wait);
+        if let Some(came) = self.source.receive(wait, buffer, log) {
+            return of_peer(came);
+        }
+        let now = self.moments.now(self.rt, log);
+        self.ask(now, buffer)
+    }
+}
+
+/// What came to it is unknown, as it is of a socket of the system.
+impl<'a, S: Source + Drop, M: Moments, R: Wait> Source for Timed<'a, S, M, R> {
+    ghost received = { IsTimedReceive M.is_moment S.received };
+
+    fn receive(
+        &mut self,
+        wait: Option<u64>,
+        buffer: &mut Buffer,
+        log: &mut CallLog,
+    ) -> Option<(usize, Endpoint)> {
+        self.next(wait, buffer, log)
+    }
+}
+
+// A datagram of a source, or `None` if it names the endpoint of timers.
+fn of_peer(came: (usize, Endpoint)) -> Option<(usize, Endpoint)>
+    ensures { MatchOption result (came.1 ≡ timers) (λ r. (r ≡ came) × (r.1 ≡ timers → ⊥)) }
+{
+    if came.1 == TIMERS {
+        return None;
+    }
+    Some(came)
+}
+
+/// A sink that the responses to timers don't reach, since nobody waits for them. Each counts as sent.
+#[derive(Drop)]
+pub struct PastTimers<'a, K: Sink> {
+    pub sink: &'a K,
+}
+
+impl<'a, K: Sink> Sink for PastTimers<'a, K> {
+    ghost went = { GoesPastTimers K.went };
+
+    fn send(&self, emission: &Emission, log: &mut CallLog) -> bool {
+        if emission.to == TIMERS {
+            return true;
+        }
+        self.sink.send(emission, log)
+    }
+}

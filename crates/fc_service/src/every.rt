@@ -1,0 +1,95 @@
+//! The timers of `fcd serve --every`: `1000:7` asks the program of slot 7 each second.
+ghost use Rattle.std.specs.Prelude.{◌≡◌, ◌≤◌, IfOk, IfSome, codes, map};
+ghost use Rattle.clap.specs.Matches.{found_of};
+ghost use Rattle.fc_service.specs.Every.{AreTimers, IsTimerText, Pushes, most_held, texts_of, timers_hold};
+
+use clap::ArgMatches;
+use coap_dedup::Limits;
+use fc_host::timer::{Period, Timer};
+use fc_lines::line::{byte, number};
+use fc_registry::{SLOTS, SlotNumber};
+use std::alloc::{AllocError, Global};
+use thiserror::Error;
+
+/// The longest period in milliseconds: a day.
+pub const LONGEST: u64 = 86_400_000;
+
+/// Why `--every` gives no timers.
+#[derive(Debug, Drop, Error)]
+pub enum BadTimer {
+    /// A value is no period and slot.
+    #[error("error: `--every` takes a period of 1 to 86400000 ms and a slot of 0 to 63, for example 1000:7")]
+    Form,
+    /// The requests of all timers need more exchanges than this.
+    #[error("error: the requests of `--every` need more than {0} exchanges: half of `--exchanges`, and no more than `--share`")]
+    TooMany(u64),
+    /// There was no memory for them.
+    #[error("{0}")]
+    Memory(#[from] AllocError),
+}
+
+/// Reads the timers that the options give. A request holds one of the server's exchanges for 247 s, and all timers together may hold half of them, as far as
+/// the share of an address goes.
+///
+/// # Errors
+/// A value has another form, the timers need too many exchanges, or there was no memory for them.
+pub fn timers_in(
+    alloc: Global,
+    matches: &ArgMatches<'_>,
+    limits: Limits,
+) -> Result<Vec<Timer>, BadTimer>
+    ensures timers { IfOk result (λ v. AreTimers (texts_of (found_of matches.now)) v.items) }
+    ensures few { IfOk result (λ v. timers_hold v.items ≤ most_held limits) }
+{
+    match matches.get_strs("every") {
+        Some(texts) => timers_of(alloc, texts, most_held(limits)),
+        None => Ok(Vec::new(alloc)),
+    }
+}
+
+// How many exchanges all timers may hold.
+fn most_held(limits: Limits) -> u64
+    ensures { result ≡ most_held limits }
+{
+    (limits.exchanges / 2).min(limits.share) as u64
+}
+
+// Reads the timers of these texts, which may hold so many exchanges.
+fn timers_of(alloc: Global, texts: &[&str], most: u64) -> Result<Vec<Timer>, BadTimer>
+    ensures timers { IfOk result (λ v. AreTimers (map (λ text. text.now) texts.now) v.items) }
+    ensures few { IfOk result (λ v. timers_hold v.items ≤ most) }
+{
+    let mut timers = Vec::new(alloc);
+    let mut left = most;
+    for text in texts {
+        left = push_timer(text, left, most, &mut timers)?;
+    }
+    Ok(timers)
+}
+
+// Reads one timer more, and returns how many exchanges are left.
+fn push_timer(text: &str, left: u64, most: u64, timers: &mut Vec<Timer>) -> Result<u64, BadTimer>
+    ensures { IfOk result (Pushes text.now left timers.old.items timers.new.items) }
+{
+    let timer = timer_of(text).ok_or(BadTimer::Form)?;
+    let left = left
+        .checked_sub(timer.exchanges())
+        .ok_or(BadTimer::TooMany(most))?;
+    match timers.push(timer) {
+        Ok(()) => Ok(left),
+        Err(refused) => Err(BadTimer::Memory(AllocError::from(refused))),
+    }
+}
+
+// Reads a timer, as `1000:7`.
+fn timer_of(text: &str) -> Option<Timer>
+    ensures { IfSome result (IsTimerText text.now) }
+{
+    let (period, slot) = text.split_once(':')?;
+    let every = number(period.as_bytes())?;
+    let slot = byte(slot.as_bytes())?;
+    if every > LONGEST || slot >= SLOTS {
+        return None;
+    }
+    Some(Timer::new(Period::new(every)?, SlotNumber::new(slot)))
+}
