@@ -67,7 +67,8 @@
 //!   request's, which was looked up here or not, took once and found a program of such a cost, and of which the log has no other call; or
 //!   one of whose slot a receipt was told, of such a cost. A request that took here and stays is worked off from there, by eight takings at
 //!   most in all. The receipt is asked for once, right before the job is sent or worked off.
-//! - **A server behind nine locks** asks its calls of a front that began with the message id that it is made with, and has been asked only calls of a front since. It
+//! - **A server behind nine locks** asks its calls of a front that began with the policy and the message id that it is made with, and has been asked only calls of a front since. Each
+//!   shard that a call meets has the policy's time for confirmable notifications. It
 //!   answers a taking, an install, a removal and a receipt as a shard of the index of the job's slot does in
 //!   some state, and a notification as one of that of the turn's does: of the turn, the message id, the moment and what is told that it is
 //!   handed. It answers a delivery, a draw of a message id, a turn, a tick, a notification and a job at the moment that it is handed or a
