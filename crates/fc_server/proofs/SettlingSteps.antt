@@ -1,13 +1,15 @@
 -- Steps that lead from one place to the next, until all is settled.
-use Rattle.std.proofs.Common.{◌≡◌, ℕ, zero, suc, add-one, ◌+◌, ◌-◌, ◌<◌, ◌≤◌, Bool, true, false, List, [], ◌∷◌, ◌++◌, length, append-nil, append_assoc, arith, ap, sym, refl, ◌∙◌, inl, inr}
+use Rattle.std.proofs.Common.{◌≡◌, ℕ, zero, suc, add-one, ◌+◌, ◌-◌, ◌<◌, ◌≤◌, Bool, true, false, List, [], ◌∷◌, ◌++◌, length, append-nil, append_assoc, Option, arith, ap, subst, sym, refl, ◌∙◌, inl, inr}
 use Rattle.std.specs.Prelude.{◌||◌, ◌⊎◌, if◌then◌else◌}
 use Rattle.std.specs.List.{list_any}
+use Rattle.std.specs.Option.{option_to_list}
+use Rattle.coap_msg.specs.declared.types.Emission.{Emission}
 use Rattle.fc_observe.specs.declared.observers.Ticked.{Ticked}
 use Rattle.fc_observe.specs.declared.observers.Ticked.TheVariants.{Quiet}
 use Rattle.fc_server.specs.Notified.{Nobody, Notified, Starved}
-use Rattle.fc_service.specs.Intakes.{IntakeCalls}
-use Rattle.fc_service.specs.Settling.{AreStepsInOrder, AreSettled, AreStepsTo, Asked, Finding, HasReached, IsPlace, IsStepBy, Moves, NobodyDue, NothingLate, Passed, Resent, SettlingStep, found_at, found_below, found_in_step, found_in_steps, is_starved, sought_at, sought_in_step}
-use Rattle.fc_service.specs.declared.settle.Settling.{Settling}
+use Rattle.fc_server.specs.Intakes.{IntakeCalls}
+use Rattle.fc_server.specs.Settling.{AreStepsBy, AreStepsInOrder, AreSettled, AreStepsTo, Asked, Finding, HasReached, IsPlace, IsStepBy, Moves, NobodyDue, NothingLate, Passed, Resent, SettlingStep, found_at, found_below, found_in_step, found_in_steps, is_starved, sent_in_step, sent_in_steps, sought_at, sought_in_step}
+use Rattle.fc_server.specs.declared.settle.Settling.{Settling}
 
 -- ---- one step
 
@@ -167,3 +169,27 @@ module _ {S : Type 0} (calls : IntakeCalls S) where
   -- and where there were as many steps as there may be
   pub settled_at_bound : (now : ℕ) (old new : S) (s : Settling) (steps : List SettlingStep) → StepsTo now steps old new s → 8192 ≤ length steps → AreSettled steps
   settled_at_bound now old new s steps w many = (w.in_order, inr (inr many))
+
+  -- as many steps at least, to this place, which sent what has a property
+  abbrev pub Steps : (List Emission → Type 0) → ℕ → ℕ → S → S → Settling → Type 0
+  Steps P taken now old new place = (steps : List SettlingStep) × AreStepsTo calls now steps old new place × (taken ≤ length steps) × P (sent_in_steps steps)
+
+  abbrev pub Done : (List Emission → Type 0) → ℕ → S → S → Type 0
+  Done P now old new = (steps : List SettlingStep) × AreStepsBy calls now steps old new × AreSettled steps × P (sent_in_steps steps)
+
+  -- one step more
+  pub next_step : (P Q : List Emission → Type 0) (taken now : ℕ) (old mid new : S) (from to : Settling) (out : Option Emission) → Steps P taken now old mid from
+      → ((step : SettlingStep) × IsStepBy calls now step mid new × (sent_in_step step ≡ out) × Moves from step to)
+      → ((emissions : List Emission) → P emissions → Q (emissions ++ option_to_list out)) → Steps Q (taken + 1) now old new to
+  next_step P Q taken now old mid new from to out w x more = (
+    x.0 ∷ w.0,
+    one_step now old mid new from to w.0 x.0 w.1 x.1 x.3,
+    omega (arith, w.2),
+    subst (λ (o : Option Emission). Q (sent_in_steps w.0 ++ option_to_list o)) (sym x.2) (more (sent_in_steps w.0) w.3),
+  )
+
+  pub done_at_end : (P : List Emission → Type 0) (taken now : ℕ) (old new : S) (place : Settling) → Steps P taken now old new place → 8 ≤ place.shard → Done P now old new
+  done_at_end P taken now old new place w end = (w.0, w.1.taken, settled_at_end now old new place w.0 w.1 end, w.3)
+
+  pub done_at_bound : (P : List Emission → Type 0) (taken now : ℕ) (old new : S) (place : Settling) → Steps P taken now old new place → 8192 ≤ taken → Done P now old new
+  done_at_bound P taken now old new place w many = (w.0, w.1.taken, settled_at_bound now old new place w.0 w.1 (omega (arith, w.2, many)), w.3)

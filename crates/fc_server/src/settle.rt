@@ -5,22 +5,22 @@ ghost use Rattle.fc_core.specs.Legal.{resent};
 ghost use Rattle.fc_core.specs.Receiving.{emission_if};
 ghost use Rattle.fc_observe.specs.declared.observers.Ticked.{Ticked};
 ghost use Rattle.fc_server.specs.Notified.{Notified, notification_in, notified_as};
-ghost use Rattle.fc_service.specs.Settling.{Asked, AreStepsTo, IsPlace, IsStepBy, Moves, Resent, SettlingStep, sent_in_step, sent_in_steps};
+ghost use Rattle.fc_server.specs.Settling.{AreQuietUntil, Asked, AreStepsTo, IsPlace, IsStepBy, Moves, Resent, SettlingStep, sent_in_step, sent_in_steps};
 
-use crate::pool::Intake;
+use crate::engine::NotifyOutcome;
+use crate::intake::Intake;
 use coap_msg::Emission;
 use fc_observe::Ticked;
 use fc_registry::SHARDS;
-use fc_server::engine::NotifyOutcome;
 
 /// More steps than there are at one moment: each of 32 observers of each of 64 slots is sent one notification again at most, and notified once, and
 /// a shard tells once of each that there is nothing left.
-pub(crate) const STEPS: u16 = 8192;
+pub const STEPS: u16 = 8192;
 
 /// Where a server is in what is left to do at a moment: at a shard, whose late notifications are sent again first, until there is none,
 /// and whose observers are notified then, until none is due.
 #[derive(Drop)]
-pub(crate) struct Settling {
+pub struct Settling {
     shard: u8,
     notifies: bool,
 }
@@ -28,7 +28,7 @@ pub(crate) struct Settling {
 impl Settling {
     /// At the first shard that has something to do at a moment in milliseconds; those before it are passed over. Most have nothing, and no room is made
     /// for what they would send.
-    pub(crate) fn begin<N: Intake>(intake: &mut N, now: u64) -> Settling
+    pub fn begin<N: Intake>(intake: &mut N, now: u64) -> Settling
         ensures { (steps : List SettlingStep) × AreStepsTo N.calls now steps intake.old intake.new result × (sent_in_steps steps ≡ []) }
     {
         let mut settling = Settling {
@@ -42,7 +42,7 @@ impl Settling {
     }
 
     /// Whether nothing is left.
-    pub(crate) fn is_at_end(&self) -> bool
+    pub fn is_at_end(&self) -> bool
         ensures { IsTrue result ↔ 8 ≤ self.now.shard }
     {
         self.shard >= SHARDS
@@ -51,12 +51,7 @@ impl Settling {
     /// Asks the shard that it is at: what is to be sent, if anything, is written over another emission. Tells whether anything is. Where no message id is free,
     /// nothing is left.
     #[inline(never)]
-    pub(crate) fn step<N: Intake>(
-        &mut self,
-        intake: &mut N,
-        now: u64,
-        emission: &mut Emission,
-    ) -> bool
+    pub fn step<N: Intake>(&mut self, intake: &mut N, now: u64, emission: &mut Emission) -> bool
         requires { self.old.shard < 8 }
         ensures { (step : SettlingStep) × IsStepBy N.calls now step intake.old intake.new
             × (sent_in_step step ≡ emission_if result emission.new) × Moves self.old step self.new }
@@ -153,4 +148,15 @@ impl Settling {
         self.shard = SHARDS;
         self.notifies = false;
     }
+}
+
+/// Returns the earliest of the moments until which the eight shards are quiet, in milliseconds. `u64::MAX` is none.
+pub fn quiet_until<N: Intake>(intake: &N) -> u64
+    ensures { AreQuietUntil (λ shard until. N.calls.stays_quiet shard intake.now until) result }
+{
+    let mut until = u64::MAX;
+    for shard in 0..SHARDS {
+        until = until.min(intake.quiet_until(shard));
+    }
+    until
 }

@@ -1,6 +1,6 @@
 use Rattle.std.proofs.Common.{◌≡◌, ◌-◌, List, [], false}
-use Rattle.fc_service.specs.Settling.{AreStepsTo, SettlingStep, sent_in_steps}
-use Rattle.fc_service.proofs.settle.Settling.begin.Given as goal
+use Rattle.fc_server.specs.Settling.{AreStepsTo, SettlingStep, sent_in_steps}
+use Rattle.fc_server.proofs.settle.Settling.begin.Given as goal
 
 -- the steps so far sent nothing
 abbrev pub invariant-quiet : goal.invariant-quiet

@@ -1,6 +1,6 @@
 use Rattle.std.proofs.Common.{◌≡◌, ℕ, List, length}
-use Rattle.fc_service.specs.Rounds.{AreTold, earliest}
-use Rattle.fc_service.proofs.rounds.quiet_until.Given as goal
+use Rattle.fc_server.specs.Settling.{AreTold, earliest}
+use Rattle.fc_server.proofs.settle.quiet_until.Given as goal
 
 -- the shards so far
 abbrev pub invariant-loop-shard : goal.invariant-loop-shard

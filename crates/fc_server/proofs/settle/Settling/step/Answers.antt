@@ -1,8 +1,8 @@
 use Rattle.std.proofs.Common.{◌≡◌, Bool, refl, subst, sym}
 use Rattle.std.specs.Prelude.{MatchBool}
-use Rattle.fc_service.specs.Settling.{Asked, Passed, Resent}
-use Rattle.fc_service.proofs.Steps.{passes_over}
-use Rattle.fc_service.proofs.settle.Settling.step.Goals as goal
+use Rattle.fc_server.specs.Settling.{Asked, Passed, Resent}
+use Rattle.fc_server.proofs.SettlingSteps.{passes_over}
+use Rattle.fc_server.proofs.settle.Settling.step.Goals as goal
 
 pub returns-then-self : goal.returns-then-self
 returns-then-self g c = (Asked c.args.self.now.shard c.notify.ensures.0, (c.requires, c.notify.ensures.1), sym c.notify.ensures.2, c.notify.ensures.3)

@@ -1,9 +1,9 @@
 use Rattle.std.proofs.Common.{subst, sym}
 use Rattle.fc_server.specs.Notified.{notified_as}
 use Rattle.fc_server.specs.declared.engine.NotifyOutcome.{NotifyOutcome}
-use Rattle.fc_service.specs.Settling.{Asked, Moves}
-use Rattle.fc_service.proofs.Steps.{finds_nobody}
-use Rattle.fc_service.proofs.settle.Settling.notified.Goals as goal
+use Rattle.fc_server.specs.Settling.{Asked, Moves}
+use Rattle.fc_server.proofs.SettlingSteps.{finds_nobody}
+use Rattle.fc_server.proofs.settle.Settling.notified.Goals as goal
 
 pub returns-in-Nobody-clause-moves : goal.returns-in-Nobody-clause-moves
 returns-in-Nobody-clause-moves c = λ e.

@@ -1,5 +1,5 @@
 -- What follows a datagram or a moment: shards send again what is late, and notify who is due.
-use Rattle.std.specs.Prelude.{◌≡◌, ◌<◌, ◌≤◌, ◌⊎◌, if◌then◌else◌, ℕ, zero, suc, Bool, true, false, List, [], ◌∷◌, ◌++◌, length, flat_map, Option, None}
+use Rattle.std.specs.Prelude.{◌≡◌, ◌<◌, ◌≤◌, ◌⊎◌, if◌then◌else◌, ⊤, ℕ, zero, suc, Bool, true, false, List, [], ◌∷◌, ◌++◌, length, min, Option, None}
 use Rattle.std.specs.List.{list_any}
 use Rattle.std.specs.Option.{option_to_list}
 use Rattle.coap_msg.specs.declared.types.Emission.{Emission}
@@ -7,9 +7,8 @@ use Rattle.fc_core.specs.Legal.{resent}
 use Rattle.fc_observe.specs.declared.observers.Ticked.{Ticked}
 use Rattle.fc_observe.specs.declared.observers.Ticked.TheVariants.{Quiet}
 use Rattle.fc_server.specs.Notified.{Notified, Nobody, Starved, notification_in}
-use Rattle.fc_lines.specs.Emissions.{printed}
-use Rattle.fc_service.specs.Intakes.{IntakeCalls}
-use Rattle.fc_service.specs.declared.settle.Settling.{Settling}
+use Rattle.fc_server.specs.Intakes.{IntakeCalls}
+use Rattle.fc_server.specs.declared.settle.Settling.{Settling}
 
 -- a shard is ticked, and tells this; it is passed over, since nothing is late and nobody is due; or it is asked for a turn, and tells this
 pub data SettlingStep : Type 0 where
@@ -26,10 +25,6 @@ sent_in_step (Asked shard told) = notification_in told
 abbrev pub sent_in_steps : List SettlingStep → List Emission
 sent_in_steps [] = []
 sent_in_steps (step ∷ steps) = sent_in_steps steps ++ option_to_list (sent_in_step step)
-
--- what is printed of what they sent
-abbrev pub printed_steps : List SettlingStep → List ℕ
-printed_steps steps = flat_map printed (sent_in_steps steps)
 
 -- ---- when it ends
 
@@ -121,3 +116,19 @@ module _ {S : Type 0} (calls : IntakeCalls S) where
     pub place : IsPlace at
     pub in_order : AreStepsInOrder steps
     pub reached : HasReached steps at
+
+-- ---- until when each shard is quiet
+
+-- the moments that the first shards told, each until when it is quiet, the last one's first
+abbrev pub AreTold : (ℕ → ℕ → Type 0) → List ℕ → Type 0
+AreTold StaysQuiet [] = ⊤
+AreTold StaysQuiet (until ∷ before) = StaysQuiet (length before) until × AreTold StaysQuiet before
+
+-- the earliest of them; 2^64 - 1 ms is none
+abbrev pub earliest : List ℕ → ℕ
+earliest [] = 18446744073709551615
+earliest (until ∷ before) = min (earliest before) until
+
+-- each of the eight shards told until when it is quiet, and this is the earliest of these moments
+abbrev pub AreQuietUntil : (ℕ → ℕ → Type 0) → ℕ → Type 0
+AreQuietUntil StaysQuiet moment = (told : List ℕ) × AreTold StaysQuiet told × (length told ≡ 8) × (moment ≡ earliest told)

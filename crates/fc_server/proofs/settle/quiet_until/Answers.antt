@@ -1,7 +1,7 @@
 use Rattle.std.proofs.Common.{◌≡◌, ℕ, ◌+◌, List, [], ◌∷◌, length, ap, arith, refl, subst, sym, ◌∙◌}
 use Rattle.std.specs.Prelude.{min}
-use Rattle.fc_service.specs.Rounds.{AreTold, earliest}
-use Rattle.fc_service.proofs.rounds.quiet_until.Goals as goal
+use Rattle.fc_server.specs.Settling.{AreTold, earliest}
+use Rattle.fc_server.proofs.settle.quiet_until.Goals as goal
 
 -- what the shards told so far, and one more
 one_more : (StaysQuiet : ℕ → ℕ → Type 0) (next before until moment : ℕ) → StaysQuiet next until → moment ≡ min before until

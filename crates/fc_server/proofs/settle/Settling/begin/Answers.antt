@@ -1,9 +1,9 @@
 use Rattle.std.proofs.Common.{◌≡◌, Bool, List, [], ◌∷◌, ◌++◌, refl, ap, sym, subst}
 use Rattle.std.specs.Prelude.{MatchBool}
 use Rattle.coap_msg.specs.declared.types.Emission.{Emission}
-use Rattle.fc_service.specs.Settling.{AreStepsTo, Passed}
-use Rattle.fc_service.proofs.Steps.{no_steps, one_step, passes_over}
-use Rattle.fc_service.proofs.settle.Settling.begin.Goals as goal
+use Rattle.fc_server.specs.Settling.{AreStepsTo, Passed}
+use Rattle.fc_server.proofs.SettlingSteps.{no_steps, one_step, passes_over}
+use Rattle.fc_server.proofs.settle.Settling.begin.Goals as goal
 
 pub quiet-init : goal.quiet-init
 quiet-init g c = ([], no_steps g.N.Intake.calls c.args.now c.args.intake.now _ refl refl, refl, refl)
