@@ -210,7 +210,8 @@ numzela_status numzela_server_advance(numzela_server *server, uint64_t now);
  *   readings  the sensor input of a program that runs
  *   datagram  written if the result is NUMZELA_SEND
  *
- * Returns NUMZELA_SEND, NUMZELA_OK if nothing is left to do, or NUMZELA_EMPTY.
+ * Returns NUMZELA_SEND, NUMZELA_OK if nothing is left to do, or NUMZELA_EMPTY. NUMZELA_OK is also the
+ * end if none of the server's message IDs is available: the notification waits for the next poll.
  */
 numzela_status numzela_server_poll(numzela_server *server, uint64_t now, uint16_t random,
                                    const uint8_t readings[NUMZELA_READINGS],
