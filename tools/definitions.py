@@ -290,7 +290,7 @@ class Code:
         for it in CODE_ITEM.finditer(self.text):
             self.add(it[2], it.start())
         for block in IMPL.finditer(self.text):
-            if block[1]:
+            if block[1] and "ghost Value =" in block[3]:
                 self.values[block[2]] = block[3]
             for it in CONSTANT.finditer(block[3]):
                 self.add(f"{block[2]}.{it[1]}", block.start(3) + it.start())

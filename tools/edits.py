@@ -10,7 +10,7 @@ import re
 from dataclasses import dataclass
 from pathlib import Path
 
-FUNCTION = re.compile(r"^( *)(?:pub(?:\([a-z]+\))? )?(?:(?:const|final|unsafe) )*fn (\w+)", re.M)
+FUNCTION = re.compile(r"^( *)(?:pub(?:\([a-z]+\))? )?(?:(?:const|final|unsafe) )*(?:extern \"C\" )?fn (\w+)", re.M)
 BLOCK = re.compile(r"^(?:pub(?:\([a-z]+\))? )?(?:unsafe )?(impl|trait)\b(.*?) \{$", re.M | re.S)
 FOLDERS = ("wrong", "wrong_below")
 

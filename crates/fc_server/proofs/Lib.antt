@@ -7,3 +7,4 @@ pub mod Beginning
 pub mod Served
 pub mod Quiet
 mod GivenTurns
+pub mod SettlingSteps

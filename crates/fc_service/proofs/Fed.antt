@@ -3,7 +3,7 @@ use Rattle.std.proofs.Common.{ℕ, Bool, List, Option, Result, Ok, Err, OnOk}
 use Rattle.std.specs.Prelude.{⊤}
 use Rattle.fc_server.specs.declared.server.Begin.{Begin}
 use Rattle.fc_workers.specs.Fronts.{beginning}
-use Rattle.fc_service.specs.Intakes.{IntakeCalls}
+use Rattle.fc_server.specs.Intakes.{IntakeCalls}
 use Rattle.fc_service.specs.Playing.{IsFedByLines, IsPlayedBeside}
 use Rattle.fc_service.specs.Pooled.{Dispatching, IsFedBeside, handover_where, locked_shop, pooled_calls}
 use Rattle.fc_service.specs.declared.replies.Replies.{Replies}

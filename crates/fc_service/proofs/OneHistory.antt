@@ -26,16 +26,17 @@ use Rattle.fc_lines.specs.declared.line.Line.TheVariants as lines
 use Rattle.fc_lines.specs.Emissions.{peer_endpoint, printed}
 use Rattle.fc_host.specs.Sockets.{Incoming, Receive}
 use Rattle.fc_service.proofs.Settled.{printed_of}
-use Rattle.fc_service.specs.Alone.{HandsAlone, HearsAlone, PassesAlone, ReadiesAlone, alone_calls}
+use Rattle.fc_service.specs.Alone.{HandsAlone, ReadiesAlone}
+use Rattle.fc_server.specs.Alone.{HearsAlone, PassesAlone, alone_calls}
 use Rattle.fc_service.specs.Histories.{Arrival, IsOneHistory, arrivals_in, arrivals_in_lines, arrived_by, datagram_in, sent_in_lines}
-use Rattle.fc_service.specs.Intakes.{IsHeardBy, is_reply}
-use Rattle.fc_service.specs.Playing.{ArePlayedBy, IsCarriedOutBy, IsHandedBy, IsPlayedBy, IsPlayedOut, PlayedLine, moment_of, output_by, printed_lines}
+use Rattle.fc_service.specs.Intakes.{IsHeardBy}
+use Rattle.fc_server.specs.Intakes.{is_reply}
+use Rattle.fc_service.specs.Playing.{ArePlayedBy, IsCarriedOutBy, IsHandedBy, IsPlayedBy, IsPlayedOut, PlayedLine, moment_of, output_by, printed_lines, printed_steps}
 use Rattle.fc_service.specs.Rounds.{AreRoundsBy, HasServed, IsReceivedBy, IsRoundBy, Round, RoundCalls, sendings_in}
-use Rattle.fc_service.specs.Settling.{AreStepsBy, Asked, IsStepBy, Passed, Resent, SettlingStep, printed_steps, sent_in_step, sent_in_steps}
+use Rattle.fc_server.specs.Settling.{AreStepsBy, Asked, IsStepBy, Passed, Resent, SettlingStep, sent_in_step, sent_in_steps}
 use Rattle.fc_service.specs.Traffic.{Sending}
-use Rattle.fc_service.specs.declared.alone.Alone.{Alone}
+use Rattle.fc_server.specs.declared.alone.Alone.{Alone}
 use Rattle.fc_service.specs.declared.replies.Replies.{Replies}
-use Rattle.fc_workers.specs.declared.call_log.CallLog.{CallLog}
 
 -- ---- what follows on a history
 

@@ -18,12 +18,14 @@ use Rattle.fc_lines.specs.declared.line.Line.{Line}
 use Rattle.fc_lines.specs.declared.line.Line.TheVariants.{Deliver, Device, Tick}
 use Rattle.fc_lines.specs.Lines.{IsLine}
 use Rattle.fc_server.specs.Serving.{Serves}
-use Rattle.fc_service.specs.Alone.{HandsAlone, alone_calls}
-use Rattle.fc_service.specs.Intakes.{IntakeCalls, calls_through, waited_calls}
+use Rattle.fc_service.specs.Alone.{HandsAlone}
+use Rattle.fc_server.specs.Alone.{alone_calls}
+use Rattle.fc_service.specs.Intakes.{calls_through, waited_calls}
+use Rattle.fc_server.specs.Intakes.{IntakeCalls}
 use Rattle.fc_workers.specs.Answers.{saturated}
-use Rattle.fc_service.specs.Playing.{ArePlayedBy, HasPlayed, IsCarriedOutBy, IsFedByLines, IsHandedBy, IsNextText, IsPlayedBy, IsPlayedOut, PlayedLine, StopsAt, moment_of, output_by, output_of, printed_lines}
-use Rattle.fc_service.specs.declared.alone.Alone.{Alone}
-use Rattle.fc_service.specs.Settling.{AreSettled, AreStepsBy, Asked, Passed, Resent, SettlingStep, printed_steps}
+use Rattle.fc_service.specs.Playing.{ArePlayedBy, HasPlayed, IsCarriedOutBy, IsFedByLines, IsHandedBy, IsNextText, IsPlayedBy, IsPlayedOut, PlayedLine, StopsAt, moment_of, output_by, output_of, printed_lines, printed_steps}
+use Rattle.fc_server.specs.declared.alone.Alone.{Alone}
+use Rattle.fc_server.specs.Settling.{AreSettled, AreStepsBy, Asked, Passed, Resent, SettlingStep}
 
 -- what a reader gives next
 pub next_text : {X E : Type 0} (bytes : X → List ℕ) (byte : ℕ) (had left : Option (List ℕ)) {r : Option (Result X E)} (x : X) {text : List ℕ} → text ≡ bytes x → byte ≡ 10 → r ≡ Some (Ok x) → YieldsKnownPiece bytes (first_piece byte) byte had r left → IsNextText text had left

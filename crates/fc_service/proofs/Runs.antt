@@ -7,9 +7,10 @@ use Rattle.coap_msg.specs.declared.types.Emission.{Emission}
 use Rattle.fc_host.specs.Sockets.{Comes, Incoming, Receive}
 use Rattle.fc_service.proofs.Traffic.{more_came, more_replies, more_sent, none_came, none_sent}
 use Rattle.fc_service.specs.Counting.{no_replies}
-use Rattle.fc_service.specs.Intakes.{IntakeCalls, IsHeardBy}
+use Rattle.fc_service.specs.Intakes.{IsHeardBy}
+use Rattle.fc_server.specs.Intakes.{IntakeCalls}
 use Rattle.fc_service.specs.Rounds.{EndsInTime, HasRounds, IsReceivedBy, Round, RoundCalls, WaitsAfter, received_in, round_receives, sendings_in}
-use Rattle.fc_service.specs.Settling.{AreSettled, AreStepsBy, SettlingStep, sent_in_steps}
+use Rattle.fc_server.specs.Settling.{AreSettled, AreStepsBy, SettlingStep, sent_in_steps}
 use Rattle.fc_service.specs.Traffic.{Sends, counted_each}
 use Rattle.fc_service.specs.declared.replies.Outbox.{Outbox}
 use Rattle.fc_workers.specs.declared.call_log.CallLog.{CallLog}

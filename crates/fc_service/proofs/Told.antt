@@ -14,8 +14,8 @@ use Rattle.fc_registry.specs.Slots.{Shard}
 use Rattle.fc_registry.specs.Watches.{at_time, has_late, late_place, ticked_in, watch_at}
 use Rattle.fc_server.specs.Notified.{Nobody, Notified, Sent, Starved, Unsent, is_given}
 use Rattle.fc_server.specs.Steps.{shard_turn}
-use Rattle.fc_service.specs.Alone.{NotifiesAlone, ResendsAlone}
-use Rattle.fc_service.specs.declared.alone.Alone.{Alone}
+use Rattle.fc_server.specs.Alone.{NotifiesAlone, ResendsAlone}
+use Rattle.fc_server.specs.declared.alone.Alone.{Alone}
 
 -- ---- that nothing is late
 

@@ -1,8 +1,9 @@
 -- How long a datagram is waited for.
-use Rattle.std.proofs.Common.{◌≡◌, ℕ, ◌+◌, ◌-◌, ◌<◌, ◌≤◌, Bool, true, false, List, [], ◌∷◌, length, Option, Some, None, ⊎_elim, arith, ap, refl, subst, sym, ◌∙◌}
-use Rattle.std.specs.Prelude.{if◌then◌else◌, max, min, nat_lt, not}
+use Rattle.std.proofs.Common.{◌≡◌, ℕ, ◌-◌, ◌<◌, ◌≤◌, Bool, true, false, List, [], ◌∷◌, length, Some, None, ⊎_elim, arith, ap, refl, ◌∙◌}
+use Rattle.std.specs.Prelude.{if◌then◌else◌, max, not}
 use Rattle.std.proofs.lemmas.Bool.{cases_lt, lt-ltb}
-use Rattle.fc_service.specs.Rounds.{AreTold, earliest, wait_until}
+use Rattle.fc_service.specs.Rounds.{wait_until}
+use Rattle.fc_server.specs.Settling.{AreTold, earliest}
 
 -- up to a moment that is one
 pub wait_to : (now moment : ℕ) → moment < 18446744073709551615 → wait_until now moment ≡ Some (max (moment - now) 100)

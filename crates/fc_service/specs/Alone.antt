@@ -1,22 +1,7 @@
--- What a server on one thread does where it is fed, with what its jobs are handed. Which shard is asked is taken modulo 8.
-use Rattle.std.specs.Prelude.{◌≡◌, ◌%◌, ℕ, true, List, None, max}
-use Rattle.std.specs.Borrow.{Bor}
-use Rattle.coap_msg.specs.declared.types.Emission.{Emission}
-use Rattle.coap_msg.specs.declared.types.Endpoint.{Endpoint}
-use Rattle.fc_core.specs.Exchanges.{advanced}
-use Rattle.fc_core.specs.Ids.{free_id}
-use Rattle.fc_core.specs.Legal.{resent}
-use Rattle.fc_core.specs.Receiving.{delivered, emission_if}
-use Rattle.fc_core.specs.declared.front.Heard.{Heard}
-use Rattle.fc_observe.specs.declared.observers.Ticked.{Ticked}
-use Rattle.fc_server.specs.Notified.{Notified, Starved, is_given, notification_in}
-use Rattle.fc_server.specs.Serving.{AsksForTurn, Hears, Passes, TicksShard}
-use Rattle.fc_server.specs.Steps.{shard_told}
+-- What the jobs of a server on one thread are handed: by a line, and in a round.
+use Rattle.std.specs.Prelude.{◌≡◌, ◌%◌, ℕ, List}
 use Rattle.fc_host.specs.Clocks.{device_readings}
-use Rattle.fc_service.specs.Intakes.{IntakeCalls, is_reply}
-use Rattle.fc_service.specs.declared.alone.Alone.{Alone}
-use Rattle.fc_registry.specs.Shards.{shard_at}
-use Rattle.fc_registry.specs.Watches.{StaysQuietUntil, at_time, is_quiet}
+use Rattle.fc_server.specs.declared.alone.Alone.{Alone}
 
 -- these readings are handed from now on, and zero for the random word
 abbrev pub HandsAlone : List ℕ → Alone → Alone → Type 0
@@ -25,37 +10,3 @@ HandsAlone readings old new = (new.engine ≡ old.engine) × (new.handed ≡ rec
 -- the readings of a moment, and of what the sensors say, are handed from now on, and the low bits of the moment for the random word
 abbrev pub ReadiesAlone : (List ℕ → Type 0) → ℕ → Alone → Alone → Type 0
 ReadiesAlone sensors now old new = (sensed : List ℕ) × sensors sensed × (new.engine ≡ old.engine) × (new.handed ≡ record { readings = device_readings now sensed; random = now % 65536 })
-
-abbrev pub HearsAlone : ℕ → Endpoint → Bor (List ℕ) → Alone → Alone → Heard → Emission → Type 0
-HearsAlone now from bytes old new heard reply =
-    Hears old.handed.readings now from bytes (delivered (advanced old.engine.front now) from bytes.now) old.engine new.engine (emission_if (is_reply heard) reply) × (new.handed ≡ old.handed)
-
-abbrev pub PassesAlone : ℕ → Alone → Alone → Type 0
-PassesAlone now old new = Passes now old.engine new.engine × (new.handed ≡ old.handed)
-
-abbrev pub ResendsAlone : ℕ → ℕ → Alone → Alone → Ticked → Type 0
-ResendsAlone shard now old new ticked =
-    (ticked ≡ shard_told now (shard_at old.engine.shards (shard % 8))) × TicksShard (shard % 8) now old.engine new.engine (resent ticked) × (new.handed ≡ old.handed)
-
-abbrev pub PassesOverAlone : ℕ → ℕ → Alone → Alone → Type 0
-PassesOverAlone shard now old new =
-    (is_quiet (at_time (shard_at old.engine.shards (shard % 8)) now) ≡ true) × TicksShard (shard % 8) now old.engine new.engine None × (new.handed ≡ old.handed)
-
--- a turn is starved only where no message id is free
-abbrev pub NotifiesAlone : ℕ → ℕ → Alone → Alone → Notified → Type 0
-NotifiesAlone shard now old new told =
-    AsksForTurn old.handed.readings (shard % 8) now old.handed.random old.engine new.engine (is_given told) (notification_in told) × (new.handed ≡ old.handed)
-    × (told ≡ Starved → free_id old.engine.front.ids (max old.engine.front.now now) ≡ None)
-
-abbrev pub StaysQuietAlone : ℕ → Alone → ℕ → Type 0
-StaysQuietAlone shard now until = StaysQuietUntil until (shard_at now.engine.shards (shard % 8))
-
-abbrev pub alone_calls : IntakeCalls Alone
-alone_calls = record {
-  hears = HearsAlone;
-  passes = PassesAlone;
-  resends = ResendsAlone;
-  passes_over = PassesOverAlone;
-  notifies = NotifiesAlone;
-  stays_quiet = StaysQuietAlone;
-}

@@ -16,7 +16,7 @@ use Rattle.fc_lines.specs.Emissions.{peer_endpoint}
 use Rattle.fc_host.specs.Sockets.{Incoming}
 use Rattle.fc_service.specs.Playing.{PlayedLine, moment_of}
 use Rattle.fc_service.specs.Rounds.{Round}
-use Rattle.fc_service.specs.Settling.{sent_in_steps}
+use Rattle.fc_server.specs.Settling.{sent_in_steps}
 
 -- at a moment a datagram came, or none did and time passed
 pub record Arrival : Type 0 where

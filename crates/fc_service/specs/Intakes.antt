@@ -5,15 +5,10 @@ use Rattle.coap_msg.specs.declared.types.Emission.{Emission}
 use Rattle.coap_msg.specs.declared.types.Endpoint.{Endpoint}
 use Rattle.fc_core.specs.Receiving.{emission_if}
 use Rattle.fc_core.specs.declared.front.Heard.{Heard}
-use Rattle.fc_core.specs.declared.front.Heard.TheVariants.{Job, Reply}
-use Rattle.fc_observe.specs.declared.observers.Ticked.{Ticked}
+use Rattle.fc_core.specs.declared.front.Heard.TheVariants.{Job}
+use Rattle.fc_server.specs.Intakes.{IntakeCalls, is_reply}
 use Rattle.fc_server.specs.Notified.{Notified, Sent, Starved, Unsent}
 use Rattle.fc_host.specs.Sockets.{Incoming}
-
--- what was written is to be sent
-abbrev pub is_reply : Heard → Bool
-is_reply Reply = true
-is_reply other = false
 
 -- a datagram was heard once, whole and from its endpoint, and this was to be sent at once
 pub record IsHeardBy {S : Type 0} (Hears : ℕ → Endpoint → Bor (List ℕ) → S → S → Heard → Emission → Type 0) (now : ℕ) (incoming : Incoming) (old : S) (sent : Option Emission) (new : S) : Type 0 where
@@ -39,21 +34,6 @@ has_ended other = false
 abbrev pub IsTurnWaitedFor : Notified → Notified → Type 0
 IsTurnWaitedFor Unsent told = has_ended told ≡ true
 IsTurnWaitedFor asked told = told ≡ asked
-
--- what each call of an intake does to it, or is told by it
-pub record IntakeCalls (S : Type 0) : Type 1 where
-  -- a datagram of these bytes, from an endpoint, was heard at a moment: what became of it, and the reply that was written
-  pub hears : ℕ → Endpoint → Bor (List ℕ) → S → S → Heard → Emission → Type 0
-  -- time passed to a moment
-  pub passes : ℕ → S → S → Type 0
-  -- a shard was advanced to a moment, and tells this
-  pub resends : ℕ → ℕ → S → S → Ticked → Type 0
-  -- a shard was advanced to a moment at which nothing was late, and nobody due
-  pub passes_over : ℕ → ℕ → S → S → Type 0
-  -- a shard was asked at a moment for the observer that is due first, and tells this
-  pub notifies : ℕ → ℕ → S → S → Notified → Type 0
-  -- nothing is late at a shard, and nobody due, before a moment
-  pub stays_quiet : ℕ → S → ℕ → Type 0
 
 -- the calls of who waits for the workers of whom these calls are made
 abbrev pub waited_calls : {S : Type 0} → IntakeCalls S → IntakeCalls S

@@ -3,7 +3,6 @@ pub mod Alone
 pub mod Pooled
 pub mod Counting
 pub mod Traffic
-pub mod Settling
 pub mod Options
 pub mod Playing
 pub mod Rounds

@@ -1,5 +1,5 @@
 -- What is done with lines, and what is printed.
-use Rattle.std.specs.Prelude.{◌≡◌, ⊤, ℕ, ◌+◌, ◌<◌, List, [], ◌∷◌, ◌++◌, length, Option, Some, None, IfSome}
+use Rattle.std.specs.Prelude.{◌≡◌, ⊤, ℕ, ◌+◌, ◌<◌, List, [], ◌∷◌, ◌++◌, length, flat_map, Option, Some, None, IfSome}
 use Rattle.std.specs.Io.BufRead.{DropsThrough, first_piece}
 use Rattle.std.specs.Io.KnownBytes.{Appends, IsAtEnd}
 use Rattle.coap_msg.specs.declared.types.Emission.{Emission}
@@ -13,11 +13,13 @@ use Rattle.fc_lines.specs.declared.line.Line.{Line}
 use Rattle.fc_lines.specs.declared.line.Line.TheVariants.{Deliver, Device, Tick}
 use Rattle.fc_lines.specs.Emissions.{peer_endpoint, printed}
 use Rattle.fc_lines.specs.Lines.{IsLine}
-use Rattle.fc_service.specs.Alone.{HandsAlone, alone_calls}
-use Rattle.fc_service.specs.Intakes.{IntakeCalls, IsHeardBy, waited_calls}
+use Rattle.fc_service.specs.Alone.{HandsAlone}
+use Rattle.fc_server.specs.Alone.{alone_calls}
+use Rattle.fc_service.specs.Intakes.{IsHeardBy, waited_calls}
+use Rattle.fc_server.specs.Intakes.{IntakeCalls}
 use Rattle.fc_service.specs.Pooled.{IsFedBeside, locked_shop}
-use Rattle.fc_service.specs.Settling.{AreSettled, AreStepsBy, SettlingStep, printed_steps}
-use Rattle.fc_service.specs.declared.alone.Alone.{Alone}
+use Rattle.fc_server.specs.Settling.{AreSettled, AreStepsBy, SettlingStep, sent_in_steps}
+use Rattle.fc_server.specs.declared.alone.Alone.{Alone}
 use Rattle.fc_service.specs.declared.replies.Replies.{Replies}
 use Rattle.fc_workers.specs.declared.dispatcher.Handover.{Handover}
 
@@ -25,6 +27,10 @@ use Rattle.fc_workers.specs.declared.dispatcher.Handover.{Handover}
 abbrev pub output_of : Option Emission → List ℕ
 output_of None = []
 output_of (Some emission) = printed emission
+
+-- what is printed of what steps sent
+abbrev pub printed_steps : List SettlingStep → List ℕ
+printed_steps steps = flat_map printed (sent_in_steps steps)
 
 -- a line that was played: its text, what it says, what it was answered, and the steps that followed
 pub record PlayedLine : Type 0 where

@@ -24,7 +24,7 @@ use Rattle.fc_workers.specs.declared.seat.Seat.{Seat}
 use Rattle.fc_workers.specs.declared.share.Share.{Share}
 use Rattle.fc_service.specs.Counting.{both_replies, replies_by, replies_of}
 use Rattle.fc_service.specs.declared.replies.Replies.{Replies}
-use Rattle.fc_service.specs.Intakes.{IntakeCalls}
+use Rattle.fc_server.specs.Intakes.{IntakeCalls}
 
 -- a dispatcher as it is seen: which jobs go to workers, and what it has done
 pub record Dispatching (T : Type 0) : Type 0 where

@@ -1,5 +1,5 @@
 -- What a server does with what it receives, round after round; and a server on one thread.
-use Rattle.std.specs.Prelude.{◌≡◌, ◌-◌, ◌<◌, ◌≤◌, ◌⊎◌, ⊤, ℕ, max, min, nat_lt, if◌then◌else◌, List, [], ◌∷◌, ◌++◌, length, map, Bool, false, true, Option, Some, None, is_none}
+use Rattle.std.specs.Prelude.{◌≡◌, ◌-◌, ◌<◌, ◌⊎◌, ⊤, ℕ, max, nat_lt, if◌then◌else◌, List, [], ◌∷◌, ◌++◌, length, map, Bool, false, true, Option, Some, None, is_none}
 use Rattle.std.specs.Option.{option_to_list}
 use Rattle.coap_msg.specs.declared.types.Emission.{Emission}
 use Rattle.fc_workers.specs.Counts.{Tallies}
@@ -9,20 +9,22 @@ use Rattle.fc_jobs.specs.Ends.{Channel}
 use Rattle.fc_workers.specs.declared.call_log.CallLog.{CallLog}
 use Rattle.fc_workers.specs.Called.{Shop}
 use Rattle.fc_workers.specs.Fronts.{Beginning, beginning}
+use Rattle.fc_server.specs.Alone.{alone_calls}
+use Rattle.fc_server.specs.Intakes.{IntakeCalls}
 use Rattle.fc_server.specs.Serving.{Serves}
+use Rattle.fc_server.specs.Settling.{AreQuietUntil, AreSettled, AreStepsBy, SettlingStep, sent_in_steps}
 use Rattle.fc_server.specs.States.{begin_of}
+use Rattle.fc_server.specs.declared.alone.Alone.{Alone}
 use Rattle.fc_server.specs.declared.server.Begin.{Begin}
 use Rattle.fc_host.specs.Sockets.{Comes, Incoming, IsHanded, Receive}
 use Rattle.fc_host.specs.Timers.{GoesPastTimers, IsTimedReceive}
 use Rattle.fc_host.specs.declared.timer.Timer.{Timer}
-use Rattle.fc_service.specs.Alone.{ReadiesAlone, alone_calls}
+use Rattle.fc_service.specs.Alone.{ReadiesAlone}
 use Rattle.fc_host.specs.Clocks.{AreReadAt}
 use Rattle.fc_service.specs.Counting.{both_replies, replies_by, replies_of}
-use Rattle.fc_service.specs.Intakes.{IntakeCalls, IsHeardBy}
+use Rattle.fc_service.specs.Intakes.{IsHeardBy}
 use Rattle.fc_service.specs.Pooled.{AreSharesAt, Dispatching, IsNew, handover_where, locked_shop, pooled_calls}
-use Rattle.fc_service.specs.Settling.{AreSettled, AreStepsBy, SettlingStep, sent_in_steps}
 use Rattle.fc_service.specs.Traffic.{AreHanded, Sending, replies_to}
-use Rattle.fc_service.specs.declared.alone.Alone.{Alone}
 use Rattle.fc_service.specs.declared.serve.Extent.{Extent}
 use Rattle.fc_service.specs.declared.replies.Outbox.{Outbox}
 use Rattle.fc_service.specs.declared.replies.Replies.{Replies}
@@ -55,20 +57,6 @@ sendings_in (r ∷ rs) = sendings_in rs ++ r.sendings
 
 -- ---- how long a datagram is waited for, by until when each shard is quiet
 
--- the moments that the first shards told, each until when it is quiet, the last one's first
-abbrev pub AreTold : (ℕ → ℕ → Type 0) → List ℕ → Type 0
-AreTold StaysQuiet [] = ⊤
-AreTold StaysQuiet (until ∷ before) = StaysQuiet (length before) until × AreTold StaysQuiet before
-
--- the earliest of them; 2^64 - 1 ms is none
-abbrev pub earliest : List ℕ → ℕ
-earliest [] = 18446744073709551615
-earliest (until ∷ before) = min (earliest before) until
-
--- each of the eight shards told until when it is quiet, and this is the earliest of these moments
-abbrev pub IsQuietUntil : (ℕ → ℕ → Type 0) → ℕ → Type 0
-IsQuietUntil StaysQuiet moment = (told : List ℕ) × AreTold StaysQuiet told × (length told ≡ 8) × (moment ≡ earliest told)
-
 -- how long a datagram is waited for, from now until a moment: 100 ms at least, and without end if the moment is none
 abbrev pub wait_until : ℕ → ℕ → Option ℕ
 wait_until now moment = if nat_lt moment 18446744073709551615 then Some (max (moment - now) 100) else None
@@ -76,7 +64,7 @@ wait_until now moment = if nat_lt moment 18446744073709551615 then Some (max (mo
 -- after a round that received a datagram, the next is waited for 100 ms; after an idle round, until the earliest moment at which there may be something to do
 abbrev pub EndsInTime : (ℕ → ℕ → Type 0) → ℕ → Bool → Option ℕ → Type 0
 EndsInTime StaysQuiet now false wait = wait ≡ Some 100
-EndsInTime StaysQuiet now true wait = (moment : ℕ) × IsQuietUntil StaysQuiet moment × (wait ≡ wait_until now moment)
+EndsInTime StaysQuiet now true wait = (moment : ℕ) × AreQuietUntil StaysQuiet moment × (wait ≡ wait_until now moment)
 
 -- how long a datagram is waited for first, and after rounds that left a server so
 abbrev pub WaitsAfter : {S : Type 0} → IntakeCalls S → List Round → S → Option ℕ → Type 0

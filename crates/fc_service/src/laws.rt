@@ -9,19 +9,19 @@ ghost use Rattle.fc_server.specs.Notified.{Nobody, Notified};
 ghost use Rattle.fc_server.specs.Steps.{shard_turn};
 ghost use Rattle.fc_server.specs.declared.server.Begin.{Begin};
 ghost use Rattle.fc_host.specs.Sockets.{Receive};
-ghost use Rattle.fc_service.specs.Alone.{NotifiesAlone, ResendsAlone};
+ghost use Rattle.fc_server.specs.Alone.{NotifiesAlone, ResendsAlone};
 ghost use Rattle.fc_service.specs.Histories.{IsOneHistory, arrivals_in, arrivals_in_lines, sent_in_lines};
-ghost use Rattle.fc_service.specs.Intakes.{is_reply};
+ghost use Rattle.fc_server.specs.Intakes.{is_reply};
 ghost use Rattle.fc_lines.specs.Emissions.{printed};
 ghost use Rattle.fc_service.specs.Playing.{IsNextText, IsPlayedOut, PlayedLine, printed_lines};
 ghost use Rattle.fc_service.specs.Rounds.{EndsInTime, HasServed, WaitsAfter, round_calls, sendings_in};
-ghost use Rattle.fc_service.specs.Settling.{most_steps};
-ghost use Rattle.fc_service.specs.declared.alone.Alone.{Alone};
+ghost use Rattle.fc_server.specs.Settling.{most_steps};
+ghost use Rattle.fc_server.specs.declared.alone.Alone.{Alone};
 ghost use Rattle.fc_service.specs.declared.replies.Replies.{Replies};
 
-use crate::pool::Intake;
 use fc_host::sensors::Sensors;
 use fc_host::socket::{Sink, Source};
+use fc_server::Intake;
 use fc_workers::Moments;
 
 /// Settling takes more steps at one moment than there are: each of the 32 observers of 64 slots is sent one notification again at most, and notified once,

@@ -78,6 +78,5 @@ pub mod pool;
 pub mod replies;
 mod rounds;
 pub mod serve;
-mod settle;
 mod waiting;
 pub mod workers;

@@ -5,11 +5,10 @@ ghost use Rattle.fc_cli.specs.declared.stop.Stop.TheVariants.{BadLine};
 ghost use Rattle.fc_server.specs.States.{CanBegin};
 ghost use Rattle.fc_service.specs.Playing.{IsPlayedOut, IsPlayedUpTo};
 
-use crate::alone::Alone;
 use crate::lines::play_lines;
 use fc_cli::status::{Status, tell};
 use fc_cli::stop::Stop;
-use fc_server::Begin;
+use fc_server::{Alone, Begin};
 use std::alloc::Global;
 use std::io::{BufRead, Write};
 

@@ -1,18 +1,11 @@
 //! Pools: a new server behind its locks, workers at it, and who feeds them with datagrams.
-ghost use Rattle.std.specs.Prelude.{◌≡◌, ◌+◌, ◌<◌, ◌≤◌, ℕ, ⊤, List, MatchBool, vec_len, IfOk};
-ghost use Rattle.std.specs.Borrow.{Bor};
-ghost use Rattle.coap_msg.specs.declared.types.Emission.{Emission};
-ghost use Rattle.coap_msg.specs.declared.types.Endpoint.{Endpoint};
+ghost use Rattle.std.specs.Prelude.{◌≡◌, ◌+◌, ◌<◌, ◌≤◌, ℕ, ⊤, List, vec_len, IfOk};
 ghost use Rattle.fc_workers.specs.Fronts.{beginning};
-ghost use Rattle.fc_core.specs.declared.front.Heard.{Heard};
-ghost use Rattle.fc_observe.specs.declared.observers.Ticked.{Ticked};
 ghost use Rattle.fc_server.specs.States.{CanBegin};
 ghost use Rattle.fc_jobs.specs.Ends.{nothing_got, nothing_sent};
-ghost use Rattle.fc_server.specs.Notified.{Notified, notified_as};
 ghost use Rattle.fc_service.specs.Counting.{both_replies, replies_by, replies_of};
-ghost use Rattle.fc_service.specs.Intakes.{IntakeCalls};
+ghost use Rattle.fc_server.specs.Intakes.{IntakeCalls};
 ghost use Rattle.fc_service.specs.Pooled.{FeedsTo, IsFed, IsFedBeside, handover_where, locked_shop, open_shop, pooled_calls};
-ghost use Rattle.fc_workers.specs.Answers.{IsSomeQuiet};
 ghost use Rattle.fc_workers.specs.Called.{shop};
 ghost use Rattle.fc_workers.specs.Closing.{HasCountedAll};
 ghost use Rattle.fc_workers.specs.Naming.{AreNamed};
@@ -22,6 +15,7 @@ use coap_msg::{Emission, Endpoint};
 use fc_core::Heard;
 use fc_observe::Ticked;
 use fc_server::Begin;
+pub use fc_server::Intake;
 use fc_server::engine::NotifyOutcome;
 use fc_workers::{
     Bench, Blanks, Books, CallLog, ClosedServer, Device, Dispatcher, Gate, Handover, Locked,
@@ -33,42 +27,6 @@ use std::marker::{Brand, Model};
 use std::sync::Wait;
 use std::sync::atomic::{AtomicU64, Ordering};
 use std::thread::Threads;
-
-/// Where a feeder has datagrams taken in, and observers notified: a server. (A method that is generic in its bench can't hand it on, since a
-/// bench's tallies cross threads; it can hand on this.) What each call does to the server is said by
-/// who implements this.
-pub trait Intake {
-    // What each call does.
-    ghost calls: { IntakeCalls Self };
-
-    /// Takes a datagram in, at a moment in milliseconds. Its reply is written over another; its job is worked off, here or by a worker; its signal goes to each
-    /// shard. Tells `Reply` where what was written is to be sent, and `Job` where a worker has the job, or has sent what it came to.
-    fn hear(&mut self, now: u64, from: Endpoint, bytes: &[u8], reply: &mut Emission) -> Heard
-        ensures { calls.hears now from bytes.entry self.old self.new result reply.new };
-
-    /// Has time pass, to a moment in milliseconds.
-    fn tick(&mut self, now: u64)
-        ensures { calls.passes now self.old self.new };
-
-    /// Has a shard, 0 to 7, tell what it sends again at a moment in milliseconds.
-    fn resend(&mut self, shard: u8, now: u64) -> Ticked
-        ensures { calls.resends shard now self.old self.new result };
-
-    /// Advances a shard, 0 to 7, to a moment in milliseconds where nothing is late and nobody is due. Tells whether it did.
-    fn advance_if_quiet(&mut self, shard: u8, now: u64) -> bool
-        ensures quiet { IsSomeQuiet now result }
-        ensures after { MatchBool result (calls.passes_over shard now self.old self.new) (self.new ≡ self.old) };
-
-    /// Returns a moment before which nothing is late at a shard, 0 to 7, and nobody due, unless it takes a datagram in: the first that is known, or 2^64 - 1 where
-    /// none is.
-    fn quiet_until(&self, shard: u8) -> u64
-        ensures { calls.stays_quiet shard self.now result };
-
-    /// Has the observer of a shard, 0 to 7, notified that is due first at a moment in milliseconds, here or by a worker. What is to be sent of it is written over
-    /// another emission: nothing where a worker has the turn, or has sent what it came to.
-    fn notify(&mut self, shard: u8, now: u64, emission: &mut Emission) -> NotifyOutcome
-        ensures { calls.notifies shard now self.old self.new (notified_as result emission.new) };
-}
 
 // A wire that counts the jobs that have ended.
 #[derive(Drop)]

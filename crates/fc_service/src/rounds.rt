@@ -3,19 +3,18 @@ ghost use Rattle.std.specs.Prelude.{◌≡◌, ⊤, ℕ, [], ◌∷◌, List, Op
 ghost use Rattle.std.specs.Option.{option_to_list};
 ghost use Rattle.coap_msg.specs.declared.types.Emission.{Emission};
 ghost use Rattle.fc_core.specs.Receiving.{emission_if};
-ghost use Rattle.fc_service.specs.Intakes.{IsHeardBy, is_reply};
-ghost use Rattle.fc_service.specs.Rounds.{EndsInTime, HasRun, IsQuietUntil, round_calls};
-ghost use Rattle.fc_service.specs.Settling.{AreSettled, AreStepsBy, SettlingStep, sent_in_steps};
+ghost use Rattle.fc_service.specs.Intakes.{IsHeardBy};
+ghost use Rattle.fc_service.specs.Rounds.{EndsInTime, HasRun, round_calls};
+ghost use Rattle.fc_server.specs.Settling.{AreQuietUntil, AreSettled, AreStepsBy, SettlingStep, sent_in_steps};
 ghost use Rattle.fc_service.specs.Traffic.{Sends};
 
-use crate::pool::Intake;
 use crate::replies::{Outbox, Replies};
-use crate::settle::{STEPS, Settling};
 use coap_msg::{Emission, Endpoint};
-use fc_core::Heard;
 use fc_core::front::blank_emission;
 use fc_host::socket::{BUFFER, SHORTEST_WAIT, Sink, Source};
-use fc_registry::SHARDS;
+use fc_server::Intake;
+use fc_server::intake::is_reply;
+use fc_server::settle::{STEPS, Settling, quiet_until};
 use fc_workers::Moments;
 use std::sync::Wait;
 
@@ -98,17 +97,6 @@ fn next_wait<N: Intake>(intake: &N, now: u64, idle: bool) -> Option<u64>
     }
 }
 
-// Returns the earliest of the moments until which the eight shards are quiet, in milliseconds. `u64::MAX` is none.
-fn quiet_until<N: Intake>(intake: &N) -> u64
-    ensures { IsQuietUntil (λ shard until. N.calls.stays_quiet shard intake.now until) result }
-{
-    let mut until = u64::MAX;
-    for shard in 0..SHARDS {
-        until = until.min(intake.quiet_until(shard));
-    }
-    until
-}
-
 // Has a datagram heard at a moment in milliseconds, and sends what it is answered at once, if anything, which is written over another emission.
 fn hear<N: Intake, K: Sink>(
     intake: &mut N,
@@ -164,14 +152,4 @@ fn send<K: Sink>(emission: &Emission, sink: &K, outbox: &mut Outbox)
 {
     let out = sink.send(emission, &mut outbox.log);
     outbox.replies.count_if_any(Some(out));
-}
-
-/// Whether what was written is to be sent.
-pub(crate) fn is_reply(heard: Heard) -> bool
-    ensures { result ≡ is_reply heard }
-{
-    match heard {
-        Heard::Reply => true,
-        Heard::Nothing | Heard::Job | Heard::Signal { .. } => false,
-    }
 }

@@ -5,7 +5,7 @@ ghost use Rattle.fc_service.specs.Rounds.{HasReceived, HasServed, IsServed, IsSe
 ghost use Rattle.fc_service.specs.declared.replies.Replies.{Replies as Counts};
 ghost use Rattle.fc_cli.specs.declared.status.Status.TheVariants.{Done, Failed};
 
-use crate::alone::{Alone, Sensed};
+use crate::alone::Sensed;
 use crate::pool::{Feeder, Intake, Pool, run_pool};
 use crate::replies::Replies;
 use crate::rounds::{Unprepared, run_rounds};
@@ -16,7 +16,7 @@ use fc_host::sensors::Sensors;
 use fc_host::socket::{Receiving, Replying, Sink, Source, open};
 use fc_host::timer::Timer;
 use fc_host::timers::{PastTimers, Timed, Timers};
-use fc_server::Begin;
+use fc_server::{Alone, Begin};
 use fc_workers::{Handover, Moments};
 use log::{Log, info};
 use std::alloc::{AllocError, Global};

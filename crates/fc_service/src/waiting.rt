@@ -3,12 +3,12 @@ ghost use Rattle.std.specs.Prelude.{◌≡◌};
 ghost use Rattle.fc_service.specs.Intakes.{calls_through, waited_calls};
 
 use crate::lines::LineIntake;
-use crate::pool::Intake;
 use coap_msg::{Emission, Endpoint};
 use fc_core::Heard;
 use fc_help::Readings;
 use fc_host::board::Board;
 use fc_observe::Ticked;
+use fc_server::Intake;
 use fc_server::engine::NotifyOutcome;
 use std::sync::Wait;
 

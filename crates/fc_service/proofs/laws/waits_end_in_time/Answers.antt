@@ -1,5 +1,5 @@
-use Rattle.std.proofs.Common.{◌≡◌, ℕ, ◌+◌, ◌-◌, ◌<◌, ◌≤◌, Option, Some, None, ap, arith, refl, subst, sym, ◌∙◌, true}
-use Rattle.std.specs.Prelude.{max, nat_lt}
+use Rattle.std.proofs.Common.{◌≡◌, ℕ, ◌+◌, ◌-◌, ◌<◌, ◌≤◌, Option, Some, None, ap, arith, ◌∙◌, true}
+use Rattle.std.specs.Prelude.{max}
 use Rattle.fc_service.specs.Rounds.{EndsInTime, wait_until}
 use Rattle.fc_service.proofs.Waits.{at_most, no_earlier, no_later, wait_to}
 use Rattle.fc_service.proofs.laws.waits_end_in_time.Goals as goal

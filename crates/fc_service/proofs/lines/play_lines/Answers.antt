@@ -1,4 +1,4 @@
-use Rattle.std.proofs.Common.{◌≡◌, ℕ, [], Result, Err, Some, ap, arith, refl, ◌∙◌}
+use Rattle.std.proofs.Common.{◌≡◌, [], Result, Err, Some, ap, arith, refl, ◌∙◌}
 use Rattle.std.specs.Vec.{vec_items}
 use Rattle.std.proofs.KnownBytes.{Appends-nil}
 use Rattle.std.proofs.lemmas.Result.{err_from_is_err_and}

@@ -3,7 +3,8 @@ use Rattle.std.specs.Io.KnownBytes.{Appends}
 use Rattle.std.specs.Prelude.{flat_map}
 use Rattle.fc_core.specs.Receiving.{emission_if}
 use Rattle.fc_lines.specs.Emissions.{printed}
-use Rattle.fc_service.proofs.Settled.{done_at_bound, done_at_end, none_printed, one_printed}
+use Rattle.fc_server.proofs.SettlingSteps.{done_at_bound, done_at_end}
+use Rattle.fc_service.proofs.Settled.{none_printed, one_printed}
 use Rattle.fc_service.proofs.lines.settle.Goals as goal
 
 -- nothing is said after an error

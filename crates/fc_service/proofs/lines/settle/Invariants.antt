@@ -1,7 +1,7 @@
 use Rattle.std.specs.Io.KnownBytes.{Appends}
 use Rattle.std.specs.Prelude.{flat_map}
 use Rattle.fc_lines.specs.Emissions.{printed}
-use Rattle.fc_service.proofs.Settled.{Steps}
+use Rattle.fc_server.proofs.SettlingSteps.{Steps}
 use Rattle.fc_service.proofs.lines.settle.Given as goal
 
 -- as many steps at least were taken, and what they sent was printed

@@ -1,4 +1,4 @@
-use Rattle.std.proofs.Common.{◌≡◌, Err, ap, inl, inr, ⊎_elim, ◌∙◌, sym}
+use Rattle.std.proofs.Common.{Err, ap}
 use Rattle.fc_service.proofs.Played.{bad_line}
 use Rattle.fc_service.proofs.play.play.Goals as goal
 

@@ -1,6 +1,6 @@
 use Rattle.std.proofs.Common.{◌≡◌, ◌∙◌, Bool, true, false, Some, None, ap, refl, sym}
 use Rattle.fc_core.specs.Receiving.{emission_if}
-use Rattle.fc_service.specs.Intakes.{is_reply}
+use Rattle.fc_server.specs.Intakes.{is_reply}
 use Rattle.fc_service.proofs.Traffic.{none_sent}
 use Rattle.fc_service.proofs.rounds.hear.Goals as goal
 

@@ -1,5 +1,6 @@
 use Rattle.fc_core.specs.Receiving.{emission_if}
-use Rattle.fc_service.proofs.Settled.{done_at_bound, done_at_end, none_settled, one_settled}
+use Rattle.fc_server.proofs.SettlingSteps.{done_at_bound, done_at_end}
+use Rattle.fc_service.proofs.Settled.{none_settled, one_settled}
 use Rattle.fc_service.specs.Traffic.{Sends}
 use Rattle.fc_service.proofs.rounds.settle.Goals as goal
 

@@ -1,4 +1,4 @@
-use Rattle.fc_service.proofs.Settled.{Steps}
+use Rattle.fc_server.proofs.SettlingSteps.{Steps}
 use Rattle.fc_service.specs.Traffic.{Sends}
 use Rattle.fc_service.proofs.rounds.settle.Given as goal
 

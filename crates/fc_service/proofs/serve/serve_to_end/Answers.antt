@@ -1,4 +1,4 @@
-use Rattle.std.proofs.Common.{◌∙◌, ap, inr, subst, sym}
+use Rattle.std.proofs.Common.{◌∙◌, ap, inr}
 use Rattle.fc_service.specs.Counting.{both_replies, replies_by, replies_of}
 use Rattle.fc_service.proofs.serve.serve_to_end.Goals as goal
 

@@ -1,0 +1,3 @@
+mod ProgramForms
+mod ServerForms
+mod Values

@@ -1,0 +1,8 @@
+use Rattle.std.proofs.Common.{◌≡◌, []}
+use Rattle.fc_server.proofs.SettlingSteps.{Steps}
+use Rattle.fc_server.specs.Alone.{alone_calls}
+use Rattle.numzela.proofs.server.Serving.flush.Given as goal
+
+-- as many steps at least were taken, and they sent nothing
+abbrev pub invariant-steps : goal.invariant-steps
+invariant-steps l = Steps alone_calls (λ es. es ≡ []) l.taken l.now l.fn.self.alone l.self.alone l.settling

@@ -1,0 +1,4 @@
+pub mod Held
+pub mod Programs
+pub mod Configs
+pub mod Servers

@@ -1,0 +1,93 @@
+-- What each call on a server's handle does.
+use Rattle.std.specs.Prelude.{◌≡◌, ◌⊎◌, ℕ, true, List, [], ◌∷◌, take, Option, Some, None}
+use Rattle.std.specs.Borrow.{Bor}
+use Rattle.coap_msg.specs.declared.types.Emission.{Emission}
+use Rattle.coap_msg.specs.declared.types.Endpoint.{Endpoint}
+use Rattle.fc_core.specs.Exchanges.{advanced}
+use Rattle.fc_core.specs.Receiving.{delivered}
+use Rattle.fc_server.specs.Alone.{StaysQuietAlone, alone_calls}
+use Rattle.fc_server.specs.Serving.{Hears, Passes, Serves}
+use Rattle.fc_server.specs.Settling.{AreQuietUntil, AreSettled, AreStepsBy, SettlingStep, sent_in_steps}
+use Rattle.fc_server.specs.States.{ServerState, begin_of}
+use Rattle.fc_server.specs.declared.alone.Alone.{Alone}
+use Rattle.numzela.specs.Configs.{begin_for, is_valid}
+use Rattle.numzela.specs.declared.config.Config.{Config}
+use Rattle.numzela.specs.declared.server.Datagram.{Datagram}
+use Rattle.numzela.specs.declared.server.Peer.{Peer}
+use Rattle.numzela.specs.declared.server.Serving.{Serving}
+
+-- the configuration is valid, and the handle holds a server that begins by it
+pub record HasBegun (config : Config) (new : Option Serving) : Type 0 where
+  pub made : Serving
+  pub holds : new ≡ Some made
+  pub valid : is_valid config ≡ true
+  pub serves : Serves (begin_of (begin_for config)) made.alone.engine []
+
+-- ---- datagrams
+
+abbrev pub endpoint_for : Peer → Endpoint
+endpoint_for p = record { ip = p.address; port = p.port }
+
+-- the datagram written is this emission
+pub record IsWritten (emission : Emission) (out : Datagram) : Type 0 where
+  pub to : endpoint_for out.to ≡ emission.to
+  pub bytes : take out.size out.bytes ≡ emission.bytes.items
+
+-- the status is SEND, and the emission was written; or it is OK, and there is none
+abbrev pub Writes : ℕ → Option Emission → Datagram → Type 0
+Writes status None out = status ≡ 0
+Writes status (Some emission) out = (status ≡ 1) × IsWritten emission out
+
+-- the server handled a datagram as its engine does, whatever the history so far, and what this sends was written
+pub record HasReceived (readings : List ℕ) (now : ℕ) (from : Peer) (bytes : Bor (List ℕ)) (old new : ServerState) (status : ℕ) (out : Datagram) : Type 0 where
+  pub sent : Option Emission
+  pub hears : let to = endpoint_for from in Hears readings now to bytes (delivered (advanced old.front now) to bytes.now) old new sent
+  pub writes : Writes status sent out
+
+pub record HasReceivedHeld (readings : List ℕ) (now : ℕ) (from : Peer) (bytes : Bor (List ℕ)) (old new : Option Serving) (status : ℕ) (out : Datagram) : Type 0 where
+  pub before : Serving
+  pub after : Serving
+  pub held : old ≡ Some before
+  pub holds : new ≡ Some after
+  pub has_received : HasReceived readings now from bytes before.alone.engine after.alone.engine status out
+
+-- ---- what is left to do
+
+-- steps were taken: the status is OK, they sent nothing, and nothing is left; or it is SEND, and the last of them sent just what was written
+pub record HasFlushed (now : ℕ) (old new : Alone) (status : ℕ) (out : Datagram) : Type 0 where
+  pub steps : List SettlingStep
+  pub taken : AreStepsBy alone_calls now steps old new
+  pub writes :
+      ((status ≡ 0) × AreSettled steps × (sent_in_steps steps ≡ []))
+      ⊎ ((status ≡ 1) × ((emission : Emission) × (sent_in_steps steps ≡ emission ∷ []) × IsWritten emission out))
+
+-- its jobs were handed these readings and this random word, and what was left was done
+pub record HasPolled (readings : List ℕ) (now random : ℕ) (old new : Alone) (status : ℕ) (out : Datagram) : Type 0 where
+  pub handed : Alone
+  pub same : handed.engine ≡ old.engine
+  pub with : handed.handed ≡ record { readings = readings; random = random }
+  pub flushed : HasFlushed now handed new status out
+
+pub record HasPolledHeld (readings : List ℕ) (now random : ℕ) (old new : Option Serving) (status : ℕ) (out : Datagram) : Type 0 where
+  pub before : Serving
+  pub after : Serving
+  pub held : old ≡ Some before
+  pub holds : new ≡ Some after
+  pub has_polled : HasPolled readings now random before.alone after.alone status out
+
+-- ---- time
+
+-- the server's clock advanced, and it sent nothing
+pub record HasAdvanced (now : ℕ) (old new : Option Serving) : Type 0 where
+  pub before : Serving
+  pub after : Serving
+  pub held : old ≡ Some before
+  pub holds : new ≡ Some after
+  pub passes : Passes now before.alone.engine after.alone.engine
+
+-- the deadline is the earliest of the times before which the shards have nothing to do, and the server is unchanged
+pub record HasDeadline (old new : Option Serving) (deadline : ℕ) : Type 0 where
+  pub before : Serving
+  pub held : old ≡ Some before
+  pub holds : new ≡ Some before
+  pub quiet : AreQuietUntil (λ shard until. StaysQuietAlone shard before.alone until) deadline

@@ -1,0 +1,328 @@
+//! A server on one thread, for a caller that has the sockets, the clock and the device.
+ghost use Rattle.std.specs.Prelude.{◌≡◌, ◌≤◌, [], false, is_some, true, Option, Some, None, IfOk};
+ghost use Rattle.fc_core.specs.Receiving.{emission_if};
+ghost use Rattle.fc_server.specs.Serving.{Serves};
+ghost use Rattle.fc_server.specs.States.{CanBegin, begin_of};
+ghost use Rattle.numzela.specs.Configs.{begin_for, is_valid};
+ghost use Rattle.numzela.specs.Servers.{HasAdvanced, HasBegun, HasDeadline, HasFlushed, HasPolled, HasPolledHeld, HasReceived, HasReceivedHeld, IsWritten, Writes};
+ghost use Rattle.numzela.specs.Held.{boxed, loose_value};
+ghost use Rattle.numzela.specs.declared.server.Serving.{Serving};
+
+use crate::config::{Config, begin_for, is_valid};
+use crate::loose::Loose;
+use crate::program::Opaque;
+use crate::status::{EMPTY, IN_USE, NO_MEMORY, OK, OUT_OF_RANGE, SEND};
+use coap_msg::types::DATAGRAM;
+use coap_msg::{Emission, Endpoint};
+use fc_core::front::blank_emission;
+use fc_help::Readings;
+use fc_server::intake::is_reply;
+use fc_server::settle::{STEPS, Settling, quiet_until};
+use fc_server::{Alone, Begin, Intake};
+use std::alloc::{AllocError, Global};
+use std::marker::Model;
+use std::mem::replace;
+
+/// A server, and the place of what it sends.
+#[derive(Drop)]
+pub struct Serving {
+    alone: Alone,
+    emission: Emission,
+}
+
+/// The handle of a server: a box, or nothing. A handle of zeros is empty.
+#[repr(C)]
+#[derive(Drop)]
+pub struct Server {
+    at: *mut Opaque,
+    held: bool,
+    ghost value: { Option Serving },
+}
+
+impl Model for Server {
+    ghost use Rattle.libc.specs.Heap.{chunk};
+    ghost use Rattle.numzela.specs.Held.{owned};
+    ghost use Rattle.numzela.specs.declared.server.Serving.{Serving};
+    ghost use Rattle.numzela.specs.contracts.server.Serving.{the_row as serving-row};
+
+    ghost also_owns = { λ p. owned chunk serving-row p.at p.held p.value };
+}
+
+impl Server {
+    // Returns an empty handle.
+    fn empty() -> Server
+        ensures { result.value ≡ None }
+    {
+        Server {
+            at: std::ptr::null_mut(),
+            held: false,
+        }
+    }
+
+    // Moves a box's pointer into a handle.
+    fn hold(loose: Loose<Serving, Global>) -> Server
+        ensures { result.value ≡ Some loose.value }
+    {
+        let Loose { at, alloc: _ } = loose;
+        Server {
+            at: at as *mut Opaque,
+            held: true,
+        }
+    }
+
+    // Moves a box's pointer out of a handle.
+    fn release(self, alloc: Global) -> Option<Loose<Serving, Global>>
+        ensures { loose_value result ≡ self.value }
+    {
+        let Server { at, held } = self;
+        if held {
+            Some(Loose {
+                at: at as *mut Serving,
+                alloc,
+            })
+        } else {
+            None
+        }
+    }
+
+    // Makes the handle of a server.
+    fn of(serving: Box<Serving>) -> Server
+        ensures { result.value ≡ Some serving.value }
+    {
+        Server::hold(Loose::of(serving))
+    }
+
+    // Returns the server that the handle holds, if it holds one.
+    fn into_box(self, alloc: Global) -> Option<Box<Serving>>
+        ensures { boxed result ≡ self.value }
+    {
+        match self.release(alloc) {
+            Some(loose) => Some(loose.into_box()),
+            None => None,
+        }
+    }
+
+    // Takes the server out of the handle, which is empty then.
+    fn take(&mut self, alloc: Global) -> Option<Box<Serving>>
+        ensures held { boxed result ≡ self.old.value }
+        ensures now { self.new.value ≡ None }
+    {
+        replace(self, Server::empty()).into_box(alloc)
+    }
+
+    // Puts a server into the handle.
+    fn put(&mut self, serving: Box<Serving>)
+        ensures { self.new.value ≡ Some serving.value }
+    {
+        *self = Server::of(serving);
+    }
+}
+
+/// A UDP endpoint: the four bytes of an IPv4 address in network order, and a port.
+#[repr(C)]
+#[derive(Clone, Copy)]
+pub struct Peer {
+    pub address: [u8; 4],
+    pub port: u16,
+}
+
+/// A datagram to send.
+#[repr(C)]
+#[derive(Drop)]
+pub struct Datagram {
+    pub to: Peer,
+    pub size: u16,
+    pub bytes: [u8; DATAGRAM],
+}
+
+/// Makes a server of empty slots in an empty handle.
+#[unsafe(no_mangle)]
+pub extern "C" fn numzela_server_new(alloc: Global, server: &mut Server, config: &Config) -> u32
+    ensures ok { result ≡ OK → HasBegun config.now server.new.value }
+    ensures range { result ≡ OUT_OF_RANGE → is_valid config.now ≡ false }
+    ensures kept { (result ≡ OK → ⊥) → server.new.value ≡ server.old.value }
+    ensures empty { (result ≡ IN_USE → ⊥) → server.old.value ≡ None }
+    ensures in_use { result ≡ IN_USE → is_some server.old.value ≡ true }
+{
+    if let Some(serving) = server.take(alloc) {
+        server.put(serving);
+        return IN_USE;
+    }
+    if !is_valid(config) {
+        return OUT_OF_RANGE;
+    }
+    match make_serving(alloc, &begin_for(config)) {
+        Ok(serving) => {
+            server.put(serving);
+            OK
+        }
+        Err(AllocError) => NO_MEMORY,
+    }
+}
+
+fn make_serving(alloc: Global, begin: &Begin) -> Result<Box<Serving>, AllocError>
+    requires { CanBegin begin.now }
+    ensures { IfOk result (λ made. Serves (begin_of begin.now) made.value.alone.engine []) }
+{
+    let alone = Alone::new(alloc, begin)?;
+    let emission = blank_emission();
+    match Box::new(alloc, Serving { alone, emission }) {
+        Ok(serving) => Ok(serving),
+        Err(_) => Err(AllocError),
+    }
+}
+
+/// Receives a datagram from an endpoint at a time in milliseconds, handles it with this sensor input, and writes the response, if there is one to send.
+#[unsafe(no_mangle)]
+pub extern "C" fn numzela_server_receive(
+    alloc: Global,
+    server: &mut Server,
+    now: u64,
+    from: &Peer,
+    bytes: &[u8],
+    readings: &Readings,
+    out: &mut Datagram,
+) -> u32
+    ensures received { (result ≡ EMPTY → ⊥) → HasReceivedHeld readings.now now from.now bytes.entry server.old.value server.new.value result out.new }
+    ensures empty { result ≡ EMPTY → (server.old.value ≡ None) × (server.new.value ≡ None) }
+{
+    let Some(mut serving) = server.take(alloc) else {
+        return EMPTY;
+    };
+    let status = serving.receive(now, from, bytes, readings, out);
+    server.put(serving);
+    status
+}
+
+/// Does what is left to do at a time in milliseconds, up to the next datagram to send, which is written: a retransmission or a notification.
+#[unsafe(no_mangle)]
+pub extern "C" fn numzela_server_poll(
+    alloc: Global,
+    server: &mut Server,
+    now: u64,
+    random: u16,
+    readings: &Readings,
+    out: &mut Datagram,
+) -> u32
+    ensures polled { (result ≡ EMPTY → ⊥) → HasPolledHeld readings.now now random server.old.value server.new.value result out.new }
+    ensures empty { result ≡ EMPTY → (server.old.value ≡ None) × (server.new.value ≡ None) }
+{
+    let Some(mut serving) = server.take(alloc) else {
+        return EMPTY;
+    };
+    let status = serving.poll(now, random, readings, out);
+    server.put(serving);
+    status
+}
+
+/// Advances the server's clock to a time in milliseconds, if no datagram was received.
+#[unsafe(no_mangle)]
+pub extern "C" fn numzela_server_advance(alloc: Global, server: &mut Server, now: u64) -> u32
+    ensures ok { (result ≡ EMPTY → ⊥) → (result ≡ OK) × HasAdvanced now server.old.value server.new.value }
+    ensures empty { result ≡ EMPTY → (server.old.value ≡ None) × (server.new.value ≡ None) }
+{
+    let Some(mut serving) = server.take(alloc) else {
+        return EMPTY;
+    };
+    serving.alone.tick(now);
+    server.put(serving);
+    OK
+}
+
+/// Writes the time in milliseconds before which there is nothing to do unless a datagram is received, or 2^64 - 1.
+#[unsafe(no_mangle)]
+pub extern "C" fn numzela_server_deadline(
+    alloc: Global,
+    server: &mut Server,
+    deadline: &mut u64,
+) -> u32
+    ensures ok { (result ≡ EMPTY → ⊥) → (result ≡ OK) × HasDeadline server.old.value server.new.value deadline.new }
+    ensures empty { result ≡ EMPTY → (server.old.value ≡ None) × (server.new.value ≡ None) }
+{
+    let Some(serving) = server.take(alloc) else {
+        return EMPTY;
+    };
+    *deadline = quiet_until(&serving.alone);
+    server.put(serving);
+    OK
+}
+
+/// Frees the server of a handle, which is empty then. An empty handle stays empty.
+#[unsafe(no_mangle)]
+pub extern "C" fn numzela_server_free(alloc: Global, server: &mut Server)
+    ensures { server.new.value ≡ None }
+{
+    let _freed = server.take(alloc);
+}
+
+impl Serving {
+    fn receive(
+        &mut self,
+        now: u64,
+        from: &Peer,
+        bytes: &[u8],
+        readings: &Readings,
+        out: &mut Datagram,
+    ) -> u32
+        ensures received { HasReceived readings.now now from.now bytes.entry self.old.alone.engine self.new.alone.engine result out.new }
+        ensures status { result ≤ 1 }
+    {
+        let endpoint = Endpoint {
+            ip: from.address,
+            port: from.port,
+        };
+        self.alone.set_handed(readings, 0);
+        let heard = self.alone.hear(now, endpoint, bytes, &mut self.emission);
+        write_if(is_reply(heard), &self.emission, out)
+    }
+
+    fn poll(&mut self, now: u64, random: u16, readings: &Readings, out: &mut Datagram) -> u32
+        ensures polled { HasPolled readings.now now random self.old.alone self.new.alone result out.new }
+        ensures status { result ≤ 1 }
+    {
+        self.alone.set_handed(readings, random);
+        self.flush(now, out)
+    }
+
+    // Takes the steps that are left at a time, up to the first that sends.
+    fn flush(&mut self, now: u64, out: &mut Datagram) -> u32
+        ensures flushed { HasFlushed now self.old.alone self.new.alone result out.new }
+        ensures status { result ≤ 1 }
+    {
+        let mut settling = Settling::begin(&mut self.alone, now);
+        'steps: for taken in 0..STEPS {
+            if settling.is_at_end() {
+                return OK;
+            }
+            if settling.step(&mut self.alone, now, &mut self.emission) {
+                write_datagram(&self.emission, out);
+                return SEND;
+            }
+        }
+        OK
+    }
+}
+
+// Writes an emission, if it is to be sent.
+fn write_if(sent: bool, emission: &Emission, out: &mut Datagram) -> u32
+    ensures writes { Writes result (emission_if sent emission.now) out.new }
+    ensures status { result ≤ 1 }
+{
+    if !sent {
+        return OK;
+    }
+    write_datagram(emission, out);
+    SEND
+}
+
+fn write_datagram(emission: &Emission, out: &mut Datagram)
+    ensures { IsWritten emission.now out.new }
+{
+    let bytes = emission.bytes.as_slice();
+    out.to = Peer {
+        address: emission.to.ip,
+        port: emission.to.port,
+    };
+    out.size = bytes.len() as u16;
+    out.bytes[..bytes.len()].copy_from_slice(bytes);
+}

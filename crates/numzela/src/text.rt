@@ -1,0 +1,19 @@
+//! The texts of the rules.
+ghost use Rattle.std.specs.Prelude.{◌≤◌, length};
+
+use fc_rules::{rule_numbered, rule_text};
+
+/// Writes what an image has done that breaks the rule of a number, as far as it fits, and returns how many bytes were written. No rule's number has no text.
+#[unsafe(no_mangle)]
+pub extern "C" fn numzela_rule_text(rule: u32, out: &mut [u8]) -> usize
+    ensures { result ≤ length out.old }
+{
+    let text = match rule_numbered(rule) {
+        Some(rule) => rule_text(rule),
+        None => "",
+    };
+    let bytes = text.as_bytes();
+    let count = bytes.len().min(out.len());
+    out[..count].copy_from_slice(&bytes[..count]);
+    count
+}

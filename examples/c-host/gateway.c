@@ -1,0 +1,157 @@
+/*
+ * A gateway: serves CoAP on a UDP socket with poll, a clock, a sensor and a relay of its own.
+ *
+ *   gateway PORT [DATAGRAMS]    ends after so many datagrams, or at SIGTERM or SIGINT
+ *
+ * A program of version 2 reads the milliseconds since the start in bytes 0 to 7 of the sensor
+ * input, and the sensor's value in bytes 8 and 9. If slot 1 answers `on` or `off`, the gateway
+ * switches its relay: here it prints. docs/C-HOST.md explains each step.
+ */
+#include <arpa/inet.h>
+#include <errno.h>
+#include <poll.h>
+#include <signal.h>
+#include <stdio.h>
+#include <stdlib.h>
+#include <string.h>
+#include <sys/random.h>
+#include <sys/socket.h>
+#include <time.h>
+#include <unistd.h>
+
+#include "numzela.h"
+
+static volatile sig_atomic_t is_stopped;
+
+static void stop(int number)
+{
+    (void)number;
+    is_stopped = 1;
+}
+
+static uint64_t milliseconds(void)
+{
+    struct timespec t;
+    clock_gettime(CLOCK_MONOTONIC, &t);
+    return (uint64_t)t.tv_sec * 1000 + (uint64_t)t.tv_nsec / 1000000;
+}
+
+/* The sensor's driver: a temperature that rises by one each second. */
+static uint16_t read_sensor(uint64_t now)
+{
+    return (uint16_t)(150 + now / 1000);
+}
+
+static void read_device(uint64_t now, uint8_t readings[NUMZELA_READINGS])
+{
+    memset(readings, 0, NUMZELA_READINGS);
+    for (int i = 0; i < 8; i++)
+        readings[i] = (uint8_t)(now >> (8 * i));
+    uint16_t value = read_sensor(now);
+    readings[8] = (uint8_t)value;
+    readings[9] = (uint8_t)(value >> 8);
+}
+
+/* The relay's driver. */
+static void set_relay(int on)
+{
+    static int is_on = -1;
+    if (on != is_on)
+        printf("relay %s\n", on ? "on" : "off");
+    is_on = on;
+}
+
+/* Acts on a response or notification whose payload is `on` or `off`. */
+static void act(const numzela_datagram *out)
+{
+    const uint8_t *end = out->bytes + out->size;
+    const uint8_t *marker = memchr(out->bytes + 4, 0xff, out->size > 4 ? out->size - 4u : 0);
+    size_t size = marker ? (size_t)(end - marker - 1) : 0;
+    if (size == 2 && !memcmp(marker + 1, "on", 2))
+        set_relay(1);
+    if (size == 3 && !memcmp(marker + 1, "off", 3))
+        set_relay(0);
+}
+
+static void transmit(int fd, const numzela_datagram *out)
+{
+    struct sockaddr_in to = {.sin_family = AF_INET, .sin_port = htons(out->to.port)};
+    memcpy(&to.sin_addr, out->to.address, 4);
+    sendto(fd, out->bytes, out->size, 0, (struct sockaddr *)&to, sizeof to);
+    act(out);
+}
+
+static int open_socket(uint16_t port)
+{
+    struct sockaddr_in at = {.sin_family = AF_INET, .sin_port = htons(port),
+                             .sin_addr.s_addr = htonl(INADDR_LOOPBACK)};
+    int fd = socket(AF_INET, SOCK_DGRAM, 0);
+    if (fd >= 0 && bind(fd, (struct sockaddr *)&at, sizeof at) == 0)
+        return fd;
+    perror("socket");
+    exit(1);
+}
+
+static uint16_t random_word(void)
+{
+    uint16_t word = 0;
+    if (getrandom(&word, sizeof word, 0) != sizeof word)
+        exit(1);
+    return word;
+}
+
+/* Waits for a datagram until the server's deadline, at most a minute. Returns whether one came. */
+static int wait_for_datagram(int fd, numzela_server *server, uint64_t now)
+{
+    uint64_t deadline = 0;
+    numzela_server_deadline(server, &deadline);
+    uint64_t wait = deadline > now ? deadline - now : 0;
+    struct pollfd waiting = {.fd = fd, .events = POLLIN};
+    return poll(&waiting, 1, wait > 60000 ? 60000 : (int)wait) > 0;
+}
+
+int main(int count, char **words)
+{
+    if (count < 2)
+        return 2;
+    unsigned long limit = count > 2 ? strtoul(words[2], 0, 10) : 0, received = 0;
+    int fd = open_socket((uint16_t)atoi(words[1]));
+    struct sigaction action = {.sa_handler = stop};
+    sigaction(SIGTERM, &action, 0);
+    sigaction(SIGINT, &action, 0);
+    setvbuf(stdout, 0, _IOLBF, 0);
+
+    numzela_config config = {.first_id = random_word()};
+    numzela_server server = {0};
+    if (numzela_server_new(&server, &config) != NUMZELA_OK)
+        return 1;
+
+    static numzela_datagram out;
+    static uint8_t buffer[NUMZELA_DATAGRAM + 1];
+    uint8_t readings[NUMZELA_READINGS];
+    uint64_t start = milliseconds();
+    while (!is_stopped && (!limit || received < limit)) {
+        int has_datagram = wait_for_datagram(fd, &server, milliseconds() - start);
+        uint64_t now = milliseconds() - start;
+        read_device(now, readings);
+        struct sockaddr_in source;
+        socklen_t room = sizeof source;
+        ssize_t size = has_datagram ? recvfrom(fd, buffer, sizeof buffer, MSG_DONTWAIT,
+                                               (struct sockaddr *)&source, &room) : -1;
+        if (size >= 0) {
+            numzela_endpoint from = {.port = ntohs(source.sin_port)};
+            memcpy(from.address, &source.sin_addr, 4);
+            received++;
+            if (numzela_server_receive(&server, now, &from, buffer, (size_t)size, readings, &out)
+                == NUMZELA_SEND)
+                transmit(fd, &out);
+        } else {
+            numzela_server_advance(&server, now);
+        }
+        while (numzela_server_poll(&server, now, random_word(), readings, &out) == NUMZELA_SEND)
+            transmit(fd, &out);
+    }
+    numzela_server_free(&server);
+    close(fd);
+    return 0;
+}
