@@ -6,7 +6,7 @@ use lib.ListN.{get_elem?}
 use Rattle.atomic_table.proofs.Lists.{set_again}
 use Rattle.fc_book.specs.declared.view.Track.{Track}
 use Rattle.fc_book.specs.declared.view.BookView.{BookView}
-use Rattle.fc_book.specs.Tracks.{EntryKeys, is_on, on, HasKey, AreOn, AreSingle, OwnsTrack, HasTrack, IsViewOf, AreViewsOf, first_view, no_tracks, part_view, own_view, filed_with, filed_alone, without_locked, locked_of, with_next, with_begun, without_first, first_own, other_tracks, first_track, merged_with, with_part}
+use Rattle.fc_book.specs.Tracks.{EntryKeys, is_on, on, HasKey, AreOn, AreSingle, OwnsTrack, HasTrack, IsViewOf, AreViewsOf, first_view, no_tracks, part_view, own_view, filed_with, with_filed, without_locked, locked_of, with_next, with_begun, without_first, first_own, other_tracks, first_track, merged_with, with_part}
 use Rattle.fc_book.proofs.Keys.{on-append, has-append, has-with, stays, with_is, on-before, is_off, are-append, single-with, single-append}
 use Rattle.fc_book.proofs.Moves.{nothing_is, owns_nothing, others_stay, joins, splits, changes}
 
@@ -313,12 +313,12 @@ module _ {E : Type 0} (keys : E → EntryKeys) where
         (λ p. nv (inl (subst (λ (i : ℕ). HasKey i v.own) p who)))
         (λ p. nv (inl (subst (λ (i : ℕ). HasKey i v.own) p job)))
 
-    alone_keep : (k : ℕ) → HasTrack k (filed_alone keys e v) → HasTrack k v
+    alone_keep : (k : ℕ) → HasTrack k (with_filed keys e v) → HasTrack k v
     alone_keep k (inl h) = inl h
     alone_keep k (inr (inl h)) = inr (inl (has-with keys k e v.own h))
     alone_keep k (inr (inr m)) = inr (inr m)
 
-    alone_is : (log : List E) → IsViewOf keys log v → IsViewOf keys (log ++ e ∷ []) (filed_alone keys e v)
+    alone_is : (log : List E) → IsViewOf keys log v → IsViewOf keys (log ++ e ∷ []) (with_filed keys e v)
     alone_is log a = record {
       locked = stays keys log (e ∷ []) v.locked (λ k h. on-before keys k e (off_others k (a.unlike k h))) a.locked;
       own = with_is keys log e v.own a.own;
@@ -331,12 +331,12 @@ module _ {E : Type 0} (keys : E → EntryKeys) where
       single = single-with keys e v.own a.single;
     }
       where
-        own_then : (k : ℕ) → OwnsTrack k (filed_alone keys e v) → OwnsTrack k v
+        own_then : (k : ℕ) → OwnsTrack k (with_filed keys e v) → OwnsTrack k v
         own_then k (inl h) = inl (has-with keys k e v.own h)
         own_then k (inr m) = inr m
 
-    pub files_alone : (log : List E) (views : List (BookView E)) (id : ℕ) → AreViewsOf keys log views → get_elem? views id ≡ some v → AreViewsOf keys (log ++ e ∷ []) (set views id (filed_alone keys e v))
-    files_alone log views id h at = changes keys views id v (filed_alone keys e v) log (log ++ e ∷ []) h at
+    pub files_alone : (log : List E) (views : List (BookView E)) (id : ℕ) → AreViewsOf keys log views → get_elem? views id ≡ some v → AreViewsOf keys (log ++ e ∷ []) (set views id (with_filed keys e v))
+    files_alone log views id h at = changes keys views id v (with_filed keys e v) log (log ++ e ∷ []) h at
         (λ u n x. others_stay keys log (e ∷ []) u (λ k o. on-before keys k e (off_others k (λ w. n k o (inr w)))) x) alone_keep (alone_is log)
 
   -- ---- a look

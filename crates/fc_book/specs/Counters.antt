@@ -4,7 +4,7 @@ use Rattle.fc_book.specs.declared.entry.CallEntry.{CallEntry}
 use Rattle.fc_book.specs.declared.view.BookView.{BookView}
 use Rattle.fc_book.specs.declared.callers.CallerResults.{CallerResults}
 use Rattle.fc_book.specs.Calls.{keys_of}
-use Rattle.fc_book.specs.Tracks.{HasKey, on, own_view, with_entry}
+use Rattle.fc_book.specs.Tracks.{HasKey, on, own_view, with_filed}
 
 -- a thread calls a counter, for a job with its own key, and is answered this number
 abbrev pub call_of : ℕ → ℕ → ℕ → CallEntry
@@ -25,7 +25,7 @@ IsThread who v = HasKey who v.own
 
 -- the view after a call is filed
 abbrev pub with_call : CallEntry → BookView CallEntry → BookView CallEntry
-with_call e v = record v { own = with_entry keys_of e v.own }
+with_call e v = with_filed keys_of e v
 
 -- the calls of a thread from its i-th on, which is of counter i % 2: they were answered so
 abbrev pub calls_in_turn : ℕ → ℕ → List ℕ → List CallEntry

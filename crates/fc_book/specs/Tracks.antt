@@ -127,9 +127,9 @@ module _ {E : Type 0} (keys : E → EntryKeys) where
   abbrev pub filed_with : E → BookView E → BookView E → BookView E
   filed_with e v w = record { locked = with_entry keys e w.locked; own = with_entry keys e v.own; may_begin = v.may_begin; next = v.next }
 
-  -- an owner that files an entry of no locked part
-  abbrev pub filed_alone : E → BookView E → BookView E
-  filed_alone e v = record v { own = with_entry keys e v.own }
+  -- an owner after an entry is filed, without a part's track
+  abbrev pub with_filed : E → BookView E → BookView E
+  with_filed e v = record v { own = with_entry keys e v.own }
 
 module _ {E : Type 0} where
   -- it without the part's track

@@ -2,7 +2,7 @@
 ghost use Rattle.std.specs.Prelude.{◌≡◌, ◌<◌, ◌++◌, ◌∷◌, [], true, false, IfOk};
 ghost use Rattle.atomic_table.specs.Seated.{TableId};
 ghost use Rattle.fc_book.specs.Calls.{keys_of};
-ghost use Rattle.fc_book.specs.Tracks.{HasHistory, HasKey, with_begun, first_own, first_view, merged_with, own_view, part_view, with_entry, with_next, with_part, without_first};
+ghost use Rattle.fc_book.specs.Tracks.{HasHistory, HasKey, with_begun, first_own, first_view, merged_with, own_view, part_view, with_filed, with_next, with_part, without_first};
 
 use crate::entry::CallEntry;
 use crate::steps::{self, CallSeat, Words};
@@ -210,7 +210,7 @@ impl<J: BookName> Tracks<J> {
         requires who { HasKey entry.now.who self.old.own }
         requires job { HasKey entry.now.job self.old.own }
         ensures part { part.new ≡ part.old ++ entry.now ∷ [] }
-        ensures own { self.new ≡ record self.old { own = with_entry keys_of entry.now self.old.own } }
+        ensures own { self.new ≡ with_filed keys_of entry.now self.old }
     {
         file_as::<Brand, J, P>(book, self, part, entry);
     }
@@ -229,7 +229,7 @@ fn file_as<X: EntryName, J: BookName, P: Part>(
     requires who { HasKey entry.now.who tracks.old.own }
     requires job { HasKey entry.now.job tracks.old.own }
     ensures part { part.new ≡ part.old ++ entry.now ∷ [] }
-    ensures own { tracks.new ≡ record tracks.old { own = with_entry keys_of entry.now tracks.old.own } }
+    ensures own { tracks.new ≡ with_filed keys_of entry.now tracks.old }
 {
     let spare = steps::empty_seat(&book.words, &mut tracks.seat);
     let seat = replace(&mut part.seat, spare);

@@ -1,0 +1,7 @@
+pub mod Keyed
+pub mod Sent
+pub mod Rule
+pub mod Closing
+pub mod Leading
+pub mod Threads
+pub mod Shards
