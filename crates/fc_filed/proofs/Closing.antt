@@ -1,19 +1,24 @@
 -- Tracks that are each right make a log that is right by parts and by jobs.
-use Rattle.std.proofs.Common.{◌≡◌, ◌≢◌, ℕ, ◌+◌, ◌-◌, ◌<◌, ◌≤◌, Bool, true, false, List, [], ◌∷◌, refl, sym, ◌∙◌, subst, arith}
+use Rattle.std.proofs.Common.{◌≡◌, ◌≢◌, ◌⊎◌, ℕ, ◌+◌, ◌-◌, ◌<◌, ◌≤◌, Bool, true, false, List, [], ◌∷◌, refl, sym, ap, ◌∙◌, subst, ⊎_elim, inl, inr, arith}
 use Rattle.std.specs.Prelude.{◌==◌, ◌||◌, ◌&&◌, if◌then◌else◌}
 use Rattle.std.specs.List.{filter}
 use Rattle.std.proofs.lemmas.Bool.Decides.{nat_tests}
-use Rattle.fc_book.specs.Tracks.{is_on, on}
+use Rattle.fc_book.specs.declared.view.Track.{Track}
+use Rattle.fc_book.specs.declared.view.BookView.{BookView}
+use Rattle.fc_book.specs.Tracks.{AreOn, HasKey, is_on, on}
+use Rattle.fc_core.specs.Heads.{no_words}
 use Rattle.fc_registry.specs.Shards.{shard_at}
 use Rattle.fc_server.specs.declared.server.Begin.{Begin}
 use Rattle.fc_server.specs.States.{ServerState, begin_of}
-use Rattle.fc_linear.specs.Operations.{FrontDoes, LogEntry, ServerPart, FrontPart, ShardPart, WordsPart, NoPart, ShardDoes, WordsDo, is_front, is_shard, is_words, part_of}
-use Rattle.fc_linear.specs.Parts.{AllEvents, BringsItsJob, IsHistoryOf, LeadInOrder, RightByParts, concerns, first_server, history_on}
+use Rattle.fc_linear.specs.Operations.{FrontDoes, LogEntry, Operation, ServerPart, FrontPart, ShardPart, WordsPart, NoPart, ShardDoes, WordsDo, is_front, is_shard, is_words, part_of}
+use Rattle.fc_linear.specs.Parts.{AllEvents, BringsItsJob, HaveNextNumbers, IsHistoryOf, LeadInOrder, RightByParts, bringing, concerns, first_server, history_on}
 use Rattle.fc_linear.proofs.Ordered.{whole}
 use Rattle.fc_filed.specs.declared.entry.FiledEntry.{FiledEntry}
-use Rattle.fc_filed.specs.Entries.{AreKeyed, IsKeyed, entry_keys, is_of_job, log_entry, log_of, part_key}
-use Rattle.fc_filed.specs.Tracked.{AreTracksRight}
+use Rattle.fc_filed.specs.Entries.{AreKeyed, ChangesWords, IsKeyed, OperationsLead, entry_keys, is_of_job, log_entry, log_of, part_key}
+use Rattle.fc_filed.specs.Books.{HasServerHistory, IsRightForJob}
+use Rattle.fc_filed.specs.Tracked.{AreTracksRight, HasTrackOf, LeadsPart, OwnsAll}
 use Rattle.fc_filed.proofs.Keyed.{part_of_keyed}
+use Rattle.fc_filed.proofs.Sent.{same_or_not}
 use Rattle.fc_filed.proofs.Leading.{heads_log, lead_log}
 
 not_same : (m n : ℕ) → m ≢ n → (m == n) ≡ false
@@ -99,3 +104,41 @@ module _ (first_job : ℕ) where
 
 pub tracks_make_history : (first_job : ℕ) (log : List FiledEntry) (b : Begin) (end : ServerState) → AreTracksRight first_job log (first_server b) end → IsHistoryOf (history_on (begin_of b) (log_of first_job log)) end
 tracks_make_history first_job log b end t = whole (log_of first_job log) b end (right first_job log (first_server b) end t)
+
+-- ---- an owner of all tracks
+
+track_is : (log entries : List FiledEntry) (ts : List (Track FiledEntry)) (k : ℕ) → AreOn entry_keys log ts → HasTrackOf k entries ts → entries ≡ on entry_keys k log
+track_is log entries [] k a h = absurd h
+track_is log entries (t ∷ ts) k a (inl x) = sym x.1 ∙ (a.0 ∙ ap (λ (j : ℕ). on entry_keys j log) x.0)
+track_is log entries (t ∷ ts) k a (inr x) = track_is log entries ts k a.1 x
+
+has_or_not : (ts : List (Track FiledEntry)) (k : ℕ) → ((entries : List FiledEntry) × HasTrackOf k entries ts) ⊎ (HasKey k ts → ⊥)
+has_or_not [] k = inr (λ h. h)
+has_or_not (t ∷ ts) k = ⊎_elim
+    (λ (e : t.key ≡ k). inl (t.entries, inl (e, refl)))
+    (λ (n : t.key ≢ k). ⊎_elim
+    (λ (x : (entries : List FiledEntry) × HasTrackOf k entries ts). inl (x.0, inr x.1))
+    (λ (no : HasKey k ts → ⊥). inr (λ h. ⊎_elim (λ (e : t.key ≡ k). n e) (λ (x : HasKey k ts). no x) h))
+    (has_or_not ts k))
+    (same_or_not t.key k)
+
+module _ (first_job : ℕ) (v : BookView FiledEntry) (first end : ServerState) (h : HasServerHistory first_job v) (all : OwnsAll first_job v first end) where
+  part_leads : {S : Type 0} (Does : Operation → S → S → Type 0) (k : ℕ) (x y : S) → LeadsPart Does k v.own x y → OperationsLead Does (on entry_keys k h.log) x y
+  part_leads Does k x y l = subst (λ (es : List FiledEntry). OperationsLead Does es x y) (track_is h.log l.entries v.own k h.is.own l.has) l.leads
+
+  job_right : (k : ℕ) → first_job ≤ k → IsRightForJob first_job (on entry_keys k h.log)
+  job_right k le = ⊎_elim
+      (λ (x : (entries : List FiledEntry) × HasTrackOf k entries v.own). subst (λ (es : List FiledEntry). IsRightForJob first_job es) (track_is h.log x.0 v.own k h.is.own x.1) (all.jobs k x.0 le x.1))
+      (λ (no : HasKey k v.own → ⊥). h.sent all.threads k le no)
+      (has_or_not v.own k)
+
+pub attested_make_history : (first_job : ℕ) (b : Begin) (v : BookView FiledEntry) (end : ServerState) (h : HasServerHistory first_job v) → end.words ≡ h.words → HaveNextNumbers 0 (bringing (log_of first_job h.log)) → OwnsAll first_job v (first_server b) end
+    → IsHistoryOf (history_on (begin_of b) (log_of first_job h.log)) end
+attested_make_history first_job b v end h words numbered all = tracks_make_history first_job h.log b end (record {
+  front = part_leads first_job v (first_server b) end h all FrontDoes 0 (first_server b).front end.front all.front;
+  shards = λ i low. part_leads first_job v (first_server b) end h all ShardDoes (i + 1) (shard_at (first_server b).shards i) (shard_at end.shards i) (all.shards i low);
+  heads = subst (λ (ws : List ℕ). OperationsLead ChangesWords h.log no_words ws) (sym words) h.heads;
+  jobs = λ k. job_right first_job v (first_server b) end h all (first_job + k) (omega arith);
+  numbered = numbered;
+  keyed = h.keyed;
+})

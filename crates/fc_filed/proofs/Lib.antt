@@ -3,5 +3,4 @@ pub mod Sent
 pub mod Rule
 pub mod Closing
 pub mod Leading
-pub mod Threads
 pub mod Shards

@@ -30,7 +30,7 @@ elsewhere (x ∷ xs) zero (suc i) v u w a e = inr ((λ h. omega arith), e)
 elsewhere (x ∷ xs) (suc id) zero v u w a e = inr ((λ h. omega arith), e)
 elsewhere (x ∷ xs) (suc id) (suc i) v u w a e = ⊎_elim (λ y. inl (ap suc y.0, y.1)) (λ y. let n = y.0 in inr ((λ h. n (omega arith)), y.1)) (elsewhere xs id i v u w a e)
 
-same_or_not : (m n : ℕ) → (m ≡ n) ⊎ (m ≢ n)
+pub same_or_not : (m n : ℕ) → (m ≡ n) ⊎ (m ≢ n)
 same_or_not zero zero = inl refl
 same_or_not zero (suc n) = inr (λ e. omega (arith, e))
 same_or_not (suc m) zero = inr (λ e. omega (arith, e))

@@ -17,8 +17,9 @@ use std::alloc::{AllocError, Global};
 use std::marker::{Brand, Model, PhantomData};
 use std::mem::replace;
 
-/// The name of a server's book: its table, the key of its first job's track, and what its server begins with. Types with the same
-/// name are of the same book.
+/// The name of a server's book. Types with the same name are of the same book.
+///
+/// It names the book's table, the key of the first job's track, and what the server begins with.
 pub trait ServerName {
     ghost use Rattle.std.specs.Prelude.{ℕ};
 
@@ -50,7 +51,9 @@ pub struct NewServerBook {
     pub ghost empty: { seat.me ≡ (first_view, []) },
 }
 
-/// The book: eight words that are never written, of which steps load the first, and the head words of slots 0 to 63.
+/// The book: eight words of padding, and the head words of slots 0 to 63.
+///
+/// The padding is never written. Steps that need no head word load its first word.
 #[derive(Drop)]
 pub struct ServerBook<J: ServerName> {
     words: FiledWords,
@@ -79,7 +82,9 @@ impl<J: ServerName> Model for ServerTracks<J> {
     ghost invariant = { λ t. (t.seat.table_id ≡ J.table) × (t.seat.me.1 ≡ []) × (t.seat.me.0.locked ≡ []) };
 }
 
-/// The track of a part, kept under the part's lock. It has no bytes; a clause sees the entries on it, oldest first.
+/// The track of a part, kept under the part's lock.
+///
+/// It has no bytes; a clause sees the entries on it, oldest first.
 #[derive(Drop)]
 pub struct FiledTrack<P: Part> {
     seat: FiledSeat,
@@ -100,7 +105,9 @@ impl<P: Part> Model for FiledTrack<P> {
 }
 
 impl NewServerBook {
-    /// Makes a book with an empty history, for so many threads: the key of the first job's track is 9 more.
+    /// Makes a book with an empty history, for `threads` threads.
+    ///
+    /// The key of the first job's track is `9 + threads`.
     ///
     /// # Errors
     /// Returns `AllocError` if memory can't be allocated.
@@ -112,7 +119,7 @@ impl NewServerBook {
         Ok(NewServerBook { words, seat })
     }
 
-    /// Names the book, and returns it with the owner of no track yet, which may begin each.
+    /// Names the book, and returns it with an owner that may begin each track.
     pub fn with_name<J: ServerName>(self) -> (ServerBook<J>, ServerTracks<J>)
         requires named { self.words.shared.table_id ≡ J.table }
         requires key { self.words.shared.key ≡ J.first_job }
@@ -167,8 +174,9 @@ impl<J: ServerName> ServerTracks<J> {
         steps::begin(&book.words, &mut self.seat);
     }
 
-    /// Splits off the first of its own tracks, and returns it in a new owner, for a message. It is the track of a job, and right for
-    /// the job: if the message is lost, the history has the job as it was sent.
+    /// Splits off the first of its own tracks, a job's, and returns it for a message.
+    ///
+    /// The track is right for its job. So if the message is lost, the history has the job as it was sent.
     pub fn split_first(&mut self, book: &ServerBook<J>) -> ServerTracks<J>
         requires { IsFirstSent J.first_job self.old.own }
         ensures first { result ≡ first_own self.old }
@@ -198,7 +206,7 @@ impl<J: ServerName> ServerTracks<J> {
         steps::close(&book.words, &mut self.seat, seat);
     }
 
-    /// Attests that there is one history, of which its tracks are just the entries with their keys.
+    /// Attests that there is one history, of which its tracks are subhistories.
     pub fn attest(&mut self, book: &ServerBook<J>)
         ensures one { HasServerHistory J.first_job self.old }
         ensures kept { self.new ≡ self.old }
@@ -206,7 +214,9 @@ impl<J: ServerName> ServerTracks<J> {
         steps::attest::<J>(&book.words, &mut self.seat);
     }
 
-    /// Reads the head word of a slot, 0 to 63, and files that for the job whose track is first. It takes no lock.
+    /// Reads the head word of `slot`, 0 to 63, and files that. It takes no lock.
+    ///
+    /// The entry is for the job whose track is first.
     pub fn look(&mut self, book: &ServerBook<J>, who: u64, slot: usize) -> u64
         requires slot { slot < 64 }
         requires thread { HasOwnTrack J.first_job who self.old }
@@ -216,7 +226,9 @@ impl<J: ServerName> ServerTracks<J> {
         look_as::<Brand, J>(book, self, who, slot)
     }
 
-    /// Raises the head word of a slot, 0 to 63, to `word` if that is greater, and files that for the job whose track is first. It takes no lock.
+    /// Raises the head word of `slot`, 0 to 63, to `word` if that is greater.
+    ///
+    /// It files that for the job whose track is first. It takes no lock.
     pub fn raise(&mut self, book: &ServerBook<J>, who: u64, slot: usize, word: u64)
         requires slot { slot < 64 }
         requires thread { HasOwnTrack J.first_job who self.old }
@@ -227,8 +239,9 @@ impl<J: ServerName> ServerTracks<J> {
     }
 }
 
-/// Files an operation of a part, whose lock the caller holds: it becomes the last entry on the tracks of its part, of thread `who` and of the
-/// job whose track is first.
+/// Files the operation that `X` names, of a part whose lock the caller holds.
+///
+/// It becomes the last entry on the tracks of its part, of thread `who` and of the job whose track is first.
 pub fn file_as<X: FiledName, J: ServerName, P: Part>(
     book: &ServerBook<J>,
     tracks: &mut ServerTracks<J>,

@@ -29,7 +29,7 @@ impl<J: ServerName> Part for FrontOf<J> {
     ghost key = { 0 };
 }
 
-/// A front, and the track of its calls: these lead from the server's first front to it.
+/// A front, and the track of its calls, which lead to it from the server's first.
 #[derive(Drop)]
 pub struct FiledFront<J: ServerName> {
     front: Front,
@@ -60,7 +60,9 @@ impl<J: ServerName> FiledFront<J> {
         FiledFront { front, track }
     }
 
-    /// Takes a datagram in at `now` ms, as [`Front::hear`], and files that. A job that it brings begins a track.
+    /// Takes a datagram in at `now` ms, as [`Front::hear`], and files that.
+    ///
+    /// A job that it brings begins a track.
     pub fn hear(
         &mut self,
         book: &ServerBook<J>,
@@ -104,7 +106,7 @@ impl<J: ServerName> FiledFront<J> {
         file_tick::<Brand, J>(book, tracks, &mut self.track, who, now);
     }
 
-    /// Allocates a message ID at `now` ms for the job at work, as [`Front::fresh_id`], and files that.
+    /// Allocates a message ID at `now` ms, as [`Front::fresh_id`], and files that.
     pub fn fresh_id(
         &mut self,
         book: &ServerBook<J>,
@@ -121,7 +123,7 @@ impl<J: ServerName> FiledFront<J> {
         id
     }
 
-    /// Answers the job at work at `now` ms, as [`Front::respond`], and files that.
+    /// Answers the job at `now` ms, as [`Front::respond`], and files that.
     pub fn respond(
         &mut self,
         book: &ServerBook<J>,
@@ -153,7 +155,7 @@ impl<J: ServerName> FiledFront<J> {
         outcome
     }
 
-    /// Closes the front: `tracks` takes its track over. Returns the front.
+    /// Gives the front's track to `tracks`, and returns the front.
     pub fn close(self, book: &ServerBook<J>, tracks: &mut ServerTracks<J>) -> Front
         ensures front { result ≡ self.front }
         ensures led { OperationsLead FrontDoes self.calls (first_server J.begin).front result }
@@ -189,7 +191,8 @@ fn file_heard<X: FiledName, J: ServerName>(
 )
     requires entry { let operation = Logged (HearsDatagram now endpoint bytes.now (heard outcome.now job.now reply.now)) in
         X.entry ≡ entry_by who tracks.old operation }
-    requires may { MayFile J.first_job who tracks.old (Logged (HearsDatagram now endpoint bytes.now (heard outcome.now job.now reply.now))) }
+    requires may { let operation = Logged (HearsDatagram now endpoint bytes.now (heard outcome.now job.now reply.now)) in
+        MayFile J.first_job who tracks.old operation }
     ensures track { track.new ≡ track.old ++ X.entry ∷ [] }
     ensures filed { tracks.new ≡ did_by who X.entry.operation tracks.old }
 {
@@ -249,7 +252,8 @@ fn file_answer<X: FiledName, J: ServerName>(
 )
     requires entry { let operation = Logged (AnswersRequest now job.now answer.now (emission_of (responded outcome.now reply.now))) in
         X.entry ≡ entry_by who tracks.old operation }
-    requires may { MayFile J.first_job who tracks.old (Logged (AnswersRequest now job.now answer.now (emission_of (responded outcome.now reply.now)))) }
+    requires may { let operation = Logged (AnswersRequest now job.now answer.now (emission_of (responded outcome.now reply.now))) in
+        MayFile J.first_job who tracks.old operation }
     ensures track { track.new ≡ track.old ++ X.entry ∷ [] }
     ensures filed { tracks.new ≡ did_by who X.entry.operation tracks.old }
 {

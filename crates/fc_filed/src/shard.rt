@@ -38,7 +38,9 @@ pub trait FiledCall: ShardCall {
         → IsOperationOf of_job (operation before.index call answer room) before after };
 }
 
-/// The name of an operation, by an answer and the contents of a room. Each call of [`FiledShard::ask`] chooses it.
+/// The name of an operation, by an answer and the contents of a room.
+///
+/// Each call of [`FiledShard::ask`] chooses it.
 pub trait OperationName<A, B> {
     ghost operation: { A → B → Operation };
 }
@@ -49,7 +51,7 @@ impl<A, B> OperationName<A, B> for Brand {
     ghost operation = { λ answer room. no_operation };
 }
 
-/// The shard of an index, 0 to 7, of a book's server, as a part: its key is one more than the index.
+/// The shard of an index, 0 to 7, as a part: its key is one more than the index.
 pub struct ShardOf<J: ServerName, const INDEX: u8> {
     of: PhantomData<J>,
 }
@@ -62,7 +64,7 @@ impl<J: ServerName, const INDEX: u8> Part for ShardOf<J, INDEX> {
     ghost key = { INDEX + 1 };
 }
 
-/// A shard, and the track of its calls: these lead from the server's first shard of its index to it.
+/// A shard, and the track of its calls, which lead to it from the server's first.
 #[derive(Drop)]
 pub struct FiledShard<J: ServerName, P: Part> {
     shard: Shard,
@@ -118,8 +120,9 @@ impl<J: ServerName, P: Part> FiledShard<J, P> {
         ask_as::<C, J, P, Brand>(self, book, tracks, who, call, room)
     }
 
-    /// Gives a lease to the first observer with a pending notification at `now` ms, as [`Shard::write_due`], and files that. The
-    /// observer's job, if there is one, is written into `job`, and begins a track.
+    /// Leases the first pending notification at `now` ms, and files that.
+    ///
+    /// See [`Shard::write_due`]. The notification's job, if there is one, is written into `job`, and begins a track.
     pub fn next_due(
         &mut self,
         book: &ServerBook<J>,
@@ -150,8 +153,9 @@ impl<J: ServerName, P: Part> FiledShard<J, P> {
         is_due
     }
 
-    /// Advances the shard to `now` ms if nothing is overdue or pending then, as [`Shard::advance_if_quiet`], and files that if it did.
-    /// Otherwise the shard stays as it is.
+    /// Advances the shard to `now` ms if it is idle until then, and files that.
+    ///
+    /// See [`Shard::advance_if_quiet`]. Otherwise the shard stays as it is, and nothing is filed.
     pub fn advance_if_quiet(
         &mut self,
         book: &ServerBook<J>,
@@ -172,8 +176,10 @@ impl<J: ServerName, P: Part> FiledShard<J, P> {
         is_quiet
     }
 
-    /// Takes a snapshot of the slot of a request's `job`, as [`Shard::write_taking`], and files that. If it is of a program that takes `least`
-    /// steps or more, it is dropped, and nothing is filed: a worker will take its own.
+    /// Takes a snapshot of the slot of a request's `job` unless its program is dear.
+    ///
+    /// See [`Shard::write_taking`]. If the program takes `least` steps or more, the snapshot is dropped and
+    /// nothing is filed: a worker will take its own.
     pub fn take_unless_dear(
         &mut self,
         book: &ServerBook<J>,
@@ -210,7 +216,7 @@ impl<J: ServerName, P: Part> FiledShard<J, P> {
         Some(taken)
     }
 
-    /// Closes the shard: `tracks` takes its track over. Returns the shard.
+    /// Gives the shard's track to `tracks`, and returns the shard.
     pub fn close(self, book: &ServerBook<J>, tracks: &mut ServerTracks<J>) -> Shard
         requires { P.table ≡ J.table }
         ensures shard { result ≡ self.shard }

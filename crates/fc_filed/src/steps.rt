@@ -1,4 +1,6 @@
-//! The steps of seats at a server's book. Each loads or raises one word of the table; those that need no word load the first, which is padding.
+//! The steps of seats at a server's book.
+//!
+//! Each loads or raises one word of the table. Those that need no head word load the first, which is padding.
 ghost use Rattle.std.specs.Prelude.{◌≡◌, ◌<◌, ◌≤◌, [], true, false};
 ghost use Rattle.fc_book.specs.Tracks.{AreSingle, HasKey, filed_with, first_own, locked_of, merged_with, no_tracks, own_view, part_view, with_begun, with_filed, with_next, with_part, without_first, without_locked};
 ghost use Rattle.fc_linear.specs.Operations.{is_words, part_of};
@@ -40,7 +42,8 @@ pub(crate) fn file<X: FiledName>(words: &FiledWords, seat: &mut FiledSeat, part:
     requires part_table { part.table_id ≡ words.now.shared.table_id }
     requires free { seat.old.me.0.locked ≡ [] }
     requires part { (part.me.0.own ≡ []) × (part.me.0.may_begin ≡ false) × (part.me.1 ≡ []) }
-    requires on { HasKey (entry_keys X.entry).part part.me.0.locked × HasKey X.entry.who seat.old.me.0.own × HasKey X.entry.job seat.old.me.0.own }
+    requires on_part { HasKey (entry_keys X.entry).part part.me.0.locked }
+    requires on { HasKey X.entry.who seat.old.me.0.own × HasKey X.entry.job seat.old.me.0.own }
     requires no_words { is_words (part_of X.entry.operation) ≡ false }
     requires keyed { IsKeyed words.now.shared.key X.entry }
     ensures table { seat.new.table_id ≡ seat.old.table_id }
@@ -92,7 +95,7 @@ pub(crate) fn begin(words: &FiledWords, seat: &mut FiledSeat)
     let _ = words.shared.load::<Begins>(seat, 0);
 }
 
-/// Splits the first of the owner's tracks off, for a message: the track is a job's, and right for the job.
+/// Splits off the first of the owner's tracks, a job's, for a message.
 pub(crate) fn split_first(words: &FiledWords, seat: &mut FiledSeat) -> FiledSeat
     requires size { words.now.shared.table_id.words ≡ 72 }
     requires table { seat.old.table_id ≡ words.now.shared.table_id }
