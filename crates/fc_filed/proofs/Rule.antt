@@ -9,10 +9,10 @@ use Rattle.fc_book.specs.declared.view.BookView.{BookView}
 use Rattle.fc_book.specs.Tracks.{AreSingle, HasKey, filed_with, first_own, first_view, locked_of, merged_with, no_tracks, own_view, part_view, with_begun, with_filed, with_next, with_part, without_first, without_locked}
 use Rattle.fc_book.proofs.Kept.{begins, begins_part, begins_tracks, closes, files, files_alone, gives, opens, returns, sits, takes}
 use Rattle.fc_core.specs.Heads.{no_words, word_at}
-use Rattle.fc_linear.specs.Operations.{is_words, part_of}
+use Rattle.fc_linear.specs.Operations.{ServerPart, NoPart, is_words, part_of}
 use Rattle.fc_filed.specs.declared.entry.FiledEntry.{FiledEntry}
 use Rattle.fc_filed.specs.Books.{HasServerHistory, HaveServerHistory, IsFirstSent, IsWithThread, heads_in}
-use Rattle.fc_filed.specs.Entries.{ChangesWords, IsKeyed, WordsDoIf, entry_keys}
+use Rattle.fc_filed.specs.Entries.{ChangesWords, IsKeyed, WordsDoIf, entry_keys, part_key}
 use Rattle.fc_filed.specs.Threads.{entry_of_look, entry_of_raise}
 use Rattle.fc_filed.proofs.Keyed.{keyed_more}
 use Rattle.fc_filed.proofs.Leading.{leads_more}
@@ -200,6 +200,10 @@ module _ (first_job : ℕ) (words : List ℕ) (views : List (BookView FiledEntry
       keyed = keyed_more first_job h.log e h.keyed keyed;
       sent = sent_filed first_job h.log views (set views id (with_filed entry_keys e v)) e keyed still_alone job_alone h.sent;
     }
+
+  pub held_no_part : (e : FiledEntry) → part_of e.operation ≡ NoPart → HasKey e.who v.own → HasKey e.job v.own → IsKeyed first_job e → HaveServerHistory first_job (set words 0 (slice_index words 0)) (set views id (with_filed entry_keys e v))
+  held_no_part e none who job keyed = loaded 0 (set views id (with_filed entry_keys e v))
+      (held_alone e (ap (λ (p : ServerPart). part_key e.who p) none) who job keyed words h.size (no_head e (heads_in words) (ap (λ (p : ServerPart). is_words p) none)))
 
   module _ (e : FiledEntry) (slot : ℕ) (who : HasKey e.who v.own) (job : HasKey e.job v.own) (low : (9 ≤ e.who) × (e.who < first_job) × (first_job ≤ e.job)) where
     pub held_looks_at : HaveServerHistory first_job (set words (8 + slot) (slice_index words (8 + slot))) (set views id (with_filed entry_keys (entry_of_look e slot (slice_index words (8 + slot))) v))

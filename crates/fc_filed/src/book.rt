@@ -4,7 +4,7 @@ ghost use Rattle.atomic_table.specs.Seated.{TableId};
 ghost use Rattle.fc_book.specs.Tracks.{first_own, first_view, merged_with, own_view, part_view, with_begun, with_next, with_part, without_first};
 ghost use Rattle.fc_server.specs.declared.server.Begin.{Begin};
 ghost use Rattle.fc_calls.specs.Logged.{LooksAt, RaisesWord};
-ghost use Rattle.fc_linear.specs.Operations.{Logged, is_words, part_of};
+ghost use Rattle.fc_linear.specs.Operations.{LacksMemory, Logged, NoPart, RejectsImage, is_words, part_of};
 ghost use Rattle.fc_filed.specs.Books.{HasServerHistory, IsFirstSent};
 ghost use Rattle.fc_filed.specs.Entries.{part_key};
 ghost use Rattle.fc_filed.specs.Threads.{HasJobFirst, HasOwnTrack, MayFile, did_by, entry_by};
@@ -13,6 +13,8 @@ use crate::steps::{self, FiledSeat, FiledWords};
 use crate::view::FiledName;
 use atomic_table::Table;
 use fc_book::Part;
+use fc_core::Answer;
+use fc_registry::Job;
 use std::alloc::{AllocError, Global};
 use std::marker::{Brand, Model, PhantomData};
 use std::mem::replace;
@@ -237,6 +239,73 @@ impl<J: ServerName> ServerTracks<J> {
     {
         raise_as::<Brand, J>(book, self, who, slot, word);
     }
+
+    /// Files that the image of an install's `job` breaks a rule, and is answered so.
+    pub fn reject_image(&mut self, book: &ServerBook<J>, who: u64, job: &Job, answer: &Answer)
+        requires thread { HasOwnTrack J.first_job who self.old }
+        requires job { HasJobFirst J.first_job self.old }
+        ensures filed { self.new ≡ did_by who (RejectsImage job.now answer.now) self.old }
+    {
+        reject_as::<Brand, J>(book, self, who, job, answer);
+    }
+
+    /// Files that memory for the program of an install's `job` is refused.
+    pub fn lack_memory(&mut self, book: &ServerBook<J>, who: u64, job: &Job)
+        requires thread { HasOwnTrack J.first_job who self.old }
+        requires job { HasJobFirst J.first_job self.old }
+        ensures filed { self.new ≡ did_by who (LacksMemory job.now) self.old }
+    {
+        lack_as::<Brand, J>(book, self, who, job);
+    }
+}
+
+/// Files the operation that `X` names, of no part.
+///
+/// It becomes the last entry on the tracks of thread `who` and of the job whose track is first.
+fn file_alone_as<X: FiledName, J: ServerName>(
+    book: &ServerBook<J>,
+    tracks: &mut ServerTracks<J>,
+    who: u64,
+)
+    requires entry { X.entry ≡ entry_by who tracks.old X.entry.operation }
+    requires no_part { part_of X.entry.operation ≡ NoPart }
+    requires may { MayFile J.first_job who tracks.old X.entry.operation }
+    ensures filed { tracks.new ≡ did_by who X.entry.operation tracks.old }
+{
+    let _ = who;
+    steps::file_alone::<X>(&book.words, &mut tracks.seat);
+}
+
+/// Files a rejected image, as [`ServerTracks::reject_image`], with the entry named by `X`.
+fn reject_as<X: FiledName, J: ServerName>(
+    book: &ServerBook<J>,
+    tracks: &mut ServerTracks<J>,
+    who: u64,
+    job: &Job,
+    answer: &Answer,
+)
+    requires entry { X.entry ≡ entry_by who tracks.old (RejectsImage job.now answer.now) }
+    requires may { MayFile J.first_job who tracks.old (RejectsImage job.now answer.now) }
+    ensures filed { tracks.new ≡ did_by who (RejectsImage job.now answer.now) tracks.old }
+{
+    let _ = job;
+    let _ = answer;
+    file_alone_as::<X, J>(book, tracks, who);
+}
+
+/// Files refused memory, as [`ServerTracks::lack_memory`], with the entry named by `X`.
+fn lack_as<X: FiledName, J: ServerName>(
+    book: &ServerBook<J>,
+    tracks: &mut ServerTracks<J>,
+    who: u64,
+    job: &Job,
+)
+    requires entry { X.entry ≡ entry_by who tracks.old (LacksMemory job.now) }
+    requires may { MayFile J.first_job who tracks.old (LacksMemory job.now) }
+    ensures filed { tracks.new ≡ did_by who (LacksMemory job.now) tracks.old }
+{
+    let _ = job;
+    file_alone_as::<X, J>(book, tracks, who);
 }
 
 /// Files the operation that `X` names, of a part whose lock the caller holds.

@@ -45,7 +45,8 @@
 //!   job, with its arguments and its answer. A part's calls lead from the server's first front, or
 //!   shard, to the one under the lock.
 //! - A look at a head word and a raise are entries too, made in the step itself: the history's looks
-//!   and raises lead the head words from 0 to those of the table.
+//!   and raises lead the head words from 0 to those of the table. So are a rejected image and refused
+//!   memory, which are of no part.
 //! - Under every schedule there is one history, of which each track is just the entries with its key.
 //!   No track has two owners. The keys of each entry are of their kind.
 //! - A job's track that no thread has, as that of a lost message, is right for its job.

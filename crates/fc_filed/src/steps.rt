@@ -3,14 +3,16 @@
 //! Each loads or raises one word of the table. Those that need no head word load the first, which is padding.
 ghost use Rattle.std.specs.Prelude.{◌≡◌, ◌<◌, ◌≤◌, [], true, false};
 ghost use Rattle.fc_book.specs.Tracks.{AreSingle, HasKey, filed_with, first_own, locked_of, merged_with, no_tracks, own_view, part_view, with_begun, with_filed, with_next, with_part, without_first, without_locked};
-ghost use Rattle.fc_linear.specs.Operations.{is_words, part_of};
+ghost use Rattle.fc_linear.specs.Operations.{NoPart, is_words, part_of};
 ghost use Rattle.fc_filed.specs.Books.{HasServerHistory, IsFirstSent};
 ghost use Rattle.fc_filed.specs.Entries.{IsKeyed, entry_keys};
 ghost use Rattle.fc_filed.specs.Threads.{entry_of_look, entry_of_raise};
 
 use crate::book::ServerName;
 use crate::entry::FiledEntry;
-use crate::view::{AttestsServer, FiledName, FilesEntry, LooksAtWord, RaisesHead, ServerRule};
+use crate::view::{
+    AttestsServer, FiledName, FilesAlone, FilesEntry, LooksAtWord, RaisesHead, ServerRule,
+};
 use atomic_table::{Seat, Table};
 use fc_book::view::{
     Begins, BeginsPart, BeginsTracks, BookView, Closes, MakesEmpty, Merges, ReturnsPart,
@@ -50,6 +52,19 @@ pub(crate) fn file<X: FiledName>(words: &FiledWords, seat: &mut FiledSeat, part:
     ensures filed { seat.new.me ≡ (filed_with entry_keys X.entry seat.old.me.0 part.me.0, seat.old.me.1) }
 {
     words.shared.join_seat::<FilesEntry<X>>(seat, part);
+}
+
+/// Files an entry of no part.
+pub(crate) fn file_alone<X: FiledName>(words: &FiledWords, seat: &mut FiledSeat)
+    requires size { words.now.shared.table_id.words ≡ 72 }
+    requires table { seat.old.table_id ≡ words.now.shared.table_id }
+    requires no_part { part_of X.entry.operation ≡ NoPart }
+    requires on { HasKey X.entry.who seat.old.me.0.own × HasKey X.entry.job seat.old.me.0.own }
+    requires keyed { IsKeyed words.now.shared.key X.entry }
+    ensures table { seat.new.table_id ≡ seat.old.table_id }
+    ensures filed { seat.new.me ≡ (with_filed entry_keys X.entry seat.old.me.0, seat.old.me.1) }
+{
+    let _ = words.shared.load::<FilesAlone<X>>(seat, 0);
 }
 
 /// Returns the part's track.

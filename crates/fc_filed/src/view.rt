@@ -46,6 +46,19 @@ impl<X: FiledName> Join<BookView<FiledEntry>> for FilesEntry<X> {
     ghost spent = { no_tracks };
 }
 
+/// Files an entry of no part, in a load of a word that is never written.
+pub(crate) struct FilesAlone<X: FiledName> {
+    of: PhantomData<X>,
+}
+
+impl<X: FiledName> Play<u8, BookView<FiledEntry>> for FilesAlone<X> {
+    ghost use Rattle.std.specs.Prelude.{◌≡◌};
+    ghost use Rattle.fc_book.specs.Tracks.{with_filed};
+    ghost use Rattle.fc_filed.specs.Entries.{entry_keys};
+
+    ghost then = { λ s v found w. w ≡ (with_filed entry_keys X.entry v.0, v.1) };
+}
+
 /// Attests the history.
 pub(crate) struct AttestsServer<J: ServerName> {
     of: PhantomData<J>,
