@@ -4,6 +4,7 @@ use Rattle.std.proofs.lemmas.Bool.Decides.{nat_tests}
 use Rattle.fc_book.specs.declared.entry.CallEntry.{CallEntry}
 use Rattle.fc_book.specs.declared.view.BookView.{BookView}
 use Rattle.fc_book.specs.Counters.{AreCounted, IsCaller, IsThread, call_of, calls_in_turn, with_call}
+use Rattle.fc_book.specs.Calls.{keys_of}
 use Rattle.fc_book.specs.Tracks.{entries_with, is_on, own_view}
 
 pub counted-more : (part n : ℕ) (xs : List CallEntry) (e : CallEntry) → AreCounted part n xs → e ≡ call_of part e.who (n + length xs) → 2 ≤ e.who → AreCounted part n (xs ++ e ∷ [])
@@ -18,10 +19,10 @@ turn-more who i n [] = ap (λ (m : ℕ). call_of (m % 2) who n ∷ []) (omega ar
 turn-more who i n (a ∷ answers) = ap (λ (l : List CallEntry). call_of (i % 2) who a ∷ l)
     (turn-more who (i + 1) n answers ∙ ap (λ (m : ℕ). calls_in_turn who (i + 1) answers ++ call_of (m % 2) who n ∷ []) (omega arith))
 
-pub caller_has : (who calls : ℕ) (v : BookView) (answers : List ℕ) → IsCaller who calls v answers → IsThread who v
-caller_has who calls v answers c = subst (λ (v : BookView). IsThread who v) (sym c.view) (inl refl)
+pub caller_has : (who calls : ℕ) (v : BookView CallEntry) (answers : List ℕ) → IsCaller who calls v answers → IsThread who v
+caller_has who calls v answers c = subst (λ (v : BookView CallEntry). IsThread who v) (sym c.view) (inl refl)
 
-on_own : (part who n : ℕ) → is_on who (call_of part who n) ≡ true
+on_own : (part who n : ℕ) → is_on keys_of who (call_of part who n) ≡ true
 on_own part who n = grind (arith, nat_tests)
 
 -- a number that isn't even is odd
@@ -32,10 +33,10 @@ at : (calls n : ℕ) → n ≡ calls → calls ≡ 0 + n
 at calls n is = omega (arith, is)
 
 -- the next call of a thread is of the counter whose turn it is
-pub caller_more : (who part n calls : ℕ) (v w : BookView) (answers : List ℕ) → IsCaller who calls v answers → part ≡ calls % 2 → w ≡ with_call (call_of part who n) v → IsCaller who (calls + 1) w (answers ++ n ∷ [])
+pub caller_more : (who part n calls : ℕ) (v w : BookView CallEntry) (answers : List ℕ) → IsCaller who calls v answers → part ≡ calls % 2 → w ≡ with_call (call_of part who n) v → IsCaller who (calls + 1) w (answers ++ n ∷ [])
 caller_more who part n calls v w answers c due is = record {
   entries = c.entries ++ call_of part who n ∷ [];
-  view = is ∙ (ap (λ (v : BookView). with_call (call_of part who n) v) c.view ∙ ap (λ (b : Bool). own_view who (entries_with b c.entries (call_of part who n))) (on_own part who n));
+  view = is ∙ (ap (λ (v : BookView CallEntry). with_call (call_of part who n) v) c.view ∙ ap (λ (b : Bool). own_view who (entries_with b c.entries (call_of part who n))) (on_own part who n));
   called = record {
     entries_are = ap (λ (l : List CallEntry). l ++ call_of part who n ∷ []) c.called.entries_are
         ∙ (ap (λ (m : ℕ). calls_in_turn who 0 answers ++ call_of m who n ∷ []) (due ∙ ap (λ (m : ℕ). m % 2) (at calls (length answers) c.called.count)) ∙ sym (turn-more who 0 n answers));
@@ -43,5 +44,5 @@ caller_more who part n calls v w answers c due is = record {
   };
 }
 
-pub caller_new : (who : ℕ) (v : BookView) → v ≡ own_view who [] → IsCaller who 0 v []
+pub caller_new : (who : ℕ) (v : BookView CallEntry) → v ≡ own_view who [] → IsCaller who 0 v []
 caller_new who v is = record { entries = []; view = is; called = record { entries_are = refl; count = refl } }

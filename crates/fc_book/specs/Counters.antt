@@ -3,7 +3,8 @@ use Rattle.std.specs.Prelude.{◌≡◌, ℕ, ◌+◌, ◌%◌, ◌<◌, ◌≤�
 use Rattle.fc_book.specs.declared.entry.CallEntry.{CallEntry}
 use Rattle.fc_book.specs.declared.view.BookView.{BookView}
 use Rattle.fc_book.specs.declared.callers.CallerResults.{CallerResults}
-use Rattle.fc_book.specs.Tracks.{HasKey, on, own_view, with_entry}
+use Rattle.fc_book.specs.Calls.{keys_of}
+use Rattle.fc_book.specs.Tracks.{HasKey, on, own_view, with_filed}
 
 -- a thread calls a counter, for a job with its own key, and is answered this number
 abbrev pub call_of : ℕ → ℕ → ℕ → CallEntry
@@ -19,12 +20,12 @@ AreCounted part n (e ∷ es) = (e ≡ call_of part e.who n) × (2 ≤ e.who) × 
 -- ---- a thread
 
 -- the thread's own track is among those of the view
-abbrev pub IsThread : ℕ → BookView → Type 0
+abbrev pub IsThread : ℕ → BookView CallEntry → Type 0
 IsThread who v = HasKey who v.own
 
 -- the view after a call is filed
-abbrev pub with_call : CallEntry → BookView → BookView
-with_call e v = record v { own = with_entry e v.own }
+abbrev pub with_call : CallEntry → BookView CallEntry → BookView CallEntry
+with_call e v = with_filed keys_of e v
 
 -- the calls of a thread from its i-th on, which is of counter i % 2: they were answered so
 abbrev pub calls_in_turn : ℕ → ℕ → List ℕ → List CallEntry
@@ -37,7 +38,7 @@ pub record HasMadeCalls (who calls : ℕ) (entries : List CallEntry) (answers : 
   pub count : length answers ≡ calls
 
 -- its track alone is in the view, with these calls
-pub record IsCaller (who calls : ℕ) (v : BookView) (answers : List ℕ) : Type 0 where
+pub record IsCaller (who calls : ℕ) (v : BookView CallEntry) (answers : List ℕ) : Type 0 where
   pub entries : List CallEntry
   pub view : v ≡ own_view who entries
   pub called : HasMadeCalls who calls entries answers
@@ -54,7 +55,7 @@ AreTheirs (e ∷ es) = (e.part < 2) × (2 ≤ e.who) × (e.who < 4) × AreTheirs
 pub record HasOneHistory (calls : ℕ) (r : CallerResults) : Type 0 where
   pub log : List CallEntry
   pub theirs : AreTheirs log
-  pub left : AreCounted 0 0 (on 0 log) × (r.left ≡ length (on 0 log))
-  pub right : AreCounted 1 0 (on 1 log) × (r.right ≡ length (on 1 log))
-  pub first : HasMadeCalls 2 calls (on 2 log) r.first.items
-  pub second : HasMadeCalls 3 calls (on 3 log) r.second.items
+  pub left : AreCounted 0 0 (on keys_of 0 log) × (r.left ≡ length (on keys_of 0 log))
+  pub right : AreCounted 1 0 (on keys_of 1 log) × (r.right ≡ length (on keys_of 1 log))
+  pub first : HasMadeCalls 2 calls (on keys_of 2 log) r.first.items
+  pub second : HasMadeCalls 3 calls (on keys_of 3 log) r.second.items

@@ -1,12 +1,13 @@
 //! The book of one history, and the owners of its tracks.
 ghost use Rattle.std.specs.Prelude.{◌≡◌, ◌<◌, ◌++◌, ◌∷◌, [], true, false, IfOk};
 ghost use Rattle.atomic_table.specs.Seated.{TableId};
-ghost use Rattle.fc_book.specs.Tracks.{HasHistory, HasKey, with_begun, first_own, first_view, merged_with, own_view, part_view, with_entry, with_next, with_part, without_first};
+ghost use Rattle.fc_book.specs.Calls.{keys_of};
+ghost use Rattle.fc_book.specs.Tracks.{HasHistory, HasKey, with_begun, first_own, first_view, merged_with, own_view, part_view, with_filed, with_next, with_part, without_first};
 
 use crate::entry::CallEntry;
-use crate::steps::{self, Words};
-use crate::view::{BookView, EntryName};
-use atomic_table::{Seat, Table};
+use crate::steps::{self, CallSeat, Words};
+use crate::view::EntryName;
+use atomic_table::Table;
 use std::alloc::{AllocError, Global};
 use std::marker::{Brand, Model, PhantomData};
 use std::mem::replace;
@@ -46,7 +47,7 @@ impl<J: BookName, const KEY: u64> Part for PartOf<J, KEY> {
 #[derive(Drop)]
 pub struct NewBook {
     words: Words,
-    seat: Seat<u8, BookView>,
+    seat: CallSeat,
     pub ghost of: { seat.table_id ≡ words.shared.table_id },
     pub ghost some: { 0 < words.shared.table_id.words },
     pub ghost empty: { seat.me ≡ (first_view, []) },
@@ -64,15 +65,16 @@ pub struct Book<J: BookName> {
 /// The tracks that a thread or a message owns. It has no bytes; a clause sees its view.
 #[derive(Drop)]
 pub struct Tracks<J: BookName> {
-    seat: Seat<u8, BookView>,
+    seat: CallSeat,
     of: PhantomData<J>,
 }
 
 impl<J: BookName> Model for Tracks<J> {
     ghost use Rattle.std.specs.Prelude.{◌≡◌, []};
     ghost use Rattle.fc_book.specs.declared.view.BookView.{BookView as Viewed};
+    ghost use Rattle.fc_book.specs.declared.entry.CallEntry.{CallEntry as Call};
 
-    ghost Value = { Viewed };
+    ghost Value = { Viewed Call };
 
     ghost view = { λ t. t.seat.me.0 };
 
@@ -82,7 +84,7 @@ impl<J: BookName> Model for Tracks<J> {
 /// The track of a part, kept under the part's lock. It has no bytes; a clause sees the calls on it, oldest first.
 #[derive(Drop)]
 pub struct PartTrack<P: Part> {
-    seat: Seat<u8, BookView>,
+    seat: CallSeat,
     of: PhantomData<P>,
 }
 
@@ -194,7 +196,7 @@ impl<J: BookName> Tracks<J> {
 
     /// Attests that there is one history, of which its tracks are just the entries with their keys.
     pub fn attest(&mut self, book: &Book<J>)
-        ensures one { HasHistory self.old }
+        ensures one { HasHistory keys_of self.old }
         ensures kept { self.new ≡ self.old }
     {
         steps::attest(&book.words, &mut self.seat);
@@ -208,7 +210,7 @@ impl<J: BookName> Tracks<J> {
         requires who { HasKey entry.now.who self.old.own }
         requires job { HasKey entry.now.job self.old.own }
         ensures part { part.new ≡ part.old ++ entry.now ∷ [] }
-        ensures own { self.new ≡ record self.old { own = with_entry entry.now self.old.own } }
+        ensures own { self.new ≡ with_filed keys_of entry.now self.old }
     {
         file_as::<Brand, J, P>(book, self, part, entry);
     }
@@ -227,7 +229,7 @@ fn file_as<X: EntryName, J: BookName, P: Part>(
     requires who { HasKey entry.now.who tracks.old.own }
     requires job { HasKey entry.now.job tracks.old.own }
     ensures part { part.new ≡ part.old ++ entry.now ∷ [] }
-    ensures own { tracks.new ≡ record tracks.old { own = with_entry entry.now tracks.old.own } }
+    ensures own { tracks.new ≡ with_filed keys_of entry.now tracks.old }
 {
     let spare = steps::empty_seat(&book.words, &mut tracks.seat);
     let seat = replace(&mut part.seat, spare);

@@ -33,7 +33,8 @@
 //! - Two threads that call two counters have one history: the calls of each counter are numbered in it from 0 on, as many as it
 //!   counted; and the calls of each thread are those that it made, in its order, with what it was answered.
 //!
-//! The counters stand for the parts of a server. No server files its calls yet.
+//! The counters stand for the parts of a server. The tracks, views and moves don't depend on what an entry is, so another book uses them too,
+//! with entries of its own and a longer rule (`specs/Tracks.antt`, `proofs/Kept.antt`).
 //!
 //! By the contracts of `Tracks::file`, `attest`, `begin`, `begin_part`, `begin_tracks`, `split_first`, `merge`, `close`, `run_callers`.
 #![tactic(auto)]

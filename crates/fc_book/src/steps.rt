@@ -1,7 +1,9 @@
 //! The steps of seats at the book. Each is a load of its first word, which nobody writes.
 ghost use Rattle.std.specs.Prelude.{◌≡◌, ◌<◌, ◌+◌, [], ◌∷◌, ◌++◌, true, false};
+ghost use Rattle.fc_book.specs.Calls.{keys_of};
 ghost use Rattle.fc_book.specs.Tracks.{AreSingle, HasHistory, HasKey, with_begun, filed_with, first_own, locked_of, merged_with, no_tracks, own_view, part_view, with_next, with_part, without_first, without_locked};
 
+use crate::entry::CallEntry;
 use crate::view::{
     Attests, Begins, BeginsPart, BeginsTracks, BookRule, BookView, Closes, EntryName, Files,
     MakesEmpty, Merges, ReturnsPart, SplitsFirst,
@@ -9,10 +11,12 @@ use crate::view::{
 use atomic_table::{Seat, Table};
 use std::alloc::Global;
 
-pub(crate) type Words = Table<u8, BookView, (), BookRule, Global>;
+pub(crate) type CallSeat = Seat<u8, BookView<CallEntry>>;
+
+pub(crate) type Words = Table<u8, BookView<CallEntry>, (), BookRule, Global>;
 
 /// Makes a seat with no track.
-pub(crate) fn empty_seat(words: &Words, seat: &mut Seat<u8, BookView>) -> Seat<u8, BookView>
+pub(crate) fn empty_seat(words: &Words, seat: &mut CallSeat) -> CallSeat
     requires size { 0 < words.now.shared.table_id.words }
     requires table { seat.old.table_id ≡ words.now.shared.table_id }
     ensures kept { (seat.new.table_id ≡ seat.old.table_id) × (seat.new.me ≡ seat.old.me) }
@@ -22,11 +26,7 @@ pub(crate) fn empty_seat(words: &Words, seat: &mut Seat<u8, BookView>) -> Seat<u
 }
 
 /// Takes a part's track in, and files an entry.
-pub(crate) fn file<X: EntryName>(
-    words: &Words,
-    seat: &mut Seat<u8, BookView>,
-    part: Seat<u8, BookView>,
-)
+pub(crate) fn file<X: EntryName>(words: &Words, seat: &mut CallSeat, part: CallSeat)
     requires size { 0 < words.now.shared.table_id.words }
     requires table { seat.old.table_id ≡ words.now.shared.table_id }
     requires part_table { part.table_id ≡ words.now.shared.table_id }
@@ -34,13 +34,13 @@ pub(crate) fn file<X: EntryName>(
     requires part { (part.me.0.own ≡ []) × (part.me.0.may_begin ≡ false) × (part.me.1 ≡ []) }
     requires on { HasKey X.entry.part part.me.0.locked × HasKey X.entry.who seat.old.me.0.own × HasKey X.entry.job seat.old.me.0.own }
     ensures table { seat.new.table_id ≡ seat.old.table_id }
-    ensures filed { seat.new.me ≡ (filed_with X.entry seat.old.me.0 part.me.0, seat.old.me.1) }
+    ensures filed { seat.new.me ≡ (filed_with keys_of X.entry seat.old.me.0 part.me.0, seat.old.me.1) }
 {
     words.shared.join_seat::<Files<X>>(seat, part);
 }
 
 /// Returns the part's track.
-pub(crate) fn return_part(words: &Words, seat: &mut Seat<u8, BookView>) -> Seat<u8, BookView>
+pub(crate) fn return_part(words: &Words, seat: &mut CallSeat) -> CallSeat
     requires size { 0 < words.now.shared.table_id.words }
     requires table { seat.old.table_id ≡ words.now.shared.table_id }
     ensures kept { (seat.new.table_id ≡ seat.old.table_id) × (seat.new.me ≡ (without_locked seat.old.me.0, seat.old.me.1)) }
@@ -50,7 +50,7 @@ pub(crate) fn return_part(words: &Words, seat: &mut Seat<u8, BookView>) -> Seat<
 }
 
 /// Begins the next track, for a part.
-pub(crate) fn begin_part(words: &Words, seat: &mut Seat<u8, BookView>) -> Seat<u8, BookView>
+pub(crate) fn begin_part(words: &Words, seat: &mut CallSeat) -> CallSeat
     requires size { 0 < words.now.shared.table_id.words }
     requires table { seat.old.table_id ≡ words.now.shared.table_id }
     requires may_begin { seat.old.me.0.may_begin ≡ true }
@@ -61,7 +61,7 @@ pub(crate) fn begin_part(words: &Words, seat: &mut Seat<u8, BookView>) -> Seat<u
 }
 
 /// Begins the next track, for a new owner.
-pub(crate) fn begin_tracks(words: &Words, seat: &mut Seat<u8, BookView>) -> Seat<u8, BookView>
+pub(crate) fn begin_tracks(words: &Words, seat: &mut CallSeat) -> CallSeat
     requires size { 0 < words.now.shared.table_id.words }
     requires table { seat.old.table_id ≡ words.now.shared.table_id }
     requires may_begin { seat.old.me.0.may_begin ≡ true }
@@ -72,7 +72,7 @@ pub(crate) fn begin_tracks(words: &Words, seat: &mut Seat<u8, BookView>) -> Seat
 }
 
 /// Begins the next track, for the owner itself.
-pub(crate) fn begin(words: &Words, seat: &mut Seat<u8, BookView>)
+pub(crate) fn begin(words: &Words, seat: &mut CallSeat)
     requires size { 0 < words.now.shared.table_id.words }
     requires table { seat.old.table_id ≡ words.now.shared.table_id }
     requires may_begin { seat.old.me.0.may_begin ≡ true }
@@ -83,7 +83,7 @@ pub(crate) fn begin(words: &Words, seat: &mut Seat<u8, BookView>)
 }
 
 /// Splits the first of the owner's tracks off.
-pub(crate) fn split_first(words: &Words, seat: &mut Seat<u8, BookView>) -> Seat<u8, BookView>
+pub(crate) fn split_first(words: &Words, seat: &mut CallSeat) -> CallSeat
     requires size { 0 < words.now.shared.table_id.words }
     requires table { seat.old.table_id ≡ words.now.shared.table_id }
     ensures kept { (seat.new.table_id ≡ seat.old.table_id) × (seat.new.me ≡ (without_first seat.old.me.0, seat.old.me.1)) }
@@ -93,7 +93,7 @@ pub(crate) fn split_first(words: &Words, seat: &mut Seat<u8, BookView>) -> Seat<
 }
 
 /// Merges another's tracks into the owner's.
-pub(crate) fn merge(words: &Words, seat: &mut Seat<u8, BookView>, other: Seat<u8, BookView>)
+pub(crate) fn merge(words: &Words, seat: &mut CallSeat, other: CallSeat)
     requires size { 0 < words.now.shared.table_id.words }
     requires table { seat.old.table_id ≡ words.now.shared.table_id }
     requires other_table { other.table_id ≡ words.now.shared.table_id }
@@ -105,7 +105,7 @@ pub(crate) fn merge(words: &Words, seat: &mut Seat<u8, BookView>, other: Seat<u8
 }
 
 /// Makes a part's track one of the owner's.
-pub(crate) fn close(words: &Words, seat: &mut Seat<u8, BookView>, part: Seat<u8, BookView>)
+pub(crate) fn close(words: &Words, seat: &mut CallSeat, part: CallSeat)
     requires size { 0 < words.now.shared.table_id.words }
     requires table { seat.old.table_id ≡ words.now.shared.table_id }
     requires part_table { part.table_id ≡ words.now.shared.table_id }
@@ -117,11 +117,11 @@ pub(crate) fn close(words: &Words, seat: &mut Seat<u8, BookView>, part: Seat<u8,
 }
 
 /// Attests the history.
-pub(crate) fn attest(words: &Words, seat: &mut Seat<u8, BookView>)
+pub(crate) fn attest(words: &Words, seat: &mut CallSeat)
     requires size { 0 < words.now.shared.table_id.words }
     requires table { seat.old.table_id ≡ words.now.shared.table_id }
     ensures kept { (seat.new.table_id ≡ seat.old.table_id) × (seat.new.me ≡ seat.old.me) }
-    ensures one { HasHistory seat.old.me.0 }
+    ensures one { HasHistory keys_of seat.old.me.0 }
 {
     let _ = words.shared.load::<Attests>(seat, 0);
 }

@@ -7,16 +7,16 @@ use std::collections::LinkedList;
 use std::marker::{Brand, PhantomData};
 
 /// A track: the entries of the history with its key, oldest first. It is seen by clauses alone; no value of it is made.
-pub struct Track {
+pub struct Track<E> {
     pub key: u64,
-    pub entries: LinkedList<CallEntry>,
+    pub entries: LinkedList<E>,
 }
 
 /// The tracks that an owner has: a part's, while its lock is held, and its own. If it may begin tracks, `next` is the key of the next.
 /// It is seen by clauses alone; no value of it is made.
-pub struct BookView {
-    pub locked: LinkedList<Track>,
-    pub own: LinkedList<Track>,
+pub struct BookView<E> {
+    pub locked: LinkedList<Track<E>>,
+    pub own: LinkedList<Track<E>>,
     pub may_begin: bool,
     pub next: u64,
 }
@@ -24,10 +24,11 @@ pub struct BookView {
 /// The rule of a book: there is one history, each view is one of it, and no track is in two views.
 pub struct BookRule;
 
-impl TableRule<u8, BookView, ()> for BookRule {
+impl TableRule<u8, BookView<CallEntry>, ()> for BookRule {
+    ghost use Rattle.fc_book.specs.Calls.{keys_of};
     ghost use Rattle.fc_book.specs.Tracks.{HaveOneHistory, first_view};
 
-    ghost holds = { λ _ s. HaveOneHistory s.views };
+    ghost holds = { λ _ s. HaveOneHistory keys_of s.views };
 
     ghost first = { λ _. first_view };
 }
@@ -40,7 +41,7 @@ pub trait EntryName {
 }
 
 impl EntryName for Brand {
-    ghost use Rattle.fc_book.specs.Tracks.{no_entry};
+    ghost use Rattle.fc_book.specs.Calls.{no_entry};
 
     ghost entry = { no_entry };
 }
@@ -50,18 +51,19 @@ pub(crate) struct Files<X: EntryName> {
     of: PhantomData<X>,
 }
 
-impl<X: EntryName> Join<BookView> for Files<X> {
+impl<X: EntryName> Join<BookView<CallEntry>> for Files<X> {
+    ghost use Rattle.fc_book.specs.Calls.{keys_of};
     ghost use Rattle.fc_book.specs.Tracks.{filed_with, no_tracks};
 
-    ghost both = { filed_with X.entry };
+    ghost both = { filed_with keys_of X.entry };
 
     ghost spent = { no_tracks };
 }
 
 /// Returns the part's track.
-pub(crate) struct ReturnsPart;
+pub struct ReturnsPart;
 
-impl Split<BookView> for ReturnsPart {
+impl<E> Split<BookView<E>> for ReturnsPart {
     ghost use Rattle.fc_book.specs.Tracks.{locked_of, without_locked};
 
     ghost left = { without_locked };
@@ -70,9 +72,9 @@ impl Split<BookView> for ReturnsPart {
 }
 
 /// Makes a seat with no track.
-pub(crate) struct MakesEmpty;
+pub struct MakesEmpty;
 
-impl Split<BookView> for MakesEmpty {
+impl<E> Split<BookView<E>> for MakesEmpty {
     ghost use Rattle.fc_book.specs.Tracks.{no_tracks};
 
     ghost left = { λ v. v };
@@ -81,9 +83,9 @@ impl Split<BookView> for MakesEmpty {
 }
 
 /// Begins the next track, for a part.
-pub(crate) struct BeginsPart;
+pub struct BeginsPart;
 
-impl Split<BookView> for BeginsPart {
+impl<E> Split<BookView<E>> for BeginsPart {
     ghost use Rattle.std.specs.Prelude.{[]};
     ghost use Rattle.fc_book.specs.Tracks.{part_view, with_next};
 
@@ -93,9 +95,9 @@ impl Split<BookView> for BeginsPart {
 }
 
 /// Begins the next track, for a new owner.
-pub(crate) struct BeginsTracks;
+pub struct BeginsTracks;
 
-impl Split<BookView> for BeginsTracks {
+impl<E> Split<BookView<E>> for BeginsTracks {
     ghost use Rattle.std.specs.Prelude.{[]};
     ghost use Rattle.fc_book.specs.Tracks.{own_view, with_next};
 
@@ -105,9 +107,9 @@ impl Split<BookView> for BeginsTracks {
 }
 
 /// Begins the next track, for the owner itself.
-pub(crate) struct Begins;
+pub struct Begins;
 
-impl Play<u8, BookView> for Begins {
+impl<E> Play<u8, BookView<E>> for Begins {
     ghost use Rattle.std.specs.Prelude.{◌≡◌};
     ghost use Rattle.fc_book.specs.Tracks.{with_begun};
 
@@ -115,9 +117,9 @@ impl Play<u8, BookView> for Begins {
 }
 
 /// Splits the first of the owner's tracks off.
-pub(crate) struct SplitsFirst;
+pub struct SplitsFirst;
 
-impl Split<BookView> for SplitsFirst {
+impl<E> Split<BookView<E>> for SplitsFirst {
     ghost use Rattle.fc_book.specs.Tracks.{first_own, without_first};
 
     ghost left = { without_first };
@@ -126,9 +128,9 @@ impl Split<BookView> for SplitsFirst {
 }
 
 /// Merges another's tracks into the owner's.
-pub(crate) struct Merges;
+pub struct Merges;
 
-impl Join<BookView> for Merges {
+impl<E> Join<BookView<E>> for Merges {
     ghost use Rattle.fc_book.specs.Tracks.{merged_with, no_tracks};
 
     ghost both = { merged_with };
@@ -137,9 +139,9 @@ impl Join<BookView> for Merges {
 }
 
 /// Makes a part's track one of the owner's.
-pub(crate) struct Closes;
+pub struct Closes;
 
-impl Join<BookView> for Closes {
+impl<E> Join<BookView<E>> for Closes {
     ghost use Rattle.fc_book.specs.Tracks.{no_tracks, with_part};
 
     ghost both = { with_part };
@@ -150,9 +152,10 @@ impl Join<BookView> for Closes {
 /// Attests the history.
 pub(crate) struct Attests;
 
-impl Play<u8, BookView> for Attests {
+impl Play<u8, BookView<CallEntry>> for Attests {
     ghost use Rattle.std.specs.Prelude.{◌≡◌};
+    ghost use Rattle.fc_book.specs.Calls.{keys_of};
     ghost use Rattle.fc_book.specs.Tracks.{HasHistory};
 
-    ghost then = { λ s v found w. (w ≡ v) × HasHistory v.0 };
+    ghost then = { λ s v found w. (w ≡ v) × HasHistory keys_of v.0 };
 }

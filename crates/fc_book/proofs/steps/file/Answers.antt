@@ -1,4 +1,5 @@
-use Rattle.std.proofs.Common.{arith}
+use Rattle.std.proofs.Common.{◌++◌, ◌∷◌, [], arith}
+use Rattle.fc_book.specs.Calls.{keys_of}
 use Rattle.fc_book.proofs.Kept.{files}
 use Rattle.fc_book.proofs.steps.file.Goals as goal
 
@@ -9,5 +10,8 @@ join_seat-requires g c =
       c.requires.part_table,
       c.requires.part.2,
       (let s = c.requires.size in omega arith),
-      λ s h at apart there. files g.X.EntryName.entry c.args.seat.now.me.0 c.args.part.me.0 on.0 on.1 on.2 c.requires.part.1 s.views _ _ h at apart there,
+      λ s h at apart there. record {
+        log = h.log ++ g.X.EntryName.entry ∷ [];
+        views_of = files keys_of g.X.EntryName.entry c.args.seat.now.me.0 c.args.part.me.0 on.0 on.1 on.2 c.requires.part.1 h.log s.views _ _ h.views_of at apart there;
+      },
     )

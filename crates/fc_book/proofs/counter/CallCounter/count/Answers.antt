@@ -2,6 +2,7 @@ use Rattle.std.proofs.Common.{◌+◌, List, length, sym, ap, ◌∙◌, subst, 
 use Rattle.fc_book.specs.declared.entry.CallEntry.{CallEntry}
 use Rattle.fc_book.specs.declared.view.BookView.{BookView}
 use Rattle.fc_book.specs.Counters.{AreCounted, IsThread, call_of}
+use Rattle.fc_book.specs.Calls.{keys_of}
 use Rattle.fc_book.proofs.Keys.{keeps-key}
 use Rattle.fc_book.proofs.Counted.{counted-more, length-more}
 use Rattle.fc_book.proofs.counter.CallCounter.count.Goals as goal
@@ -17,4 +18,4 @@ invariant_of-self g c =
     )
 
 pub returns-clause-thread : goal.returns-clause-thread
-returns-clause-thread g c = subst (λ (v : BookView). IsThread c.args.who v) (sym c.file.ensures.own) (keeps-key c.args.who _ c.args.tracks.now.own c.requires.thread)
+returns-clause-thread g c = subst (λ (v : BookView CallEntry). IsThread c.args.who v) (sym c.file.ensures.own) (keeps-key keys_of c.args.who _ c.args.tracks.now.own c.requires.thread)

@@ -1,0 +1,83 @@
+-- Entries have keys of their kind.
+use Rattle.std.proofs.Common.{◌≡◌, ℕ, ◌<◌, ◌≤◌, Bool, true, false, List, [], ◌∷◌, ◌++◌, refl, inl, arith}
+use Rattle.std.specs.Prelude.{if◌then◌else◌}
+use Rattle.fc_book.specs.declared.view.Track.{Track}
+use Rattle.fc_book.specs.declared.view.BookView.{BookView}
+use Rattle.fc_book.specs.Tracks.{HasKey}
+use Rattle.fc_calls.specs.Logged.{HearsDatagram, AdvancesFront, DrawsId, AnswersRequest, TellsReceipt, GivesReadings, LooksAt, RaisesWord}
+use Rattle.fc_calls.specs.Logged.{TakesForJob, CommitsRun, InstallsProgram, RemovesProgram, HandsSignal, AdvancesQuiet, AdvancesShard, GivesTurn, NotesTurn, GivesUpTurn}
+use Rattle.fc_linear.specs.Operations.{Operation, Logged, RejectsImage, LacksMemory, ServerPart, FrontPart, ShardPart, WordsPart, NoPart, IsEvent, part_of}
+use Rattle.fc_filed.specs.declared.entry.FiledEntry.{FiledEntry}
+use Rattle.fc_filed.specs.Entries.{AreKeyed, IsKeyed, is_of_job, part_key}
+use Rattle.fc_filed.specs.Threads.{MayFile, entry_by, key_of_first}
+
+-- an operation of a shard is of one of the eight
+abbrev pub IsLow : ServerPart → Type 0
+IsLow (ShardPart index) = index < 8
+IsLow other = Unit {0}
+
+pub low_of : (operation : Operation) → IsEvent operation → IsLow (part_of operation)
+low_of (Logged (HearsDatagram now from bytes brings)) p = tt
+low_of (Logged (AdvancesFront now)) p = tt
+low_of (Logged (DrawsId now id)) p = tt
+low_of (Logged (AnswersRequest now job content sent)) p = tt
+low_of (Logged (TellsReceipt job receipt)) p = omega arith
+low_of (Logged (GivesReadings readings)) p = tt
+low_of (Logged (LooksAt slot word)) p = tt
+low_of (Logged (TakesForJob job readings taken)) p = omega arith
+low_of (Logged (CommitsRun now ran ticket committed)) p = omega arith
+low_of (Logged (InstallsProgram job program made)) p = omega arith
+low_of (Logged (RemovesProgram job removal)) p = omega arith
+low_of (Logged (HandsSignal shard from id reset)) p = p
+low_of (Logged (AdvancesQuiet shard now)) p = p
+low_of (Logged (AdvancesShard shard now ticked)) p = p
+low_of (Logged (GivesTurn shard now turn)) p = p
+low_of (Logged (NotesTurn turn id now random told noted)) p = omega arith
+low_of (Logged (GivesUpTurn turn now)) p = omega arith
+low_of (Logged (RaisesWord slot word)) p = tt
+low_of (RejectsImage job content) p = tt
+low_of (LacksMemory job) p = tt
+
+-- no part's track is a job's
+pub part_below : (p : ServerPart) (who first_job : ℕ) → IsLow p → 9 ≤ who → who < first_job → part_key who p < first_job
+part_below FrontPart who first_job low le lt = omega (arith, le, lt)
+part_below (ShardPart i) who first_job low le lt = omega (arith, low, le, lt)
+part_below WordsPart who first_job low le lt = lt
+part_below NoPart who first_job low le lt = lt
+
+pub part_of_keyed : (first_job : ℕ) (e : FiledEntry) → IsKeyed first_job e → part_key e.who (part_of e.operation) < first_job
+part_of_keyed first_job e k = part_below (part_of e.operation) e.who first_job (low_of e.operation k.event) k.who.0 k.who.1
+
+pub keyed_more : (first_job : ℕ) (log : List FiledEntry) (e : FiledEntry) → AreKeyed first_job log → IsKeyed first_job e → AreKeyed first_job (log ++ e ∷ [])
+keyed_more first_job [] e a k = (k, tt)
+keyed_more first_job (x ∷ xs) e a k = (a.0, keyed_more first_job xs e a.1 k)
+
+-- ---- what a thread may file
+
+has_first : (who : ℕ) (ts : List (Track FiledEntry)) → HasKey who ts → HasKey (key_of_first ts) ts
+has_first who [] h = h
+has_first who (t ∷ ts) h = inl refl
+
+job_keyed : (first_job who first : ℕ) (b : Bool) → (b ≡ true → first_job ≤ first) → b ≡ true → first_job ≤ (if b then first else who)
+job_keyed first_job who first true le is = le refl
+job_keyed first_job who first false le is = absurd (cc is)
+
+none_keyed : (first_job who first : ℕ) (b : Bool) → (9 ≤ who) × (who < first_job) → b ≡ false → (9 ≤ (if b then first else who)) × ((if b then first else who) < first_job)
+none_keyed first_job who first true low is = absurd (cc is)
+none_keyed first_job who first false low is = low
+
+own_keyed : (who : ℕ) (b : Bool) (ts : List (Track FiledEntry)) → HasKey who ts → HasKey (if b then key_of_first ts else who) ts
+own_keyed who true ts h = has_first who ts h
+own_keyed who false ts h = h
+
+module _ (first_job who : ℕ) (v : BookView FiledEntry) (operation : Operation) (m : MayFile first_job who v operation) where
+  pub keyed_by : IsKeyed first_job (entry_by who v operation)
+  keyed_by = record {
+    who = m.thread.key;
+    job = job_keyed first_job who (key_of_first v.own) (is_of_job operation) m.job;
+    none = none_keyed first_job who (key_of_first v.own) (is_of_job operation) m.thread.key;
+    event = m.event;
+  }
+
+  pub has_job : HasKey (entry_by who v operation).job v.own
+  has_job = own_keyed who (is_of_job operation) v.own m.thread.own

@@ -1,0 +1,40 @@
+-- Operations that lead a part from one state to another, one more of them, and the log that fc_linear's law has of them.
+use Rattle.std.proofs.Common.{◌≡◌, ℕ, Bool, true, false, List, [], ◌∷◌, ◌++◌, refl, sym, subst}
+use Rattle.std.specs.Prelude.{if◌then◌else◌}
+use Rattle.std.specs.List.{filter}
+use Rattle.fc_core.specs.Exchanges.{FrontState, advanced}
+use Rattle.fc_calls.specs.Doings.{AdvancesTo}
+use Rattle.fc_linear.specs.Operations.{Operation, WordsDo, is_words, part_of}
+use Rattle.fc_linear.specs.Parts.{LeadInOrder}
+use Rattle.fc_filed.specs.declared.entry.FiledEntry.{FiledEntry}
+use Rattle.fc_filed.specs.Entries.{ChangesWords, OperationsLead, WordsDoIf, log_of}
+
+module _ {S : Type 0} (Does : Operation → S → S → Type 0) where
+  pub leads_more : (es : List FiledEntry) (e : FiledEntry) (x y z : S) → OperationsLead Does es x y → Does e.operation y z → OperationsLead Does (es ++ e ∷ []) x z
+  leads_more [] e x y z r d = (z, subst (λ (s : S). Does e.operation s z) r d, refl)
+  leads_more (f ∷ fs) e x y z r d = (r.0, r.1, leads_more fs e r.0 y z r.2 d)
+
+  -- a part's calls with one more
+  pub leads_filed : (es calls : List FiledEntry) (e : FiledEntry) (x y z : S) → calls ≡ es ++ e ∷ [] → OperationsLead Does es x y → Does e.operation y z → OperationsLead Does calls x z
+  leads_filed es calls e x y z is r d = subst (λ (l : List FiledEntry). OperationsLead Does l x z) (sym is) (leads_more es e x y z r d)
+
+  pub lead_log : (first_job : ℕ) (es : List FiledEntry) (x y : S) → OperationsLead Does es x y → LeadInOrder Does (log_of first_job es) x y
+  lead_log first_job [] x y r = r
+  lead_log first_job (e ∷ es) x y r = (r.0, r.1, lead_log first_job es r.0 y r.2)
+
+-- the log's operations of the head words lead these as all do
+abbrev of_heads : List FiledEntry → List FiledEntry
+of_heads log = filter (λ e. is_words (part_of e.operation)) log
+
+head_more : (first_job : ℕ) (b : Bool) (e : FiledEntry) (es : List FiledEntry) (ws m vs : List ℕ) → WordsDoIf b e.operation ws m → LeadInOrder WordsDo (log_of first_job (of_heads es)) m vs
+    → LeadInOrder WordsDo (log_of first_job (if b then e ∷ of_heads es else of_heads es)) ws vs
+head_more first_job true e es ws m vs d r = (m, d, r)
+head_more first_job false e es ws m vs d r = subst (λ (x : List ℕ). LeadInOrder WordsDo (log_of first_job (of_heads es)) x vs) d r
+
+pub heads_log : (first_job : ℕ) (log : List FiledEntry) (ws vs : List ℕ) → OperationsLead ChangesWords log ws vs → LeadInOrder WordsDo (log_of first_job (filter (λ e. is_words (part_of e.operation)) log)) ws vs
+heads_log first_job [] ws vs r = r
+heads_log first_job (e ∷ es) ws vs r = head_more first_job (is_words (part_of e.operation)) e es ws r.0 vs r.1 (heads_log first_job es r.0 vs r.2)
+
+pub advances : (now : ℕ) (f g : FrontState) → g ≡ advanced f now → AdvancesTo now f g
+unfolding AdvancesTo
+advances now f g is = is

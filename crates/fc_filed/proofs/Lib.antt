@@ -1,0 +1,6 @@
+pub mod Keyed
+pub mod Sent
+pub mod Rule
+pub mod Closing
+pub mod Leading
+pub mod Shards

@@ -1,0 +1,16 @@
+-- What a name stands for, if nothing chooses it.
+use Rattle.std.specs.Prelude.{[]}
+use Rattle.fc_core.specs.Policies.{default_policy}
+use Rattle.fc_server.specs.declared.server.Begin.{Begin}
+use Rattle.fc_calls.specs.Logged.{GivesReadings}
+use Rattle.fc_linear.specs.Operations.{Operation, Logged}
+use Rattle.fc_filed.specs.declared.entry.FiledOperation.TheInside.{Inside}
+
+abbrev pub no_operation : Operation
+no_operation = Logged (GivesReadings [])
+
+abbrev pub any_operation : Inside → Operation
+any_operation o = no_operation
+
+abbrev pub some_begin : Begin
+some_begin = record { serial = 0; id = 0; policy = default_policy }

@@ -1,0 +1,6 @@
+pub mod Blank
+pub mod Entries
+pub mod Books
+pub mod Threads
+pub mod Parts
+pub mod Tracked

@@ -1,0 +1,369 @@
+//! The book of a server's history, and the owners of its tracks.
+ghost use Rattle.std.specs.Prelude.{◌≡◌, ◌+◌, ◌<◌, ◌++◌, ◌∷◌, [], true, false, IfOk};
+ghost use Rattle.atomic_table.specs.Seated.{TableId};
+ghost use Rattle.fc_book.specs.Tracks.{first_own, first_view, merged_with, own_view, part_view, with_begun, with_next, with_part, without_first};
+ghost use Rattle.fc_server.specs.declared.server.Begin.{Begin};
+ghost use Rattle.fc_calls.specs.Logged.{LooksAt, RaisesWord};
+ghost use Rattle.fc_linear.specs.Operations.{LacksMemory, Logged, NoPart, RejectsImage, is_words, part_of};
+ghost use Rattle.fc_filed.specs.Books.{HasServerHistory, IsFirstSent};
+ghost use Rattle.fc_filed.specs.Entries.{part_key};
+ghost use Rattle.fc_filed.specs.Threads.{HasJobFirst, HasOwnTrack, MayFile, did_by, entry_by};
+
+use crate::steps::{self, FiledSeat, FiledWords};
+use crate::view::FiledName;
+use atomic_table::Table;
+use fc_book::Part;
+use fc_core::Answer;
+use fc_registry::Job;
+use std::alloc::{AllocError, Global};
+use std::marker::{Brand, Model, PhantomData};
+use std::mem::replace;
+
+/// The name of a server's book. Types with the same name are of the same book.
+///
+/// It names the book's table, the key of the first job's track, and what the server begins with.
+pub trait ServerName {
+    ghost use Rattle.std.specs.Prelude.{ℕ};
+
+    ghost table: { TableId };
+
+    ghost first_job: { ℕ };
+
+    ghost begin: { Begin };
+}
+
+impl ServerName for Brand {
+    ghost use Rattle.fc_book.specs.Tracks.{no_table};
+    ghost use Rattle.fc_filed.specs.Blank.{some_begin};
+
+    ghost table = { no_table };
+
+    ghost first_job = { 0 };
+
+    ghost begin = { some_begin };
+}
+
+/// A book with an empty history and no name yet.
+#[derive(Drop)]
+pub struct NewServerBook {
+    words: FiledWords,
+    seat: FiledSeat,
+    pub ghost of: { seat.table_id ≡ words.shared.table_id },
+    pub ghost size: { words.shared.table_id.words ≡ 72 },
+    pub ghost empty: { seat.me ≡ (first_view, []) },
+}
+
+/// The book: eight words of padding, and the head words of slots 0 to 63.
+///
+/// The padding is never written. Steps that need no head word load its first word.
+#[derive(Drop)]
+pub struct ServerBook<J: ServerName> {
+    words: FiledWords,
+    of: PhantomData<J>,
+    ghost named: { words.shared.table_id ≡ J.table },
+    ghost key: { words.shared.key ≡ J.first_job },
+    ghost size: { words.shared.table_id.words ≡ 72 },
+}
+
+/// The tracks that a thread or a message owns. It has no bytes; a clause sees its view.
+#[derive(Drop)]
+pub struct ServerTracks<J: ServerName> {
+    seat: FiledSeat,
+    of: PhantomData<J>,
+}
+
+impl<J: ServerName> Model for ServerTracks<J> {
+    ghost use Rattle.std.specs.Prelude.{◌≡◌, []};
+    ghost use Rattle.fc_book.specs.declared.view.BookView.{BookView as Viewed};
+    ghost use Rattle.fc_filed.specs.declared.entry.FiledEntry.{FiledEntry as Entry};
+
+    ghost Value = { Viewed Entry };
+
+    ghost view = { λ t. t.seat.me.0 };
+
+    ghost invariant = { λ t. (t.seat.table_id ≡ J.table) × (t.seat.me.1 ≡ []) × (t.seat.me.0.locked ≡ []) };
+}
+
+/// The track of a part, kept under the part's lock.
+///
+/// It has no bytes; a clause sees the entries on it, oldest first.
+#[derive(Drop)]
+pub struct FiledTrack<P: Part> {
+    seat: FiledSeat,
+    of: PhantomData<P>,
+}
+
+impl<P: Part> Model for FiledTrack<P> {
+    ghost use Rattle.std.specs.Prelude.{◌≡◌, [], List};
+    ghost use Rattle.fc_filed.specs.declared.entry.FiledEntry.{FiledEntry as Entry};
+
+    ghost Value = { List Entry };
+
+    ghost use Rattle.fc_book.specs.Tracks.{entries_of, part_view};
+
+    ghost view = { λ p. entries_of p.seat.me.0.locked };
+
+    ghost invariant = { λ p. (p.seat.table_id ≡ P.table) × (p.seat.me ≡ (part_view P.key (entries_of p.seat.me.0.locked), [])) };
+}
+
+impl NewServerBook {
+    /// Makes a book with an empty history, for `threads` threads.
+    ///
+    /// The key of the first job's track is `9 + threads`.
+    ///
+    /// # Errors
+    /// Returns `AllocError` if memory can't be allocated.
+    pub fn new(alloc: Global, threads: u16) -> Result<NewServerBook, AllocError>
+        ensures { IfOk result (λ b. b.words.shared.key ≡ 9 + threads) }
+    {
+        let first_job = 9 + u64::from(threads);
+        let (words, seat) = Table::of_words(alloc, &[0; 72], &first_job)?;
+        Ok(NewServerBook { words, seat })
+    }
+
+    /// Names the book, and returns it with an owner that may begin each track.
+    pub fn with_name<J: ServerName>(self) -> (ServerBook<J>, ServerTracks<J>)
+        requires named { self.words.shared.table_id ≡ J.table }
+        requires key { self.words.shared.key ≡ J.first_job }
+        ensures { result.1 ≡ first_view }
+    {
+        let NewServerBook { words, seat } = self;
+        (
+            ServerBook {
+                words,
+                of: PhantomData,
+            },
+            ServerTracks {
+                seat,
+                of: PhantomData,
+            },
+        )
+    }
+}
+
+impl<J: ServerName> ServerTracks<J> {
+    /// Begins the next track, for a part, and returns it.
+    pub fn begin_part<P: Part>(&mut self, book: &ServerBook<J>) -> FiledTrack<P>
+        requires same { P.table ≡ J.table }
+        requires key { P.key ≡ self.old.next }
+        requires may_begin { self.old.may_begin ≡ true }
+        ensures part { result ≡ [] }
+        ensures kept { self.new ≡ with_next self.old }
+    {
+        FiledTrack {
+            seat: steps::begin_part(&book.words, &mut self.seat),
+            of: PhantomData,
+        }
+    }
+
+    /// Begins the next track, for a new owner, and returns that.
+    pub fn begin_tracks(&mut self, book: &ServerBook<J>) -> ServerTracks<J>
+        requires may_begin { self.old.may_begin ≡ true }
+        ensures new { result ≡ own_view self.old.next [] }
+        ensures kept { self.new ≡ with_next self.old }
+    {
+        ServerTracks {
+            seat: steps::begin_tracks(&book.words, &mut self.seat),
+            of: PhantomData,
+        }
+    }
+
+    /// Begins the next track, and puts it first among its own.
+    pub fn begin(&mut self, book: &ServerBook<J>)
+        requires may_begin { self.old.may_begin ≡ true }
+        ensures kept { self.new ≡ with_begun self.old }
+    {
+        steps::begin(&book.words, &mut self.seat);
+    }
+
+    /// Splits off the first of its own tracks, a job's, and returns it for a message.
+    ///
+    /// The track is right for its job. So if the message is lost, the history has the job as it was sent.
+    pub fn split_first(&mut self, book: &ServerBook<J>) -> ServerTracks<J>
+        requires { IsFirstSent J.first_job self.old.own }
+        ensures first { result ≡ first_own self.old }
+        ensures kept { self.new ≡ without_first self.old }
+    {
+        ServerTracks {
+            seat: steps::split_first(&book.words, &mut self.seat),
+            of: PhantomData,
+        }
+    }
+
+    /// Merges the tracks of another owner into its own.
+    pub fn merge(&mut self, book: &ServerBook<J>, other: ServerTracks<J>)
+        requires { other.may_begin ≡ false }
+        ensures merged { self.new ≡ merged_with self.old other }
+    {
+        let ServerTracks { seat, of: _ } = other;
+        steps::merge(&book.words, &mut self.seat, seat);
+    }
+
+    /// Closes a part: its track becomes one of its own.
+    pub fn close<P: Part>(&mut self, book: &ServerBook<J>, part: FiledTrack<P>)
+        requires { P.table ≡ J.table }
+        ensures closed { self.new ≡ with_part self.old (part_view P.key part) }
+    {
+        let FiledTrack { seat, of: _ } = part;
+        steps::close(&book.words, &mut self.seat, seat);
+    }
+
+    /// Attests that there is one history, of which its tracks are subhistories.
+    pub fn attest(&mut self, book: &ServerBook<J>)
+        ensures one { HasServerHistory J.first_job self.old }
+        ensures kept { self.new ≡ self.old }
+    {
+        steps::attest::<J>(&book.words, &mut self.seat);
+    }
+
+    /// Reads the head word of `slot`, 0 to 63, and files that. It takes no lock.
+    ///
+    /// The entry is for the job whose track is first.
+    pub fn look(&mut self, book: &ServerBook<J>, who: u64, slot: usize) -> u64
+        requires slot { slot < 64 }
+        requires thread { HasOwnTrack J.first_job who self.old }
+        requires job { HasJobFirst J.first_job self.old }
+        ensures filed { self.new ≡ did_by who (Logged (LooksAt slot result)) self.old }
+    {
+        look_as::<Brand, J>(book, self, who, slot)
+    }
+
+    /// Raises the head word of `slot`, 0 to 63, to `word` if that is greater.
+    ///
+    /// It files that for the job whose track is first. It takes no lock.
+    pub fn raise(&mut self, book: &ServerBook<J>, who: u64, slot: usize, word: u64)
+        requires slot { slot < 64 }
+        requires thread { HasOwnTrack J.first_job who self.old }
+        requires job { HasJobFirst J.first_job self.old }
+        ensures filed { self.new ≡ did_by who (Logged (RaisesWord slot word)) self.old }
+    {
+        raise_as::<Brand, J>(book, self, who, slot, word);
+    }
+
+    /// Files that the image of an install's `job` breaks a rule, and is answered so.
+    pub fn reject_image(&mut self, book: &ServerBook<J>, who: u64, job: &Job, answer: &Answer)
+        requires thread { HasOwnTrack J.first_job who self.old }
+        requires job { HasJobFirst J.first_job self.old }
+        ensures filed { self.new ≡ did_by who (RejectsImage job.now answer.now) self.old }
+    {
+        reject_as::<Brand, J>(book, self, who, job, answer);
+    }
+
+    /// Files that memory for the program of an install's `job` is refused.
+    pub fn lack_memory(&mut self, book: &ServerBook<J>, who: u64, job: &Job)
+        requires thread { HasOwnTrack J.first_job who self.old }
+        requires job { HasJobFirst J.first_job self.old }
+        ensures filed { self.new ≡ did_by who (LacksMemory job.now) self.old }
+    {
+        lack_as::<Brand, J>(book, self, who, job);
+    }
+}
+
+/// Files the operation that `X` names, of no part.
+///
+/// It becomes the last entry on the tracks of thread `who` and of the job whose track is first.
+fn file_alone_as<X: FiledName, J: ServerName>(
+    book: &ServerBook<J>,
+    tracks: &mut ServerTracks<J>,
+    who: u64,
+)
+    requires entry { X.entry ≡ entry_by who tracks.old X.entry.operation }
+    requires no_part { part_of X.entry.operation ≡ NoPart }
+    requires may { MayFile J.first_job who tracks.old X.entry.operation }
+    ensures filed { tracks.new ≡ did_by who X.entry.operation tracks.old }
+{
+    let _ = who;
+    steps::file_alone::<X>(&book.words, &mut tracks.seat);
+}
+
+/// Files a rejected image, as [`ServerTracks::reject_image`], with the entry named by `X`.
+fn reject_as<X: FiledName, J: ServerName>(
+    book: &ServerBook<J>,
+    tracks: &mut ServerTracks<J>,
+    who: u64,
+    job: &Job,
+    answer: &Answer,
+)
+    requires entry { X.entry ≡ entry_by who tracks.old (RejectsImage job.now answer.now) }
+    requires may { MayFile J.first_job who tracks.old (RejectsImage job.now answer.now) }
+    ensures filed { tracks.new ≡ did_by who (RejectsImage job.now answer.now) tracks.old }
+{
+    let _ = job;
+    let _ = answer;
+    file_alone_as::<X, J>(book, tracks, who);
+}
+
+/// Files refused memory, as [`ServerTracks::lack_memory`], with the entry named by `X`.
+fn lack_as<X: FiledName, J: ServerName>(
+    book: &ServerBook<J>,
+    tracks: &mut ServerTracks<J>,
+    who: u64,
+    job: &Job,
+)
+    requires entry { X.entry ≡ entry_by who tracks.old (LacksMemory job.now) }
+    requires may { MayFile J.first_job who tracks.old (LacksMemory job.now) }
+    ensures filed { tracks.new ≡ did_by who (LacksMemory job.now) tracks.old }
+{
+    let _ = job;
+    file_alone_as::<X, J>(book, tracks, who);
+}
+
+/// Files the operation that `X` names, of a part whose lock the caller holds.
+///
+/// It becomes the last entry on the tracks of its part, of thread `who` and of the job whose track is first.
+pub fn file_as<X: FiledName, J: ServerName, P: Part>(
+    book: &ServerBook<J>,
+    tracks: &mut ServerTracks<J>,
+    part: &mut FiledTrack<P>,
+    who: u64,
+)
+    requires entry { X.entry ≡ entry_by who tracks.old X.entry.operation }
+    requires same { P.table ≡ J.table }
+    requires part { part_key who (part_of X.entry.operation) ≡ P.key }
+    requires no_words { is_words (part_of X.entry.operation) ≡ false }
+    requires may { MayFile J.first_job who tracks.old X.entry.operation }
+    ensures part { part.new ≡ part.old ++ X.entry ∷ [] }
+    ensures filed { tracks.new ≡ did_by who X.entry.operation tracks.old }
+{
+    let _ = who;
+    let spare = steps::empty_seat(&book.words, &mut tracks.seat);
+    let seat = replace(&mut part.seat, spare);
+    steps::file::<X>(&book.words, &mut tracks.seat, seat);
+    let back = steps::return_part(&book.words, &mut tracks.seat);
+    let _spent = replace(&mut part.seat, back);
+}
+
+/// Reads a head word, as [`ServerTracks::look`], with the entry named by `X`.
+fn look_as<X: FiledName, J: ServerName>(
+    book: &ServerBook<J>,
+    tracks: &mut ServerTracks<J>,
+    who: u64,
+    slot: usize,
+) -> u64
+    requires entry { X.entry ≡ entry_by who tracks.old (Logged (LooksAt 0 0)) }
+    requires slot { slot < 64 }
+    requires thread { HasOwnTrack J.first_job who tracks.old }
+    requires job { HasJobFirst J.first_job tracks.old }
+    ensures filed { tracks.new ≡ did_by who (Logged (LooksAt slot result)) tracks.old }
+{
+    let _ = who;
+    steps::look::<X>(&book.words, &mut tracks.seat, slot)
+}
+
+/// Raises a head word, as [`ServerTracks::raise`], with the entry named by `X`.
+fn raise_as<X: FiledName, J: ServerName>(
+    book: &ServerBook<J>,
+    tracks: &mut ServerTracks<J>,
+    who: u64,
+    slot: usize,
+    word: u64,
+)
+    requires entry { X.entry ≡ entry_by who tracks.old (Logged (LooksAt 0 0)) }
+    requires slot { slot < 64 }
+    requires thread { HasOwnTrack J.first_job who tracks.old }
+    requires job { HasJobFirst J.first_job tracks.old }
+    ensures filed { tracks.new ≡ did_by who (Logged (RaisesWord slot word)) tracks.old }
+{
+    let _ = who;
+    steps::raise::<X>(&book.words, &mut tracks.seat, slot, word);
+}

@@ -1,0 +1,24 @@
+//! Entries of a server's history.
+use std::marker::Model;
+
+/// An operation of a server, as a clause sees it. No value of it is made.
+pub struct FiledOperation {
+    bits: u8,
+}
+
+impl Model for FiledOperation {
+    ghost use Rattle.fc_linear.specs.Operations.{Operation};
+
+    ghost Value = { Operation };
+
+    ghost use Rattle.fc_filed.specs.Blank.{any_operation};
+
+    ghost view = { any_operation };
+}
+
+/// An entry: the keys of the thread that made a call and of its job, and the operation. No value of it is made.
+pub struct FiledEntry {
+    pub who: u64,
+    pub job: u64,
+    pub operation: FiledOperation,
+}

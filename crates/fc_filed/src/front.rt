@@ -1,0 +1,266 @@
+//! The front under its lock, together with the track of its calls.
+ghost use Rattle.std.specs.Prelude.{◌≡◌, ◌≤◌, ◌++◌, ◌∷◌, [], true};
+ghost use Rattle.fc_core.specs.Answering.{emission_of, responded};
+ghost use Rattle.fc_core.specs.Contents.{IsOf};
+ghost use Rattle.fc_core.specs.Receiving.{heard};
+ghost use Rattle.fc_book.specs.Tracks.{part_view, with_part};
+ghost use Rattle.fc_calls.specs.Logged.{AdvancesFront, AnswersRequest, DrawsId, HearsDatagram};
+ghost use Rattle.fc_linear.specs.Operations.{FrontDoes, Logged};
+ghost use Rattle.fc_linear.specs.Parts.{first_server};
+ghost use Rattle.fc_filed.specs.Entries.{OperationsLead};
+ghost use Rattle.fc_filed.specs.Threads.{HasJobFirst, HasOwnTrack, MayFile, begun_if, brings_job, did_by, entry_by};
+
+use crate::book::{FiledTrack, ServerBook, ServerName, ServerTracks, file_as};
+use crate::view::FiledName;
+use coap_msg::{Emission, Endpoint};
+use fc_book::Part;
+use fc_core::{Answer, Front, Heard, Responded};
+use fc_registry::Job;
+use std::marker::{Brand, Model, PhantomData};
+
+/// The front of a book's server, as a part: its key is 0.
+pub struct FrontOf<J: ServerName> {
+    of: PhantomData<J>,
+}
+
+impl<J: ServerName> Part for FrontOf<J> {
+    ghost table = { J.table };
+
+    ghost key = { 0 };
+}
+
+/// A front, and the track of its calls, which lead to it from the server's first.
+#[derive(Drop)]
+pub struct FiledFront<J: ServerName> {
+    front: Front,
+    track: FiledTrack<FrontOf<J>>,
+}
+
+impl<J: ServerName> Model for FiledFront<J> {
+    ghost use Rattle.fc_filed.specs.Parts.{FrontCalls};
+
+    ghost Value = { FrontCalls };
+
+    ghost view = { λ f. record { front = f.front; calls = f.track } };
+
+    ghost use Rattle.fc_linear.specs.Operations.{FrontDoes};
+    ghost use Rattle.fc_linear.specs.Parts.{first_server};
+    ghost use Rattle.fc_filed.specs.Entries.{OperationsLead};
+
+    ghost invariant = { λ f. OperationsLead FrontDoes f.track (first_server J.begin).front f.front };
+}
+
+impl<J: ServerName> FiledFront<J> {
+    /// Takes the server's first front, with an empty track.
+    pub fn new(front: Front, track: FiledTrack<FrontOf<J>>) -> FiledFront<J>
+        requires front { front ≡ (first_server J.begin).front }
+        requires track { track ≡ [] }
+        ensures { result ≡ record { front = front; calls = [] } }
+    {
+        FiledFront { front, track }
+    }
+
+    /// Takes a datagram in at `now` ms, as [`Front::hear`], and files that.
+    ///
+    /// A job that it brings begins a track.
+    pub fn hear(
+        &mut self,
+        book: &ServerBook<J>,
+        tracks: &mut ServerTracks<J>,
+        who: u64,
+        now: u64,
+        endpoint: Endpoint,
+        bytes: &[u8],
+        job: &mut Job,
+        reply: &mut Emission,
+    ) -> Heard
+        requires thread { HasOwnTrack J.first_job who tracks.old }
+        requires may_begin { tracks.old.may_begin ≡ true }
+        requires next { J.first_job ≤ tracks.old.next }
+        ensures filed { let operation = Logged (HearsDatagram now endpoint bytes.now (heard result job.new reply.new)) in
+            tracks.new ≡ did_by who operation (begun_if (brings_job result) tracks.old) }
+    {
+        let outcome = self.front.hear(now, endpoint, bytes, job, reply);
+        begin_if_job(book, tracks, &outcome);
+        file_heard::<Brand, J>(
+            book,
+            tracks,
+            &mut self.track,
+            who,
+            now,
+            endpoint,
+            bytes,
+            &outcome,
+            job,
+            reply,
+        );
+        outcome
+    }
+
+    /// Advances the clock to `now` ms, as [`Front::tick`], and files that.
+    pub fn tick(&mut self, book: &ServerBook<J>, tracks: &mut ServerTracks<J>, who: u64, now: u64)
+        requires { HasOwnTrack J.first_job who tracks.old }
+        ensures filed { tracks.new ≡ did_by who (Logged (AdvancesFront now)) tracks.old }
+    {
+        self.front.tick(now);
+        file_tick::<Brand, J>(book, tracks, &mut self.track, who, now);
+    }
+
+    /// Allocates a message ID at `now` ms, as [`Front::fresh_id`], and files that.
+    pub fn fresh_id(
+        &mut self,
+        book: &ServerBook<J>,
+        tracks: &mut ServerTracks<J>,
+        who: u64,
+        now: u64,
+    ) -> Option<u16>
+        requires thread { HasOwnTrack J.first_job who tracks.old }
+        requires job { HasJobFirst J.first_job tracks.old }
+        ensures filed { tracks.new ≡ did_by who (Logged (DrawsId now result)) tracks.old }
+    {
+        let id = self.front.fresh_id(now);
+        file_draw::<Brand, J>(book, tracks, &mut self.track, who, now, id);
+        id
+    }
+
+    /// Answers the job at `now` ms, as [`Front::respond`], and files that.
+    pub fn respond(
+        &mut self,
+        book: &ServerBook<J>,
+        tracks: &mut ServerTracks<J>,
+        who: u64,
+        now: u64,
+        job: &Job,
+        answer: &Answer,
+        reply: &mut Emission,
+    ) -> Responded
+        requires thread { HasOwnTrack J.first_job who tracks.old }
+        requires job { HasJobFirst J.first_job tracks.old }
+        requires own { IsOf job.now answer.now }
+        ensures filed { let operation = Logged (AnswersRequest now job.now answer.now (emission_of (responded result reply.new))) in
+            tracks.new ≡ did_by who operation tracks.old }
+    {
+        let outcome = self.front.respond(now, job, answer, reply);
+        file_answer::<Brand, J>(
+            book,
+            tracks,
+            &mut self.track,
+            who,
+            now,
+            job,
+            answer,
+            &outcome,
+            reply,
+        );
+        outcome
+    }
+
+    /// Gives the front's track to `tracks`, and returns the front.
+    pub fn close(self, book: &ServerBook<J>, tracks: &mut ServerTracks<J>) -> Front
+        ensures front { result ≡ self.front }
+        ensures led { OperationsLead FrontDoes self.calls (first_server J.begin).front result }
+        ensures closed { tracks.new ≡ with_part tracks.old (part_view 0 self.calls) }
+    {
+        let FiledFront { front, track } = self;
+        tracks.close(book, track);
+        front
+    }
+}
+
+/// Begins the track of the job that a datagram brings, if it brings one.
+fn begin_if_job<J: ServerName>(book: &ServerBook<J>, tracks: &mut ServerTracks<J>, outcome: &Heard)
+    requires { tracks.old.may_begin ≡ true }
+    ensures { tracks.new ≡ begun_if (brings_job outcome.now) tracks.old }
+{
+    if let Heard::Job = outcome {
+        tracks.begin(book);
+    }
+}
+
+fn file_heard<X: FiledName, J: ServerName>(
+    book: &ServerBook<J>,
+    tracks: &mut ServerTracks<J>,
+    track: &mut FiledTrack<FrontOf<J>>,
+    who: u64,
+    now: u64,
+    endpoint: Endpoint,
+    bytes: &[u8],
+    outcome: &Heard,
+    job: &Job,
+    reply: &Emission,
+)
+    requires entry { let operation = Logged (HearsDatagram now endpoint bytes.now (heard outcome.now job.now reply.now)) in
+        X.entry ≡ entry_by who tracks.old operation }
+    requires may { let operation = Logged (HearsDatagram now endpoint bytes.now (heard outcome.now job.now reply.now)) in
+        MayFile J.first_job who tracks.old operation }
+    ensures track { track.new ≡ track.old ++ X.entry ∷ [] }
+    ensures filed { tracks.new ≡ did_by who X.entry.operation tracks.old }
+{
+    let _ = now;
+    let _ = endpoint;
+    let _ = bytes;
+    let _ = outcome;
+    let _ = job;
+    let _ = reply;
+    file_as::<X, J, FrontOf<J>>(book, tracks, track, who);
+}
+
+fn file_tick<X: FiledName, J: ServerName>(
+    book: &ServerBook<J>,
+    tracks: &mut ServerTracks<J>,
+    track: &mut FiledTrack<FrontOf<J>>,
+    who: u64,
+    now: u64,
+)
+    requires entry { X.entry ≡ entry_by who tracks.old (Logged (AdvancesFront now)) }
+    requires may { MayFile J.first_job who tracks.old (Logged (AdvancesFront now)) }
+    ensures track { track.new ≡ track.old ++ X.entry ∷ [] }
+    ensures filed { tracks.new ≡ did_by who X.entry.operation tracks.old }
+{
+    let _ = now;
+    file_as::<X, J, FrontOf<J>>(book, tracks, track, who);
+}
+
+fn file_draw<X: FiledName, J: ServerName>(
+    book: &ServerBook<J>,
+    tracks: &mut ServerTracks<J>,
+    track: &mut FiledTrack<FrontOf<J>>,
+    who: u64,
+    now: u64,
+    id: Option<u16>,
+)
+    requires entry { X.entry ≡ entry_by who tracks.old (Logged (DrawsId now id)) }
+    requires may { MayFile J.first_job who tracks.old (Logged (DrawsId now id)) }
+    ensures track { track.new ≡ track.old ++ X.entry ∷ [] }
+    ensures filed { tracks.new ≡ did_by who X.entry.operation tracks.old }
+{
+    let _ = now;
+    let _ = id;
+    file_as::<X, J, FrontOf<J>>(book, tracks, track, who);
+}
+
+fn file_answer<X: FiledName, J: ServerName>(
+    book: &ServerBook<J>,
+    tracks: &mut ServerTracks<J>,
+    track: &mut FiledTrack<FrontOf<J>>,
+    who: u64,
+    now: u64,
+    job: &Job,
+    answer: &Answer,
+    outcome: &Responded,
+    reply: &Emission,
+)
+    requires entry { let operation = Logged (AnswersRequest now job.now answer.now (emission_of (responded outcome.now reply.now))) in
+        X.entry ≡ entry_by who tracks.old operation }
+    requires may { let operation = Logged (AnswersRequest now job.now answer.now (emission_of (responded outcome.now reply.now))) in
+        MayFile J.first_job who tracks.old operation }
+    ensures track { track.new ≡ track.old ++ X.entry ∷ [] }
+    ensures filed { tracks.new ≡ did_by who X.entry.operation tracks.old }
+{
+    let _ = now;
+    let _ = job;
+    let _ = answer;
+    let _ = outcome;
+    let _ = reply;
+    file_as::<X, J, FrontOf<J>>(book, tracks, track, who);
+}

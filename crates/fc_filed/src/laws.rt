@@ -1,0 +1,28 @@
+//! Laws of tracks.
+ghost use Rattle.std.specs.Prelude.{◌≡◌, ℕ, List};
+ghost use Rattle.fc_book.specs.declared.view.BookView.{BookView};
+ghost use Rattle.fc_server.specs.declared.server.Begin.{Begin};
+ghost use Rattle.fc_server.specs.States.{ServerState, begin_of};
+ghost use Rattle.fc_linear.specs.Parts.{HaveNextNumbers, IsHistoryOf, bringing, first_server, history_on};
+ghost use Rattle.fc_filed.specs.declared.entry.FiledEntry.{FiledEntry};
+ghost use Rattle.fc_filed.specs.Books.{HasServerHistory};
+ghost use Rattle.fc_filed.specs.Entries.{log_of};
+ghost use Rattle.fc_filed.specs.Tracked.{AreTracksRight, OwnsAll};
+
+/// Right tracks of a new server are one legal history.
+///
+/// It leaves the server as its parts are.
+pub fn tracks_are_one_history()
+    ensures { (first_job : ℕ) (log : List FiledEntry) (b : Begin) (end : ServerState) → AreTracksRight first_job log (first_server b) end →
+        IsHistoryOf (history_on (begin_of b) (log_of first_job log)) end }
+{}
+
+/// An attested history is legal if its owner has the tracks of all parts and threads.
+///
+/// Each job's track that the owner has is to be right, and the jobs have to come in the order of their keys.
+/// A job's track that it doesn't have, as that of a lost message, is right by the rule.
+pub fn attested_tracks_are_one_history()
+    ensures { (first_job : ℕ) (b : Begin) (v : BookView FiledEntry) (end : ServerState) (h : HasServerHistory first_job v) → end.words ≡ h.words →
+        HaveNextNumbers 0 (bringing (log_of first_job h.log)) → OwnsAll first_job v (first_server b) end →
+        IsHistoryOf (history_on (begin_of b) (log_of first_job h.log)) end }
+{}

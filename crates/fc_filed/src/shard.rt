@@ -1,0 +1,372 @@
+//! A shard under its lock, together with the track of its calls.
+ghost use Rattle.std.specs.Prelude.{◌≡◌, ◌+◌, ◌%◌, ◌<◌, ◌≤◌, ◌++◌, ◌∷◌, [], ℕ, Bool, true, false, None, MatchBool, MatchOption};
+ghost use Rattle.fc_registry.specs.Shards.{shard_at};
+ghost use Rattle.fc_registry.specs.Slots.{IsOwned, Shard as Seen};
+ghost use Rattle.fc_registry.specs.Turns.{written_if};
+ghost use Rattle.fc_registry.specs.Views.{taken_with};
+ghost use Rattle.fc_book.specs.Tracks.{part_view, with_part};
+ghost use Rattle.fc_calls.specs.Logged.{AdvancesQuiet, GivesTurn, TakesForJob};
+ghost use Rattle.fc_workers.specs.Counts.{HasEightSlots};
+ghost use Rattle.fc_linear.specs.Operations.{Logged, Operation, ShardDoes, is_words, part_of};
+ghost use Rattle.fc_linear.specs.Parts.{first_server};
+ghost use Rattle.fc_filed.specs.Entries.{OperationsLead, part_key};
+ghost use Rattle.fc_filed.specs.Parts.{CostsFrom, IsCheap, IsDearIn, IsOperationOf};
+ghost use Rattle.fc_filed.specs.Threads.{HasJobFirst, HasOwnTrack, MayFile, begun_if, did_by, entry_by};
+
+use crate::book::{FiledTrack, ServerBook, ServerName, ServerTracks, file_as};
+use crate::view::FiledName;
+use fc_book::Part;
+use fc_help::Readings;
+use fc_registry::{Found, Job, Shard, Taken};
+use fc_workers::ShardCall;
+use fc_workers::calls::{AdvanceIfQuiet, NextDue, Take};
+use std::marker::{Brand, Model, PhantomData};
+
+/// A call of a shard that is filed, whatever it is answered.
+pub trait FiledCall: ShardCall {
+    // It is of this shard.
+    ghost is_of: { Self → Seen → Type 0 };
+
+    // It is for a job, or for none.
+    ghost of_job: { Bool };
+
+    // The operation that is filed, by the shard's index, the answer and the contents of the caller's room.
+    ghost operation: { ℕ → Self → Self.Answer → Self.Room → Operation };
+
+    // That is its effect on the shard.
+    ghost right: { (call : Self) (before : Seen) (answer : Self.Answer) (room : Self.Room) (after : Seen) → is_of call before → Self.does call before answer room after
+        → IsOperationOf of_job (operation before.index call answer room) before after };
+}
+
+/// The name of an operation, by an answer and the contents of a room.
+///
+/// Each call of [`FiledShard::ask`] chooses it.
+pub trait OperationName<A, B> {
+    ghost operation: { A → B → Operation };
+}
+
+impl<A, B> OperationName<A, B> for Brand {
+    ghost use Rattle.fc_filed.specs.Blank.{no_operation};
+
+    ghost operation = { λ answer room. no_operation };
+}
+
+/// The shard of an index, 0 to 7, as a part: its key is one more than the index.
+pub struct ShardOf<J: ServerName, const INDEX: u8> {
+    of: PhantomData<J>,
+}
+
+impl<J: ServerName, const INDEX: u8> Part for ShardOf<J, INDEX> {
+    ghost use Rattle.std.specs.Prelude.{◌+◌};
+
+    ghost table = { J.table };
+
+    ghost key = { INDEX + 1 };
+}
+
+/// A shard, and the track of its calls, which lead to it from the server's first.
+#[derive(Drop)]
+pub struct FiledShard<J: ServerName, P: Part> {
+    shard: Shard,
+    track: FiledTrack<P>,
+    of: PhantomData<J>,
+}
+
+impl<J: ServerName, P: Part> Model for FiledShard<J, P> {
+    ghost use Rattle.fc_filed.specs.Parts.{ShardCalls};
+
+    ghost Value = { ShardCalls };
+
+    ghost view = { λ s. record { shard = s.shard; calls = s.track } };
+
+    ghost use Rattle.fc_filed.specs.Parts.{AreCallsOf};
+
+    ghost invariant = { λ s. AreCallsOf J.begin P.key s.track s.shard };
+}
+
+impl<J: ServerName, P: Part> FiledShard<J, P> {
+    /// Takes the server's first shard of an index, with an empty track.
+    pub fn new(shard: Shard, track: FiledTrack<P>) -> FiledShard<J, P>
+        requires index { shard.index < 8 }
+        requires key { P.key ≡ shard.index + 1 }
+        requires slots { HasEightSlots shard }
+        requires shard { shard ≡ shard_at (first_server J.begin).shards shard.index }
+        requires track { track ≡ [] }
+        ensures { result ≡ record { shard = shard; calls = [] } }
+    {
+        FiledShard {
+            shard,
+            track,
+            of: PhantomData,
+        }
+    }
+
+    /// Makes a call of the shard, and files it.
+    pub fn ask<C: FiledCall>(
+        &mut self,
+        book: &ServerBook<J>,
+        tracks: &mut ServerTracks<J>,
+        who: u64,
+        call: C,
+        room: &mut C::Room,
+    ) -> C::Answer
+        requires same { P.table ≡ J.table }
+        requires is_of { C.is_of call self.old.shard }
+        requires may { C.may_ask call self.old.shard }
+        requires thread { HasOwnTrack J.first_job who tracks.old }
+        requires job { C.of_job ≡ true → HasJobFirst J.first_job tracks.old }
+        ensures filed { tracks.new ≡ did_by who (C.operation self.old.shard.index call result room.new) tracks.old }
+    {
+        ask_as::<C, J, P, Brand>(self, book, tracks, who, call, room)
+    }
+
+    /// Leases the first pending notification at `now` ms, and files that.
+    ///
+    /// See [`Shard::write_due`]. The notification's job, if there is one, is written into `job`, and begins a track.
+    pub fn next_due(
+        &mut self,
+        book: &ServerBook<J>,
+        tracks: &mut ServerTracks<J>,
+        who: u64,
+        now: u64,
+        job: &mut Job,
+    ) -> bool
+        requires same { P.table ≡ J.table }
+        requires thread { HasOwnTrack J.first_job who tracks.old }
+        requires may_begin { tracks.old.may_begin ≡ true }
+        requires next { J.first_job ≤ tracks.old.next }
+        ensures filed { let operation = Logged (GivesTurn self.old.shard.index now (written_if result job.new)) in
+            tracks.new ≡ did_by who operation (begun_if result tracks.old) }
+    {
+        let is_due = NextDue { now }.call(&mut self.shard, job);
+        begin_if(book, tracks, is_due);
+        file_due::<Brand, J, P>(
+            book,
+            tracks,
+            &mut self.track,
+            who,
+            &self.shard,
+            now,
+            is_due,
+            job,
+        );
+        is_due
+    }
+
+    /// Advances the shard to `now` ms if it is idle until then, and files that.
+    ///
+    /// See [`Shard::advance_if_quiet`]. Otherwise the shard stays as it is, and nothing is filed.
+    pub fn advance_if_quiet(
+        &mut self,
+        book: &ServerBook<J>,
+        tracks: &mut ServerTracks<J>,
+        who: u64,
+        now: u64,
+    ) -> bool
+        requires same { P.table ≡ J.table }
+        requires thread { HasOwnTrack J.first_job who tracks.old }
+        ensures filed { MatchBool result
+            (tracks.new ≡ did_by who (Logged (AdvancesQuiet self.old.shard.index now)) tracks.old)
+            ((tracks.new ≡ tracks.old) × (self.new ≡ self.old)) }
+    {
+        let is_quiet = AdvanceIfQuiet { now }.call(&mut self.shard, &mut ());
+        if is_quiet {
+            file_quiet::<Brand, J, P>(book, tracks, &mut self.track, who, &self.shard, now);
+        }
+        is_quiet
+    }
+
+    /// Takes a snapshot of the slot of a request's `job` unless its program is dear.
+    ///
+    /// See [`Shard::write_taking`]. If the program takes `least` steps or more, the snapshot is dropped and
+    /// nothing is filed: a worker will take its own.
+    pub fn take_unless_dear(
+        &mut self,
+        book: &ServerBook<J>,
+        tracks: &mut ServerTracks<J>,
+        who: u64,
+        job: &Job,
+        readings: &Readings,
+        least: u32,
+        found: &mut Found,
+    ) -> Option<Taken>
+        requires same { P.table ≡ J.table }
+        requires request { job.now.turn ≡ None }
+        requires may { IsOwned self.old.shard job.now.origin.slot }
+        requires thread { HasOwnTrack J.first_job who tracks.old }
+        requires job { HasJobFirst J.first_job tracks.old }
+        ensures filed { MatchOption result
+            ((tracks.new ≡ tracks.old) × (self.new ≡ self.old) × IsDearIn least job.now readings.now self.old.shard)
+            (λ taken. (tracks.new ≡ did_by who (Logged (TakesForJob job.now readings.now (taken_with taken found.new))) tracks.old) × IsCheap least taken) }
+    {
+        let taken = Take { job, readings }.call(&mut self.shard, found);
+        if is_dear(&taken, least) {
+            return None;
+        }
+        file_taken::<Brand, J, P>(
+            book,
+            tracks,
+            &mut self.track,
+            who,
+            job,
+            readings,
+            &taken,
+            found,
+        );
+        Some(taken)
+    }
+
+    /// Gives the shard's track to `tracks`, and returns the shard.
+    pub fn close(self, book: &ServerBook<J>, tracks: &mut ServerTracks<J>) -> Shard
+        requires { P.table ≡ J.table }
+        ensures shard { result ≡ self.shard }
+        ensures led { OperationsLead ShardDoes self.calls (shard_at (first_server J.begin).shards result.index) result }
+        ensures closed { tracks.new ≡ with_part tracks.old (part_view P.key self.calls) }
+    {
+        let FiledShard {
+            shard,
+            track,
+            of: _,
+        } = self;
+        tracks.close(book, track);
+        shard
+    }
+}
+
+/// Makes a call of the shard, as [`FiledShard::ask`], with the operation named by `X`.
+fn ask_as<C: FiledCall, J: ServerName, P: Part, X: OperationName<C::Answer, C::Room>>(
+    this: &mut FiledShard<J, P>,
+    book: &ServerBook<J>,
+    tracks: &mut ServerTracks<J>,
+    who: u64,
+    call: C,
+    room: &mut C::Room,
+) -> C::Answer
+    requires named { (answer : C.Answer) (room : C.Room) → X.operation answer room ≡ C.operation this.old.shard.index call answer room }
+    requires same { P.table ≡ J.table }
+    requires is_of { C.is_of call this.old.shard }
+    requires may { C.may_ask call this.old.shard }
+    requires thread { HasOwnTrack J.first_job who tracks.old }
+    requires job { C.of_job ≡ true → HasJobFirst J.first_job tracks.old }
+    ensures filed { tracks.new ≡ did_by who (C.operation this.old.shard.index call result room.new) tracks.old }
+{
+    let answer = call.call(&mut this.shard, room);
+    file_answer::<Brand, J, P, C::Answer, C::Room, X>(
+        book,
+        tracks,
+        &mut this.track,
+        who,
+        &answer,
+        room,
+    );
+    answer
+}
+
+fn file_answer<Y: FiledName, J: ServerName, P: Part, A, B, X: OperationName<A, B>>(
+    book: &ServerBook<J>,
+    tracks: &mut ServerTracks<J>,
+    track: &mut FiledTrack<P>,
+    who: u64,
+    answer: &A,
+    room: &B,
+)
+    requires entry { Y.entry ≡ entry_by who tracks.old (X.operation answer.now room.now) }
+    requires same { P.table ≡ J.table }
+    requires part { part_key who (part_of (X.operation answer.now room.now)) ≡ P.key }
+    requires no_words { is_words (part_of (X.operation answer.now room.now)) ≡ false }
+    requires may { MayFile J.first_job who tracks.old (X.operation answer.now room.now) }
+    ensures track { track.new ≡ track.old ++ Y.entry ∷ [] }
+    ensures filed { tracks.new ≡ did_by who Y.entry.operation tracks.old }
+{
+    let _ = answer;
+    let _ = room;
+    file_as::<Y, J, P>(book, tracks, track, who);
+}
+
+/// Begins the track of an observer's job, if there is one.
+fn begin_if<J: ServerName>(book: &ServerBook<J>, tracks: &mut ServerTracks<J>, is_due: bool)
+    requires { tracks.old.may_begin ≡ true }
+    ensures { tracks.new ≡ begun_if is_due tracks.old }
+{
+    if is_due {
+        tracks.begin(book);
+    }
+}
+
+/// Returns whether a snapshot is of a program that takes `least` steps or more.
+fn is_dear(taken: &Taken, least: u32) -> bool
+    ensures { MatchBool result (CostsFrom least taken.now) (IsCheap least taken.now) }
+{
+    match taken {
+        Taken::Given(program) => program.cost() >= least,
+        Taken::Missing | Taken::Stale | Taken::Refused => false,
+    }
+}
+
+fn file_due<X: FiledName, J: ServerName, P: Part>(
+    book: &ServerBook<J>,
+    tracks: &mut ServerTracks<J>,
+    track: &mut FiledTrack<P>,
+    who: u64,
+    shard: &Shard,
+    now: u64,
+    is_due: bool,
+    job: &Job,
+)
+    requires entry { X.entry ≡ entry_by who tracks.old (Logged (GivesTurn shard.now.index now (written_if is_due job.now))) }
+    requires same { P.table ≡ J.table }
+    requires part { shard.now.index + 1 ≡ P.key }
+    requires may { MayFile J.first_job who tracks.old (Logged (GivesTurn shard.now.index now (written_if is_due job.now))) }
+    ensures track { track.new ≡ track.old ++ X.entry ∷ [] }
+    ensures filed { tracks.new ≡ did_by who X.entry.operation tracks.old }
+{
+    let _ = shard;
+    let _ = now;
+    let _ = is_due;
+    let _ = job;
+    file_as::<X, J, P>(book, tracks, track, who);
+}
+
+fn file_quiet<X: FiledName, J: ServerName, P: Part>(
+    book: &ServerBook<J>,
+    tracks: &mut ServerTracks<J>,
+    track: &mut FiledTrack<P>,
+    who: u64,
+    shard: &Shard,
+    now: u64,
+)
+    requires entry { X.entry ≡ entry_by who tracks.old (Logged (AdvancesQuiet shard.now.index now)) }
+    requires same { P.table ≡ J.table }
+    requires part { shard.now.index + 1 ≡ P.key }
+    requires may { MayFile J.first_job who tracks.old (Logged (AdvancesQuiet shard.now.index now)) }
+    ensures track { track.new ≡ track.old ++ X.entry ∷ [] }
+    ensures filed { tracks.new ≡ did_by who X.entry.operation tracks.old }
+{
+    let _ = shard;
+    let _ = now;
+    file_as::<X, J, P>(book, tracks, track, who);
+}
+
+fn file_taken<X: FiledName, J: ServerName, P: Part>(
+    book: &ServerBook<J>,
+    tracks: &mut ServerTracks<J>,
+    track: &mut FiledTrack<P>,
+    who: u64,
+    job: &Job,
+    readings: &Readings,
+    taken: &Taken,
+    found: &Found,
+)
+    requires entry { X.entry ≡ entry_by who tracks.old (Logged (TakesForJob job.now readings.now (taken_with taken.now found.now))) }
+    requires same { P.table ≡ J.table }
+    requires part { job.now.origin.slot % 8 + 1 ≡ P.key }
+    requires may { MayFile J.first_job who tracks.old (Logged (TakesForJob job.now readings.now (taken_with taken.now found.now))) }
+    ensures track { track.new ≡ track.old ++ X.entry ∷ [] }
+    ensures filed { tracks.new ≡ did_by who X.entry.operation tracks.old }
+{
+    let _ = job;
+    let _ = readings;
+    let _ = taken;
+    let _ = found;
+    file_as::<X, J, P>(book, tracks, track, who);
+}

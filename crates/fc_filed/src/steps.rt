@@ -1,0 +1,185 @@
+//! The steps of seats at a server's book.
+//!
+//! Each loads or raises one word of the table. Those that need no head word load the first, which is padding.
+ghost use Rattle.std.specs.Prelude.{◌≡◌, ◌<◌, ◌≤◌, [], true, false};
+ghost use Rattle.fc_book.specs.Tracks.{AreSingle, HasKey, filed_with, first_own, locked_of, merged_with, no_tracks, own_view, part_view, with_begun, with_filed, with_next, with_part, without_first, without_locked};
+ghost use Rattle.fc_linear.specs.Operations.{NoPart, is_words, part_of};
+ghost use Rattle.fc_filed.specs.Books.{HasServerHistory, IsFirstSent};
+ghost use Rattle.fc_filed.specs.Entries.{IsKeyed, entry_keys};
+ghost use Rattle.fc_filed.specs.Threads.{entry_of_look, entry_of_raise};
+
+use crate::book::ServerName;
+use crate::entry::FiledEntry;
+use crate::view::{
+    AttestsServer, FiledName, FilesAlone, FilesEntry, LooksAtWord, RaisesHead, ServerRule,
+};
+use atomic_table::{Seat, Table};
+use fc_book::view::{
+    Begins, BeginsPart, BeginsTracks, BookView, Closes, MakesEmpty, Merges, ReturnsPart,
+    SplitsFirst,
+};
+use std::alloc::Global;
+
+pub(crate) type FiledSeat = Seat<u8, BookView<FiledEntry>>;
+
+pub(crate) type FiledWords = Table<u8, BookView<FiledEntry>, u64, ServerRule, Global>;
+
+/// The number of the table's first words that are padding.
+const PADDING: usize = 8;
+
+/// Makes a seat with no track.
+pub(crate) fn empty_seat(words: &FiledWords, seat: &mut FiledSeat) -> FiledSeat
+    requires size { words.now.shared.table_id.words ≡ 72 }
+    requires table { seat.old.table_id ≡ words.now.shared.table_id }
+    ensures kept { (seat.new.table_id ≡ seat.old.table_id) × (seat.new.me ≡ seat.old.me) }
+    ensures new { (result.table_id ≡ words.now.shared.table_id) × (result.me ≡ (no_tracks, [])) }
+{
+    words.shared.split_seat::<MakesEmpty>(seat)
+}
+
+/// Takes a part's track in, and files an entry.
+pub(crate) fn file<X: FiledName>(words: &FiledWords, seat: &mut FiledSeat, part: FiledSeat)
+    requires size { words.now.shared.table_id.words ≡ 72 }
+    requires table { seat.old.table_id ≡ words.now.shared.table_id }
+    requires part_table { part.table_id ≡ words.now.shared.table_id }
+    requires free { seat.old.me.0.locked ≡ [] }
+    requires part { (part.me.0.own ≡ []) × (part.me.0.may_begin ≡ false) × (part.me.1 ≡ []) }
+    requires on_part { HasKey (entry_keys X.entry).part part.me.0.locked }
+    requires on { HasKey X.entry.who seat.old.me.0.own × HasKey X.entry.job seat.old.me.0.own }
+    requires no_words { is_words (part_of X.entry.operation) ≡ false }
+    requires keyed { IsKeyed words.now.shared.key X.entry }
+    ensures table { seat.new.table_id ≡ seat.old.table_id }
+    ensures filed { seat.new.me ≡ (filed_with entry_keys X.entry seat.old.me.0 part.me.0, seat.old.me.1) }
+{
+    words.shared.join_seat::<FilesEntry<X>>(seat, part);
+}
+
+/// Files an entry of no part.
+pub(crate) fn file_alone<X: FiledName>(words: &FiledWords, seat: &mut FiledSeat)
+    requires size { words.now.shared.table_id.words ≡ 72 }
+    requires table { seat.old.table_id ≡ words.now.shared.table_id }
+    requires no_part { part_of X.entry.operation ≡ NoPart }
+    requires on { HasKey X.entry.who seat.old.me.0.own × HasKey X.entry.job seat.old.me.0.own }
+    requires keyed { IsKeyed words.now.shared.key X.entry }
+    ensures table { seat.new.table_id ≡ seat.old.table_id }
+    ensures filed { seat.new.me ≡ (with_filed entry_keys X.entry seat.old.me.0, seat.old.me.1) }
+{
+    let _ = words.shared.load::<FilesAlone<X>>(seat, 0);
+}
+
+/// Returns the part's track.
+pub(crate) fn return_part(words: &FiledWords, seat: &mut FiledSeat) -> FiledSeat
+    requires size { words.now.shared.table_id.words ≡ 72 }
+    requires table { seat.old.table_id ≡ words.now.shared.table_id }
+    ensures kept { (seat.new.table_id ≡ seat.old.table_id) × (seat.new.me ≡ (without_locked seat.old.me.0, seat.old.me.1)) }
+    ensures back { (result.table_id ≡ words.now.shared.table_id) × (result.me ≡ (locked_of seat.old.me.0, [])) }
+{
+    words.shared.split_seat::<ReturnsPart>(seat)
+}
+
+/// Begins the next track, for a part.
+pub(crate) fn begin_part(words: &FiledWords, seat: &mut FiledSeat) -> FiledSeat
+    requires size { words.now.shared.table_id.words ≡ 72 }
+    requires table { seat.old.table_id ≡ words.now.shared.table_id }
+    requires may_begin { seat.old.me.0.may_begin ≡ true }
+    ensures kept { (seat.new.table_id ≡ seat.old.table_id) × (seat.new.me ≡ (with_next seat.old.me.0, seat.old.me.1)) }
+    ensures new { (result.table_id ≡ words.now.shared.table_id) × (result.me ≡ (part_view seat.old.me.0.next [], [])) }
+{
+    words.shared.split_seat::<BeginsPart>(seat)
+}
+
+/// Begins the next track, for a new owner.
+pub(crate) fn begin_tracks(words: &FiledWords, seat: &mut FiledSeat) -> FiledSeat
+    requires size { words.now.shared.table_id.words ≡ 72 }
+    requires table { seat.old.table_id ≡ words.now.shared.table_id }
+    requires may_begin { seat.old.me.0.may_begin ≡ true }
+    ensures kept { (seat.new.table_id ≡ seat.old.table_id) × (seat.new.me ≡ (with_next seat.old.me.0, seat.old.me.1)) }
+    ensures new { (result.table_id ≡ words.now.shared.table_id) × (result.me ≡ (own_view seat.old.me.0.next [], [])) }
+{
+    words.shared.split_seat::<BeginsTracks>(seat)
+}
+
+/// Begins the next track, for the owner itself.
+pub(crate) fn begin(words: &FiledWords, seat: &mut FiledSeat)
+    requires size { words.now.shared.table_id.words ≡ 72 }
+    requires table { seat.old.table_id ≡ words.now.shared.table_id }
+    requires may_begin { seat.old.me.0.may_begin ≡ true }
+    ensures table { seat.new.table_id ≡ seat.old.table_id }
+    ensures begun { seat.new.me ≡ (with_begun seat.old.me.0, seat.old.me.1) }
+{
+    let _ = words.shared.load::<Begins>(seat, 0);
+}
+
+/// Splits off the first of the owner's tracks, a job's, for a message.
+pub(crate) fn split_first(words: &FiledWords, seat: &mut FiledSeat) -> FiledSeat
+    requires size { words.now.shared.table_id.words ≡ 72 }
+    requires table { seat.old.table_id ≡ words.now.shared.table_id }
+    requires sent { IsFirstSent words.now.shared.key seat.old.me.0.own }
+    ensures kept { (seat.new.table_id ≡ seat.old.table_id) × (seat.new.me ≡ (without_first seat.old.me.0, seat.old.me.1)) }
+    ensures first { (result.table_id ≡ words.now.shared.table_id) × (result.me ≡ (first_own seat.old.me.0, [])) }
+{
+    words.shared.split_seat::<SplitsFirst>(seat)
+}
+
+/// Merges another's tracks into the owner's.
+pub(crate) fn merge(words: &FiledWords, seat: &mut FiledSeat, other: FiledSeat)
+    requires size { words.now.shared.table_id.words ≡ 72 }
+    requires table { seat.old.table_id ≡ words.now.shared.table_id }
+    requires other_table { other.table_id ≡ words.now.shared.table_id }
+    requires other { (other.me.0.locked ≡ []) × (other.me.0.may_begin ≡ false) × (other.me.1 ≡ []) }
+    ensures table { seat.new.table_id ≡ seat.old.table_id }
+    ensures merged { seat.new.me ≡ (merged_with seat.old.me.0 other.me.0, seat.old.me.1) }
+{
+    words.shared.join_seat::<Merges>(seat, other);
+}
+
+/// Makes a part's track one of the owner's.
+pub(crate) fn close(words: &FiledWords, seat: &mut FiledSeat, part: FiledSeat)
+    requires size { words.now.shared.table_id.words ≡ 72 }
+    requires table { seat.old.table_id ≡ words.now.shared.table_id }
+    requires part_table { part.table_id ≡ words.now.shared.table_id }
+    requires part { (part.me.0.own ≡ []) × (part.me.0.may_begin ≡ false) × (part.me.1 ≡ []) × AreSingle part.me.0.locked }
+    ensures table { seat.new.table_id ≡ seat.old.table_id }
+    ensures closed { seat.new.me ≡ (with_part seat.old.me.0 part.me.0, seat.old.me.1) }
+{
+    words.shared.join_seat::<Closes>(seat, part);
+}
+
+/// Attests the history.
+pub(crate) fn attest<J: ServerName>(words: &FiledWords, seat: &mut FiledSeat)
+    requires size { words.now.shared.table_id.words ≡ 72 }
+    requires table { seat.old.table_id ≡ words.now.shared.table_id }
+    requires key { words.now.shared.key ≡ J.first_job }
+    ensures kept { (seat.new.table_id ≡ seat.old.table_id) × (seat.new.me ≡ seat.old.me) }
+    ensures one { HasServerHistory J.first_job seat.old.me.0 }
+{
+    let _ = words.shared.load::<AttestsServer<J>>(seat, 0);
+}
+
+/// Reads a head word, and files that.
+pub(crate) fn look<X: FiledName>(words: &FiledWords, seat: &mut FiledSeat, slot: usize) -> u64
+    requires size { words.now.shared.table_id.words ≡ 72 }
+    requires table { seat.old.table_id ≡ words.now.shared.table_id }
+    requires slot { slot < 64 }
+    requires on { HasKey X.entry.who seat.old.me.0.own × HasKey X.entry.job seat.old.me.0.own }
+    requires keyed { (9 ≤ X.entry.who) × (X.entry.who < words.now.shared.key) × (words.now.shared.key ≤ X.entry.job) }
+    ensures table { seat.new.table_id ≡ seat.old.table_id }
+    ensures filed { seat.new.me ≡ (with_filed entry_keys (entry_of_look X.entry slot result) seat.old.me.0, seat.old.me.1) }
+{
+    words.shared.load::<LooksAtWord<X>>(seat, PADDING + slot)
+}
+
+/// Raises a head word to the greater of it and `word`, and files that.
+pub(crate) fn raise<X: FiledName>(words: &FiledWords, seat: &mut FiledSeat, slot: usize, word: u64)
+    requires size { words.now.shared.table_id.words ≡ 72 }
+    requires table { seat.old.table_id ≡ words.now.shared.table_id }
+    requires slot { slot < 64 }
+    requires on { HasKey X.entry.who seat.old.me.0.own × HasKey X.entry.job seat.old.me.0.own }
+    requires keyed { (9 ≤ X.entry.who) × (X.entry.who < words.now.shared.key) × (words.now.shared.key ≤ X.entry.job) }
+    ensures table { seat.new.table_id ≡ seat.old.table_id }
+    ensures filed { seat.new.me ≡ (with_filed entry_keys (entry_of_raise X.entry slot word) seat.old.me.0, seat.old.me.1) }
+{
+    words
+        .shared
+        .fetch_max::<RaisesHead<X>>(seat, PADDING + slot, word);
+}

@@ -1,0 +1,100 @@
+//! The rule of a server's book, and the moves that file an entry or read a word.
+ghost use Rattle.std.specs.Prelude.{◌≡◌};
+
+use crate::book::ServerName;
+use crate::entry::FiledEntry;
+use atomic_table::{Join, Play, TableRule};
+use fc_book::view::BookView;
+use std::marker::{Brand, PhantomData};
+
+/// The rule of a server's book, by the key of its first job's track.
+pub struct ServerRule;
+
+impl TableRule<u8, BookView<FiledEntry>, u64> for ServerRule {
+    ghost use Rattle.fc_book.specs.Tracks.{first_view};
+    ghost use Rattle.fc_filed.specs.Books.{HaveServerHistory};
+
+    ghost holds = { λ first_job s. HaveServerHistory first_job s.words s.views };
+
+    ghost first = { λ first_job. first_view };
+}
+
+/// The name of an entry that is filed. Each call that files chooses it.
+pub trait FiledName {
+    ghost use Rattle.fc_filed.specs.declared.entry.FiledEntry.{FiledEntry};
+
+    ghost entry: { FiledEntry };
+}
+
+impl FiledName for Brand {
+    ghost use Rattle.fc_filed.specs.Entries.{blank_entry};
+
+    ghost entry = { blank_entry };
+}
+
+/// Takes a part's track in, and files an entry.
+pub(crate) struct FilesEntry<X: FiledName> {
+    of: PhantomData<X>,
+}
+
+impl<X: FiledName> Join<BookView<FiledEntry>> for FilesEntry<X> {
+    ghost use Rattle.fc_book.specs.Tracks.{filed_with, no_tracks};
+    ghost use Rattle.fc_filed.specs.Entries.{entry_keys};
+
+    ghost both = { filed_with entry_keys X.entry };
+
+    ghost spent = { no_tracks };
+}
+
+/// Files an entry of no part, in a load of a word that is never written.
+pub(crate) struct FilesAlone<X: FiledName> {
+    of: PhantomData<X>,
+}
+
+impl<X: FiledName> Play<u8, BookView<FiledEntry>> for FilesAlone<X> {
+    ghost use Rattle.std.specs.Prelude.{◌≡◌};
+    ghost use Rattle.fc_book.specs.Tracks.{with_filed};
+    ghost use Rattle.fc_filed.specs.Entries.{entry_keys};
+
+    ghost then = { λ s v found w. w ≡ (with_filed entry_keys X.entry v.0, v.1) };
+}
+
+/// Attests the history.
+pub(crate) struct AttestsServer<J: ServerName> {
+    of: PhantomData<J>,
+}
+
+impl<J: ServerName> Play<u8, BookView<FiledEntry>> for AttestsServer<J> {
+    ghost use Rattle.std.specs.Prelude.{◌≡◌};
+    ghost use Rattle.fc_filed.specs.Books.{HasServerHistory};
+
+    ghost then = { λ s v found w. (w ≡ v) × HasServerHistory J.first_job v.0 };
+}
+
+/// Reads a head word, and files that in the same step.
+pub(crate) struct LooksAtWord<X: FiledName> {
+    of: PhantomData<X>,
+}
+
+impl<X: FiledName> Play<u8, BookView<FiledEntry>> for LooksAtWord<X> {
+    ghost use Rattle.std.specs.Prelude.{◌≡◌, ◌-◌};
+    ghost use Rattle.fc_book.specs.Tracks.{with_filed};
+    ghost use Rattle.fc_filed.specs.Entries.{entry_keys};
+    ghost use Rattle.fc_filed.specs.Threads.{entry_of_look};
+
+    ghost then = { λ s v found w. w ≡ (with_filed entry_keys (entry_of_look X.entry (s.word - 8) found) v.0, v.1) };
+}
+
+/// Raises a head word, and files that in the same step.
+pub(crate) struct RaisesHead<X: FiledName> {
+    of: PhantomData<X>,
+}
+
+impl<X: FiledName> Play<u8, BookView<FiledEntry>> for RaisesHead<X> {
+    ghost use Rattle.std.specs.Prelude.{◌≡◌, ◌-◌};
+    ghost use Rattle.fc_book.specs.Tracks.{with_filed};
+    ghost use Rattle.fc_filed.specs.Entries.{entry_keys};
+    ghost use Rattle.fc_filed.specs.Threads.{entry_of_raise};
+
+    ghost then = { λ s v found w. w ≡ (with_filed entry_keys (entry_of_raise X.entry (s.word - 8) s.first) v.0, v.1) };
+}
