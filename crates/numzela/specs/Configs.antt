@@ -17,7 +17,9 @@ are_prefixes (s ∷ ss) = is_prefix s && are_prefixes ss
 
 -- each field is in its range
 abbrev pub is_valid : Config → Bool
-is_valid c = nat_le c.manager_count 4 && nat_le c.exchanges 65536 && nat_le c.confirm_after 86400000 && nat_le c.first_serial 9223372036854775807 && are_prefixes c.managers
+is_valid c =
+    nat_le c.manager_count 4 && nat_le c.exchanges 65536 && nat_le c.confirm_after 86400000 && nat_le c.first_serial 9223372036854775807
+    && are_prefixes c.managers
 
 -- 0 stands for the default
 abbrev pub or_default : ℕ → ℕ → ℕ
@@ -30,7 +32,9 @@ network_for s = record { ip = s.address; bits = s.prefix }
 abbrev pub four_of : ℕ → Network → Network → Network → Network → List Network
 four_of count a b c d =
     if count == 0 then any_address ∷ any_address ∷ any_address ∷ any_address ∷ []
-    else (if count == 1 then a ∷ a ∷ a ∷ a ∷ [] else (if count == 2 then a ∷ b ∷ b ∷ b ∷ [] else (if count == 3 then a ∷ b ∷ c ∷ c ∷ [] else a ∷ b ∷ c ∷ d ∷ [])))
+    else (if count == 1 then a ∷ a ∷ a ∷ a ∷ []
+    else (if count == 2 then a ∷ b ∷ b ∷ b ∷ []
+    else (if count == 3 then a ∷ b ∷ c ∷ c ∷ [] else a ∷ b ∷ c ∷ d ∷ [])))
 
 abbrev pub managers_for : ℕ → List Subnet → List Network
 managers_for count (a ∷ b ∷ c ∷ d ∷ []) = four_of count (network_for a) (network_for b) (network_for c) (network_for d)

@@ -247,7 +247,8 @@ pub extern "C" fn numzela_program_run(
     reply: &mut [u8],
     response: &mut ResponseHead,
 ) -> u32
-    ensures ok { result ≡ OK → HasRunHeld program.old.value program.new.value (request_for request.now query.now payload.now) readings.now vars.old vars.new reply.new response.new }
+    ensures ok { result ≡ OK → HasRunHeld program.old.value program.new.value (request_for request.now query.now payload.now)
+        readings.now vars.old vars.new reply.new response.new }
     ensures kept { (result ≡ OK → ⊥) → (program.new.value ≡ program.old.value) × (vars.new ≡ vars.old) × (reply.new ≡ reply.old) }
     ensures empty { result ≡ EMPTY → program.old.value ≡ None }
     ensures range { result ≡ OUT_OF_RANGE → IsOutOfRange program.old.value request.now query.now payload.now vars.old reply.old }
@@ -279,7 +280,8 @@ fn run_loaded(
     reply: &mut [u8],
     response: &mut ResponseHead,
 ) -> u32
-    ensures ok { result ≡ OK → HasRunLoaded loaded.old loaded.new (request_for request.now query.now payload.now) readings.now vars.old vars.new reply.new response.new }
+    ensures ok { result ≡ OK → HasRunLoaded loaded.old loaded.new (request_for request.now query.now payload.now)
+        readings.now vars.old vars.new reply.new response.new }
     ensures kept { (result ≡ OK → ⊥) → (loaded.new ≡ loaded.old) × (vars.new ≡ vars.old) × (reply.new ≡ reply.old) }
     ensures range { result ≡ OUT_OF_RANGE → FitsRun loaded.old request.now query.now payload.now vars.old reply.old → ⊥ }
     ensures status { (result ≡ OK) ⊎ (result ≡ OUT_OF_RANGE) }

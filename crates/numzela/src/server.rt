@@ -183,7 +183,8 @@ pub extern "C" fn numzela_server_receive(
     readings: &Readings,
     out: &mut Datagram,
 ) -> u32
-    ensures received { (result ≡ EMPTY → ⊥) → HasReceivedHeld readings.now now from.now bytes.entry server.old.value server.new.value result out.new }
+    ensures received { (result ≡ EMPTY → ⊥)
+        → HasReceivedHeld readings.now now from.now bytes.entry server.old.value server.new.value result out.new }
     ensures empty { result ≡ EMPTY → (server.old.value ≡ None) × (server.new.value ≡ None) }
 {
     let Some(mut serving) = server.take(alloc) else {
