@@ -12,6 +12,8 @@ use Rattle.coap_client.specs.PeerCalls.{PeerCall, PeerError}
 use Rattle.coap_client.specs.declared.errand.Errand.{Errand}
 use Rattle.coap_client.specs.declared.errand.RequestTarget.{RequestTarget}
 use Rattle.coap_client.specs.declared.fetcher.FetchFault.{FetchFault}
+use Rattle.coap_client.specs.declared.fetcher.FetchFault.TheVariants as fault
+use Rattle.fc_cli.specs.Ending.{IsEnding}
 use Rattle.coap_msg.specs.Codes.{code_text}
 use Rattle.fc_cli.specs.declared.status.Status.{Status}
 use Rattle.fc_cli.specs.declared.status.Status.TheVariants.{Done, Refused, Bad, Failed}
@@ -47,6 +49,23 @@ pub record IsPrinted (shown : Shown) (code : ℕ) (answer : List ℕ) (before af
   pub text : Appends before after (answer_text shown code answer)
   pub status_is : status ≡ ending_of code
 
+-- the bytes of a success are in a file, and its code is printed
+pub record IsKept (code : ℕ) (answer : List ℕ) (before after kept_before kept : Option (List ℕ)) (status : Status) : Type 0 where
+  pub success : code / 32 ≡ 2
+  pub text : Appends before after (ended_line (code_text code))
+  pub bytes : Appends kept_before kept answer
+  pub status_is : status ≡ Done
+
+-- another answer is printed whole, and nothing is written to the file
+pub record IsNotKept (shown : Shown) (code : ℕ) (answer : List ℕ) (before after kept_before kept : Option (List ℕ)) (status : Status) : Type 0 where
+  pub other : (code / 32 ≡ 2) → ⊥
+  pub printed : IsPrinted shown code answer before after status
+  pub same : kept ≡ kept_before
+
+abbrev pub IsKeptOrPrinted : Shown → ℕ → List ℕ → Option (List ℕ) → Option (List ℕ) → Option (List ℕ) → Option (List ℕ) → Status → Type 0
+IsKeptOrPrinted shown code answer before after kept_before kept status =
+    IsKept code answer before after kept_before kept status ⊎ IsNotKept shown code answer before after kept_before kept status
+
 -- ---- why nothing is asked, or no answer is had: a command line that is bad, or a failure
 
 abbrev pub address_status : AddressError → Status
@@ -62,16 +81,38 @@ stop_status (stop.Address error) = address_status error
 stop_status (stop.Path error) = path_status error
 stop_status stop.Argument = Bad
 stop_status stop.Room = Bad
+stop_status stop.Resource = Bad
 stop_status other = Failed
+
+-- the random bytes can't be drawn
+abbrev pub IsOfRandom : FetchStop → Type 0
+IsOfRandom (stop.Random error) = Unit {0}
+IsOfRandom other = ⊥
+
+-- the server can't be connected to
+abbrev pub IsUnconnected : FetchFault → Type 0
+IsUnconnected (fault.Socket error) = Unit {0}
+IsUnconnected other = ⊥
+
+abbrev pub IsOfConnecting : FetchStop → Type 0
+IsOfConnecting (stop.Fault f) = IsUnconnected f
+IsOfConnecting other = ⊥
+
+-- a client stops for this reason, and ends as that says, or by a failure where the reason can't be told
+pub record HasStopped (Stops : FetchStop → Type 0) (status : Status) : Type 0 where
+  pub reason : FetchStop
+  pub stops : Stops reason
+  pub status_is : IsEnding (stop_status reason) status
 
 -- ---- what is asked
 
--- the errand has the method and the type of message that are asked for, this resource and this body
+-- the errand has the method, the type of message and the Content-Format that are asked for, this resource and this body
 pub record IsAsking (asking : FetchOptions) (target : RequestTarget) (body : List ℕ) (e : Errand) : Type 0 where
   pub confirmable : e.confirmable ≡ asking.confirmable
   pub method : e.method ≡ asking.method
   pub target_is : e.target ≡ target
   pub body_is : e.payload.now ≡ body
+  pub format_is : e.content_format ≡ asking.content_format
 
 -- a fetch of such an errand, by requests whose ids begin with this one, ends so
 pub record IsFetchedBy (went came : List ℕ → Type 0) (before after : List PeerCall → Type 0) (asking : FetchOptions) (target : RequestTarget) (body : List ℕ) (first code : ℕ)
@@ -117,6 +158,16 @@ pub record IsAnswerShown (Has : ℕ → List ℕ → Type 0) (shown : Shown) (be
   pub has : Has code answer
   pub printed : IsPrinted shown code answer before after status
 
+-- or its bytes are kept in a file
+pub record IsAnswerKept (Has : ℕ → List ℕ → Type 0) (shown : Shown) (before after kept_before kept : Option (List ℕ)) (status : Status) : Type 0 where
+  pub code : ℕ
+  pub answer : List ℕ
+  pub has : Has code answer
+  pub is : IsKeptOrPrinted shown code answer before after kept_before kept status
+
 -- or the client ends as a bad command line or a failure does
 abbrev pub IsAnswered : (ℕ → List ℕ → Type 0) → Shown → Option (List ℕ) → Option (List ℕ) → Status → Type 0
 IsAnswered Has shown before after status = IsAnswerShown Has shown before after status ⊎ ((status ≡ Bad) ⊎ (status ≡ Failed))
+
+abbrev pub IsAnsweredTo : (ℕ → List ℕ → Type 0) → Shown → Option (List ℕ) → Option (List ℕ) → Option (List ℕ) → Option (List ℕ) → Status → Type 0
+IsAnsweredTo Has shown before after kept_before kept status = IsAnswerKept Has shown before after kept_before kept status ⊎ ((status ≡ Bad) ⊎ (status ≡ Failed))

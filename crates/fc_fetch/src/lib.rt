@@ -33,16 +33,20 @@
 #![tactic(auto)]
 
 pub mod address;
+pub mod asking;
 pub mod client;
 pub mod connector;
+pub mod late_file;
 pub mod laws;
 pub mod observer;
 pub mod operation;
+pub mod ping;
 pub mod printer;
 pub mod resource;
 
-pub use client::{FetchOptions, fetch};
+pub use client::{FetchOptions, fetch, fetch_to};
 pub use connector::{Connector, System};
 pub use observer::{Observing, observe};
-pub use operation::{Operation, operation_of};
+pub use operation::{Asking, BodySource, Operation, operation_of};
+pub use ping::Pinging;
 pub use printer::Shown;

@@ -142,7 +142,7 @@ fn finish<E: Write>(err: &mut E, end: ObservationEnd) -> Status
         ObservationEnd::Counted | ObservationEnd::Over => Status::Done,
         ObservationEnd::Last(code) if code.class() == SUCCESS => tell(
             err,
-            &"the answer has no Observe: the server doesn't notify of changes",
+            &"the answer has no Observe: the server doesn't notify of changes, or has no place for another observer",
             Status::Refused,
         ),
         ObservationEnd::Last(_) => Status::Refused,

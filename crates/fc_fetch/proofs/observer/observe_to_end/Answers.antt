@@ -15,7 +15,7 @@ returns-in-Some g c =
     (g.W.Write.contents c.args.out.now) (g.W.Write.contents c.observe_errand.new.out))
     (λ end h. record {
       address = address;
-      address_is = c.in_ok-address.ensures;
+      address_is = c.in_ok-address.ensures.address;
       errand = errand;
       target_is = subst (IsResourceOf address) (sym c.in-Some.ensures.errand.2) c.in_ok-target.ensures.resource;
       observed = h;
