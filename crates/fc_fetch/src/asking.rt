@@ -25,7 +25,7 @@ pub fn ask_by<C: Connector, R: Files, I: Read, W: Write, E: Write>(
     err: &mut E,
     asking: &Asking<'_>,
 ) -> Status
-    ensures asked { IsAskedFor C.connected C.drawn C.Server.went C.Server.came C.Server.called asking.now (I.remaining input.old)
+    ensures asked { IsAskedFor C.connected C.drawn C.Server.went C.Server.came C.Server.is_error C.Server.called asking.now (I.remaining input.old)
         (W.contents out.old) (W.contents out.new) result }
     ensures unread { IsUnread asking.now.body input.old input.new }
 {
@@ -70,7 +70,7 @@ fn answer_to<C: Connector, R: Files, I: Read, W: Write, E: Write>(
     err: &mut E,
     asking: &Asking<'_>,
 ) -> Status
-    ensures { IsAskedBy C.connected C.drawn C.Server.went C.Server.came C.Server.called asking.now (I.remaining input.old)
+    ensures { IsAskedBy C.connected C.drawn C.Server.went C.Server.came C.Server.is_error C.Server.called asking.now (I.remaining input.old)
         (W.contents out.old) (W.contents out.new) result }
 {
     let options = &asking.options;

@@ -4,7 +4,9 @@ ghost use Rattle.std.specs.Prelude.{◌≡◌, ◌⊎◌, IfErr, IfNone, IfOk, I
 ghost use Rattle.coap_msg.specs.Codes.{code_text};
 ghost use Rattle.coap_client.specs.Transmissions.{MakesCalls};
 ghost use Rattle.fc_fetch.specs.Connecting.{IsDrawnId};
-ghost use Rattle.fc_fetch.specs.Fetching.{HasNoRoom, IsAnswerTo, IsAnswered, IsAnsweredTo, IsFaultOf, IsFetchedBy, IsKeptOrPrinted, IsOfConnecting, IsOfRandom, IsPrinted, ended_line, stop_status};
+ghost use Rattle.fc_fetch.specs.Fetching.{HasNoRoom, IsAnswerTo, IsAnswered, IsAnsweredTo, IsFaultOf, IsFetchStop, IsFetchedBy, IsKeptOrPrinted, IsOfConnecting, IsOfInput, IsOfRandom, IsPrinted, IsTargetStop, NamesNoResource, ended_line, stop_status};
+ghost use Rattle.fc_fetch.specs.Addresses.{IsAddress};
+ghost use Rattle.fc_fetch.specs.Resources.{IsResourceOf};
 ghost use Rattle.fc_cli.specs.Ending.{IsEnding};
 ghost use Rattle.fc_cli.specs.declared.status.Status.TheVariants.{Bad, Failed};
 
@@ -48,7 +50,7 @@ pub struct FetchOptions<'a> {
 #[derive(Debug, Drop, Error)]
 pub(crate) enum FetchStop<'a> {
     #[error("{0}")]
-    Address(#[from] AddressError),
+    Address(#[source] AddressError),
     #[error("{0}")]
     Path(#[source] PathError),
     #[error("an argument of the query has more than 255 bytes")]
@@ -62,21 +64,11 @@ pub(crate) enum FetchStop<'a> {
     #[error("random bytes: {0}")]
     Random(io::Error),
     #[error("{0}")]
-    Fault(#[from] FetchFault),
+    Fault(#[source] FetchFault),
     #[error("{0}")]
-    Notes(#[from] NotesError),
+    Notes(#[source] NotesError),
     #[error("{0}")]
-    Memory(#[from] AllocError),
-}
-
-impl<'a> From<ResourceError> for FetchStop<'a> {
-    fn from(error: ResourceError) -> FetchStop<'a> {
-        match error {
-            ResourceError::Path(fault) => FetchStop::Path(fault),
-            ResourceError::Argument => FetchStop::Argument,
-            ResourceError::NoMemory => FetchStop::Memory(AllocError),
-        }
-    }
+    Memory(#[source] AllocError),
 }
 
 impl<'a> FetchStop<'a> {
@@ -129,6 +121,7 @@ pub fn fetch_by<C: Connector, I: Read, W: Write, E: Write>(
     asking: &FetchOptions<'_>,
 ) -> Status
     ensures { IsAnswered (IsAnswerTo C.connected C.drawn C.Server.went C.Server.came C.Server.called asking.now (I.remaining input.old))
+        (IsFetchStop C.connected C.drawn C.Server.went C.Server.came C.Server.is_error C.Server.called asking.now (I.remaining input.old))
         asking.now.shown (W.contents out.old) (W.contents out.new) result }
 {
     match answer(connector, alloc, input, asking) {
@@ -166,6 +159,7 @@ pub fn fetch_to_by<C: Connector, I: Read, W: Write, F: Write, E: Write>(
     asking: &FetchOptions<'_>,
 ) -> Status
     ensures { IsAnsweredTo (IsAnswerTo C.connected C.drawn C.Server.went C.Server.came C.Server.called asking.now (I.remaining input.old))
+        (IsFetchStop C.connected C.drawn C.Server.went C.Server.came C.Server.is_error C.Server.called asking.now (I.remaining input.old))
         asking.now.shown (W.contents out.old) (W.contents out.new) (F.contents file.old) (F.contents file.new) result }
 {
     match answer(connector, alloc, input, asking) {
@@ -181,17 +175,51 @@ fn answer<'a, C: Connector, I: Read>(
     input: &mut I,
     asking: &FetchOptions<'a>,
 ) -> Result<Fetched, FetchStop<'a>>
-    ensures { IfOk result (λ f. IsAnswerTo C.connected C.drawn C.Server.went C.Server.came C.Server.called asking.now (I.remaining input.old)
+    ensures answer { IfOk result (λ f. IsAnswerTo C.connected C.drawn C.Server.went C.Server.came C.Server.called asking.now (I.remaining input.old)
         f.code.byte f.body.items) }
+    ensures stop { IfErr result (IsFetchStop C.connected C.drawn C.Server.went C.Server.came C.Server.is_error C.Server.called asking.now
+        (I.remaining input.old)) }
 {
-    let address = Address::parse(alloc, asking.target, asking.port)?;
-    let target = resource_of(alloc, &address)?;
+    let address = address_of(alloc, asking.target, asking.port)?;
+    let target = resource_at(alloc, &address)?;
     let payload = body_of(alloc, input, asking.source)?;
     let id = first_id(connector)?;
     let mut server = connect(connector, address.server)?;
-    match fetch_from(alloc, &mut server, asking, target, &payload, id)? {
-        Some(fetched) => Ok(fetched),
-        None => Err(FetchStop::Room),
+    match fetch_from(alloc, &mut server, asking, target, &payload, id) {
+        Ok(Some(fetched)) => Ok(fetched),
+        Ok(None) => Err(FetchStop::Room),
+        Err(fault) => Err(FetchStop::Fault(fault)),
+    }
+}
+
+// The address of a target.
+pub(crate) fn address_of<'a>(
+    alloc: Global,
+    target: &str,
+    port: Option<u16>,
+) -> Result<Address, FetchStop<'a>>
+    ensures address { IfOk result (IsAddress target.now port) }
+    ensures stop { IfErr result (IsTargetStop target.now port) }
+{
+    match Address::parse(alloc, target, port) {
+        Ok(address) => Ok(address),
+        Err(error) => Err(FetchStop::Address(error)),
+    }
+}
+
+// The resource that an address names.
+pub(crate) fn resource_at<'a, 'b>(
+    alloc: Global,
+    address: &'b Address,
+) -> Result<RequestTarget<'b>, FetchStop<'a>>
+    ensures resource { IfOk result (IsResourceOf address.entry.now) }
+    ensures stop { IfErr result (NamesNoResource address.entry.now) }
+{
+    match resource_of(alloc, address) {
+        Ok(target) => Ok(target),
+        Err(ResourceError::Path(fault)) => Err(FetchStop::Path(fault)),
+        Err(ResourceError::Argument) => Err(FetchStop::Argument),
+        Err(ResourceError::NoMemory) => Err(FetchStop::Memory(AllocError)),
     }
 }
 
@@ -201,7 +229,8 @@ fn body_of<'a, I: Read>(
     input: &mut I,
     source: &'a str,
 ) -> Result<Vec<u8>, FetchStop<'a>>
-    ensures { IfOk result (λ body. IfSome (I.remaining input.old) (λ bytes. body.items ≡ bytes)) }
+    ensures body { IfOk result (λ body. IfSome (I.remaining input.old) (λ bytes. body.items ≡ bytes)) }
+    ensures stop { IfErr result (IsOfInput source.now) }
 {
     let mut payload = Vec::new(alloc);
     match input.read_to_end(&mut payload) {

@@ -1,4 +1,4 @@
-use Rattle.std.proofs.Common.{◌≡◌, ◌∙◌, Some, false, refl, subst, sym}
+use Rattle.std.proofs.Common.{◌∙◌, refl, subst, sym}
 use Rattle.fc_fetch.specs.Pinging.{IsServerOf}
 use Rattle.fc_fetch.proofs.ping.endpoint_of.Goals as goal
 
