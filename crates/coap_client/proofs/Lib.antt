@@ -10,6 +10,7 @@ mod JoinedAnswers
 mod TakenBlocks
 pub mod Scheduled
 pub mod Resets
+pub mod Pinging
 pub mod Observes
 pub mod ObserverCalls
 pub mod Watching

@@ -8,6 +8,7 @@ use Rattle.coap_client.specs.Listening.{EndsOn}
 use Rattle.coap_client.specs.Notes.{TellsObserver}
 use Rattle.coap_client.specs.ObserverCalls.{IsPassedOverLeaving}
 use Rattle.coap_client.specs.PeerCalls.{PeerCall}
+use Rattle.coap_client.specs.Pings.{IsPinged}
 use Rattle.coap_client.specs.Replies.{IsReset}
 use Rattle.coap_client.specs.Schedules.{EndsByReset}
 use Rattle.coap_client.specs.Transmissions.{IsLastSending}
@@ -54,5 +55,10 @@ reset_registering token id request calls s = reset_of (TellsObserver token id) i
 
 pub reset_leaving : (token : List ℕ) (id : ℕ) (request : List ℕ) (calls : List PeerCall) → IsLastSending (IsPassedOverLeaving token id) request (IsRejectedLeaving token id) calls → EndsByReset id calls
 reset_leaving token id request calls s =
+    let ends = s.sending.ends in
+    behind id s.last s.older calls (behind id s.sending.heard _ s.last (ended_by_reset _ id ends.bytes s.sending.heard ends.rejects ends.ends) s.sending.is) s.is
+
+pub reset_ponging : (id : ℕ) (calls : List PeerCall) → IsPinged id calls → EndsByReset id calls
+reset_ponging id calls s =
     let ends = s.sending.ends in
     behind id s.last s.older calls (behind id s.sending.heard _ s.last (ended_by_reset _ id ends.bytes s.sending.heard ends.rejects ends.ends) s.sending.is) s.is

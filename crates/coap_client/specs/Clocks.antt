@@ -1,9 +1,24 @@
 -- How long a client's socket waits, by the readings of its clock.
-use Rattle.std.specs.Prelude.{◌≡◌, ℕ, ◌+◌, ◌-◌, ◌*◌, ◌/◌, min}
+use Rattle.std.specs.Prelude.{◌≡◌, ℕ, ◌+◌, ◌-◌, ◌*◌, ◌/◌, ◌≤◌, Bool, true, false, min}
 use Rattle.std.specs.Duration.{as_nanos}
 use Rattle.std.specs.Time.{FitsClock, instant_nanos}
+use Rattle.std.specs.declared.io.ErrorKind.{ErrorKind}
+use Rattle.std.specs.declared.io.ErrorKind.TheVariants.{WouldBlock, TimedOut, Interrupted}
 use Rattle.std.specs.declared.time.Duration.{Duration}
 use Rattle.std.specs.declared.time.Instant.{Instant}
+
+-- a receive fails so where nothing came in time, or a signal interrupted it: the wait goes on
+abbrev pub is_transient : ErrorKind → Bool
+is_transient WouldBlock = true
+is_transient TimedOut = true
+is_transient Interrupted = true
+is_transient kind = false
+
+-- a reading of the clock is at the end of a wait, or behind it
+pub record IsWaitOver (is_read : Instant → Type 0) (until : Instant) : Type 0 where
+  pub now : Instant
+  pub read_is : is_read now
+  pub over : instant_nanos until ≤ instant_nanos now
 
 -- a wait of so many seconds that begins at a reading of the clock ends then
 pub record IsEndOfWait (is_read : Instant → Type 0) (seconds : ℕ) (until : Instant) : Type 0 where

@@ -15,3 +15,4 @@ pub mod Notes
 pub mod ObserverCalls
 pub mod Schedules
 pub mod Faults
+pub mod Pings

@@ -3,7 +3,7 @@
 use Rattle.std.specs.Prelude.{ℕ, ◌+◌, ◌*◌, ◌≤◌, ◌^◌, nat_lt, Bool, true, false, min, if◌then◌else◌, List, [], ◌∷◌, ◌++◌, length, take, drop, map, sum_by, Option, Some, None}
 use Rattle.coap_msg.specs.declared.types.MessageType.{MessageType}
 use Rattle.coap_msg.specs.declared.types.MessageType.TheVariants.{Confirmable, NonConfirmable}
-use Rattle.coap_opts.specs.Values.{block_bytes, block_size}
+use Rattle.coap_opts.specs.Values.{block_bytes, block_size, uint_bytes}
 use Rattle.coap_opts.specs.declared.number.TheConstants as option
 use Rattle.coap_opts.specs.declared.request.Method.{Method}
 use Rattle.coap_opts.specs.declared.request.Method.TheVariants.{Get, Put}
@@ -53,9 +53,28 @@ block_option n more szx = block_bytes (record { number = n; more = more; szx = s
 abbrev pub numbered : ℕ → List (List ℕ) → List (ℕ × List ℕ)
 numbered number values = map (λ v. (number, v)) values
 
+-- the Content-Format of a payload, where one is given (RFC 7252, 5.10.3)
+abbrev pub format_option : Option ℕ → List (ℕ × List ℕ)
+format_option None = []
+format_option (Some format) = (option.CONTENT_FORMAT, uint_bytes format) ∷ []
+
+-- a request goes with the body, whole or by a block of it; one that asks for a further block of the answer does so where it is a GET
+abbrev pub brings_body : Method → Part → Bool
+brings_body Get part = true
+brings_body method (Answer n szx) = false
+brings_body method part = true
+
+-- the Content-Format goes where the body does
+abbrev pub format_options : Method → Part → Option ℕ → List (ℕ × List ℕ)
+format_options method part format = if brings_body method part then format_option format else []
+
 -- the resource: its path and its query (RFC 7252, 5.10.1)
 abbrev pub resource_options : List (List ℕ) → List (List ℕ) → List (ℕ × List ℕ)
 resource_options segments query = numbered option.URI_PATH segments ++ numbered option.URI_QUERY query
+
+-- with the Content-Format between the two, by the order of the options' numbers (RFC 7252, 3.1)
+abbrev pub request_options : List (List ℕ) → List (ℕ × List ℕ) → List (List ℕ) → List (ℕ × List ℕ)
+request_options segments format query = numbered option.URI_PATH segments ++ (format ++ numbered option.URI_QUERY query)
 
 abbrev pub part_options : Part → ℕ → List (ℕ × List ℕ)
 part_options Whole count = []

@@ -9,7 +9,7 @@ use Rattle.coap_client.specs.declared.errand.Errand.{Errand}
 use Rattle.coap_client.specs.declared.part.Part.{Part}
 use Rattle.coap_client.specs.declared.part.Part.TheVariants.{Whole, Body, Answer}
 use Rattle.coap_client.specs.Paths.{slices_in}
-use Rattle.coap_client.specs.Parts.{largest_szx, most_at_once, part_options, part_payload, request_kind, resource_options}
+use Rattle.coap_client.specs.Parts.{format_options, largest_szx, most_at_once, part_options, part_payload, request_kind, request_options}
 
 -- a block's number has 20 bits, and no block is larger than 1,024 bytes (RFC 7959, 2.2)
 pub record IsBlock (n szx : ℕ) : Type 0 where
@@ -35,7 +35,9 @@ part_request e part id = record {
   code = method_code e.method;
   id = id;
   token = [];
-  options = resource_options (slices_in e.target.path.segments.items) (slices_in e.target.query.items) ++ part_options part (length e.payload.now);
+  options =
+      request_options (slices_in e.target.path.segments.items) (format_options e.method part e.content_format) (slices_in e.target.query.items)
+      ++ part_options part (length e.payload.now);
   payload = part_payload e.method e.payload.now part;
 }
 

@@ -1,17 +1,18 @@
 //! What a client asks, and the requests that ask it.
-ghost use Rattle.std.specs.Prelude.{◌≡◌, ◌+◌, ◌*◌, ◌<◌, ◌≤◌, ◌++◌, ◌↔◌, IfOk, IfSome, IsNone, OnOk, length, min, sum_by};
+ghost use Rattle.std.specs.Prelude.{◌≡◌, ◌+◌, ◌*◌, ◌<◌, ◌≤◌, ◌++◌, ◌↔◌, IfOk, IfSome, IsNone, None, OnOk, Some, length, min, sum_by};
 ghost use Rattle.coap_msg.specs.Wire.{message_bytes};
 ghost use Rattle.coap_msg.specs.Writing.{options_in};
 ghost use Rattle.coap_client.specs.Paths.{slices_in};
-ghost use Rattle.coap_client.specs.Parts.{FitsDatagrams, option_in, option_room, numbered, resource_options};
+ghost use Rattle.coap_client.specs.Parts.{FitsDatagrams, format_options, option_in, option_room, numbered, request_options};
 ghost use Rattle.coap_client.specs.Parts as spec;
 ghost use Rattle.coap_opts.specs.Fields as fields;
+ghost use Rattle.coap_opts.specs.Values.{uint_bytes};
 
 use crate::part::Part;
 use crate::path::Path;
 use coap_msg::{Code, Datagram, MessageType, Outgoing, write};
-use coap_opts::number::{BLOCK1, BLOCK2, URI_PATH, URI_QUERY};
-use coap_opts::{Block, Method, UintBytes};
+use coap_opts::number::{BLOCK1, BLOCK2, CONTENT_FORMAT, URI_PATH, URI_QUERY};
+use coap_opts::{Block, Method, UintBytes, encode_uint};
 use std::alloc::{AllocError, Global};
 
 /// The bytes of the largest block.
@@ -36,13 +37,14 @@ pub struct RequestTarget<'a> {
     pub query: Vec<&'a [u8]>,
 }
 
-/// What is asked: a method of a resource, and the request's body, by confirmable requests or others. Each of them fits a datagram.
+/// What is asked: a method of a resource, and the request's body, with its Content-Format if one is given, by confirmable requests or others. Each of them fits a datagram.
 #[derive(Drop)]
 pub struct Errand<'a> {
     pub confirmable: bool,
     pub method: Method,
     pub target: RequestTarget<'a>,
     pub payload: &'a [u8],
+    pub content_format: Option<u16>,
     ghost fits: { FitsDatagrams method (slices_in target.path.segments.items) (slices_in target.query.items) payload.now },
 }
 
@@ -60,6 +62,7 @@ impl<'a> Errand<'a> {
     ) -> Option<Errand<'a>>
         ensures errand { IfSome result (λ e. (e.confirmable ≡ confirmable) × (e.method ≡ method)
             × (e.target ≡ target.entry) × (e.payload ≡ payload.entry)) }
+        ensures no_format { IfSome result (λ e. e.content_format ≡ None) }
         ensures none { IsNone result ↔ (FitsDatagrams method (slices_in target.entry.path.segments.items)
             (slices_in target.entry.query.items) payload.entry.now → ⊥) }
     {
@@ -72,9 +75,32 @@ impl<'a> Errand<'a> {
                 method,
                 target,
                 payload,
+                content_format: None,
             })
         } else {
             None
+        }
+    }
+
+    /// Returns the errand with this Content-Format of its body, by its number (RFC 7252, 12.3).
+    pub fn with_content_format(self, format: u16) -> Errand<'a>
+        ensures format { result.content_format ≡ Some format }
+        ensures others { (result.confirmable ≡ self.entry.confirmable) × (result.method ≡ self.entry.method)
+            × (result.target ≡ self.entry.target) × (result.payload ≡ self.entry.payload) }
+    {
+        let Errand {
+            confirmable,
+            method,
+            target,
+            payload,
+            ..
+        } = self;
+        Errand {
+            confirmable,
+            method,
+            target,
+            payload,
+            content_format: Some(format),
         }
     }
 
@@ -116,8 +142,9 @@ impl<'a> Errand<'a> {
         requires { IsPartOf self.now part }
         ensures { OnOk result (datagram.new.items ≡ message_bytes (part_request self.now part id)) }
     {
+        let format = self.format_of(part);
         let block = self.block_of(part);
-        let options = options_with(alloc, &self.target, &block)?;
+        let options = options_with(alloc, &self.target, &format, &block)?;
         let request = Outgoing {
             kind: request_kind(self.confirmable),
             code: method_code(self.method),
@@ -128,6 +155,19 @@ impl<'a> Errand<'a> {
         };
         write(&request, datagram);
         Ok(())
+    }
+
+    // The Content-Format of a part's request: it goes where the body does.
+    fn format_of(&self, part: Part) -> Option<(u16, UintBytes)>
+        ensures format { option_in result ≡ format_options self.now.method part self.now.content_format }
+        ensures short { IfSome result (λ o. (o.0 ≡ CONTENT_FORMAT) × (length o.1.items ≤ 2)) }
+    {
+        match self.content_format {
+            Some(format) if brings_body(self.method, part) => {
+                Some((CONTENT_FORMAT, encode_format(format)))
+            }
+            _ => None,
+        }
     }
 
     // The block option of a part's request.
@@ -164,6 +204,24 @@ impl<'a> Errand<'a> {
                 Method::Post | Method::Put | Method::Delete => &[],
             },
         }
+    }
+}
+
+// The number of a Content-Format, in two bytes at most.
+fn encode_format(format: u16) -> UintBytes
+    ensures bytes { result.items ≡ uint_bytes format }
+    ensures short { length result.items ≤ 2 }
+{
+    encode_uint(u64::from(format))
+}
+
+// Whether a part's request brings the body, or some of it.
+fn brings_body(method: Method, part: Part) -> bool
+    ensures { result ≡ spec.brings_body method part }
+{
+    match part {
+        Part::Whole | Part::Body { .. } => true,
+        Part::Answer { .. } => method == Method::Get,
     }
 }
 
@@ -209,22 +267,35 @@ fn room_of(values: &[&[u8]]) -> usize
     room
 }
 
-// The options of a request: its resource, and a block.
+// The options of a request: its resource, with the format of its body before the query, and a block.
 fn options_with<'a>(
     alloc: Global,
     target: &'a RequestTarget<'a>,
+    format: &'a Option<(u16, UintBytes)>,
     block: &'a Option<(u16, UintBytes)>,
 ) -> Result<Vec<(u16, &'a [u8])>, AllocError>
-    ensures { IfOk result (λ v. options_in v.items ≡ resource_options (slices_in target.entry.now.path.segments.items)
-        (slices_in target.entry.now.query.items) ++ option_in block.entry.now) }
+    ensures { IfOk result (λ v. options_in v.items ≡ request_options (slices_in target.entry.now.path.segments.items)
+        (option_in format.entry.now) (slices_in target.entry.now.query.items) ++ option_in block.entry.now) }
 {
     let mut options = Vec::new(alloc);
     push_options(&mut options, URI_PATH, &target.path.segments)?;
+    push_option(&mut options, format)?;
     push_options(&mut options, URI_QUERY, &target.query)?;
-    if let Some((number, value)) = block {
+    push_option(&mut options, block)?;
+    Ok(options)
+}
+
+// Adds an option, if there is one.
+fn push_option<'a>(
+    options: &mut Vec<(u16, &'a [u8])>,
+    option: &'a Option<(u16, UintBytes)>,
+) -> Result<(), AllocError>
+    ensures { OnOk result (options_in options.new.items ≡ options_in options.old.items ++ option_in option.entry.now) }
+{
+    if let Some((number, value)) = option {
         options.push((*number, value.as_slice()))?;
     }
-    Ok(options)
+    Ok(())
 }
 
 // Adds an option of this number for each value.

@@ -2,18 +2,21 @@
 ghost use Rattle.std.specs.Prelude.{◌≡◌, ◌+◌, ◌*◌, ◌%◌, ◌<◌, ◌≤◌, ◌⊎◌, ℕ, Bool, List, [], ◌∷◌, Option, Some, None, codes, drop, false, length, take, true};
 ghost use Rattle.coap_msg.specs.Wire.{Message, SpellsMessage, message_bytes};
 ghost use Rattle.coap_opts.specs.Values.{block_bytes};
-ghost use Rattle.coap_opts.specs.declared.request.Method.TheVariants.{Put};
+ghost use Rattle.coap_opts.specs.declared.request.Method.TheVariants.{Get, Post, Put};
 ghost use Rattle.coap_client.specs.Listening.{is_passed_over};
 ghost use Rattle.coap_client.specs.declared.transmission.Reception.TheVariants as reception;
 ghost use Rattle.coap_client.specs.declared.errand.Errand.{Errand};
 ghost use Rattle.coap_client.specs.declared.part.Part.{Part};
-ghost use Rattle.coap_client.specs.declared.part.Part.TheVariants.{Body, Whole};
+ghost use Rattle.coap_client.specs.declared.part.Part.TheVariants.{Answer, Body, Whole};
+ghost use Rattle.coap_client.specs.Pings.{IsPinged, IsPingedInVain, own_calls, ping_bytes};
+ghost use Rattle.coap_client.specs.Clocks.{is_transient};
+ghost use Rattle.std.specs.declared.io.ErrorKind.TheVariants.{ConnectionRefused, Interrupted, NetworkDown, TimedOut, WouldBlock};
 ghost use Rattle.coap_client.specs.declared.notice.Notice.TheVariants.{Last, State};
 ghost use Rattle.coap_client.specs.declared.notice.Interest.TheVariants.{Deregister, Register};
 ghost use Rattle.coap_client.specs.declared.observing.Observer.{Observer};
 ghost use Rattle.coap_client.specs.Heard.{Tells};
 ghost use Rattle.coap_client.specs.Notices.{can_be_shown, is_newer, notice_of, observe_request};
-ghost use Rattle.coap_client.specs.Parts.{first_part, part_options, part_payload};
+ghost use Rattle.coap_client.specs.Parts.{first_part, format_option, format_options, part_options, part_payload, request_options};
 ghost use Rattle.coap_client.specs.PeerCalls.{PeerCall, Sends, Waits};
 ghost use Rattle.coap_client.specs.Faults.{IsRejectedLeaving, IsRejection, IsSilence, deregistration_of, leaving_id, registration_of};
 ghost use Rattle.coap_client.specs.Notes.{TellsObserver};
@@ -198,6 +201,32 @@ pub fn waits_pass_over_what_does_not_answer()
 pub fn messages_leave_room_in_the_buffer()
     ensures buffer { BUFFER ≡ 1281 }
     ensures message { (bytes : List ℕ) (m : Message) → SpellsMessage bytes m → length bytes < 1281 }
+{}
+
+/// A ping has its id and nothing else: of id 7 it is the four bytes 64, 0, 0 and 7. One that isn't answered is sent five times, and waited for 2, 4, 8, 16 and 32 seconds;
+/// one that is answered was sent and waited for so far. Nothing else is sent. The last datagram that came is a Reset message with the ping's id (RFC 7252, 4.2 and 4.3).
+pub fn pings_are_sent_by_the_schedule()
+    ensures bytes { ping_bytes 7 ≡ 64 ∷ 0 ∷ 0 ∷ 7 ∷ [] }
+    ensures unanswered { (id : ℕ) (calls : List PeerCall) → IsPingedInVain id calls → own_calls calls ≡ full_schedule (ping_bytes id) }
+    ensures answered { (id : ℕ) (calls : List PeerCall) → IsPinged id calls → BeginsSchedule (ping_bytes id) (own_calls calls) }
+    ensures pong { (id : ℕ) (calls : List PeerCall) → IsPinged id calls → EndsByReset id calls }
+{}
+
+/// A Content-Format, option 12, stands between path and query: 50, which is JSON, has one byte, and 0, which is plain text, none (RFC 7252, 12.3). It goes with each block
+/// of a PUT's body, and again with a GET that asks for a further block of the answer; another method that asks so goes without its body, and so without it.
+pub fn formats_go_with_bodies()
+    ensures json { (path query : List ℕ) → request_options (path ∷ []) (format_option (Some 50)) (query ∷ [])
+        ≡ (11, path) ∷ (12, 50 ∷ []) ∷ (15, query) ∷ [] }
+    ensures text { format_option (Some 0) ≡ (12, []) ∷ [] }
+    ensures block { (n : ℕ) (format : Option ℕ) → format_options Put (Body n 6) format ≡ format_option format }
+    ensures again { (n : ℕ) (format : Option ℕ) → format_options Get (Answer n 6) format ≡ format_option format }
+    ensures further { (n : ℕ) (format : Option ℕ) → (format_options Post (Answer n 6) format ≡ []) × (format_options Put (Answer n 6) format ≡ []) }
+{}
+
+/// A receive that is interrupted by a signal, or in which nothing came in time, ends no wait; one that nobody hears does: its port is closed, or its network is down.
+pub fn interruptions_end_no_wait()
+    ensures interrupted { (is_transient Interrupted ≡ true) × (is_transient WouldBlock ≡ true) × (is_transient TimedOut ≡ true) }
+    ensures closed { (is_transient ConnectionRefused ≡ false) × (is_transient NetworkDown ≡ false) }
 {}
 
 /// A path's segments are counted from 1: in `/` and `//a` segment 1 is empty.

@@ -1,4 +1,4 @@
-//! A client's requests, what it makes of replies, and the fetch over both; an observer; a server as a client has it.
+//! A client's requests, what it makes of replies, and the fetch over both; an observer; a ping; a server as a client has it.
 //!
 //! # What is proved
 //!
@@ -6,7 +6,8 @@
 //!   counted from 1, and which of these it is; or it begins with no slash.
 //! - A datagram is received into 1,281 bytes, one more than a message has at most; one that fills them may be cut, and is passed over.
 //! - Each request of an errand is a message that fits a datagram, of the whole body, a block of it, or a block option that asks for a
-//!   further block of the answer, in the size that the server named last.
+//!   further block of the answer, in the size that the server named last. A Content-Format, if the errand has one, goes with each request that brings the
+//!   body or a block of it, between the path and the query.
 //! - A datagram answers a request in its acknowledgement or in a message of its own, acknowledges it, rejects it, or none of these. What
 //!   comes after each answer, nothing where it has a critical option that isn't known, or two Block1 or two Block2.
 //! - What a fetch gives is what a list of replies leads to: for each of them the request that the ones before have led to was handed to
@@ -45,13 +46,17 @@
 //!   8,388,608 apart neither within 128 s, nor the same number, and any 128,001 ms later; that of two at one moment at most one is newer; and
 //!   that what can be shown is the last where it has no Observe, or one of four bytes, and a success with one of three a state. A registration
 //!   has Observe 0, a deregistration Observe 1.
+//! - A ping is an empty confirmable message. It ends well only if a Reset message with its id came (RFC 7252, 4.3); *no answer* is returned only after the
+//!   whole schedule of a confirmable request. What else comes is passed over, and nothing else is sent.
+//! - A receive of [`UdpPeer`] returns nothing only if a reading of its clock is at the wait's end or after it. An interruption by a signal ends no wait and is no
+//!   error: an error is one of the clock, or one of the socket that isn't `Interrupted`, `WouldBlock` or `TimedOut`.
 //! - A wait of [`UdpPeer`] ends so many seconds after a reading of its clock, and its moments are the milliseconds from its start to a reading. An observer reads the
 //!   clock after the receive of each notification, and its acknowledgement.
 //!
 //! By the contracts of `Path::parse`, `Errand::new`, `Errand::write`, `is_reply`, `is_separate`, `next_of`, `fetch`, `laws`;
-//! `Observer::register`, `deregister`, `deregister_by`, `notice_of`, `is_newer`, `Watch::notice_of`, `keep`, `next`; `UdpPeer`.
+//! `Observer::register`, `deregister`, `deregister_by`, `notice_of`, `is_newer`, `Watch::notice_of`, `keep`, `next`; `ping`; `UdpPeer`.
 //!
-//! Of [`UdpPeer`] no public clause says what its socket sends and hears, or how long a receive waits: tests try that over a socket.
+//! Of [`UdpPeer`] no public clause says what its socket sends and hears, or that a receive ends when its wait does: tests try that over a socket.
 #![tactic(auto)]
 
 pub mod errand;
@@ -62,6 +67,7 @@ pub mod observing;
 pub mod part;
 pub mod path;
 pub mod peer;
+pub mod ping;
 pub mod reply;
 pub mod transmission;
 pub mod udp;

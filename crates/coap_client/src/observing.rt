@@ -396,7 +396,7 @@ fn tells_acknowledgement(id: u16, bytes: &[u8]) -> bool
 }
 
 // Whether a datagram rejects the request of this id.
-fn tells_reset(id: u16, bytes: &[u8]) -> bool
+pub(crate) fn tells_reset(id: u16, bytes: &[u8]) -> bool
     ensures { IsTrue result ↔ IsReadAs bytes.now (IsReset id) }
 {
     match read(bytes) {

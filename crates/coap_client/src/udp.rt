@@ -1,10 +1,11 @@
 //! A server at an address and a port.
-ghost use Rattle.std.specs.Prelude.{◌≡◌, ◌↔◌, ◌+◌, ◌*◌, ◌/◌, ◌<◌, ⊤, [], ◌∷◌, IfErr, IfOk, IfSome, IsTrue, OnOk, length, min};
+ghost use Rattle.std.specs.Prelude.{◌≡◌, ◌⊎◌, ◌↔◌, ◌+◌, ◌*◌, ◌/◌, ◌<◌, ◌≤◌, ⊤, [], ◌∷◌, IfErr, IfNone, IfOk, IfSome, IsTrue, OnOk, false, length, min};
 ghost use Rattle.std.specs.Duration.{as_nanos};
+ghost use Rattle.std.specs.IoError.{error_kind};
 ghost use Rattle.std.specs.Time.{FitsClock, instant_nanos};
 ghost use Rattle.std.specs.declared.time.Instant.{Instant as Reading};
-ghost use Rattle.coap_client.specs.PeerCalls.{Adds, Reads, Waits};
-ghost use Rattle.coap_client.specs.Clocks.{IsEndOfWait, IsLeftOf, IsMomentSince};
+ghost use Rattle.coap_client.specs.PeerCalls.{Adds, PeerError, Reads, Waits, receives_in};
+ghost use Rattle.coap_client.specs.Clocks.{IsEndOfWait, IsLeftOf, IsMomentSince, IsWaitOver, is_transient};
 
 use crate::peer::{BUFFER, Buffer, Peer};
 use coap_msg::Datagram;
@@ -18,12 +19,16 @@ pub trait Ticks {
     // Which readings it has given.
     ghost is_read: { Reading → Type 0 } = { λ _. ⊤ };
 
+    // Which errors it has returned.
+    ghost is_error: { PeerError → Type 0 } = { λ _. ⊤ };
+
     /// Reads the clock.
     ///
     /// # Errors
     /// There is no clock.
     fn read(&self) -> io::Result<Instant>
-        ensures { IfOk result is_read };
+        ensures reading { IfOk result is_read }
+        ensures error { IfErr result is_error };
 }
 
 impl<C: Clock> Ticks for C {
@@ -63,7 +68,8 @@ impl<'a, T: Ticks> UdpPeer<'a, T> {
 
     // How long the wait lasts from now on.
     fn left(&self) -> io::Result<Duration>
-        ensures { IfOk result (IsLeftOf T.is_read self.now.until) }
+        ensures left { IfOk result (IsLeftOf T.is_read self.now.until) }
+        ensures error { IfErr result T.is_error }
     {
         let now = self.ticks.read()?;
         Ok(self.until.duration_since(now))
@@ -76,12 +82,16 @@ impl<'a, T: Ticks> UdpPeer<'a, T> {
         from == self.address
     }
 
-    // Waits so long for a datagram: how many bytes it is. One that came before the socket was connected may be another's, and one that fills the buffer may be cut.
+    // Waits so long for a datagram: how many bytes it is. `None` where none came that is the server's, or a signal interrupted it. One that came before the socket was connected may be another's, and one that fills the buffer may be cut.
     fn receive_once(&self, left: Duration, buffer: &mut Buffer) -> io::Result<Option<usize>>
-        ensures { IfOk result (λ r. IfSome r (λ count. count < length buffer.new)) }
+        ensures whole { IfOk result (λ r. IfSome r (λ count. count < length buffer.new)) }
+        ensures error { IfErr result (λ e. is_transient (error_kind e) ≡ false) }
     {
-        self.socket.set_read_timeout(Some(left))?;
-        match self.socket.recv_from(buffer) {
+        let received = match self.socket.set_read_timeout(Some(left)) {
+            Ok(()) => self.socket.recv_from(buffer),
+            Err(error) => Err(error),
+        };
+        match received {
             Ok((count, from)) if count < BUFFER && self.is_from(from) => Ok(Some(count)),
             Ok(_) => Ok(None),
             Err(error) if is_over(&error) => Ok(None),
@@ -116,22 +126,31 @@ impl<'a, T: Ticks> Peer for UdpPeer<'a, T> {
         Ok(millis_of(now.duration_since(self.start)))
     }
 
-    fn receive(&mut self, buffer: &mut Buffer) -> io::Result<Option<usize>> {
+    fn receive(&mut self, buffer: &mut Buffer) -> io::Result<Option<usize>>
+        ensures came { IfOk result (λ r. IfSome r (λ count. (count ≤ length buffer.new) × ⊤)) }
+        ensures whole { IfOk result (λ r. IfSome r (λ count. count < length buffer.new)) }
+        ensures called { IfOk result (λ r. Adds (λ _. ⊤) (λ _. ⊤) (receives_in buffer.new r ∷ [])) }
+        ensures error { IfErr result (λ _. ⊤) }
+        ensures over { IfOk result (λ r. IfNone r (IsWaitOver T.is_read self.old.until)) }
+        ensures interrupted { IfErr result (λ e. T.is_error e ⊎ (is_transient (error_kind e) ≡ false)) }
+    {
         for _ in 0..u64::MAX {
             let left = self.left()?;
             if left.is_zero() {
-                break;
+                return Ok(None);
             }
             if let Some(count) = self.receive_once(left, buffer)? {
                 return Ok(Some(count));
             }
         }
-        Ok(None)
+        Err(io::Error::from(ErrorKind::Other))
     }
 }
 
-// Whether an error of receiving says that nothing came in time.
-fn is_over(error: &io::Error) -> bool {
+// Whether an error of receiving says that nothing came in time, or that a signal interrupted it.
+fn is_over(error: &io::Error) -> bool
+    ensures { result ≡ is_transient (error_kind error.now) }
+{
     matches!(
         error.kind(),
         ErrorKind::WouldBlock | ErrorKind::TimedOut | ErrorKind::Interrupted

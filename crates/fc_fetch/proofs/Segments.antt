@@ -8,7 +8,7 @@ use Rattle.std.proofs.Math.Seq.{take-suc}
 use Rattle.std.proofs.lemmas.List.{append_assoc, append-nil, map_push}
 use Rattle.coap_client.specs.Paths.{path_text, slash}
 use Rattle.percent_encoding.specs.Percent.{percent_decode}
-use Rattle.fc_fetch.specs.Addresses.{decoded_pieces, has_slash, segments_in, texts_in}
+use Rattle.fc_fetch.specs.Addresses.{decoded_pieces, has_slash, plain_pieces, segments_in, texts_in}
 
 -- a slash and the segment stand behind the others
 pub path_text_push : (segments : List (List ℕ)) (s : List ℕ) → path_text (segments ++ (s ∷ [])) ≡ path_text segments ++ (slash ∷ s)
@@ -43,6 +43,10 @@ no_segments (first ∷ path) none = by (cases_eq first slash)
 pub pieces_of : (byte : ℕ) (text : List ℕ) → false ≡ (length text == 0) → map percent_decode (slice_split (λ b. b == byte) text) ≡ decoded_pieces byte text
 pieces_of byte [] filled = cc filled
 pieces_of byte (first ∷ text) filled = refl
+
+pub plain_pieces_of : (byte : ℕ) (text : List ℕ) → false ≡ (length text == 0) → slice_split (λ b. b == byte) text ≡ plain_pieces byte text
+plain_pieces_of byte [] filled = cc filled
+plain_pieces_of byte (first ∷ text) filled = refl
 
 -- what no segment has in it, no text among these has
 pub none_has_slash : (segments : List (Vec ℕ)) → list_any has_slash (texts_in segments) ≡ list_any (λ (segment : Vec ℕ). has_slash segment.items) segments

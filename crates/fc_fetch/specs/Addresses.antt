@@ -1,7 +1,7 @@
 -- Where a client's request goes: a path at a port of this host, or what a URI of the scheme coap says, as the URL Standard reads it (RFC 7252, 6.1 and 6.4).
 use Rattle.std.specs.Global.{Vec}
-use Rattle.std.specs.Prelude.{◌≡◌, ◌==◌, ◌||◌, ◌⊎◌, ℕ, nat_eq, is_some, Bool, false, List, [], ◌∷◌, map, Option, Some, None, Ok, codes, option_map, unwrap_or, if◌then◌else◌}
-use Rattle.std.specs.List.{list_any, slice_split}
+use Rattle.std.specs.Prelude.{◌≡◌, ◌==◌, ◌||◌, ◌⊎◌, ℕ, nat_eq, is_some, Bool, true, false, List, [], ◌∷◌, map, Option, Some, None, Ok, codes, option_map, unwrap_or, if◌then◌else◌}
+use Rattle.std.specs.List.{after_first, before_first, list_any, slice_split}
 use Rattle.std.specs.Net.Addr.{ipv4_octets}
 use Rattle.std.specs.Net.Grammar.{IsIpv4Text}
 use Rattle.std.specs.Net.Socket.{v4_ip, v4_port}
@@ -12,6 +12,8 @@ use Rattle.url.specs.Parser.{parse_url}
 use Rattle.url.specs.Host.{host_text}
 use Rattle.url.specs.Parts.{Parts, has_credentials, nonempty_host}
 use Rattle.fc_fetch.specs.declared.address.Address.{Address}
+use Rattle.fc_fetch.specs.declared.address.AddressError.{AddressError}
+use Rattle.fc_fetch.specs.declared.address.AddressError.TheVariants as address_error
 
 abbrev pub ampersand : ℕ
 ampersand = 38
@@ -24,6 +26,15 @@ texts_in texts = map (λ text. text.items) texts
 abbrev pub decoded_pieces : ℕ → List ℕ → List (List ℕ)
 decoded_pieces byte [] = []
 decoded_pieces byte (first ∷ text) = map percent_decode (slice_split (λ b. b == byte) (first ∷ text))
+
+-- the pieces as they are: in a path at a port escapes aren't read
+abbrev pub plain_pieces : ℕ → List ℕ → List (List ℕ)
+plain_pieces byte [] = []
+plain_pieces byte (first ∷ text) = slice_split (λ b. b == byte) (first ∷ text)
+
+-- such a path ends before the first `?`, and the arguments of its query stand behind that
+abbrev pub is_question : ℕ → Bool
+is_question b = b == 63
 
 -- the segments of a URI's path, which begins with a slash
 abbrev pub segments_in : List ℕ → List (List ℕ)
@@ -60,14 +71,26 @@ pub record IsOfUri (text : List ℕ) (a : Address) : Type 0 where
   pub scheme_is : uri.scheme ≡ codes "coap"
   pub has : HasParts uri a
 
--- the address is that of a path at a port of this host
+-- the address is that of a path, with its query, at a port of this host
 pub record IsAtPort (text : List ℕ) (port : ℕ) (a : Address) : Type 0 where
   pub host_is : ipv4_octets (v4_ip a.server) ≡ 127 ∷ 0 ∷ 0 ∷ 1 ∷ []
   pub port_is : v4_port a.server ≡ port
-  pub path_is : a.path.items ≡ text
-  pub query_is : texts_in a.query.items ≡ []
+  pub path_is : a.path.items ≡ before_first is_question text
+  pub query_is : texts_in a.query.items ≡ plain_pieces ampersand (after_first is_question text)
 
 -- a path goes with a port, and a URI without one
 abbrev pub IsAddress : List ℕ → Option ℕ → Address → Type 0
 IsAddress text (Some port) a = IsAtPort text port a
 IsAddress text None a = IsOfUri text a
+
+-- what is wrong with a URI itself, or there was no memory
+abbrev pub IsOfUriAlone : AddressError → Type 0
+IsOfUriAlone address_error.NoPort = ⊥
+IsOfUriAlone address_error.TwoPorts = ⊥
+IsOfUriAlone other = Unit {0}
+
+-- a port is missing with a path, or is one too much with a URI; or a URI is read that a request can't go to; or there was no memory
+abbrev pub IsNoAddress : List ℕ → Option ℕ → AddressError → Type 0
+IsNoAddress text port address_error.TwoPorts = is_some port ≡ true
+IsNoAddress text port address_error.NoMemory = Unit {0}
+IsNoAddress text port other = port ≡ None

@@ -9,15 +9,19 @@ use Rattle.coap_client.specs.Parts.{FitsDatagrams}
 use Rattle.coap_client.specs.Paths.{slices_in}
 use Rattle.coap_opts.specs.declared.request.Method.{Method}
 use Rattle.coap_client.specs.PeerCalls.{PeerCall, PeerError}
+use Rattle.coap_client.specs.Transmissions.{MakesCalls}
 use Rattle.coap_client.specs.declared.errand.Errand.{Errand}
 use Rattle.coap_client.specs.declared.errand.RequestTarget.{RequestTarget}
 use Rattle.coap_client.specs.declared.fetcher.FetchFault.{FetchFault}
+use Rattle.coap_client.specs.declared.fetcher.FetchFault.TheVariants as fault
+use Rattle.fc_cli.specs.Ending.{IsEnding}
 use Rattle.coap_msg.specs.Codes.{code_text}
 use Rattle.fc_cli.specs.declared.status.Status.{Status}
 use Rattle.fc_cli.specs.declared.status.Status.TheVariants.{Done, Refused, Bad, Failed}
-use Rattle.fc_fetch.specs.Addresses.{IsAddress}
+use Rattle.fc_fetch.specs.Addresses.{IsAddress, IsNoAddress}
 use Rattle.fc_fetch.specs.Connecting.{IsDrawnId}
-use Rattle.fc_fetch.specs.Resources.{IsResourceOf}
+use Rattle.fc_fetch.specs.Resources.{IsNoResource, IsResourceOf}
+use Rattle.fc_fetch.specs.declared.resource.ResourceError.TheVariants as resource_error
 use Rattle.fc_fetch.specs.declared.address.Address.{Address}
 use Rattle.fc_fetch.specs.declared.address.AddressError.{AddressError}
 use Rattle.fc_fetch.specs.declared.address.AddressError.TheVariants as address_error
@@ -47,6 +51,23 @@ pub record IsPrinted (shown : Shown) (code : ℕ) (answer : List ℕ) (before af
   pub text : Appends before after (answer_text shown code answer)
   pub status_is : status ≡ ending_of code
 
+-- the bytes of a success are in a file, and its code is printed
+pub record IsKept (code : ℕ) (answer : List ℕ) (before after kept_before kept : Option (List ℕ)) (status : Status) : Type 0 where
+  pub success : code / 32 ≡ 2
+  pub text : Appends before after (ended_line (code_text code))
+  pub bytes : Appends kept_before kept answer
+  pub status_is : status ≡ Done
+
+-- another answer is printed whole, and nothing is written to the file
+pub record IsNotKept (shown : Shown) (code : ℕ) (answer : List ℕ) (before after kept_before kept : Option (List ℕ)) (status : Status) : Type 0 where
+  pub other : (code / 32 ≡ 2) → ⊥
+  pub printed : IsPrinted shown code answer before after status
+  pub same : kept ≡ kept_before
+
+abbrev pub IsKeptOrPrinted : Shown → ℕ → List ℕ → Option (List ℕ) → Option (List ℕ) → Option (List ℕ) → Option (List ℕ) → Status → Type 0
+IsKeptOrPrinted shown code answer before after kept_before kept status =
+    IsKept code answer before after kept_before kept status ⊎ IsNotKept shown code answer before after kept_before kept status
+
 -- ---- why nothing is asked, or no answer is had: a command line that is bad, or a failure
 
 abbrev pub address_status : AddressError → Status
@@ -62,16 +83,38 @@ stop_status (stop.Address error) = address_status error
 stop_status (stop.Path error) = path_status error
 stop_status stop.Argument = Bad
 stop_status stop.Room = Bad
+stop_status stop.Resource = Bad
 stop_status other = Failed
+
+-- the random bytes can't be drawn
+abbrev pub IsOfRandom : FetchStop → Type 0
+IsOfRandom (stop.Random error) = Unit {0}
+IsOfRandom other = ⊥
+
+-- the server can't be connected to
+abbrev pub IsUnconnected : FetchFault → Type 0
+IsUnconnected (fault.Socket error) = Unit {0}
+IsUnconnected other = ⊥
+
+abbrev pub IsOfConnecting : FetchStop → Type 0
+IsOfConnecting (stop.Fault f) = IsUnconnected f
+IsOfConnecting other = ⊥
+
+-- a client stops for this reason, and ends as that says, or by a failure where the reason can't be told
+pub record HasStopped (Stops : FetchStop → Type 0) (status : Status) : Type 0 where
+  pub reason : FetchStop
+  pub stops : Stops reason
+  pub status_is : IsEnding (stop_status reason) status
 
 -- ---- what is asked
 
--- the errand has the method and the type of message that are asked for, this resource and this body
+-- the errand has the method, the type of message and the Content-Format that are asked for, this resource and this body
 pub record IsAsking (asking : FetchOptions) (target : RequestTarget) (body : List ℕ) (e : Errand) : Type 0 where
   pub confirmable : e.confirmable ≡ asking.confirmable
   pub method : e.method ≡ asking.method
   pub target_is : e.target ≡ target
   pub body_is : e.payload.now ≡ body
+  pub format_is : e.content_format ≡ asking.content_format
 
 -- a fetch of such an errand, by requests whose ids begin with this one, ends so
 pub record IsFetchedBy (went came : List ℕ → Type 0) (before after : List PeerCall → Type 0) (asking : FetchOptions) (target : RequestTarget) (body : List ℕ) (first code : ℕ)
@@ -110,6 +153,76 @@ pub record IsAnswerTo {S : Type 0} (connected : S → SocketAddrV4 → Type 0) (
   pub ended : S
   pub fetched : IsFetchedBy went came (called opened) (called ended) asking target body id code answer
 
+-- ---- why there is no answer
+
+-- the address names no resource
+abbrev pub NamesNoResource : Address → FetchStop → Type 0
+NamesNoResource a (stop.Path error) = IsNoResource a (resource_error.Path error)
+NamesNoResource a stop.Argument = IsNoResource a resource_error.Argument
+NamesNoResource a (stop.Memory error) = IsNoResource a resource_error.NoMemory
+NamesNoResource a other = ⊥
+
+pub record NamesNothing (text : List ℕ) (port : Option ℕ) (reason : FetchStop) : Type 0 where
+  pub address : Address
+  pub address_is : IsAddress text port address
+  pub none : NamesNoResource address reason
+
+-- a target is no address, or its address names no resource
+abbrev pub IsTargetStop : List ℕ → Option ℕ → FetchStop → Type 0
+IsTargetStop text port (stop.Address error) = IsNoAddress text port error
+IsTargetStop text port other = NamesNothing text port other
+
+-- a target has an address, and that names a resource
+pub record HasResource (text : List ℕ) (port : Option ℕ) : Type 0 where
+  pub address : Address
+  pub address_is : IsAddress text port address
+  pub target : RequestTarget
+  pub target_is : IsResourceOf address target
+
+-- the body can't be read from where it comes from
+abbrev pub IsOfInput : List ℕ → FetchStop → Type 0
+IsOfInput source (stop.Input name error) = name.now ≡ source
+IsOfInput source other = ⊥
+
+-- the server at the address was connected to, and the fetch of the resource failed
+pub record HasFailedAt {S : Type 0} (connected : S → SocketAddrV4 → Type 0) (went came : List ℕ → Type 0) (is_error : PeerError → Type 0) (called : S → List PeerCall → Type 0) (asking : FetchOptions)
+    (target : RequestTarget) (body : List ℕ) (id : ℕ) (server : SocketAddrV4) (f : FetchFault) : Type 0 where
+  pub opened : S
+  pub opened_is : connected opened server
+  pub ended : S
+  pub fails : IsFaultOf went came is_error (MakesCalls (called opened) (called ended)) asking target body id f
+
+-- or it couldn't be connected to
+pub record IsAskedInVain {S : Type 0} (connected : S → SocketAddrV4 → Type 0) (drawn went came : List ℕ → Type 0) (is_error : PeerError → Type 0) (called : S → List PeerCall → Type 0)
+    (asking : FetchOptions) (input : Option (List ℕ)) (f : FetchFault) : Type 0 where
+  pub resource : HasResource asking.target.now asking.port
+  pub body : List ℕ
+  pub body_is : IfSome input (λ bytes. body ≡ bytes)
+  pub id : ℕ
+  pub id_is : IsDrawnId drawn id
+  pub fails : IsUnconnected f ⊎ HasFailedAt connected went came is_error called asking resource.target body id resource.address.server f
+
+-- or the request has no room in a datagram, so that nothing was called on the server
+pub record IsWithoutRoom {S : Type 0} (connected : S → SocketAddrV4 → Type 0) (called : S → List PeerCall → Type 0) (asking : FetchOptions) (input : Option (List ℕ)) : Type 0 where
+  pub resource : HasResource asking.target.now asking.port
+  pub body : List ℕ
+  pub body_is : IfSome input (λ bytes. body ≡ bytes)
+  pub opened : S
+  pub opened_is : connected opened resource.address.server
+  pub ended : S
+  pub room : HasNoRoom (MakesCalls (called opened) (called ended)) asking.method resource.target body
+
+-- why a client that asks for this has no answer: its target names no resource; or it does, and the input or the random bytes failed, or the request has no room, or asking failed
+abbrev pub IsFetchStop : {S : Type 0} → (S → SocketAddrV4 → Type 0) → (List ℕ → Type 0) → (List ℕ → Type 0) → (List ℕ → Type 0) → (PeerError → Type 0) → (S → List PeerCall → Type 0)
+    → FetchOptions → Option (List ℕ) → FetchStop → Type 0
+IsFetchStop connected drawn went came is_error called asking input (stop.Input name error) = (name.now ≡ asking.source.now) × HasResource asking.target.now asking.port
+IsFetchStop connected drawn went came is_error called asking input (stop.Random error) = HasResource asking.target.now asking.port
+IsFetchStop connected drawn went came is_error called asking input (stop.Fault f) = IsAskedInVain connected drawn went came is_error called asking input f
+IsFetchStop connected drawn went came is_error called asking input stop.Room = IsWithoutRoom connected called asking input
+IsFetchStop connected drawn went came is_error called asking input other = IsTargetStop asking.target.now asking.port other
+
+-- ---- how it ends
+
 -- an answer of this kind was had and printed
 pub record IsAnswerShown (Has : ℕ → List ℕ → Type 0) (shown : Shown) (before after : Option (List ℕ)) (status : Status) : Type 0 where
   pub code : ℕ
@@ -117,6 +230,26 @@ pub record IsAnswerShown (Has : ℕ → List ℕ → Type 0) (shown : Shown) (be
   pub has : Has code answer
   pub printed : IsPrinted shown code answer before after status
 
--- or the client ends as a bad command line or a failure does
-abbrev pub IsAnswered : (ℕ → List ℕ → Type 0) → Shown → Option (List ℕ) → Option (List ℕ) → Status → Type 0
-IsAnswered Has shown before after status = IsAnswerShown Has shown before after status ⊎ ((status ≡ Bad) ⊎ (status ≡ Failed))
+-- or its bytes are kept in a file
+pub record IsAnswerKept (Has : ℕ → List ℕ → Type 0) (shown : Shown) (before after kept_before kept : Option (List ℕ)) (status : Status) : Type 0 where
+  pub code : ℕ
+  pub answer : List ℕ
+  pub has : Has code answer
+  pub is : IsKeptOrPrinted shown code answer before after kept_before kept status
+
+-- or it was had, and couldn't be written
+pub record IsUnprinted (Has : ℕ → List ℕ → Type 0) (status : Status) : Type 0 where
+  pub code : ℕ
+  pub answer : List ℕ
+  pub has : Has code answer
+  pub status_is : status ≡ Failed
+
+-- or none was had, for one of these reasons
+abbrev pub IsUnanswered : (ℕ → List ℕ → Type 0) → (FetchStop → Type 0) → Status → Type 0
+IsUnanswered Has Stops status = HasStopped Stops status ⊎ IsUnprinted Has status
+
+abbrev pub IsAnswered : (ℕ → List ℕ → Type 0) → (FetchStop → Type 0) → Shown → Option (List ℕ) → Option (List ℕ) → Status → Type 0
+IsAnswered Has Stops shown before after status = IsAnswerShown Has shown before after status ⊎ IsUnanswered Has Stops status
+
+abbrev pub IsAnsweredTo : (ℕ → List ℕ → Type 0) → (FetchStop → Type 0) → Shown → Option (List ℕ) → Option (List ℕ) → Option (List ℕ) → Option (List ℕ) → Status → Type 0
+IsAnsweredTo Has Stops shown before after kept_before kept status = IsAnswerKept Has shown before after kept_before kept status ⊎ IsUnanswered Has Stops status

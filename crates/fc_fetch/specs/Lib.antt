@@ -3,5 +3,7 @@ pub mod Resources
 pub mod Connecting
 pub mod Printing
 pub mod Fetching
+pub mod Asking
+pub mod Pinging
 pub mod Observing
 pub mod Operations

@@ -1,5 +1,5 @@
 -- What an observer's program prints, and how it ends.
-use Rattle.std.specs.Prelude.{◌≡◌, ℕ, ◌+◌, ◌<◌, ◌≤◌, ◌^◌, ◌⊎◌, ◌++◌, max, Bool, true, false, List, [], ◌∷◌, length, Option, Some, None, is_some, codes}
+use Rattle.std.specs.Prelude.{◌≡◌, ℕ, ◌+◌, ◌/◌, ◌<◌, ◌≤◌, ◌^◌, ◌⊎◌, ◌++◌, max, Bool, true, false, List, [], ◌∷◌, length, Option, Some, None, is_some, codes}
 use Rattle.std.specs.List.{All}
 use Rattle.std.specs.Io.KnownBytes.{Appends}
 use Rattle.coap_client.specs.Faults.{IsLeavingFault, IsRejection, IsSilence, UnfitCame, deregistration_of, registration_of}
@@ -17,7 +17,12 @@ use Rattle.coap_client.specs.declared.watch.Watch.{Watch}
 use Rattle.coap_msg.specs.Codes.{code_text}
 use Rattle.coap_msg.specs.Wire.{message_bytes}
 use Rattle.fc_cli.specs.declared.status.Status.{Status}
-use Rattle.fc_cli.specs.declared.status.Status.TheVariants.{Done, Refused, Bad, Failed}
+use Rattle.fc_cli.specs.declared.status.Status.TheVariants.{Done, Refused, Failed}
+use Rattle.coap_client.specs.Parts.{FitsDatagrams}
+use Rattle.coap_client.specs.Paths.{slices_in}
+use Rattle.coap_opts.specs.declared.request.Method.TheVariants.{Get}
+use Rattle.fc_fetch.specs.declared.client.FetchStop.{FetchStop}
+use Rattle.fc_fetch.specs.declared.client.FetchStop.TheVariants as stop
 use Rattle.coap_client.specs.declared.fetcher.FetchFault.{FetchFault}
 use Rattle.coap_client.specs.declared.fetcher.FetchFault.TheVariants as fault
 use Rattle.std.specs.declared.net.socket_addr.SocketAddrV4.{SocketAddrV4}
@@ -35,7 +40,7 @@ use Rattle.fc_fetch.specs.declared.observer.ObservationEnd.TheVariants.{Counted,
 use Rattle.fc_fetch.specs.declared.observer.First.{First}
 use Rattle.fc_fetch.specs.declared.observer.First.TheVariants.{State, Only}
 use Rattle.fc_fetch.specs.declared.printer.Shown.{Shown}
-use Rattle.fc_fetch.specs.Fetching.{ended_line}
+use Rattle.fc_fetch.specs.Fetching.{HasResource, HasStopped, IsTargetStop, IsUnconnected, ended_line}
 use Rattle.fc_fetch.specs.Printing.{line_bytes}
 
 -- the code and, where there are bytes, a space and these
@@ -130,10 +135,10 @@ pub record HasShown (went came : List ℕ → Type 0) (told : ℕ → Type 0) (o
   pub printed : Appends before after (notes_text shown (latest ∷ older))
   pub ends : IsEnd limit end latest older
 
--- an error, or an answer without notifications, isn't what was wanted
-abbrev pub end_status : ObservationEnd → Status
-end_status (Last code) = Refused
-end_status other = Done
+-- an error, or an answer without notifications, isn't what was wanted; of the latter standard error is told, and where that fails so does the program
+abbrev pub IsToldEnd : ObservationEnd → Status → Type 0
+IsToldEnd (Last code) status = (status ≡ Refused) ⊎ ((code.byte / 32 ≡ 2) × (status ≡ Failed))
+IsToldEnd other status = status ≡ Done
 
 -- ---- from the target on
 
@@ -160,14 +165,15 @@ pub record IsObservedIn {S : Type 0} (connected : S → SocketAddrV4 → Type 0)
   pub target_is : IsResourceOf address errand.target
   pub observed : IsObservedAt connected drawn went came told called observing errand address.server before after end
 
--- the program has observed to such an end, which says its status; or it ends as a bad command line or a failure does
+-- the program has observed to such an end, which says its status
 pub record HasObservedTo (Ends : ObservationEnd → Type 0) (status : Status) : Type 0 where
   pub end : ObservationEnd
   pub ends : Ends end
-  pub status_is : status ≡ end_status end
+  pub status_is : IsToldEnd end status
 
-abbrev pub HasEnded : (ObservationEnd → Type 0) → Status → Type 0
-HasEnded Ends status = HasObservedTo Ends status ⊎ ((status ≡ Bad) ⊎ (status ≡ Failed))
+-- or it stops for such a reason
+abbrev pub HasEnded : (ObservationEnd → Type 0) → (FetchStop → Type 0) → Status → Type 0
+HasEnded Ends Stops status = HasObservedTo Ends status ⊎ HasStopped Stops status
 
 -- ---- where it fails
 
@@ -214,6 +220,52 @@ pub record IsLeftInVain (is_error : PeerError → Type 0) (Makes : (List PeerCal
 abbrev pub IsEndFault : (List ℕ → Type 0) → (PeerError → Type 0) → ((List PeerCall → Type 0) → Type 0) → Observer → Option ℕ → NotesError → Type 0
 IsEndFault came is_error Makes o seconds (notes_error.Fault f) = IsNotesFault came is_error Makes o (notes_error.Fault f) ⊎ IsLeftInVain is_error Makes o seconds f
 IsEndFault came is_error Makes o seconds other = Unit {0}
+
+-- ---- why it stops
+
+-- the observer of an errand failed at the server that was connected to, and left
+pub record IsObservedInVain {S : Type 0} (connected : S → SocketAddrV4 → Type 0) (drawn came tried : List ℕ → Type 0) (is_error : PeerError → Type 0) (called : S → List PeerCall → Type 0)
+    (observing : Observing) (e : Errand) (server : SocketAddrV4) (error : NotesError) : Type 0 where
+  pub observer : Observer
+  pub errand_is : observer.errand.now ≡ e
+  pub token_is : drawn observer.token
+  pub id_is : IsDrawnId drawn observer.id
+  pub opened : S
+  pub opened_is : connected opened server
+  pub ended : S
+  pub fails : IsEndFault came is_error (MakesCalls (called opened) (called ended)) observer observing.extent.seconds error
+  pub leaves : LeavesAtFault called is_error tried opened ended observer
+
+-- or there are no random bytes, or the server can't be connected to
+abbrev pub IsErrandStop : {S : Type 0} → (S → SocketAddrV4 → Type 0) → (List ℕ → Type 0) → (List ℕ → Type 0) → (List ℕ → Type 0) → (PeerError → Type 0) → (S → List PeerCall → Type 0) → Observing
+    → Errand → SocketAddrV4 → FetchStop → Type 0
+IsErrandStop connected drawn came tried is_error called observing e server (stop.Random error) = Unit {0}
+IsErrandStop connected drawn came tried is_error called observing e server (stop.Fault f) = IsUnconnected f
+IsErrandStop connected drawn came tried is_error called observing e server (stop.Notes error) = IsObservedInVain connected drawn came tried is_error called observing e server error
+IsErrandStop connected drawn came tried is_error called observing e server other = ⊥
+
+-- of the errand of the target's resource
+pub record HasStoppedObserving {S : Type 0} (connected : S → SocketAddrV4 → Type 0) (drawn came tried : List ℕ → Type 0) (is_error : PeerError → Type 0) (called : S → List PeerCall → Type 0)
+    (observing : Observing) (reason : FetchStop) : Type 0 where
+  pub address : Address
+  pub address_is : IsAddress observing.target.now observing.port address
+  pub errand : Errand
+  pub target_is : IsResourceOf address errand.target
+  pub stops : IsErrandStop connected drawn came tried is_error called observing errand address.server reason
+
+-- a GET of the resource has no room in a datagram
+pub record HasNoRoomFor (observing : Observing) : Type 0 where
+  pub resource : HasResource observing.target.now observing.port
+  pub unfit : FitsDatagrams Get (slices_in resource.target.path.segments.items) (slices_in resource.target.query.items) [] → ⊥
+
+-- or the target names no resource
+abbrev pub IsObserveStop : {S : Type 0} → (S → SocketAddrV4 → Type 0) → (List ℕ → Type 0) → (List ℕ → Type 0) → (List ℕ → Type 0) → (PeerError → Type 0) → (S → List PeerCall → Type 0) → Observing
+    → FetchStop → Type 0
+IsObserveStop connected drawn came tried is_error called observing stop.Room = HasNoRoomFor observing
+IsObserveStop connected drawn came tried is_error called observing (stop.Random error) = HasStoppedObserving connected drawn came tried is_error called observing (stop.Random error)
+IsObserveStop connected drawn came tried is_error called observing (stop.Fault f) = HasStoppedObserving connected drawn came tried is_error called observing (stop.Fault f)
+IsObserveStop connected drawn came tried is_error called observing (stop.Notes error) = HasStoppedObserving connected drawn came tried is_error called observing (stop.Notes error)
+IsObserveStop connected drawn came tried is_error called observing other = IsTargetStop observing.target.now observing.port other
 
 -- ---- step by step
 

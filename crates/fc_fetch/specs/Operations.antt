@@ -12,6 +12,9 @@ use Rattle.fc_fetch.specs.declared.operation.Operation.{Operation}
 use Rattle.fc_fetch.specs.declared.operation.Operation.TheVariants as operation
 use Rattle.fc_fetch.specs.declared.operation.OperationError.{OperationError}
 use Rattle.fc_fetch.specs.declared.operation.OperationError.TheVariants as operation_error
+use Rattle.fc_fetch.specs.declared.operation.BodySource.{BodySource}
+use Rattle.fc_fetch.specs.declared.operation.BodySource.TheVariants as source
+use Rattle.fc_fetch.specs.declared.ping.Pinging.{Pinging}
 use Rattle.fc_fetch.specs.declared.printer.Shown.{Shown}
 use Rattle.fc_fetch.specs.declared.printer.Shown.TheVariants.{Hex, Text}
 
@@ -49,10 +52,96 @@ IsMethodOf word (Some Put) = word ≡ codes "put"
 IsMethodOf word (Some Delete) = word ≡ codes "delete"
 IsMethodOf word None = (word ≢ codes "get") × (word ≢ codes "post") × (word ≢ codes "put") × (word ≢ codes "delete")
 
+-- ---- the body of a request
+
+-- with `-n` there is none; with `-e` it is this text, and with `-f` this file; without any of the three it is standard input
+abbrev pub IsBodyIn : Found → BodySource → Type 0
+IsBodyIn f source.None = IsFlagOf (one_text f (codes "no-body")) true × (first_value f (codes "body") ≡ None) × (first_value f (codes "file") ≡ None)
+IsBodyIn f (source.Text text) = IsFlagOf (one_text f (codes "no-body")) false × (first_value f (codes "body") ≡ Some text.now) × (first_value f (codes "file") ≡ None)
+IsBodyIn f (source.File name) = IsFlagOf (one_text f (codes "no-body")) false × (first_value f (codes "body") ≡ None) × (first_value f (codes "file") ≡ Some name.now)
+IsBodyIn f source.Input = IsFlagOf (one_text f (codes "no-body")) false × (first_value f (codes "body") ≡ None) × (first_value f (codes "file") ≡ None)
+
+abbrev pub HasValue : Found → List ℕ → Type 0
+HasValue f id = is_some (first_value f id) ≡ true
+
+-- two of the three say what the body is
+abbrev pub HasTwoBodies : Found → Type 0
+HasTwoBodies f =
+    (IsFlagOf (one_text f (codes "no-body")) true × (HasValue f (codes "body") ⊎ HasValue f (codes "file"))) ⊎ (HasValue f (codes "body") × HasValue f (codes "file"))
+
+-- a GET and a DELETE don't read a terminal
+abbrev pub body_of_terminal : Method → BodySource
+body_of_terminal Get = source.None
+body_of_terminal Delete = source.None
+body_of_terminal other = source.Input
+
+abbrev pub body_at : Bool → Method → BodySource → BodySource
+body_at true method source.Input = body_of_terminal method
+body_at terminal method body = body
+
+-- ---- its Content-Format (RFC 7252, 12.3)
+
+abbrev pub IsFormatNamed : List ℕ → ℕ → Type 0
+IsFormatNamed text n =
+    ((text ≡ codes "text/plain") × (n ≡ 0))
+    ⊎ (((text ≡ codes "application/link-format") × (n ≡ 40))
+    ⊎ (((text ≡ codes "application/xml") × (n ≡ 41))
+    ⊎ (((text ≡ codes "application/octet-stream") × (n ≡ 42))
+    ⊎ (((text ≡ codes "application/exi") × (n ≡ 47))
+    ⊎ ((text ≡ codes "application/json") × (n ≡ 50))))))
+
+abbrev pub IsNoName : List ℕ → Type 0
+IsNoName text =
+    (text ≢ codes "text/plain")
+    × (text ≢ codes "application/link-format")
+    × (text ≢ codes "application/xml")
+    × (text ≢ codes "application/octet-stream")
+    × (text ≢ codes "application/exi")
+    × (text ≢ codes "application/json")
+
+-- the format of this name, or of this number
+abbrev pub IsFormatOf : List ℕ → Option ℕ → Type 0
+IsFormatOf text (Some n) = IsFormatNamed text n ⊎ (IsNoName text × IsNumberOf 16 (Some text) (Some n))
+IsFormatOf text None = IsNoName text × IsNumberOf 16 (Some text) None
+
+abbrev pub IsFormatIn : Found → Option ℕ → Type 0
+IsFormatIn f None = first_value f (codes "format") ≡ None
+IsFormatIn f (Some n) = (text : List ℕ) × (first_value f (codes "format") ≡ Some text) × IsFormatOf text (Some n)
+
+abbrev pub HasNoFormat : Found → Type 0
+HasNoFormat f = (text : List ℕ) × (first_value f (codes "format") ≡ Some text) × IsFormatOf text None
+
+-- ---- options that don't go with all
+
+-- an option is given that a request alone has
+abbrev pub IsForRequest : Found → Type 0
+IsForRequest f =
+    IsFlagOf (one_text f (codes "non")) true
+    ⊎ (HasValue f (codes "file") ⊎ (HasValue f (codes "body") ⊎ (HasValue f (codes "format") ⊎ HasValue f (codes "output"))))
+
+pub record IsForNoRequest (f : Found) : Type 0 where
+  pub confirmable : IsFlagOf (one_text f (codes "non")) false
+  pub no_file : first_value f (codes "file") ≡ None
+  pub no_body : first_value f (codes "body") ≡ None
+  pub no_format : first_value f (codes "format") ≡ None
+  pub no_output : first_value f (codes "output") ≡ None
+
+-- a number is given for this option
+abbrev pub IsGiven : Option (List ℕ) → Type 0
+IsGiven text = (n : ℕ) × IsNumberOf 32 text (Some n)
+
+-- a number of lines or of seconds is
+abbrev pub IsLimited : Found → Type 0
+IsLimited f = IsGiven (one_text f (codes "count")) ⊎ IsGiven (one_text f (codes "seconds"))
+
+pub record IsUnlimited (f : Found) : Type 0 where
+  pub no_count : IsNumberOf 32 (one_text f (codes "count")) None
+  pub no_seconds : IsNumberOf 32 (one_text f (codes "seconds")) None
+
 -- ---- what is asked for
 
--- a request of this method and target, confirmable without `-N`, whose body is read from the file that `-f` names, or from standard input
-pub record IsFetchIn (f : Found) (asking : FetchOptions) (file : Option (Bor (List ℕ))) : Type 0 where
+-- a request of this method and target, confirmable without `-N`, with this body, whose answer's bytes go to the file that `-o` names
+pub record IsFetchIn (f : Found) (asking : FetchOptions) (body : BodySource) (output : Option (Bor (List ℕ))) : Type 0 where
   pub word : List ℕ
   pub word_is : first_value f (codes "method") ≡ Some word
   pub method_is : IsMethodOf word (Some asking.method)
@@ -60,10 +149,11 @@ pub record IsFetchIn (f : Found) (asking : FetchOptions) (file : Option (Bor (Li
   pub type_is : IsFlagOf (one_text f (codes "non")) (not asking.confirmable)
   pub port_is : IsNumberOf 16 (one_text f (codes "port")) asking.port
   pub shown_is : IsShownIn f asking.shown
-  pub file_is : option_map (λ name. name.now) file ≡ first_value f (codes "file")
+  pub body_is : IsBodyIn f body
   pub source_is : asking.source.now ≡ unwrap_or (first_value f (codes "file")) (codes "standard input")
-  pub no_count : IsNumberOf 32 (one_text f (codes "count")) None
-  pub no_seconds : IsNumberOf 32 (one_text f (codes "seconds")) None
+  pub format_is : IsFormatIn f asking.content_format
+  pub output_is : option_map (λ name. name.now) output ≡ first_value f (codes "output")
+  pub unlimited : IsUnlimited f
 
 -- an observation of this target, for so many lines and seconds
 pub record IsObservationIn (f : Found) (observing : Observing) : Type 0 where
@@ -73,24 +163,29 @@ pub record IsObservationIn (f : Found) (observing : Observing) : Type 0 where
   pub shown_is : IsShownIn f observing.shown
   pub count_is : IsNumberOf 32 (one_text f (codes "count")) observing.extent.count
   pub seconds_is : IsNumberOf 32 (one_text f (codes "seconds")) observing.extent.seconds
-  pub confirmable : IsFlagOf (one_text f (codes "non")) false
-  pub no_file : first_value f (codes "file") ≡ None
+  pub no_request : IsForNoRequest f
+
+-- a ping of this target, or of this port
+pub record IsPingIn (f : Found) (pinging : Pinging) : Type 0 where
+  pub word_is : first_value f (codes "method") ≡ Some (codes "ping")
+  pub target_is : option_map (λ text. text.now) pinging.target ≡ first_value f (codes "target")
+  pub port_is : IsNumberOf 16 (one_text f (codes "port")) pinging.port
+  pub no_request : IsForNoRequest f
+  pub unlimited : IsUnlimited f
 
 abbrev pub IsOperationIn : Found → Operation → Type 0
-IsOperationIn f (operation.Fetch asking file) = IsFetchIn f asking file
+IsOperationIn f (operation.Fetch asking) = IsFetchIn f asking.options asking.body asking.output
 IsOperationIn f (operation.Observe observing) = IsObservationIn f observing
+IsOperationIn f (operation.Ping pinging) = IsPingIn f pinging
 
 -- ---- why nothing is
 
--- a number is given for this option
-abbrev pub IsGiven : Option (List ℕ) → Type 0
-IsGiven text = (n : ℕ) × IsNumberOf 32 text (Some n)
-
--- an observation with `-N` or `-f`; a request for so many lines or seconds; or a word is missing, or is no method
+-- an observation or a ping with an option of requests; a request or a ping for so many lines or seconds; a body that is said twice, or a format that is none; or a word is missing, or is no method
 abbrev pub IsOperationError : Found → OperationError → Type 0
-IsOperationError f operation_error.Request =
-    (first_value f (codes "method") ≡ Some (codes "observe")) × (IsFlagOf (one_text f (codes "non")) true ⊎ (is_some (first_value f (codes "file")) ≡ true))
-IsOperationError f operation_error.Extent =
-    (first_value f (codes "method") ≢ Some (codes "observe")) × (IsGiven (one_text f (codes "count")) ⊎ IsGiven (one_text f (codes "seconds")))
+IsOperationError f operation_error.Request = (first_value f (codes "method") ≡ Some (codes "observe")) × IsForRequest f
+IsOperationError f operation_error.Extent = (first_value f (codes "method") ≢ Some (codes "observe")) × IsLimited f
 IsOperationError f operation_error.Missing =
     (first_value f (codes "method") ≡ None) ⊎ ((first_value f (codes "target") ≡ None) ⊎ ((word : List ℕ) × (first_value f (codes "method") ≡ Some word) × IsMethodOf word None))
+IsOperationError f operation_error.Bodies = HasTwoBodies f
+IsOperationError f operation_error.Format = HasNoFormat f
+IsOperationError f operation_error.Ping = (first_value f (codes "method") ≡ Some (codes "ping")) × (IsForRequest f ⊎ IsLimited f)

@@ -1,9 +1,10 @@
 //! Where a request goes, and of which resource: a path at a port of this host, or a URI of the scheme coap (RFC 7252, 6.1 and 6.4).
-ghost use Rattle.std.specs.Prelude.{◌≡◌, ◌<◌, false, [], IfOk, IfSome, unwrap_or};
-ghost use Rattle.std.specs.List.{list_any};
+ghost use Rattle.std.specs.Prelude.{◌≡◌, ◌<◌, false, [], IfErr, IfOk, IfSome, None, unwrap_or};
+ghost use Rattle.fc_fetch.specs.declared.address.AddressError.TheVariants.{NoMemory};
+ghost use Rattle.std.specs.List.{after_first, before_first, list_any};
 ghost use Rattle.coap_client.specs.Paths.{path_text};
 ghost use Rattle.percent_encoding.specs.Percent.{percent_decode};
-ghost use Rattle.fc_fetch.specs.Addresses.{HasParts, IsAddress, IsAtPort, IsHostOf, IsOfUri, decoded_pieces, has_other_parts, has_slash, segments_in, texts_in};
+ghost use Rattle.fc_fetch.specs.Addresses.{HasParts, IsAddress, IsAtPort, IsHostOf, IsNoAddress, IsOfUri, IsOfUriAlone, decoded_pieces, has_other_parts, has_slash, is_question, plain_pieces, segments_in, texts_in};
 
 use percent_encoding::percent_decode_str;
 use std::alloc::{AllocError, Global};
@@ -29,7 +30,7 @@ pub enum AddressError {
     #[error("`--port P` is missing, which a path needs; or give a URI: coap://127.0.0.1:5683/r/1")]
     NoPort,
     /// A URI, which says its port, and a port besides.
-    #[error("`--port` goes with a path: a URI says its port itself, or means 5683")]
+    #[error("`--port` goes with a path: leave it out, and write the port into the URI, as coap://127.0.0.1:5683/r/1; without one it is 5683")]
     TwoPorts,
     /// No URI, or one of another scheme.
     #[error("this is no URI of the scheme coap, as coap://127.0.0.1:5683/r/1, with a port below 65536")]
@@ -60,12 +61,13 @@ impl From<AllocError> for AddressError {
 }
 
 impl Address {
-    /// Parses the address that a text says: a path, at a port of 127.0.0.1, or a URI of the scheme coap, whose port is 5683 where it says none.
+    /// Parses the address that a text says: a path, with a query behind a `?`, at a port of 127.0.0.1, or a URI of the scheme coap, whose port is 5683 where it says none.
     ///
     /// # Errors
     /// What [`AddressError`] says.
     pub fn parse(alloc: Global, text: &str, port: Option<u16>) -> Result<Address, AddressError>
-        ensures { IfOk result (IsAddress text.now port) }
+        ensures address { IfOk result (IsAddress text.now port) }
+        ensures none { IfErr result (IsNoAddress text.now port) }
     {
         if text.contains("://") && !text.starts_with('/') {
             match port {
@@ -81,20 +83,48 @@ impl Address {
     }
 }
 
-// A path at a port of this host.
-fn at_port(alloc: Global, path: &str, port: u16) -> Result<Address, AddressError>
-    ensures { IfOk result (IsAtPort path.now port) }
+// A path, with its query, at a port of this host.
+fn at_port(alloc: Global, text: &str, port: u16) -> Result<Address, AddressError>
+    ensures address { IfOk result (IsAtPort text.now port) }
+    ensures memory { IfErr result (λ error. error ≡ NoMemory) }
 {
+    let (path, query) = split_query(text);
     Ok(Address {
         server: SocketAddrV4::new(Ipv4Addr::LOCALHOST, port),
         path: Vec::from_slice(alloc, path.as_bytes())?,
-        query: Vec::new(alloc),
+        query: arguments(alloc, query)?,
     })
+}
+
+// What stands before the first `?` of a text, and behind it: nothing where there is none.
+fn split_query(text: &str) -> (&str, &str)
+    ensures path { result.0.now ≡ before_first is_question text.now }
+    ensures query { result.1.now ≡ after_first is_question text.now }
+{
+    match text.split_once('?') {
+        Some((path, query)) => (path, query),
+        None => (text, ""),
+    }
+}
+
+// The arguments of a query as they are, parted by `&`; an empty text has none.
+fn arguments(alloc: Global, query: &str) -> Result<Vec<Vec<u8>>, AllocError>
+    ensures { IfOk result (λ v. texts_in v.items ≡ plain_pieces 38 query.now) }
+{
+    let mut arguments = Vec::new(alloc);
+    if query.is_empty() {
+        return Ok(arguments);
+    }
+    for argument in query.split('&') {
+        arguments.push(Vec::from_slice(alloc, argument.as_bytes())?)?;
+    }
+    Ok(arguments)
 }
 
 // What the text of a URI says.
 fn read_uri(alloc: Global, text: &str) -> Result<Address, AddressError>
-    ensures { IfOk result (IsOfUri text.now) }
+    ensures address { IfOk result (IsOfUri text.now) }
+    ensures none { IfErr result (IsNoAddress text.now None) }
 {
     let uri = match Url::parse(alloc, text) {
         Ok(uri) => uri,
@@ -109,7 +139,8 @@ fn read_uri(alloc: Global, text: &str) -> Result<Address, AddressError>
 
 // The address of a URI.
 fn address_of(alloc: Global, uri: &Url) -> Result<Address, AddressError>
-    ensures { IfOk result (HasParts uri.now) }
+    ensures address { IfOk result (HasParts uri.now) }
+    ensures none { IfErr result IsOfUriAlone }
 {
     if has_other_parts(uri) {
         return Err(AddressError::Parts);
@@ -149,6 +180,7 @@ fn host_of(name: &str) -> Option<Ipv4Addr>
 fn whole_segments_of(alloc: Global, path: &str) -> Result<Vec<Vec<u8>>, AddressError>
     ensures segments { IfOk result (λ v. texts_in v.items ≡ segments_in path.now) }
     ensures whole { IfOk result (λ v. list_any has_slash (segments_in path.now) ≡ false) }
+    ensures none { IfErr result IsOfUriAlone }
 {
     let segments = segments_of(alloc, path)?;
     if have_slash(&segments) {

@@ -1,10 +1,14 @@
 //! Laws of what the definitions say: the function is a law, and its contract says it.
-ghost use Rattle.std.specs.Prelude.{◌≡◌, ◌⊎◌, ◌+◌, ◌<◌, ◌≤◌, ◌^◌, [], ◌∷◌, List, None, Some, codes, length};
-ghost use Rattle.std.specs.List.{All};
+ghost use Rattle.std.specs.Prelude.{◌≡◌, ◌⊎◌, ◌+◌, ◌<◌, ◌≤◌, ◌^◌, ℕ, [], ◌∷◌, List, None, Some, codes, false, length, true};
+ghost use Rattle.std.specs.List.{All, after_first, before_first};
 ghost use Rattle.std.specs.Net.Addr.{ipv4_octets};
 ghost use Rattle.std.specs.Net.Socket.{v4_ip, v4_port};
 ghost use Rattle.url.specs.Parts.{Parts};
-ghost use Rattle.fc_fetch.specs.Addresses.{HasParts};
+ghost use Rattle.coap_opts.specs.declared.request.Method.{Method};
+ghost use Rattle.coap_opts.specs.declared.request.Method.TheVariants.{Delete, Get, Post, Put};
+ghost use Rattle.fc_fetch.specs.Addresses.{HasParts, is_question, plain_pieces};
+ghost use Rattle.fc_fetch.specs.Operations.{IsFormatNamed, body_at};
+ghost use Rattle.fc_fetch.specs.declared.operation.BodySource.TheVariants as source;
 ghost use Rattle.coap_client.specs.PeerCalls.{PeerCall, Waits};
 ghost use Rattle.coap_client.specs.Schedules.{schedule};
 ghost use Rattle.coap_client.specs.declared.observing.Observer.{Observer};
@@ -45,6 +49,28 @@ pub fn an_observation_prints_so_many_lines()
     ensures over { (latest : Note) (older : List Note) → IsEnd (lines_wanted (Some 3)) Over latest older → length (latest ∷ older) < 3 }
     ensures last { (latest : Note) (older : List Note) (code : Code) → IsEnd (lines_wanted (Some 3)) (Last code) latest older → length (latest ∷ older) ≤ 3 }
     ensures none { lines_wanted (Some 0) ≡ 1 }
+{}
+
+/// In a path at a port, the path ends before the first `?`, and `&` parts the arguments of the query behind it: `/r/1?a=1&b?` is the path `/r/1` and the arguments `a=1` and `b?`.
+pub fn a_path_ends_at_its_query()
+    ensures path { before_first is_question (codes "/r/1?a=1&b?") ≡ codes "/r/1" }
+    ensures query { plain_pieces 38 (after_first is_question (codes "/r/1?a=1&b?")) ≡ codes "a=1" ∷ codes "b?" ∷ [] }
+    ensures none { plain_pieces 38 (after_first is_question (codes "/r/1")) ≡ [] }
+{}
+
+/// `-t application/json` is the Content-Format 50, and `-t text/plain` is 0 (RFC 7252, 12.3).
+pub fn formats_have_their_numbers()
+    ensures json { (n : ℕ) → IsFormatNamed (codes "application/json") n → n ≡ 50 }
+    ensures text { (n : ℕ) → IsFormatNamed (codes "text/plain") n → n ≡ 0 }
+{}
+
+/// Standard input that is a terminal isn't read for a GET or a DELETE, and is for a POST or a PUT; a pipe or a file is read for each.
+pub fn terminals_are_read_for_bodies_alone()
+    ensures get { body_at true Get source.Input ≡ source.None }
+    ensures delete { body_at true Delete source.Input ≡ source.None }
+    ensures post { body_at true Post source.Input ≡ source.Input }
+    ensures put { body_at true Put source.Input ≡ source.Input }
+    ensures pipe { (m : Method) → body_at false m source.Input ≡ source.Input }
 {}
 
 /// An answer of class 2 ends a client by 0, and each other by 1.

@@ -1,13 +1,21 @@
-//! What the client's program does: it reads its command line and where a request goes, asks a server, and prints the answer; or observes, and prints each state.
+//! What the client's program does: it reads its command line and where a request goes, asks a server, and prints the answer; or observes, and prints each state; or pings.
 //!
 //! # What is proved
 //!
-//! - What the words of a command line ask for, as clap has them: the method, the target, the port, `-N`, `--text` and the file of a request; the target, the port,
-//!   `--text`, `--count` and `--seconds` of an observation; or why they don't go together.
+//! - What the words of a command line ask for, as clap has them: the method, the target, the port, `-N`, `--text`, the body (`-n`, `-e`, `-f` or standard input), its
+//!   Content-Format and the output's file of a request; the target, the port, `--text`, `--count` and `--seconds` of an observation; the target and the port of a
+//!   ping; or why they don't go together. A GET or a DELETE whose body would be read from a terminal has none.
 //! - A client that prints an answer has it from the server at its target's address: it asked for that resource, with its query, by the method, the type and the
-//!   bytes of its input, and by message IDs from two random bytes on. It ends by the answer's class, or as a bad command line or a failure does.
-//! - An observer that ends has observed so at its target's address, by a token and a message ID of random bytes, for `--count` lines and `--seconds` seconds.
-//! - Where a request goes: a path at a port of this host, or what a URI of the scheme coap says as the URL Standard reads it: the host,
+//!   bytes of its input, and by message IDs from two random bytes on. It ends by the answer's class. With a file for the answer, a success's bytes are what is
+//!   written to it, and another answer is printed and leaves it alone.
+//! - A client that has no answer stops for one reason, and ends as that says: its target is no address, or names no resource; the body can't be read, or no random
+//!   bytes be drawn; the request has no room in a datagram, and then nothing was called; or the fetch failed as `coap_client::fetch` does at the server that was
+//!   connected to, or that couldn't be. It ends otherwise only if the reason can't be told, or an answer that was had can't be written.
+//! - An input that isn't the body isn't read.
+//! - A ping is done only if the server at its endpoint, which was connected to, rejected the ping by a Reset message; else it stops for a reason of the same kind.
+//! - An observer that ends has observed so at its target's address, by a token and a message ID of random bytes, for `--count` lines and `--seconds` seconds; or it
+//!   stops for a reason of that kind, of which an observation that failed is one, and has left then.
+//! - Where a request goes: a path with its query, without escapes, at a port of this host, or what a URI of the scheme coap says as the URL Standard reads it: the host,
 //!   the port, and the segments of its path and the arguments of its query, each with its escapes read (RFC 7252, 6.4). A URI has neither a
 //!   user, a password nor a fragment then, and no slash in a segment. Where it names no port that is 5683, and `localhost` is 127.0.0.1.
 //! - What a client prints of an answer, in hex or as text, and that it is done at a success alone.
@@ -28,21 +36,25 @@
 //!   errors are those of a fetch. The body is what is read to the end of the input.
 //! - No clause says that all that came and are newer are printed. That [`System`] connects and draws as it says is tested.
 //!
-//! By the contracts of `operation_of`, `address::Address::parse`, `resource_of`, `printer::write_answer`, `write_note`, `client::fetch_by`, `fetch_from`,
+//! By the contracts of `operation_of`, `Asking::at_terminal`, `asking::ask_by`, `address::Address::parse`, `resource_of`, `printer::write_answer`, `write_note`, `client::fetch_by`, `fetch_to_by`, `fetch_from`, `ping::ping_by`,
 //! `body_of`, `print_answer`, `observer::observe_by`, `print_notes`, `print_to_end`; `laws`.
 #![tactic(auto)]
 
 pub mod address;
+pub mod asking;
 pub mod client;
 pub mod connector;
+pub mod late_file;
 pub mod laws;
 pub mod observer;
 pub mod operation;
+pub mod ping;
 pub mod printer;
 pub mod resource;
 
-pub use client::{FetchOptions, fetch};
+pub use client::{FetchOptions, fetch, fetch_to};
 pub use connector::{Connector, System};
 pub use observer::{Observing, observe};
-pub use operation::{Operation, operation_of};
+pub use operation::{Asking, BodySource, Operation, operation_of};
+pub use ping::Pinging;
 pub use printer::Shown;

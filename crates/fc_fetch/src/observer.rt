@@ -5,16 +5,13 @@ ghost use Rattle.coap_client.specs.Notes.{Watches};
 ghost use Rattle.coap_client.specs.ObserverCalls.{IsDatedRegistration};
 ghost use Rattle.coap_client.specs.PeerCalls.{Adds, Reads, Waits};
 ghost use Rattle.coap_client.specs.Transmissions.{MakesCalls};
-ghost use Rattle.fc_cli.specs.declared.status.Status.TheVariants.{Failed};
-ghost use Rattle.fc_fetch.specs.Observing.{AwaitsNote, HasEnded, HasLeft, HasShown, IsAwaitFault, IsEndFault, IsFirstShown, IsLeaving, IsNotesFault, IsObservedAt, IsObservedIn, IsTimedObservation, LeavesAtFault, ObservesToEnd, end_status, first_wait, lines_wanted};
+ghost use Rattle.fc_fetch.specs.Observing.{AwaitsNote, HasEnded, HasLeft, HasShown, IsAwaitFault, IsEndFault, IsErrandStop, IsFirstShown, IsLeaving, IsNotesFault, IsObserveStop, IsObservedAt, IsObservedIn, IsTimedObservation, IsToldEnd, LeavesAtFault, ObservesToEnd, first_wait, lines_wanted};
 ghost use Rattle.fc_fetch.specs.Observing as spec;
 ghost use Rattle.fc_fetch.specs.declared.observer.NotesError.TheVariants as notes_error;
 
-use crate::address::Address;
-use crate::client::{FetchStop, connect, first_id};
+use crate::client::{FetchStop, address_of, connect, first_id, resource_at};
 use crate::connector::{Connector, System};
 use crate::printer::{PrintError, Shown, write_note};
-use crate::resource::resource_of;
 use coap_client::notice::notice_of;
 use coap_client::observing::TOKEN;
 use coap_client::peer::{BUFFER, Buffer};
@@ -126,7 +123,8 @@ pub fn observe_by<C: Connector, W: Write, E: Write>(
     observing: &Observing<'_>,
 ) -> Status
     ensures { HasEnded (IsObservedIn C.connected C.drawn C.Server.went C.Server.came C.Server.is_moment C.Server.called observing.now
-        (W.contents out.old) (W.contents out.new)) result }
+        (W.contents out.old) (W.contents out.new))
+        (IsObserveStop C.connected C.drawn C.Server.came C.Server.tried C.Server.is_error C.Server.called observing.now) result }
 {
     match observe_to_end(connector, alloc, out, observing) {
         Ok(end) => finish(err, end),
@@ -136,13 +134,13 @@ pub fn observe_by<C: Connector, W: Write, E: Write>(
 
 // How the program ends; `err` is told where an answer has no sequence number.
 fn finish<E: Write>(err: &mut E, end: ObservationEnd) -> Status
-    ensures { (result ≡ end_status end) ⊎ (result ≡ Failed) }
+    ensures { IsToldEnd end result }
 {
     match end {
         ObservationEnd::Counted | ObservationEnd::Over => Status::Done,
         ObservationEnd::Last(code) if code.class() == SUCCESS => tell(
             err,
-            &"the answer has no Observe: the server doesn't notify of changes",
+            &"the answer has no Observe: the server doesn't notify of changes, or has no place for another observer",
             Status::Refused,
         ),
         ObservationEnd::Last(_) => Status::Refused,
@@ -156,11 +154,12 @@ fn observe_to_end<'a, C: Connector, W: Write>(
     out: &mut W,
     observing: &Observing<'a>,
 ) -> Result<ObservationEnd, FetchStop<'a>>
-    ensures { IfOk result (IsObservedIn C.connected C.drawn C.Server.went C.Server.came C.Server.is_moment C.Server.called observing.now
+    ensures ended { IfOk result (IsObservedIn C.connected C.drawn C.Server.went C.Server.came C.Server.is_moment C.Server.called observing.now
         (W.contents out.old) (W.contents out.new)) }
+    ensures stop { IfErr result (IsObserveStop C.connected C.drawn C.Server.came C.Server.tried C.Server.is_error C.Server.called observing.now) }
 {
-    let address = Address::parse(alloc, observing.target, observing.port)?;
-    let target = resource_of(alloc, &address)?;
+    let address = address_of(alloc, observing.target, observing.port)?;
+    let target = resource_at(alloc, &address)?;
     match Errand::new(true, Method::Get, target, &[]) {
         Some(errand) => observe_errand(connector, alloc, out, observing, &errand, address.server),
         None => Err(FetchStop::Room),
@@ -176,8 +175,10 @@ fn observe_errand<'a, C: Connector, W: Write>(
     errand: &Errand<'_>,
     address: SocketAddrV4,
 ) -> Result<ObservationEnd, FetchStop<'a>>
-    ensures { IfOk result (IsObservedAt C.connected C.drawn C.Server.went C.Server.came C.Server.is_moment C.Server.called observing.now
+    ensures ended { IfOk result (IsObservedAt C.connected C.drawn C.Server.went C.Server.came C.Server.is_moment C.Server.called observing.now
         errand.now address (W.contents out.old) (W.contents out.new)) }
+    ensures stop { IfErr result (IsErrandStop C.connected C.drawn C.Server.came C.Server.tried C.Server.is_error C.Server.called observing.now
+        errand.now address) }
 {
     let mut token = [0; TOKEN];
     if let Err(error) = connector.draw(&mut token) {
@@ -191,7 +192,7 @@ fn observe_errand<'a, C: Connector, W: Write>(
     let mut server = connect(connector, address)?;
     let mut buffer = [0; BUFFER];
     let (shown, extent) = (observing.shown, observing.extent);
-    let end = print_to_end(
+    match print_to_end(
         alloc,
         &mut server,
         out,
@@ -199,8 +200,10 @@ fn observe_errand<'a, C: Connector, W: Write>(
         shown,
         extent,
         &mut buffer,
-    )?;
-    Ok(end)
+    ) {
+        Ok(end) => Ok(end),
+        Err(error) => Err(FetchStop::Notes(error)),
+    }
 }
 
 /// Prints as [`print_notes`] does, and deregisters where the server may notify further: it does so, too, where what came can't be shown, or where printing, memory, the

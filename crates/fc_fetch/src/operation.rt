@@ -1,10 +1,12 @@
-//! What the command line of the client asks for: a request, or an observation.
-ghost use Rattle.std.specs.Prelude.{◌≡◌, ◌≢◌, IfErr, IfOk, codes};
+//! What the command line of the client asks for: a request, an observation, or a ping.
+ghost use Rattle.std.specs.Prelude.{◌≡◌, ◌≢◌, IfErr, IfOk, MatchBool, codes};
 ghost use Rattle.clap.specs.Matches.{first_value, found_of, one_text};
-ghost use Rattle.fc_fetch.specs.Operations.{IsMethodOf, IsNumberOf, IsObservationIn, IsOperationError, IsOperationIn, IsShownIn};
+ghost use Rattle.fc_fetch.specs.Operations.{HasNoFormat, HasTwoBodies, IsBodyIn, IsForNoRequest, IsForRequest, IsFormatIn, IsFormatOf, IsLimited, IsMethodOf, IsNumberOf, IsObservationIn, IsOperationError, IsOperationIn, IsPingIn, IsShownIn, IsUnlimited, body_at};
+ghost use Rattle.fc_fetch.specs.declared.operation.OperationError.TheVariants as operation_error;
 
 use crate::client::FetchOptions;
 use crate::observer::{ObservationExtent, Observing};
+use crate::ping::Pinging;
 use crate::printer::Shown;
 use clap::ArgMatches;
 use coap_opts::Method;
@@ -13,30 +15,94 @@ use thiserror::Error;
 /// The word that observes in place of asking once.
 pub const OBSERVE: &str = "observe";
 
+/// The word that pings in place of asking.
+pub const PING: &str = "ping";
+
 /// What the request's body is read from, if no file is named.
 const INPUT: &str = "standard input";
+
+/// Where a request's body comes from.
+#[derive(Clone, Copy, PartialEq, Eq)]
+pub enum BodySource<'a> {
+    /// It has none, and nothing is read.
+    None,
+    /// This text.
+    Text(&'a str),
+    /// The file of this name, to its end.
+    File(&'a str),
+    /// Standard input, to its end.
+    Input,
+}
+
+/// A request: what is asked for, where its body comes from, and the name of the file that the bytes of a success go to, if they aren't printed.
+#[derive(Clone, Copy)]
+pub struct Asking<'a> {
+    pub options: FetchOptions<'a>,
+    pub body: BodySource<'a>,
+    pub output: Option<&'a str>,
+}
+
+impl<'a> BodySource<'a> {
+    /// Returns where the body of this method comes from if standard input is a terminal, or isn't: a GET or a DELETE reads no terminal.
+    pub fn at_terminal(self, method: Method, terminal: bool) -> BodySource<'a>
+        ensures { result ≡ body_at terminal method self.entry }
+    {
+        match self {
+            BodySource::Input if terminal => match method {
+                Method::Get | Method::Delete => BodySource::None,
+                Method::Post | Method::Put => BodySource::Input,
+            },
+            source => source,
+        }
+    }
+}
+
+impl<'a> Asking<'a> {
+    /// Returns this request where standard input is a terminal, or isn't: a GET or a DELETE whose body would be read from a terminal has none.
+    pub fn at_terminal(&self, terminal: bool) -> Asking<'a>
+        ensures body { result.body ≡ body_at terminal self.now.options.method self.now.body }
+        ensures others { (result.options ≡ self.now.options) × (result.output ≡ self.now.output) }
+    {
+        Asking {
+            options: self.options,
+            body: self.body.at_terminal(self.options.method, terminal),
+            output: self.output,
+        }
+    }
+}
 
 /// What a command line asks for.
 #[derive(Clone, Copy)]
 pub enum Operation<'a> {
-    /// A request, whose body is read from the file of this name, or from standard input.
-    Fetch(FetchOptions<'a>, Option<&'a str>),
+    /// A request.
+    Fetch(Asking<'a>),
     /// An observation.
     Observe(Observing<'a>),
+    /// A ping.
+    Ping(Pinging<'a>),
 }
 
 /// Why the words of a command line ask for nothing.
 #[derive(Clone, Copy, Debug, PartialEq, Eq, Error)]
 pub enum OperationError {
-    /// An observation with `-N` or `-f`.
-    #[error("`observe` is a confirmable GET without a body: it takes neither `-N` nor `-f`")]
+    /// An observation with `-N`, `-f`, `-e`, `-t` or `-o`.
+    #[error("`observe` is a confirmable GET without a body, and prints lines: it takes none of `-N`, `-f`, `-e`, `-t` and `-o`")]
     Request,
     /// A request with `--count` or `--seconds`.
     #[error("`--count` and `--seconds` go with `observe`")]
     Extent,
-    /// No method and no target, or a method that isn't known.
-    #[error("a method and a target are missing")]
+    /// No method or no target, or a method that isn't known.
+    #[error("the target is missing: a path, as /r/1 with `--port P`, or a URI, as coap://127.0.0.1:5683/r/1")]
     Missing,
+    /// More than one of `-n`, `-e` and `-f`.
+    #[error("one of `-n`, `-e` and `-f` says what the body is: leave the others out")]
+    Bodies,
+    /// A Content-Format that is neither a number below 65536 nor a name that is known.
+    #[error("`-t` is a number of 0 to 65535, or text/plain, application/link-format, application/xml, application/octet-stream, application/exi or application/json")]
+    Format,
+    /// A ping with an option of requests or of observations.
+    #[error("`ping` sends no request: it takes `--port P` or a URI, as coap://127.0.0.1:5683, and none of `-N`, `-f`, `-e`, `-t`, `-o`, `--count` and `--seconds`")]
+    Ping,
 }
 
 /// Returns what the words of a command line ask for.
@@ -47,7 +113,13 @@ pub fn operation_of<'a>(matches: &ArgMatches<'a>) -> Result<Operation<'a>, Opera
     ensures operation { IfOk result (IsOperationIn (found_of matches.now)) }
     ensures none { IfErr result (IsOperationError (found_of matches.now)) }
 {
-    let (Some(word), Some(target)) = (matches.get_str("method"), matches.get_str("target")) else {
+    let Some(word) = matches.get_str("method") else {
+        return Err(OperationError::Missing);
+    };
+    if word == PING {
+        return Ok(Operation::Ping(ping_of(matches)?));
+    }
+    let Some(target) = matches.get_str("target") else {
         return Err(OperationError::Missing);
     };
     if word == OBSERVE {
@@ -55,6 +127,21 @@ pub fn operation_of<'a>(matches: &ArgMatches<'a>) -> Result<Operation<'a>, Opera
     } else {
         request_of(matches, word, target)
     }
+}
+
+// The ping of this target, or of a port.
+fn ping_of<'a>(matches: &ArgMatches<'a>) -> Result<Pinging<'a>, OperationError>
+    requires word { first_value (found_of matches.now) (codes "method") ≡ Some (codes "ping") }
+    ensures ping { IfOk result (IsPingIn (found_of matches.now)) }
+    ensures none { IfErr result (IsOperationError (found_of matches.now)) }
+{
+    if is_for_request(matches) || is_limited(matches) {
+        return Err(OperationError::Ping);
+    }
+    Ok(Pinging {
+        target: matches.get_str("target"),
+        port: port_in(matches),
+    })
 }
 
 // The observation of this target.
@@ -67,7 +154,7 @@ fn observation_of<'a>(
     ensures observation { IfOk result (IsObservationIn (found_of matches.now)) }
     ensures none { IfErr result (IsOperationError (found_of matches.now)) }
 {
-    if matches.get_flag("non") || matches.get_str("file").is_some() {
+    if is_for_request(matches) {
         return Err(OperationError::Request);
     }
     Ok(Observing {
@@ -89,26 +176,94 @@ fn request_of<'a>(
 ) -> Result<Operation<'a>, OperationError>
     requires word { first_value (found_of matches.now) (codes "method") ≡ Some word.now }
     requires other { word.now ≢ codes "observe" }
+    requires no_ping { word.now ≢ codes "ping" }
     requires target { first_value (found_of matches.now) (codes "target") ≡ Some target.now }
     ensures request { IfOk result (IsOperationIn (found_of matches.now)) }
     ensures none { IfErr result (IsOperationError (found_of matches.now)) }
 {
-    if limit_in(matches, "count").is_some() || limit_in(matches, "seconds").is_some() {
+    if is_limited(matches) {
         return Err(OperationError::Extent);
     }
     let Some(method) = method_of(word) else {
         return Err(OperationError::Missing);
     };
-    let file = matches.get_str("file");
+    let body = body_in(matches)?;
     let options = FetchOptions {
         confirmable: !matches.get_flag("non"),
         method,
         target,
         port: port_in(matches),
-        source: file.unwrap_or(INPUT),
+        source: matches.get_str("file").unwrap_or(INPUT),
+        content_format: format_in(matches)?,
         shown: shown_in(matches),
     };
-    Ok(Operation::Fetch(options, file))
+    Ok(Operation::Fetch(Asking {
+        options,
+        body,
+        output: matches.get_str("output"),
+    }))
+}
+
+// Whether an option is given that goes with a request alone.
+fn is_for_request(matches: &ArgMatches<'_>) -> bool
+    ensures { MatchBool result (IsForRequest (found_of matches.now)) (IsForNoRequest (found_of matches.now)) }
+{
+    matches.get_flag("non")
+        || matches.get_str("file").is_some()
+        || matches.get_str("body").is_some()
+        || matches.get_str("format").is_some()
+        || matches.get_str("output").is_some()
+}
+
+// Whether a number of lines or of seconds is given.
+fn is_limited(matches: &ArgMatches<'_>) -> bool
+    ensures { MatchBool result (IsLimited (found_of matches.now)) (IsUnlimited (found_of matches.now)) }
+{
+    limit_in(matches, "count").is_some() || limit_in(matches, "seconds").is_some()
+}
+
+// Where the body comes from.
+fn body_in<'a>(matches: &ArgMatches<'a>) -> Result<BodySource<'a>, OperationError>
+    ensures body { IfOk result (IsBodyIn (found_of matches.now)) }
+    ensures none { IfErr result (λ error. (error ≡ operation_error.Bodies) × HasTwoBodies (found_of matches.now)) }
+{
+    let none = matches.get_flag("no-body");
+    match (none, matches.get_str("body"), matches.get_str("file")) {
+        (true, None, None) => Ok(BodySource::None),
+        (false, Some(text), None) => Ok(BodySource::Text(text)),
+        (false, None, Some(name)) => Ok(BodySource::File(name)),
+        (false, None, None) => Ok(BodySource::Input),
+        _ => Err(OperationError::Bodies),
+    }
+}
+
+// The number of the Content-Format, if one is given.
+fn format_in(matches: &ArgMatches<'_>) -> Result<Option<u16>, OperationError>
+    ensures format { IfOk result (IsFormatIn (found_of matches.now)) }
+    ensures none { IfErr result (λ error. (error ≡ operation_error.Format) × HasNoFormat (found_of matches.now)) }
+{
+    let Some(text) = matches.get_str("format") else {
+        return Ok(None);
+    };
+    match format_of(text) {
+        Some(format) => Ok(Some(format)),
+        None => Err(OperationError::Format),
+    }
+}
+
+// The number of a Content-Format by its name (RFC 7252, 12.3) or its digits.
+fn format_of(text: &str) -> Option<u16>
+    ensures { IsFormatOf text.now result }
+{
+    match text {
+        "text/plain" => Some(0),
+        "application/link-format" => Some(40),
+        "application/xml" => Some(41),
+        "application/octet-stream" => Some(42),
+        "application/exi" => Some(47),
+        "application/json" => Some(50),
+        digits => digits.parse::<u16>().ok(),
+    }
 }
 
 fn method_of(word: &str) -> Option<Method>

@@ -3,12 +3,13 @@ ghost use Rattle.std.specs.Prelude.{◌≡◌, MatchOption, OnOk, false, true};
 ghost use Rattle.std.specs.List.{list_all};
 ghost use Rattle.std.specs.Str.{chars};
 ghost use Rattle.std.specs.Io.KnownBytes.{Appends};
-ghost use Rattle.fc_fetch.specs.Fetching.{answer_text};
+ghost use Rattle.coap_msg.specs.Codes.{code_text};
+ghost use Rattle.fc_fetch.specs.Fetching.{answer_text, ended_line};
 ghost use Rattle.fc_fetch.specs.Observing.{note_text};
 ghost use Rattle.fc_fetch.specs.Printing as spec;
 
 use coap_client::Fetched;
-use coap_msg::Message;
+use coap_msg::{Code, Message};
 use std::alloc::{AllocError, Global};
 use std::io;
 use std::io::Write;
@@ -60,6 +61,29 @@ pub fn write_answer<W: Write>(
     }
     out.flush()?;
     Ok(())
+}
+
+/// Writes the code alone, in a line.
+///
+/// # Errors
+/// It can't be written.
+pub fn write_code<W: Write>(out: &mut W, code: Code) -> Result<(), PrintError>
+    ensures { OnOk result (Appends (W.contents out.old) (W.contents out.new) (ended_line (code_text code.byte))) }
+{
+    writeln!(out, "{code}")?;
+    out.flush()?;
+    Ok(())
+}
+
+/// Writes the bytes as they are.
+///
+/// # Errors
+/// They can't be written.
+pub fn write_bytes<W: Write>(out: &mut W, bytes: &[u8]) -> io::Result<()>
+    ensures { OnOk result (Appends (W.contents out.old) (W.contents out.new) bytes.now) }
+{
+    out.write_all(bytes)?;
+    out.flush()
 }
 
 /// Writes what an observer is told in a line: the code and, where there are bytes, a space and these, as text only where it has no line feed.

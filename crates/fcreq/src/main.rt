@@ -4,12 +4,14 @@
 use clap::{Arg, ArgAction, Command, Error, value_parser};
 use fc_cli::Status;
 use fc_cli::command_line::{VERSION, exit_code, parse, words};
-use fc_fetch::operation::{OBSERVE, Operation, operation_of};
-use fc_fetch::{FetchOptions, Observing, fetch, observe};
+use fc_fetch::asking::ask_by;
+use fc_fetch::operation::{OBSERVE, Operation, PING, operation_of};
+use fc_fetch::ping::ping;
+use fc_fetch::{Asking, Observing, System, observe};
 use std::alloc::Global;
 use std::fs::File;
 use std::io;
-use std::io::{BufWriter, Read, Write};
+use std::io::{BufWriter, IsTerminal, Write};
 use std::net::Net;
 use std::process::ExitCode;
 use std::random::RandomSource;
@@ -19,18 +21,24 @@ use std::rt::Runtime;
 const ASKING: &str = "\
 TARGET is a path, a slash before each of its segments of 1 to 255 bytes, at `--port P` of
 127.0.0.1; or a URI, coap://HOST:PORT/path?query, whose host is an IPv4 address or localhost, and
-whose port is 5683 where it says none. In a path `?` and `%` stand for themselves. The request's
-body is read from standard input, or from FILE, to its end. Printed are the answer's code and,
-where it has bytes, these in hex on a line of their own.
+whose port is 5683 where it says none. A path may have a query, /r/1?a=1&b; in it `%` stands for
+itself. The request's body is read from standard input to its end, but for a GET or a DELETE if
+standard input is a terminal; or it is TEXT or FILE, or with `-n` there is none. Printed are the
+answer's code and, where it has bytes, these in hex on a line of their own.
 
   fcreq --port 5683 put /p/1 -f program.img
-  fcreq --text get coap://127.0.0.1:5683/.well-known/core < /dev/null
-  echo 20 | fcreq post 'coap://127.0.0.1/r/1?unit=C'
+  fcreq --text -n get coap://127.0.0.1:5683/.well-known/core
+  fcreq -e 20 -t text/plain post 'coap://127.0.0.1/r/1?unit=C'
 
 A request is sent again after 2, 4, 8 and 16 seconds without an answer, and given up after 32
 more. Where the server acknowledges it and answers later, the answer is waited for 93 seconds. The
 body of a PUT goes in blocks where it has more than 1,024 bytes, and so does an answer; where the
 server names a smaller size, in blocks of that.
+
+`ping` asks whether a server is there: coap://HOST:PORT, or `--port P` of 127.0.0.1, or port 5683.
+It prints nothing, and ends with 0 where the server answers.
+
+  fcreq ping coap://127.0.0.1:5683
 
 `observe` prints what a GET is answered, and then each newer state that it is notified of, in a
 line: the code, a space and the bytes, with `--text` as text where that has no line feed. It
@@ -51,12 +59,11 @@ fn command<'a>(alloc: Global) -> Result<Command<'a>, Error> {
     let method = Arg::new(alloc, "method")
         .value_name("METHOD")
         .required(true)
-        .value_parser(["get", "post", "put", "delete", OBSERVE].as_slice())
-        .help("What is asked; or `observe`, for a GET and the changes behind it");
-    let target = Arg::new(alloc, "target")
-        .value_name("TARGET")
-        .required(true)
-        .help("Of which resource: /r/1, or coap://127.0.0.1:5683/r/1");
+        .value_parser(["get", "post", "put", "delete", OBSERVE, PING].as_slice())
+        .help("What is asked; or `observe`, for a GET and the changes behind it; or `ping`");
+    let target = Arg::new(alloc, "target").value_name("TARGET").help(
+        "Of which resource: /r/1, or coap://127.0.0.1:5683/r/1; `ping` needs none",
+    );
     Ok(
         Command::new(alloc, "fcreq")
             .version(VERSION)
@@ -74,7 +81,29 @@ fn command<'a>(alloc: Global) -> Result<Command<'a>, Error> {
                 "text",
                 "Print the answer's bytes as text, where they are text",
             ))?
-            .arg(file(alloc))?
+            .arg(flag(alloc, "no-body", "Send no body, and read nothing").short('n'))?
+            .arg(value(alloc, "body", 'e', "TEXT", "Send this text as the body"))?
+            .arg(value(
+                alloc,
+                "file",
+                'f',
+                "FILE",
+                "Read the request's body from this file",
+            ))?
+            .arg(value(
+                alloc,
+                "format",
+                't',
+                "FORMAT",
+                "The body's Content-Format: a number, or a name as text/plain",
+            ))?
+            .arg(value(
+                alloc,
+                "output",
+                'o',
+                "FILE",
+                "Write the bytes of a success to this file, and print its code alone",
+            ))?
             .arg(limit(
                 alloc,
                 "count",
@@ -100,12 +129,19 @@ fn port<'a>(alloc: Global) -> Arg<'a> {
         .help("The port of the server at 127.0.0.1, 1 to 65535: with a path")
 }
 
-fn file<'a>(alloc: Global) -> Arg<'a> {
-    Arg::new(alloc, "file")
-        .short('f')
-        .long("file")
-        .value_name("FILE")
-        .help("Read the request's body from this file")
+// An option with a value.
+fn value<'a>(
+    alloc: Global,
+    name: &'static str,
+    short: char,
+    value: &'static str,
+    help: &'static str,
+) -> Arg<'a> {
+    Arg::new(alloc, name)
+        .short(short)
+        .long(name)
+        .value_name(value)
+        .help(help)
 }
 
 // A bound of an observation, 1 and more.
@@ -133,17 +169,19 @@ fn flag<'a>(alloc: Global, name: &'static str, help: &'static str) -> Arg<'a> {
 fn run<R: Runtime + AllocGlobal + Net + RandomSource, E: Write>(
     rt: &R,
     err: &mut E,
+    terminal: bool,
 ) -> anyhow::Result<Status> {
     match words(rt, err)? {
-        Some(words) => obey(rt, err, words),
+        Some(words) => obey(rt, err, terminal, words),
         None => Ok(Status::Bad),
     }
 }
 
-// Asks what the words of the command line say.
+// Asks what the words of the command line say, where standard input is a terminal, or isn't.
 fn obey<R: Runtime + AllocGlobal + Net + RandomSource, E: Write>(
     rt: &R,
     err: &mut E,
+    terminal: bool,
     words: Vec<String>,
 ) -> anyhow::Result<Status> {
     let matches = match parse(rt, command(rt.alloc())?, &words)? {
@@ -151,8 +189,9 @@ fn obey<R: Runtime + AllocGlobal + Net + RandomSource, E: Write>(
         Err(status) => return Ok(status),
     };
     match operation_of(&matches) {
-        Ok(Operation::Fetch(asking, file)) => ask_by(rt, err, &asking, file),
+        Ok(Operation::Fetch(asking)) => ask(rt, err, &asking.at_terminal(terminal)),
         Ok(Operation::Observe(observing)) => observe_by(rt, err, &observing),
+        Ok(Operation::Ping(pinging)) => Ok(ping(rt, rt.alloc(), err, &pinging)),
         Err(why) => {
             writeln!(err, "error: {why}")?;
             Ok(Status::Bad)
@@ -160,23 +199,16 @@ fn obey<R: Runtime + AllocGlobal + Net + RandomSource, E: Write>(
     }
 }
 
-// Asks by the bytes of a file, or of standard input.
-fn ask_by<R: Runtime + AllocGlobal + Net + RandomSource, E: Write>(
+// Asks what the command line says.
+fn ask<R: Runtime + AllocGlobal + Net + RandomSource, E: Write>(
     rt: &R,
     err: &mut E,
-    asking: &FetchOptions<'_>,
-    file: Option<&str>,
+    asking: &Asking<'_>,
 ) -> anyhow::Result<Status> {
-    let Some(name) = file else {
-        return ask(rt, err, &mut rt.reader(), asking);
-    };
-    match File::open(rt, name) {
-        Ok(mut file) => ask(rt, err, &mut file, asking),
-        Err(error) => {
-            writeln!(err, "{name}: {error}")?;
-            Ok(Status::Failed)
-        }
-    }
+    let alloc = rt.alloc();
+    let mut out = BufWriter::new(alloc, io::writer(rt))?;
+    let mut input = rt.reader();
+    Ok(ask_by(&System { rt }, rt, alloc, &mut input, &mut out, err, asking))
 }
 
 // Observes what the command line says. Its socket is open while it prints: where a standard stream is closed, a file has its descriptor, and not the socket.
@@ -193,19 +225,9 @@ fn observe_by<R: Runtime + AllocGlobal + Net + RandomSource, E: Write>(
     Ok(observe(rt, alloc, &mut out, err, observing))
 }
 
-fn ask<R: Runtime + AllocGlobal + Net + RandomSource, I: Read, E: Write>(
-    rt: &R,
-    err: &mut E,
-    input: &mut I,
-    asking: &FetchOptions<'_>,
-) -> anyhow::Result<Status> {
-    let alloc = rt.alloc();
-    let mut out = BufWriter::new(alloc, io::writer(rt))?;
-    Ok(fetch(rt, alloc, input, &mut out, err, asking))
-}
-
 fn main(rt: HostRuntime) -> ExitCode {
     let mut err = rt.stderr();
-    let ended = run(&rt, &mut err);
+    let terminal = rt.stdin().is_terminal();
+    let ended = run(&rt, &mut err, terminal);
     exit_code(&mut err, ended)
 }

@@ -72,9 +72,33 @@ fn uris_are_read(rt: HostRuntime) -> Result<(), Fail> {
 
 #[test]
 fn a_path_is_at_a_port_of_this_host(rt: HostRuntime) -> Result<(), Fail> {
-    let address = Address::parse(rt.alloc(), "/r/1?x", Some(7))?;
+    let address = Address::parse(rt.alloc(), "/r/1%3F", Some(7))?;
     assert!(rt; address.server == SocketAddrV4::new(Ipv4Addr::LOCALHOST, 7));
-    assert!(rt; address.path.as_slice() == b"/r/1?x".as_slice() && address.query.is_empty());
+    assert!(rt; address.path.as_slice() == b"/r/1%3F".as_slice() && address.query.is_empty());
+    Ok(())
+}
+
+// A path with a query, and what they are: the first `?` parts them, and each `&` of the query its arguments. Escapes aren't read.
+static QUERIES: [(&str, &[u8], &[&[u8]]); 4] = [
+    ("/r/1?x=1", b"/r/1", &[b"x=1"]),
+    (
+        "/r/1?unit=C&a%26b&&why?",
+        b"/r/1",
+        &[b"unit=C", b"a%26b", b"", b"why?"],
+    ),
+    ("/r/1?", b"/r/1", &[]),
+    ("?a", b"", &[b"a"]),
+];
+
+#[test]
+fn a_path_has_a_query(rt: HostRuntime) -> Result<(), Fail> {
+    for (text, path, query) in QUERIES.iter().copied() {
+        let address = Address::parse(rt.alloc(), text, Some(7))?;
+        assert!(rt;
+            address.path.as_slice() == path && are_arguments(&address.query, query),
+            "{text}"
+        );
+    }
     Ok(())
 }
 

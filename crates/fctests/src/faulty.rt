@@ -1,6 +1,6 @@
 // Readers and writers that fail.
 use std::io;
-use std::io::{ErrorKind, Write};
+use std::io::{ErrorKind, Read, Write};
 
 // A writer that fails behind so many bytes.
 #[derive(Drop)]
@@ -18,6 +18,17 @@ impl Write for Full {
 
     fn flush(&mut self) -> io::Result<()> {
         Ok(())
+    }
+}
+
+// A reader that fails at once.
+#[derive(Drop)]
+pub(crate) struct Unreadable;
+
+impl Read for Unreadable {
+    fn read(&mut self, buf: &mut [u8]) -> io::Result<usize> {
+        let _ = buf;
+        Err(io::Error::from(ErrorKind::Unsupported))
     }
 }
 

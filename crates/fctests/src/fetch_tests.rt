@@ -1,21 +1,30 @@
 // The client's program over a socket of this host: what it sends, and how long it observes. The datagrams are worked out by hand (RFC 7252, 3; RFC 7641, 2).
-use crate::faulty::Unflushed;
+use crate::faulty::{Unflushed, Unreadable};
 use crate::scripted::joined;
-use crate::socket_tests::at_port;
+use crate::socket_tests::{at_port, free_port, serve_while};
 use coap_client::Fetched;
 use coap_msg::Code;
 use coap_opts::Method;
 use fc_cli::Status;
+use fc_core::DEFAULT_POLICY;
+use fc_fetch::asking::ask_by;
 use fc_fetch::observer::ObservationExtent;
+use fc_fetch::ping::ping;
 use fc_fetch::printer::{PrintError, write_answer};
-use fc_fetch::{FetchOptions, Observing, Shown, fetch, observe};
+use fc_fetch::{
+    Asking, BodySource, FetchOptions, Observing, Pinging, Shown, System, fetch, observe,
+};
+use fc_host::sensors::NoSensors;
+use fc_service::serve::Extent;
 use std::alloc::Global;
 use std::net::{Ipv4Addr, Net, SocketAddr, SocketAddrV4, UdpSocket};
 use std::process::Abort;
 use std::random::RandomSource;
+use std::rt::Files;
 use std::test::Fail;
+use std::thread::Threads;
 use std::time::{Clock, Duration, Instant};
-use std::{io, thread};
+use std::{fs, io, thread};
 
 // The datagram that comes to a server, and who sent it.
 fn received(alloc: Global, socket: &UdpSocket) -> io::Result<(Vec<u8>, SocketAddr)> {
@@ -75,6 +84,7 @@ fn a_request_has_the_type_the_method_and_the_body_that_are_asked_for(
             target: "/r/1",
             port: Some(server.local_addr()?.port()),
             source: "a slice",
+            content_format: None,
             shown: Shown::Hex,
         };
         let (asked, ended) = thread::join(
@@ -258,6 +268,7 @@ fn a_request_without_room_is_told(rt: HostRuntime) {
         target: "/r/1",
         port: Some(1),
         source: "a slice",
+        content_format: None,
         shown: Shown::Hex,
     };
     let bytes = [7; 1263];
@@ -301,6 +312,7 @@ fn an_error_response_is_printed_and_refused(rt: HostRuntime) -> Result<(), Fail>
             target: "/r/1",
             port: Some(server.local_addr()?.port()),
             source: "a slice",
+            content_format: None,
             shown: Shown::Hex,
         };
         let (asked, (ended, printed)) = thread::join(
@@ -324,6 +336,7 @@ fn a_bad_target_is_told(rt: HostRuntime) {
             target,
             port: Some(1),
             source: "a slice",
+            content_format: None,
             shown: Shown::Hex,
         };
         let mut body = b"".as_slice();
@@ -347,4 +360,191 @@ fn an_answer_is_flushed(rt: HostRuntime) -> Result<(), Fail> {
     let shown = write_answer(alloc, &mut Unflushed, Shown::Hex, &fetched);
     assert!(rt; matches!(&shown, Err(PrintError::Output(_))));
     Ok(())
+}
+
+// A POST of JSON: Content-Format, option 12, is 50, in one byte (RFC 7252, 5.10 and 12.3), between the path and the marker.
+#[test]
+fn a_body_has_the_format_that_is_given(rt: HostRuntime) -> Result<(), Fail> {
+    let alloc = rt.alloc();
+    let server = UdpSocket::bind(&rt, at_port(0))?;
+    let asking = FetchOptions {
+        confirmable: true,
+        method: Method::Post,
+        target: "/r/1?x=1",
+        port: Some(server.local_addr()?.port()),
+        source: "a slice",
+        content_format: Some(50),
+        shown: Shown::Hex,
+    };
+    let (asked, ended) = thread::join(
+        &rt,
+        || answer_once(alloc, &server, [0x60, 0x44], &[]),
+        || {
+            let mut body = b"20".as_slice();
+            let (mut out, mut err) = (Vec::new(alloc), Vec::new(alloc));
+            fetch(&rt, alloc, &mut body, &mut out, &mut err, &asking)
+        },
+    );
+    assert!(rt; asked?.as_slice() == b"\x40\x02\xb1\x72\x01\x31\x11\x32\x33x=1\xff20".as_slice());
+    assert!(rt; ended == Status::Done);
+    Ok(())
+}
+
+// How a request at this port ends, and what is printed: its input fails where it is read.
+fn ended_at<R: Net + Clock + RandomSource + Files>(
+    rt: &R,
+    alloc: Global,
+    method: Method,
+    port: u16,
+    body: BodySource<'_>,
+    output: Option<&str>,
+) -> (Status, Vec<u8>) {
+    let asking = Asking {
+        options: FetchOptions {
+            confirmable: true,
+            method,
+            target: "/r/1",
+            port: Some(port),
+            source: "an input that fails",
+            content_format: None,
+            shown: Shown::Text,
+        },
+        body,
+        output,
+    };
+    let (mut out, mut err) = (Vec::new(alloc), Vec::new(alloc));
+    let system = System { rt };
+    let mut input = Unreadable;
+    let ended = ask_by(&system, rt, alloc, &mut input, &mut out, &mut err, &asking);
+    (ended, out)
+}
+
+// `-n` and `-e` read no input, and without them a POST does.
+#[test]
+fn no_input_is_read_where_the_body_is_none_or_a_text(rt: HostRuntime) -> Result<(), Fail> {
+    let alloc = rt.alloc();
+    let bodies: [(BodySource<'_>, &[u8]); 2] = [
+        (BodySource::None, b"\x40\x02\xb1\x72\x01\x31"),
+        (BodySource::Text("20"), b"\x40\x02\xb1\x72\x01\x31\xff20"),
+    ];
+    for (body, expected) in bodies.iter().copied() {
+        let server = UdpSocket::bind(&rt, at_port(0))?;
+        let port = server.local_addr()?.port();
+        let (asked, (ended, printed)) = thread::join(
+            &rt,
+            || answer_once(alloc, &server, [0x60, 0x44], &[]),
+            || ended_at(&rt, alloc, Method::Post, port, body, None),
+        );
+        assert!(rt; asked?.as_slice() == expected, "{expected:?}");
+        assert!(rt; ended == Status::Done && printed.as_slice() == b"2.04\n".as_slice());
+    }
+    let (ended, printed) = ended_at(&rt, alloc, Method::Post, 1, BodySource::Input, None);
+    assert!(rt; ended == Status::Failed && printed.is_empty());
+    Ok(())
+}
+
+// The file of a test, before and after.
+const KEPT: &str = "answer-of-a-test";
+
+// How a GET ends that is answered so, with the answer's bytes to a file of this name, and what is printed.
+fn kept_in<R: Net + Clock + RandomSource + Files + Threads + Sync>(
+    rt: &R,
+    alloc: Global,
+    name: &str,
+    head: [u8; 2],
+    tail: &[u8],
+) -> Result<(Status, Vec<u8>), Fail> {
+    let server = UdpSocket::bind(rt, at_port(0))?;
+    let port = server.local_addr()?.port();
+    let (asked, ended) = thread::join(
+        rt,
+        || answer_once(alloc, &server, head, tail),
+        || ended_at(rt, alloc, Method::Get, port, BodySource::None, Some(name)),
+    );
+    let _asked = asked?;
+    Ok(ended)
+}
+
+// `-o FILE`: the bytes of a success are the file's, as they are, and its code is printed. An error is printed, and the file stays.
+#[test]
+fn a_success_goes_to_its_file(rt: HostRuntime) -> Result<(), Fail> {
+    let alloc = rt.alloc();
+    fs::write(&rt, KEPT, b"before".as_slice())?;
+    let (ended, printed) = kept_in(&rt, alloc, KEPT, [0x60, 0x84], b"\xffgone")?;
+    assert!(rt; ended == Status::Refused && printed.as_slice() == b"4.04\ngone\n".as_slice());
+    assert!(rt; fs::read(&rt, KEPT)?.as_slice() == b"before".as_slice());
+    let (ended, printed) = kept_in(&rt, alloc, KEPT, [0x60, 0x45], b"\xff\x00\x0a\xff")?;
+    assert!(rt; ended == Status::Done && printed.as_slice() == b"2.05\n".as_slice());
+    assert!(rt; fs::read(&rt, KEPT)?.as_slice() == b"\x00\x0a\xff".as_slice());
+    let (ended, printed) = kept_in(&rt, alloc, KEPT, [0x60, 0x45], b"")?;
+    assert!(rt; ended == Status::Done && printed.as_slice() == b"2.05\n".as_slice());
+    assert!(rt; fs::read(&rt, KEPT)?.is_empty());
+    fs::remove_file(&rt, KEPT)?;
+    let (ended, _printed) = kept_in(&rt, alloc, "/", [0x60, 0x45], b"\xffa")?;
+    assert!(rt; ended == Status::Failed);
+    Ok(())
+}
+
+// How a ping of a port of this host ends, and what is told.
+fn pinged<R: Net + Clock + RandomSource>(rt: &R, alloc: Global, port: u16) -> (Status, Vec<u8>) {
+    let mut err = Vec::new(alloc);
+    let pinging = Pinging {
+        target: None,
+        port: Some(port),
+    };
+    let ended = ping(rt, alloc, &mut err, &pinging);
+    (ended, err)
+}
+
+// A server of ours rejects a ping by a Reset message with its id (RFC 7252, 4.3).
+#[test]
+fn a_server_answers_a_ping(rt: HostRuntime) -> Result<(), Fail> {
+    let extent = Extent {
+        workers: 1,
+        limit: 1,
+        first_id: 0,
+        policy: DEFAULT_POLICY,
+    };
+    let _memory = serve_while(&rt, &NoSensors, extent, |port| {
+        let (ended, told) = pinged(&rt, rt.alloc(), port);
+        assert!(rt; ended == Status::Done && told.is_empty());
+        Ok(())
+    })?;
+    Ok(())
+}
+
+// Where nobody listens at the port, the system says so at once.
+#[test]
+fn a_ping_that_nobody_hears_fails(rt: HostRuntime) -> Result<(), Fail> {
+    let port = free_port(&rt)?;
+    let start = Instant::now(&rt)?;
+    let (ended, told) = pinged(&rt, rt.alloc(), port);
+    assert!(rt;
+        ended == Status::Failed
+            && told.as_slice() == b"UDP: Connection refused (os error 111)\n".as_slice()
+    );
+    assert!(rt; start.elapsed(&rt)? < Duration::from_secs(2));
+    Ok(())
+}
+
+// Targets of a ping that it ends `Bad` at: a resource, a path without a port, and a port beside a URI.
+static BAD_PINGS: [(&str, Option<u16>); 4] = [
+    ("coap://127.0.0.1/r/1", None),
+    ("coap://127.0.0.1?a", None),
+    ("/r/1", None),
+    ("coap://127.0.0.1", Some(5683)),
+];
+
+#[test]
+fn a_bad_target_of_a_ping_is_told(rt: HostRuntime) {
+    let alloc = rt.alloc();
+    for (target, port) in BAD_PINGS.iter().copied() {
+        let mut err = Vec::new(alloc);
+        let pinging = Pinging {
+            target: Some(target),
+            port,
+        };
+        let ended = ping(&rt, alloc, &mut err, &pinging);
+        assert!(rt; ended == Status::Bad && !err.is_empty(), "{target}");
+    }
 }

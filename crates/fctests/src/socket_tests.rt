@@ -58,6 +58,7 @@ pub(crate) fn check_asked<R: Abort + Net + Clock + RandomSource + AllocGlobal>(
         target: path,
         port: Some(port),
         source: "a slice",
+        content_format: None,
         shown: Shown::Hex,
     };
     let ended = fetch(rt, alloc, &mut payload, &mut out, &mut err, &asking);
@@ -214,6 +215,7 @@ fn a_refused_port_is_status_3(rt: HostRuntime) -> Result<(), Fail> {
         target: "/r/1",
         port: Some(port),
         source: "a slice",
+        content_format: None,
         shown: Shown::Hex,
     };
     let mut payload: &[u8] = &[];

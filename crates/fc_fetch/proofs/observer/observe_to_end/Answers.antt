@@ -1,11 +1,12 @@
-use Rattle.std.proofs.Common.{subst, sym}
-use Rattle.fc_fetch.specs.Observing.{IsObservedAt, IsObservedIn}
+use Rattle.std.proofs.Common.{refl, subst, sym}
+use Rattle.coap_client.proofs.Failing.{raised}
+use Rattle.fc_fetch.specs.Observing.{IsErrandStop, IsObserveStop, IsObservedAt, IsObservedIn}
 use Rattle.fc_fetch.specs.Resources.{IsResourceOf}
-use Rattle.fc_fetch.proofs.Asked.{ok_of}
+use Rattle.fc_fetch.proofs.Asked.{err_of, nothing_named, observed_errand, observed_nothing, ok_of}
 use Rattle.fc_fetch.proofs.observer.observe_to_end.Goals as goal
 
-pub returns-in-Some : goal.returns-in-Some
-returns-in-Some g c =
+pub returns-in-Some-clause-ended : goal.returns-in-Some-clause-ended
+returns-in-Some-clause-ended g c =
     let address = c.in_ok-address.address in
     let errand = c.in-Some.errand in
     ok_of c.observe_errand.result
@@ -15,8 +16,38 @@ returns-in-Some g c =
     (g.W.Write.contents c.args.out.now) (g.W.Write.contents c.observe_errand.new.out))
     (λ end h. record {
       address = address;
-      address_is = c.in_ok-address.ensures;
+      address_is = c.in_ok-address.ensures.address;
       errand = errand;
       target_is = subst (IsResourceOf address) (sym c.in-Some.ensures.errand.2) c.in_ok-target.ensures.resource;
       observed = h;
-    }) c.observe_errand.ensures
+    }) c.observe_errand.ensures.ended
+
+pub returns-in-Some-clause-stop : goal.returns-in-Some-clause-stop
+returns-in-Some-clause-stop g c =
+    let address = c.in_ok-address.address in
+    let errand = c.in-Some.errand in
+    err_of c.observe_errand.result
+    (IsErrandStop g.C.Connector.connected g.C.Connector.drawn g.C.Server.Peer.came g.C.Server.Peer.tried g.C.Server.Peer.is_error g.C.Server.Peer.called c.args.observing.now errand address.server)
+    (IsObserveStop g.C.Connector.connected g.C.Connector.drawn g.C.Server.Peer.came g.C.Server.Peer.tried g.C.Server.Peer.is_error g.C.Server.Peer.called c.args.observing.now)
+    (λ s h. observed_errand _ _ _ _ _ _ _ address errand s c.in_ok-address.ensures.address
+    (subst (IsResourceOf address) (sym c.in-Some.ensures.errand.2) c.in_ok-target.ensures.resource) h) c.observe_errand.ensures.stop
+
+pub returns-in_err-address-clause-stop : goal.returns-in_err-address-clause-stop
+returns-in_err-address-clause-stop g c =
+    raised c.from_residual.result c.in_err-address.field-0.0
+    (IsObserveStop g.C.Connector.connected g.C.Connector.drawn g.C.Server.Peer.came g.C.Server.Peer.tried g.C.Server.Peer.is_error g.C.Server.Peer.called c.args.observing.now)
+    c.from_residual.ensures.1 (observed_nothing _ _ _ _ _ _ _ c.in_err-address.field-0.0 c.in_err-address.ensures.stop)
+
+pub returns-in_err-target-clause-stop : goal.returns-in_err-target-clause-stop
+returns-in_err-target-clause-stop g c =
+    raised c.from_residual-in_err-target.result c.in_err-target.field-0.0
+    (IsObserveStop g.C.Connector.connected g.C.Connector.drawn g.C.Server.Peer.came g.C.Server.Peer.tried g.C.Server.Peer.is_error g.C.Server.Peer.called c.args.observing.now)
+    c.from_residual-in_err-target.ensures.1
+    (observed_nothing _ _ _ _ _ _ _ c.in_err-target.field-0.0
+    (nothing_named _ _ c.in_ok-address.address c.in_err-target.field-0.0 c.in_ok-address.ensures.address c.in_err-target.ensures.stop))
+
+pub returns-clause-stop : goal.returns-clause-stop
+returns-clause-stop g c = record {
+  resource = record { address = c.in_ok-address.address; address_is = c.in_ok-address.ensures.address; target = c.in_ok-target.target; target_is = c.in_ok-target.ensures.resource };
+  unfit = c.in-None.ensures.none.0 refl;
+}

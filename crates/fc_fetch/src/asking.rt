@@ -1,0 +1,84 @@
+//! A request by the words of a command line: where its body comes from, and where the answer's bytes go.
+
+ghost use Rattle.fc_fetch.specs.Asking.{IsAskedBy, IsAskedFor, IsUnread};
+
+use crate::client::{FetchStop, fetch_by, fetch_to_by};
+use crate::connector::Connector;
+use crate::late_file::LateFile;
+use crate::operation::{Asking, BodySource};
+use fc_cli::status::{Status, tell};
+use std::alloc::Global;
+use std::fs::File;
+use std::io::{Read, Write};
+use std::rt::Files;
+
+/// Asks as [`fetch`](crate::fetch) does, with no body, a text, or the bytes of a file or of `input` to its end; and prints the answer, or writes the bytes of a success to a
+/// file, which is made or emptied then. The input isn't read where it isn't the body.
+///
+/// It ends as [`fetch`](crate::fetch) and [`fetch_to`](crate::fetch_to) do, and `Failed` where the body's file can't be opened.
+pub fn ask_by<C: Connector, R: Files, I: Read, W: Write, E: Write>(
+    connector: &C,
+    files: &R,
+    alloc: Global,
+    input: &mut I,
+    out: &mut W,
+    err: &mut E,
+    asking: &Asking<'_>,
+) -> Status
+    ensures asked { IsAskedFor C.connected C.drawn C.Server.went C.Server.came C.Server.is_error C.Server.called asking.now (I.remaining input.old)
+        (W.contents out.old) (W.contents out.new) result }
+    ensures unread { IsUnread asking.now.body input.old input.new }
+{
+    match asking.body {
+        BodySource::None => {
+            answer_to(
+                connector,
+                files,
+                alloc,
+                &mut b"".as_slice(),
+                out,
+                err,
+                asking,
+            )
+        }
+        BodySource::Text(text) => {
+            answer_to(
+                connector,
+                files,
+                alloc,
+                &mut text.as_bytes(),
+                out,
+                err,
+                asking,
+            )
+        }
+        BodySource::Input => answer_to(connector, files, alloc, input, out, err, asking),
+        BodySource::File(name) => match File::open(files, name) {
+            Ok(mut file) => answer_to(connector, files, alloc, &mut file, out, err, asking),
+            Err(error) => tell(err, &FetchStop::Input(name, error), Status::Failed),
+        },
+    }
+}
+
+// Asks with the bytes of a reader: the answer is printed, or goes to a file.
+fn answer_to<C: Connector, R: Files, I: Read, W: Write, E: Write>(
+    connector: &C,
+    files: &R,
+    alloc: Global,
+    input: &mut I,
+    out: &mut W,
+    err: &mut E,
+    asking: &Asking<'_>,
+) -> Status
+    ensures { IsAskedBy C.connected C.drawn C.Server.went C.Server.came C.Server.is_error C.Server.called asking.now (I.remaining input.old)
+        (W.contents out.old) (W.contents out.new) result }
+{
+    let options = &asking.options;
+    match asking.output {
+        None => fetch_by(connector, alloc, input, out, err, options),
+        Some(name) => {
+            let mut file = LateFile::new(files, name);
+            fetch_to_by(connector, alloc, input, out, &mut file, name, err, options)
+        }
+    }
+}

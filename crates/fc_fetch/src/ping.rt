@@ -1,0 +1,94 @@
+//! A ping: whether a server is there (RFC 7252, 4.3).
+ghost use Rattle.std.specs.Prelude.{◌≡◌, IfErr, IfOk, OnOk};
+ghost use Rattle.fc_fetch.specs.Pinging.{HasEndedPing, IsNoEndpoint, IsPingEndpoint, IsPingStop, IsPingedAt, names_resource};
+
+use crate::address::Address;
+use crate::client::{FetchStop, connect, first_id};
+use crate::connector::{Connector, System};
+use coap_client::ping::ping as ping_peer;
+use fc_cli::status::{Status, tell};
+use std::alloc::Global;
+use std::io::Write;
+use std::net::{Ipv4Addr, Net, SocketAddrV4};
+use std::random::RandomSource;
+use std::time::Clock;
+
+/// The port of CoAP (RFC 7252, 6.1).
+const COAP_PORT: u16 = 5683;
+
+/// What is pinged.
+#[derive(Clone, Copy)]
+pub struct Pinging<'a> {
+    /// A URI of the scheme coap without a path and a query; if there is none, a port of 127.0.0.1 is pinged.
+    pub target: Option<&'a str>,
+    /// That port, 5683 if it isn't given.
+    pub port: Option<u16>,
+}
+
+/// Pings a server, and prints nothing: an empty confirmable message is sent, as often as a confirmable request, until a Reset message comes with its id.
+///
+/// It is done where that came. It ends `Bad` where the target is bad or names a resource, and `Failed` where no such message came, at a fault of the socket, or where
+/// the system's random bytes failed. `err` is told why.
+pub fn ping<R: Net + Clock + RandomSource, E: Write>(
+    rt: &R,
+    alloc: Global,
+    err: &mut E,
+    pinging: &Pinging<'_>,
+) -> Status {
+    ping_by(&System { rt }, alloc, err, pinging)
+}
+
+/// Pings as [`ping`] does, a server that it connects to by `connector`.
+pub fn ping_by<C: Connector, E: Write>(
+    connector: &C,
+    alloc: Global,
+    err: &mut E,
+    pinging: &Pinging<'_>,
+) -> Status
+    ensures { HasEndedPing C.connected C.drawn C.Server.went C.Server.came C.Server.is_error C.Server.called pinging.now result }
+{
+    match ping_once(connector, alloc, pinging) {
+        Ok(()) => Status::Done,
+        Err(stop) => tell(err, &stop, stop.status()),
+    }
+}
+
+// Pings the server once, by a message id of random bytes.
+fn ping_once<'a, C: Connector>(
+    connector: &C,
+    alloc: Global,
+    pinging: &Pinging<'a>,
+) -> Result<(), FetchStop<'a>>
+    ensures pinged { OnOk result (IsPingedAt C.connected C.drawn C.Server.went C.Server.came C.Server.called pinging.now) }
+    ensures stop { IfErr result (IsPingStop C.connected C.drawn C.Server.is_error C.Server.called pinging.now) }
+{
+    let endpoint = endpoint_of(alloc, pinging)?;
+    let id = first_id(connector)?;
+    let mut server = connect(connector, endpoint)?;
+    match ping_peer(&mut server, id) {
+        Ok(()) => Ok(()),
+        Err(fault) => Err(FetchStop::Fault(fault)),
+    }
+}
+
+// The endpoint that is pinged.
+fn endpoint_of<'a>(alloc: Global, pinging: &Pinging<'a>) -> Result<SocketAddrV4, FetchStop<'a>>
+    ensures endpoint { IfOk result (IsPingEndpoint pinging.now) }
+    ensures none { IfErr result (IsNoEndpoint pinging.now) }
+{
+    let Some(text) = pinging.target else {
+        return Ok(SocketAddrV4::new(Ipv4Addr::LOCALHOST, pinging.port.unwrap_or(COAP_PORT)));
+    };
+    match Address::parse(alloc, text, pinging.port) {
+        Ok(address) if has_resource(&address) => Err(FetchStop::Resource),
+        Ok(address) => Ok(address.server),
+        Err(error) => Err(FetchStop::Address(error)),
+    }
+}
+
+// Whether an address names a resource of its server.
+fn has_resource(address: &Address) -> bool
+    ensures { result ≡ names_resource address.now }
+{
+    !address.path.is_empty() || !address.query.is_empty()
+}
