@@ -22,7 +22,7 @@ pub fn tracks_are_one_history()
 /// Each job's track that the owner has is to be right, and the jobs have to come in the order of their keys.
 /// A job's track that it doesn't have, as that of a lost message, is right by the rule.
 pub fn attested_tracks_are_one_history()
-    ensures { (first_job : ℕ) (b : Begin) (v : BookView FiledEntry) (end : ServerState) (h : HasServerHistory first_job v) → end.words ≡ h.words →
-        HaveNextNumbers 0 (bringing (log_of first_job h.log)) → OwnsAll first_job v (first_server b) end →
+    ensures { (first_job : ℕ) (b : Begin) (v : BookView FiledEntry) (end : ServerState) (h : HasServerHistory first_job v) →
+        end.words ≡ h.words → HaveNextNumbers 0 (bringing (log_of first_job h.log)) → OwnsAll first_job v (first_server b) end →
         IsHistoryOf (history_on (begin_of b) (log_of first_job h.log)) end }
 {}
