@@ -391,13 +391,13 @@ fn a_body_has_the_format_that_is_given(rt: HostRuntime) -> Result<(), Fail> {
 }
 
 // How a request at this port ends, and what is printed: its input fails where it is read.
-fn ended_at<R: Net + Clock + RandomSource + Files>(
+fn ended_at<'a, R: Net + Clock + RandomSource + Files>(
     rt: &R,
     alloc: Global,
     method: Method,
     port: u16,
-    body: BodySource<'_>,
-    output: Option<&str>,
+    body: BodySource<'a>,
+    output: Option<&'a str>,
 ) -> (Status, Vec<u8>) {
     let asking = Asking {
         options: FetchOptions {
