@@ -278,6 +278,33 @@ fn a_request_without_room_is_told(rt: HostRuntime) {
     );
 }
 
+// A path of five segments of 255 bytes has no room in a datagram.
+#[test]
+fn a_registration_without_room_is_told(rt: HostRuntime) -> Result<(), Fail> {
+    let alloc = rt.alloc();
+    let mut target = String::new(alloc);
+    for place in 0..1280u16 {
+        target.push_str(if place % 256 == 0 { "/" } else { "a" })?;
+    }
+    let observing = Observing {
+        target: target.as_str(),
+        port: Some(1),
+        shown: Shown::Text,
+        extent: ObservationExtent {
+            count: Some(1),
+            seconds: None,
+        },
+    };
+    let (mut out, mut err) = (Vec::new(alloc), Vec::new(alloc));
+    let ended = observe(&rt, alloc, &mut out, &mut err, &observing);
+    assert!(rt; ended == Status::Bad && out.is_empty());
+    assert!(rt;
+        err.as_slice()
+            .starts_with(b"the request has no room in a datagram")
+    );
+    Ok(())
+}
+
 #[test]
 fn a_bad_target_of_an_observer_is_told(rt: HostRuntime) {
     let alloc = rt.alloc();
