@@ -26,6 +26,13 @@ use std::thread::Threads;
 use std::time::{Clock, Duration, Instant};
 use std::{fs, io, thread};
 
+// A server's socket at a port that is free. A client that sends nothing is waited for 20 seconds.
+fn server_socket<R: Net>(rt: &R) -> io::Result<UdpSocket> {
+    let socket = UdpSocket::bind(rt, at_port(0))?;
+    socket.set_read_timeout(Some(Duration::from_secs(20)))?;
+    Ok(socket)
+}
+
 // The datagram that comes to a server, and who sent it.
 fn received(alloc: Global, socket: &UdpSocket) -> io::Result<(Vec<u8>, SocketAddr)> {
     let mut buffer = [0; 64];
@@ -77,7 +84,7 @@ fn a_request_has_the_type_the_method_and_the_body_that_are_asked_for(
 ) -> Result<(), Fail> {
     let alloc = rt.alloc();
     for (confirmable, method, body, answer, expected) in ASKED.iter().copied() {
-        let server = UdpSocket::bind(&rt, at_port(0))?;
+        let server = server_socket(&rt)?;
         let asking = FetchOptions {
             confirmable,
             method,
@@ -114,7 +121,7 @@ fn have_observer(alloc: Global, socket: &UdpSocket) -> io::Result<()> {
 #[test]
 fn an_observation_of_one_second_ends_in_seconds(rt: HostRuntime) -> Result<(), Fail> {
     let alloc = rt.alloc();
-    let server = UdpSocket::bind(&rt, at_port(0))?;
+    let server = server_socket(&rt)?;
     let observing = Observing {
         target: "/r/1",
         port: Some(server.local_addr()?.port()),
@@ -223,7 +230,7 @@ fn observed_by_known<R: Net + Clock>(
 #[test]
 fn an_observer_has_a_random_token_and_ends_by_its_count(rt: HostRuntime) -> Result<(), Fail> {
     let alloc = rt.alloc();
-    let server = UdpSocket::bind(&rt, at_port(0))?;
+    let server = server_socket(&rt)?;
     let observing = Observing {
         target: "/r/1",
         port: Some(server.local_addr()?.port()),
@@ -238,10 +245,10 @@ fn an_observer_has_a_random_token_and_ends_by_its_count(rt: HostRuntime) -> Resu
         || observed(alloc, &server),
         || observed_by_known(&rt, alloc, &observing),
     );
+    assert!(rt; ended == Status::Done && printed.as_slice() == b"2.05 a\n".as_slice());
     let (registration, deregistration) = asked?;
     assert!(rt; registration.as_slice() == b"\x44\x01QRST\x60\x51\x72\x01\x31".as_slice());
     assert!(rt; deregistration.as_slice() == b"\x44\x01QRST\x61\x01\x51\x72\x01\x31".as_slice());
-    assert!(rt; ended == Status::Done && printed.as_slice() == b"2.05 a\n".as_slice());
     Ok(())
 }
 
@@ -282,6 +289,33 @@ fn a_request_without_room_is_told(rt: HostRuntime) {
     );
 }
 
+// A path of five segments of 255 bytes has no room in a datagram.
+#[test]
+fn a_registration_without_room_is_told(rt: HostRuntime) -> Result<(), Fail> {
+    let alloc = rt.alloc();
+    let mut target = String::new(alloc);
+    for place in 0..1280u16 {
+        target.push_str(if place % 256 == 0 { "/" } else { "a" })?;
+    }
+    let observing = Observing {
+        target: target.as_str(),
+        port: Some(1),
+        shown: Shown::Text,
+        extent: ObservationExtent {
+            count: Some(1),
+            seconds: None,
+        },
+    };
+    let (mut out, mut err) = (Vec::new(alloc), Vec::new(alloc));
+    let ended = observe(&rt, alloc, &mut out, &mut err, &observing);
+    assert!(rt; ended == Status::Bad && out.is_empty());
+    assert!(rt;
+        err.as_slice()
+            .starts_with(b"the request has no room in a datagram")
+    );
+    Ok(())
+}
+
 #[test]
 fn a_bad_target_of_an_observer_is_told(rt: HostRuntime) {
     let alloc = rt.alloc();
@@ -305,7 +339,7 @@ fn a_bad_target_of_an_observer_is_told(rt: HostRuntime) {
 fn an_error_response_is_printed_and_refused(rt: HostRuntime) -> Result<(), Fail> {
     let alloc = rt.alloc();
     for (code, expected) in [(0x84, b"4.04\n"), (0xa0, b"5.00\n"), (0xa3, b"5.03\n")] {
-        let server = UdpSocket::bind(&rt, at_port(0))?;
+        let server = server_socket(&rt)?;
         let asking = FetchOptions {
             confirmable: true,
             method: Method::Get,

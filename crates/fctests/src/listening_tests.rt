@@ -60,11 +60,12 @@ fn other_client<R: Net>(rt: &R, wait: u64) -> io::Result<UdpSocket> {
     Ok(client)
 }
 
-// Serves at an address, up to so many datagrams, while a client asks, once the server has told where it listens.
+// Serves at an address, up to so many datagrams, while a client asks, once the server has told
+// where it listens, or after five seconds. The server tells it exactly if it is to.
 fn serve_at_address<
     R: Abort + AllocGlobal + Threads + Wait + Clock + Net + Sync,
     F: FnOnce() -> Result<(), Fail> + Send,
->(rt: &R, address: SocketAddrV4, limit: u32, ask: F) -> Result<(), Fail>
+>(rt: &R, address: SocketAddrV4, told: bool, limit: u32, ask: F) -> Result<(), Fail>
     requires { F.IsAlwaysCallable ask }
 {
     let alloc = rt.alloc();
@@ -75,10 +76,7 @@ fn serve_at_address<
         first_id: 0,
         policy: DEFAULT_POLICY,
     };
-    let listening = Listening {
-        address,
-        told: true,
-    };
+    let listening = Listening { address, told };
     let (asked, status) = thread::join(
         rt,
         || -> Result<(), Fail>
@@ -103,7 +101,8 @@ fn serve_at_address<
         },
     );
     asked?;
-    assert!(rt; status == Status::Done && writes.load(Ordering::SeqCst) > 0);
+    assert!(rt; status == Status::Done);
+    assert!(rt; (writes.load(Ordering::SeqCst) > 0) == told);
     Ok(())
 }
 
@@ -113,7 +112,7 @@ fn a_server_listens_at_every_address_where_it_is_told_to(rt: HostRuntime) -> Res
     let port = free_port(&rt)?;
     let client = other_client(&rt, 5000)?;
     let every = SocketAddrV4::new(Ipv4Addr::UNSPECIFIED, port);
-    serve_at_address(&rt, every, 1, || -> Result<(), Fail> {
+    serve_at_address(&rt, every, true, 1, || -> Result<(), Fail> {
         assert!(rt; is_answered(&client, at_other(port), 1));
         Ok(())
     })
@@ -125,10 +124,21 @@ fn a_server_listens_at_its_own_address_alone(rt: HostRuntime) -> Result<(), Fail
     let port = free_port(&rt)?;
     let client = other_client(&rt, 5000)?;
     let hasty = other_client(&rt, 300)?;
-    serve_at_address(&rt, at_port(port), 2, || -> Result<(), Fail> {
+    serve_at_address(&rt, at_port(port), true, 2, || -> Result<(), Fail> {
         assert!(rt; is_answered(&client, at_port(port), 1));
         assert!(rt; !is_answered(&hasty, at_other(port), 2));
         assert!(rt; is_answered(&client, at_port(port), 3));
+        Ok(())
+    })
+}
+
+// Without `--log info` a server tells nothing.
+#[test]
+fn a_server_that_is_not_to_tell_where_it_listens_does_not(rt: HostRuntime) -> Result<(), Fail> {
+    let port = free_port(&rt)?;
+    let client = other_client(&rt, 5000)?;
+    serve_at_address(&rt, at_port(port), false, 1, || -> Result<(), Fail> {
+        assert!(rt; is_answered(&client, at_port(port), 1));
         Ok(())
     })
 }
