@@ -186,7 +186,6 @@ fn every_takes_a_period_and_a_slot(rt: HostRuntime) -> Result<(), Fail> {
         "1000:",
         ":7",
         "1000:7:7",
-        "-1:7",
         "1 s:7",
     ] {
         assert!(rt;
