@@ -167,6 +167,7 @@ pub extern "C" fn numzela_program_load(
     ensures kept { (result ≡ OK → ⊥) → program.new.value ≡ program.old.value }
     ensures empty { (result ≡ IN_USE → ⊥) → program.old.value ≡ None }
     ensures in_use { result ≡ IN_USE → is_some program.old.value ≡ true }
+    ensures unwritten { (result ≡ OK → ⊥) → (result ≡ REFUSED → ⊥) → verdict.new ≡ verdict.old }
 {
     if let Some(loaded) = program.take(alloc) {
         program.put(loaded);
@@ -249,7 +250,8 @@ pub extern "C" fn numzela_program_run(
 ) -> u32
     ensures ok { result ≡ OK → HasRunHeld program.old.value program.new.value (request_for request.now query.now payload.now)
         readings.now vars.old vars.new reply.new response.new }
-    ensures kept { (result ≡ OK → ⊥) → (program.new.value ≡ program.old.value) × (vars.new ≡ vars.old) × (reply.new ≡ reply.old) }
+    ensures kept { (result ≡ OK → ⊥) → (program.new.value ≡ program.old.value) × (vars.new ≡ vars.old) × (reply.new ≡ reply.old)
+        × (response.new ≡ response.old) }
     ensures empty { result ≡ EMPTY → program.old.value ≡ None }
     ensures range { result ≡ OUT_OF_RANGE → IsOutOfRange program.old.value request.now query.now payload.now vars.old reply.old }
 {
@@ -282,7 +284,8 @@ fn run_loaded(
 ) -> u32
     ensures ok { result ≡ OK → HasRunLoaded loaded.old loaded.new (request_for request.now query.now payload.now)
         readings.now vars.old vars.new reply.new response.new }
-    ensures kept { (result ≡ OK → ⊥) → (loaded.new ≡ loaded.old) × (vars.new ≡ vars.old) × (reply.new ≡ reply.old) }
+    ensures kept { (result ≡ OK → ⊥) → (loaded.new ≡ loaded.old) × (vars.new ≡ vars.old) × (reply.new ≡ reply.old)
+        × (response.new ≡ response.old) }
     ensures range { result ≡ OUT_OF_RANGE → FitsRun loaded.old request.now query.now payload.now vars.old reply.old → ⊥ }
     ensures status { (result ≡ OK) ⊎ (result ≡ OUT_OF_RANGE) }
 {
