@@ -1,11 +1,10 @@
 //! A program by itself: verified once, and run any number of times.
-ghost use Rattle.std.specs.Prelude.{◌≡◌, ◌≤◌, ◌⊎◌, length, min, is_some, true, Option, Some, None, IfOk, IfErr};
+ghost use Rattle.std.specs.Prelude.{◌≡◌, ◌≤◌, ◌⊎◌, length, is_some, true, Option, Some, None, IfOk, IfErr};
 ghost use Rattle.fc_help.specs.Helpers.{room_of};
-ghost use Rattle.fc_isa.specs.Rules.{number_of};
 ghost use Rattle.fc_verify.specs.Accepted.{Accepts};
 ghost use Rattle.fc_verify.specs.Judged.{judged};
 ghost use Rattle.fc_verify.specs.Refusals.{IsRefusal};
-ghost use Rattle.numzela.specs.Programs.{FitsRun, HasLoaded, HasRefused, HasRunHeld, HasRunLoaded, IsOutOfRange, IsReported, format_for, method_for, number_in, request_for, verdict_for};
+ghost use Rattle.numzela.specs.Programs.{FitsRun, HasLoaded, HasRefused, HasRunHeld, HasRunLoaded, IsOutOfRange, IsReported, format_for, method_for, number_in, refusal_for, request_for, verdict_for};
 ghost use Rattle.numzela.specs.Held.{boxed, loose_value};
 ghost use Rattle.numzela.specs.declared.program.Loaded.{Loaded};
 
@@ -123,6 +122,7 @@ impl Program {
 }
 
 /// The verdict on an image: its version, cost, budget and size of variables if it is accepted, and the rule that it breaks, with the slot, if it is refused.
+/// The other numbers are 0.
 #[repr(C)]
 #[derive(Clone, Copy)]
 pub struct Verdict {
@@ -222,8 +222,7 @@ fn version_number(version: ImageVersion) -> u32
 }
 
 fn refused(fault: &Fault) -> Verdict
-    ensures rule { result.rule ≡ number_of fault.now.rule }
-    ensures slot { result.slot ≡ min fault.now.slot 4294967295 }
+    ensures { result ≡ refusal_for fault.now }
 {
     Verdict {
         version: 0,
