@@ -73,11 +73,12 @@ pub record IsOutOfRange (old : Option Loaded) (head : RequestHead) (query payloa
   pub held : old ≡ Some loaded
   pub misfits : FitsRun loaded head query payload vars reply → ⊥
 
--- the code, the notify flag, the steps, the reply and the variables are those of the run's meaning
+-- the code, the notify flag, the steps, the reply with its length, and the variables are those of the run's meaning
 pub record IsReported (r : Ran) (vars reply : List ℕ) (response : ResponseHead) : Type 0 where
   pub code : response.code ≡ (meaning_of r).code
   pub notify : response.notify ≡ (meaning_of r).notice
   pub steps : response.steps ≡ (meaning_of r).steps
+  pub size : response.size ≡ length (meaning_of r).reply
   pub reply_is : take response.size reply ≡ (meaning_of r).reply
   pub vars_are : vars ≡ (meaning_of r).vars
 
