@@ -167,6 +167,7 @@ pub extern "C" fn numzela_program_load(
     ensures kept { (result ≡ OK → ⊥) → program.new.value ≡ program.old.value }
     ensures empty { (result ≡ IN_USE → ⊥) → program.old.value ≡ None }
     ensures in_use { result ≡ IN_USE → is_some program.old.value ≡ true }
+    ensures status { (result ≡ OK) ⊎ (result ≡ REFUSED) ⊎ (result ≡ NO_MEMORY) ⊎ (result ≡ IN_USE) }
     ensures unwritten { (result ≡ OK → ⊥) → (result ≡ REFUSED → ⊥) → verdict.new ≡ verdict.old }
 {
     if let Some(loaded) = program.take(alloc) {
@@ -252,6 +253,7 @@ pub extern "C" fn numzela_program_run(
     ensures kept { (result ≡ OK → ⊥) → (program.new.value ≡ program.old.value) × (vars.new ≡ vars.old) × (reply.new ≡ reply.old)
         × (response.new ≡ response.old) }
     ensures empty { result ≡ EMPTY → program.old.value ≡ None }
+    ensures status { (result ≡ OK) ⊎ (result ≡ EMPTY) ⊎ (result ≡ OUT_OF_RANGE) }
     ensures range { result ≡ OUT_OF_RANGE → IsOutOfRange program.old.value request.now query.now payload.now vars.old reply.old }
 {
     let Some(mut loaded) = program.take(alloc) else {

@@ -1,5 +1,5 @@
 //! A server on one thread, for a caller that has the sockets, the clock and the device.
-ghost use Rattle.std.specs.Prelude.{◌≡◌, ◌≤◌, [], false, is_some, true, Option, Some, None, IfOk};
+ghost use Rattle.std.specs.Prelude.{◌≡◌, ◌≤◌, ◌⊎◌, [], false, is_some, true, Option, Some, None, IfOk};
 ghost use Rattle.fc_core.specs.Receiving.{emission_if};
 ghost use Rattle.fc_server.specs.Serving.{Serves};
 ghost use Rattle.fc_server.specs.States.{CanBegin, begin_of};
@@ -143,6 +143,7 @@ pub extern "C" fn numzela_server_new(alloc: Global, server: &mut Server, config:
     ensures kept { (result ≡ OK → ⊥) → server.new.value ≡ server.old.value }
     ensures empty { (result ≡ IN_USE → ⊥) → server.old.value ≡ None }
     ensures in_use { result ≡ IN_USE → is_some server.old.value ≡ true }
+    ensures status { (result ≡ OK) ⊎ (result ≡ OUT_OF_RANGE) ⊎ (result ≡ NO_MEMORY) ⊎ (result ≡ IN_USE) }
 {
     if let Some(serving) = server.take(alloc) {
         server.put(serving);
