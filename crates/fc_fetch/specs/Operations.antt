@@ -180,12 +180,26 @@ IsOperationIn f (operation.Ping pinging) = IsPingIn f pinging
 
 -- ---- why nothing is
 
--- an observation or a ping with an option of requests; a request or a ping for so many lines or seconds; a body that is said twice, or a format that is none; or a word is missing, or is no method
+-- a word that is no method, and neither `observe` nor `ping`
+pub record IsUnknown (word : List ℕ) : Type 0 where
+  pub no_method : IsMethodOf word None
+  pub no_observation : word ≢ codes "observe"
+  pub no_ping : word ≢ codes "ping"
+
+-- the method is missing or unknown, or the target is missing and the method isn't `ping`
+abbrev pub IsMissing : Found → Type 0
+IsMissing f =
+    (first_value f (codes "method") ≡ None)
+    ⊎ (((first_value f (codes "target") ≡ None) × (first_value f (codes "method") ≢ Some (codes "ping")))
+    ⊎ ((word : List ℕ) × (first_value f (codes "method") ≡ Some word) × IsUnknown word))
+
+-- an observation has an option of requests; a request has a number of lines or seconds; a ping has either; a word is missing or unknown; the body is given twice;
+-- or the format is unknown
 abbrev pub IsOperationError : Found → OperationError → Type 0
 IsOperationError f operation_error.Request = (first_value f (codes "method") ≡ Some (codes "observe")) × IsForRequest f
-IsOperationError f operation_error.Extent = (first_value f (codes "method") ≢ Some (codes "observe")) × IsLimited f
-IsOperationError f operation_error.Missing =
-    (first_value f (codes "method") ≡ None) ⊎ ((first_value f (codes "target") ≡ None) ⊎ ((word : List ℕ) × (first_value f (codes "method") ≡ Some word) × IsMethodOf word None))
+IsOperationError f operation_error.Extent =
+    (first_value f (codes "method") ≢ Some (codes "observe")) × (first_value f (codes "method") ≢ Some (codes "ping")) × IsLimited f
+IsOperationError f operation_error.Missing = IsMissing f
 IsOperationError f operation_error.Bodies = HasTwoBodies f
 IsOperationError f operation_error.Format = HasNoFormat f
 IsOperationError f operation_error.Ping = (first_value f (codes "method") ≡ Some (codes "ping")) × (IsForRequest f ⊎ IsLimited f)

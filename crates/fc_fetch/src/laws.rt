@@ -3,11 +3,14 @@ ghost use Rattle.std.specs.Prelude.{◌≡◌, ◌⊎◌, ◌+◌, ◌<◌, ◌�
 ghost use Rattle.std.specs.List.{All, after_first, before_first};
 ghost use Rattle.std.specs.Net.Addr.{ipv4_octets};
 ghost use Rattle.std.specs.Net.Socket.{v4_ip, v4_port};
+ghost use Rattle.clap.specs.Matches.{first_value};
+ghost use Rattle.clap.specs.declared.parser.matches.Found.{Found};
 ghost use Rattle.url.specs.Parts.{Parts};
 ghost use Rattle.coap_opts.specs.declared.request.Method.{Method};
 ghost use Rattle.coap_opts.specs.declared.request.Method.TheVariants.{Delete, Get, Post, Put};
 ghost use Rattle.fc_fetch.specs.Addresses.{HasParts, is_question, plain_pieces};
-ghost use Rattle.fc_fetch.specs.Operations.{IsFormatNamed, body_at};
+ghost use Rattle.fc_fetch.specs.Operations.{IsFormatNamed, IsOperationError, body_at};
+ghost use Rattle.fc_fetch.specs.declared.operation.OperationError.TheVariants.{Missing};
 ghost use Rattle.fc_fetch.specs.declared.operation.BodySource.TheVariants as source;
 ghost use Rattle.coap_client.specs.PeerCalls.{PeerCall, Waits};
 ghost use Rattle.coap_client.specs.Schedules.{schedule};
@@ -58,10 +61,24 @@ pub fn a_path_ends_at_its_query()
     ensures none { plain_pieces 38 (after_first is_question (codes "/r/1")) ≡ [] }
 {}
 
-/// `-t application/json` is the Content-Format 50, and `-t text/plain` is 0 (RFC 7252, 12.3).
+/// No word is missing in `ping`, nor in `observe` with a target.
+pub fn ping_needs_no_target()
+    ensures ping { (f : Found) → first_value f (codes "method") ≡ Some (codes "ping") → IsOperationError f Missing → ⊥ }
+    ensures observation { (f : Found) (target : List ℕ) → first_value f (codes "method") ≡ Some (codes "observe")
+        → first_value f (codes "target") ≡ Some target → IsOperationError f Missing → ⊥ }
+{}
+
+/// Each name of a Content-Format has its number (RFC 7252, 12.3).
+///
+/// `text/plain` has 0, `application/link-format` 40, `application/xml` 41,
+/// `application/octet-stream` 42, `application/exi` 47, and `application/json` 50.
 pub fn formats_have_their_numbers()
-    ensures json { (n : ℕ) → IsFormatNamed (codes "application/json") n → n ≡ 50 }
     ensures text { (n : ℕ) → IsFormatNamed (codes "text/plain") n → n ≡ 0 }
+    ensures links { (n : ℕ) → IsFormatNamed (codes "application/link-format") n → n ≡ 40 }
+    ensures xml { (n : ℕ) → IsFormatNamed (codes "application/xml") n → n ≡ 41 }
+    ensures octets { (n : ℕ) → IsFormatNamed (codes "application/octet-stream") n → n ≡ 42 }
+    ensures exi { (n : ℕ) → IsFormatNamed (codes "application/exi") n → n ≡ 47 }
+    ensures json { (n : ℕ) → IsFormatNamed (codes "application/json") n → n ≡ 50 }
 {}
 
 /// Standard input that is a terminal isn't read for a GET or a DELETE, and is for a POST or a PUT; a pipe or a file is read for each.

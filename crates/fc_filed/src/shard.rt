@@ -7,6 +7,7 @@ ghost use Rattle.fc_registry.specs.Views.{taken_with};
 ghost use Rattle.fc_book.specs.Tracks.{part_view, with_part};
 ghost use Rattle.fc_calls.specs.Logged.{AdvancesQuiet, GivesTurn, TakesForJob};
 ghost use Rattle.fc_workers.specs.Counts.{HasEightSlots};
+ghost use Rattle.fc_calls.specs.Doings.{PassesIfQuiet};
 ghost use Rattle.fc_linear.specs.Operations.{Logged, Operation, ShardDoes, is_words, part_of};
 ghost use Rattle.fc_linear.specs.Parts.{first_server};
 ghost use Rattle.fc_filed.specs.Entries.{OperationsLead, part_key};
@@ -168,6 +169,7 @@ impl<J: ServerName, P: Part> FiledShard<J, P> {
         ensures filed { MatchBool result
             (tracks.new ≡ did_by who (Logged (AdvancesQuiet self.old.shard.index now)) tracks.old)
             ((tracks.new ≡ tracks.old) × (self.new ≡ self.old)) }
+        ensures busy { result ≡ false → PassesIfQuiet now self.old.shard false self.new.shard }
     {
         let is_quiet = AdvanceIfQuiet { now }.call(&mut self.shard, &mut ());
         if is_quiet {

@@ -28,7 +28,8 @@
 //! - **A reply** that a wire of workers sends is handed to its sink, once, with the log that the wire is handed; the sink tells whether it
 //!   went out. Where a job ends, nothing is.
 //! - **A timer** asks at its beats: none is early, none is asked twice for one beat, and beats that were missed are skipped. A datagram is waited for no longer than until
-//!   a timer is due. Its request is a non-confirmable POST of its slot's resource. A response to it reaches nobody. (`Timed::next`, `PastTimers`)
+//!   a timer is due. Its request is a non-confirmable POST of its slot's resource. A response to it reaches nobody. `Timed::next` says so of its timers. `Source` has no
+//!   clause on them: of a receive by the trait it is known for some timers.
 //! - Not claimed, but tested: that a moment is the clock's and a random word its low bits, that a file is read anew, at which address and port a socket is opened, what it sends and
 //!   how long it waits. Not claimed: that a board gives the reply that was sent and the readings that were set.
 //!

@@ -30,7 +30,7 @@ impl Timer {
         }
     }
 
-    /// Returns how many exchanges its requests hold at a time, at most: each holds one for 247 s.
+    /// Returns how many exchanges its requests hold at a time, at most, if each comes at its beat: each holds one for 247 s. A late request may be one more.
     pub fn exchanges(&self) -> u64
         ensures { result ≡ 247000 / self.now.every + 1 }
     {

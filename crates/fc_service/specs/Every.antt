@@ -35,7 +35,7 @@ pub record IsTimerText (text : List ℕ) (t : Timer) : Type 0 where
 abbrev pub AreTimers : List (List ℕ) → List Timer → Type 0
 AreTimers texts ts = AllZip IsTimerText texts ts
 
--- how many requests of a timer are held at a time, at most: each for 247,000 ms
+-- how many requests of a timer are held at a time, at most, if each comes at its beat: each for 247,000 ms
 abbrev pub held_by : Timer → ℕ
 held_by t = 247000 / t.every + 1
 

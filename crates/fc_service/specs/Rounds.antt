@@ -183,7 +183,7 @@ IsServed sensors e extent before after replies =
 abbrev pub timed_calls : (Receive → CallLog → CallLog → Type 0) → (ℕ → CallLog → CallLog → Type 0) → (Emission → Bool → CallLog → CallLog → Type 0) → RoundCalls
 timed_calls received moment went = round_calls (IsTimedReceive moment received) moment (GoesPastTimers went)
 
--- a server on a source that nobody knows, beside timers or none
+-- a server on a source whose receives aren't known, with timers or without. Which timers a receive had isn't known either
 abbrev pub IsServedBeside : List Timer → (List ℕ → Type 0) → (Receive → CallLog → CallLog → Type 0) → (ℕ → CallLog → CallLog → Type 0) → (Emission → Bool → CallLog → CallLog → Type 0)
     → Extent → Replies → Type 0
 IsServedBeside [] sensors received moment went extent replies = IsServed sensors (round_calls received moment went) extent None None replies

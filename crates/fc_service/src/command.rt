@@ -28,7 +28,7 @@ programs and remove them.
 `--every MS:N` has the program of slot N asked each MS milliseconds, by a POST without a payload
 whose response nobody gets: it can look at the readings and notify its observers. A beat that was
 missed isn't made up for. A request of a timer counts as a datagram, and holds an exchange for
-247 s: all timers together may hold half of `--exchanges`.
+247 s: all timers together may hold half of `--exchanges`, and no more than `--share`.
 
 One thread receives datagrams, and runs the programs that take less than 6,000 instructions;
 W others run those that may take more. With `--workers 1` there are no others: the one thread

@@ -9,7 +9,9 @@ ghost use Rattle.fc_server.specs.Notified.{Nobody, Notified};
 ghost use Rattle.fc_server.specs.Steps.{shard_turn};
 ghost use Rattle.fc_server.specs.declared.server.Begin.{Begin};
 ghost use Rattle.fc_host.specs.Sockets.{Receive};
+ghost use Rattle.fc_host.specs.declared.timer.Timer.{Timer};
 ghost use Rattle.fc_server.specs.Alone.{NotifiesAlone, ResendsAlone};
+ghost use Rattle.fc_service.specs.Every.{held_by, most_held, timers_hold};
 ghost use Rattle.fc_service.specs.Histories.{IsOneHistory, arrivals_in, arrivals_in_lines, sent_in_lines};
 ghost use Rattle.fc_server.specs.Intakes.{is_reply};
 ghost use Rattle.fc_lines.specs.Emissions.{printed};
@@ -84,4 +86,14 @@ pub fn played_lines_are_one_history()
     ensures history { (begin : Begin) (had before after : Option (List ℕ)) (w : IsPlayedOut begin had before after)
         → IsOneHistory begin (arrivals_in_lines w.played.lines) (sent_in_lines w.played.lines) w.last.engine }
     ensures printed { (lines : List PlayedLine) → printed_lines lines ≡ flat_map printed (sent_in_lines lines) }
+{}
+
+/// A timer of 483 ms holds 512 exchanges at a time, half of 1,024, and one of 482 ms holds 513. All timers may hold 512 of 1,024, 32,768 of 65,536, and no more than the share
+/// of an address.
+pub fn timers_hold_half_of_the_exchanges()
+    ensures held { (t : Timer) → (held_by (record t { every = 483 }) ≡ 512) × (held_by (record t { every = 482 }) ≡ 513) × (held_by (record t { every = 86400000 }) ≡ 1) }
+    ensures half { most_held (record { exchanges = 1024; share = 65536 }) ≡ 512 }
+    ensures most { most_held (record { exchanges = 65536; share = 65536 }) ≡ 32768 }
+    ensures share { most_held (record { exchanges = 1024; share = 100 }) ≡ 100 }
+    ensures all { (a b : Timer) → timers_hold (record a { every = 966 } ∷ record b { every = 966 } ∷ []) ≡ 512 }
 {}

@@ -31,8 +31,8 @@ pub fn signals_reach_eight_shards<B: Bench, G: Gate, W: Wire, M: Moments>()
         × B.logged (HandsSignal 5 from id reset) e f × B.logged (HandsSignal 6 from id reset) f g × B.logged (HandsSignal 7 from id reset) g new.share.log }
 {}
 
-/// A server behind locks notifies by the time of the policy that it began with: the observers of the turn are confirmable again after just so many
-/// milliseconds, where the shard is handed the moment of the call or has had a later one. By default that is 86,400,000 ms, 24 hours (RFC 7641, 4.5).
+/// A server behind locks notifies by the time of the policy that it began with: a logged notification is that of some observers whose notifications are confirmable after just so
+/// many milliseconds, at the moment of the call or a later one. By default that is 86,400,000 ms, 24 hours (RFC 7641, 4.5).
 pub fn locked_shards_confirm_in_time<B: Books, D: Device>()
     ensures default { (id : ℕ) → (beginning default_policy id).confirm_after ≡ 86400000 }
     ensures noted { (turn : Turn) (id now random : ℕ) (told : Notification) (noted : Noted) (before after : Log)

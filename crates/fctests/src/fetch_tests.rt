@@ -530,6 +530,17 @@ fn pinged<R: Net + Clock + RandomSource>(rt: &R, alloc: Global, port: u16) -> (S
     (ended, err)
 }
 
+// How a ping of a URI ends, and what is told.
+fn pinged_at<R: Net + Clock + RandomSource>(rt: &R, alloc: Global, uri: &str) -> (Status, Vec<u8>) {
+    let mut err = Vec::new(alloc);
+    let pinging = Pinging {
+        target: Some(uri),
+        port: None,
+    };
+    let ended = ping(rt, alloc, &mut err, &pinging);
+    (ended, err)
+}
+
 // A server of ours rejects a ping by a Reset message with its id (RFC 7252, 4.3).
 #[test]
 fn a_server_answers_a_ping(rt: HostRuntime) -> Result<(), Fail> {
@@ -541,6 +552,27 @@ fn a_server_answers_a_ping(rt: HostRuntime) -> Result<(), Fail> {
     };
     let _memory = serve_while(&rt, &NoSensors, extent, |port| {
         let (ended, told) = pinged(&rt, rt.alloc(), port);
+        assert!(rt; ended == Status::Done && told.is_empty());
+        Ok(())
+    })?;
+    Ok(())
+}
+
+// A URI of a server names no resource, with and without a `/` at its end (RFC 7252, 6.4).
+#[test]
+fn a_server_answers_a_ping_of_its_uri(rt: HostRuntime) -> Result<(), Fail> {
+    let extent = Extent {
+        workers: 1,
+        limit: 2,
+        first_id: 0,
+        policy: DEFAULT_POLICY,
+    };
+    let _memory = serve_while(&rt, &NoSensors, extent, |port| {
+        let bare = format!(in rt.alloc(); "coap://127.0.0.1:{port}")?;
+        let (ended, told) = pinged_at(&rt, rt.alloc(), bare.as_str());
+        assert!(rt; ended == Status::Done && told.is_empty());
+        let slash = format!(in rt.alloc(); "coap://127.0.0.1:{port}/")?;
+        let (ended, told) = pinged_at(&rt, rt.alloc(), slash.as_str());
         assert!(rt; ended == Status::Done && told.is_empty());
         Ok(())
     })?;

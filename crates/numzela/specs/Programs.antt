@@ -30,6 +30,10 @@ number_in Two = 2
 abbrev pub verdict_for : Program → Verdict
 verdict_for p = record { version = number_in p.version; cost = p.cost; budget = p.budget; vars_size = p.vars_size; rule = 0; slot = 0 }
 
+-- the verdict on a refused image: the rule and the slot, and zeros; a slot that 32 bits can't hold is told as the greatest number
+abbrev pub refusal_for : Fault → Verdict
+refusal_for f = record { version = 0; cost = 0; budget = 0; vars_size = 0; rule = number_of f.rule; slot = min f.slot 4294967295 }
+
 -- the image is acceptable, the handle holds its program, and the verdict is the program's
 pub record HasLoaded (image : List ℕ) (new : Option Loaded) (verdict : Verdict) : Type 0 where
   pub loaded : Loaded
@@ -37,12 +41,11 @@ pub record HasLoaded (image : List ℕ) (new : Option Loaded) (verdict : Verdict
   pub accepts : judged image ≡ Accepts loaded.verified
   pub told : verdict ≡ verdict_for loaded.verified
 
--- the image breaks this rule at this slot; a slot that 32 bits can't hold is told as the greatest number
+-- the image breaks this rule at this slot, and the verdict is the refusal's
 pub record HasRefused (image : List ℕ) (verdict : Verdict) : Type 0 where
   pub fault : Fault
   pub refused : IsRefusal image (Broken fault)
-  pub rule : verdict.rule ≡ number_of fault.rule
-  pub slot : verdict.slot ≡ min fault.slot 4294967295
+  pub told : verdict ≡ refusal_for fault
 
 -- ---- running
 
@@ -70,11 +73,12 @@ pub record IsOutOfRange (old : Option Loaded) (head : RequestHead) (query payloa
   pub held : old ≡ Some loaded
   pub misfits : FitsRun loaded head query payload vars reply → ⊥
 
--- the code, the notify flag, the steps, the reply and the variables are those of the run's meaning
+-- the code, the notify flag, the steps, the reply with its length, and the variables are those of the run's meaning
 pub record IsReported (r : Ran) (vars reply : List ℕ) (response : ResponseHead) : Type 0 where
   pub code : response.code ≡ (meaning_of r).code
   pub notify : response.notify ≡ (meaning_of r).notice
   pub steps : response.steps ≡ (meaning_of r).steps
+  pub size : response.size ≡ length (meaning_of r).reply
   pub reply_is : take response.size reply ≡ (meaning_of r).reply
   pub vars_are : vars ≡ (meaning_of r).vars
 

@@ -1,5 +1,5 @@
 -- What each call on a server's handle does.
-use Rattle.std.specs.Prelude.{◌≡◌, ◌⊎◌, ℕ, true, List, [], ◌∷◌, take, Option, Some, None}
+use Rattle.std.specs.Prelude.{◌≡◌, ◌⊎◌, ℕ, true, List, [], ◌∷◌, length, take, Option, Some, None}
 use Rattle.std.specs.Borrow.{Bor}
 use Rattle.coap_msg.specs.declared.types.Emission.{Emission}
 use Rattle.coap_msg.specs.declared.types.Endpoint.{Endpoint}
@@ -28,9 +28,10 @@ pub record HasBegun (config : Config) (new : Option Serving) : Type 0 where
 abbrev pub endpoint_for : Peer → Endpoint
 endpoint_for p = record { ip = p.address; port = p.port }
 
--- the datagram written is this emission
+-- the datagram written is this emission, and its size is the emission's
 pub record IsWritten (emission : Emission) (out : Datagram) : Type 0 where
   pub to : endpoint_for out.to ≡ emission.to
+  pub size : out.size ≡ length emission.bytes.items
   pub bytes : take out.size out.bytes ≡ emission.bytes.items
 
 -- the status is SEND, and the emission was written; or it is OK, and there is none

@@ -18,10 +18,11 @@
 //! - Not proved, since C isn't: that a caller passes pointers as the header says, and leaves the fields of a handle alone.
 //!
 //! By the contracts of `numzela_program_load`, `numzela_program_run`, `numzela_server_new`, `numzela_server_receive`, `numzela_server_poll`,
-//! `numzela_server_advance`, `numzela_server_deadline`.
+//! `numzela_server_advance`, `numzela_server_deadline`, `laws`.
 #![tactic(auto)]
 
 pub mod config;
+pub mod laws;
 mod loose;
 pub mod program;
 pub mod server;

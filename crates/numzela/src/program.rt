@@ -1,11 +1,10 @@
 //! A program by itself: verified once, and run any number of times.
-ghost use Rattle.std.specs.Prelude.{◌≡◌, ◌≤◌, ◌⊎◌, length, min, is_some, true, Option, Some, None, IfOk, IfErr};
+ghost use Rattle.std.specs.Prelude.{◌≡◌, ◌≤◌, ◌⊎◌, length, is_some, true, Option, Some, None, IfOk, IfErr};
 ghost use Rattle.fc_help.specs.Helpers.{room_of};
-ghost use Rattle.fc_isa.specs.Rules.{number_of};
 ghost use Rattle.fc_verify.specs.Accepted.{Accepts};
 ghost use Rattle.fc_verify.specs.Judged.{judged};
 ghost use Rattle.fc_verify.specs.Refusals.{IsRefusal};
-ghost use Rattle.numzela.specs.Programs.{FitsRun, HasLoaded, HasRefused, HasRunHeld, HasRunLoaded, IsOutOfRange, IsReported, format_for, method_for, number_in, request_for, verdict_for};
+ghost use Rattle.numzela.specs.Programs.{FitsRun, HasLoaded, HasRefused, HasRunHeld, HasRunLoaded, IsOutOfRange, IsReported, format_for, method_for, number_in, refusal_for, request_for, verdict_for};
 ghost use Rattle.numzela.specs.Held.{boxed, loose_value};
 ghost use Rattle.numzela.specs.declared.program.Loaded.{Loaded};
 
@@ -123,6 +122,7 @@ impl Program {
 }
 
 /// The verdict on an image: its version, cost, budget and size of variables if it is accepted, and the rule that it breaks, with the slot, if it is refused.
+/// The other numbers are 0.
 #[repr(C)]
 #[derive(Clone, Copy)]
 pub struct Verdict {
@@ -167,6 +167,8 @@ pub extern "C" fn numzela_program_load(
     ensures kept { (result ≡ OK → ⊥) → program.new.value ≡ program.old.value }
     ensures empty { (result ≡ IN_USE → ⊥) → program.old.value ≡ None }
     ensures in_use { result ≡ IN_USE → is_some program.old.value ≡ true }
+    ensures status { (result ≡ OK) ⊎ (result ≡ REFUSED) ⊎ (result ≡ NO_MEMORY) ⊎ (result ≡ IN_USE) }
+    ensures unwritten { (result ≡ OK → ⊥) → (result ≡ REFUSED → ⊥) → verdict.new ≡ verdict.old }
 {
     if let Some(loaded) = program.take(alloc) {
         program.put(loaded);
@@ -221,8 +223,7 @@ fn version_number(version: ImageVersion) -> u32
 }
 
 fn refused(fault: &Fault) -> Verdict
-    ensures rule { result.rule ≡ number_of fault.now.rule }
-    ensures slot { result.slot ≡ min fault.now.slot 4294967295 }
+    ensures { result ≡ refusal_for fault.now }
 {
     Verdict {
         version: 0,
@@ -249,8 +250,10 @@ pub extern "C" fn numzela_program_run(
 ) -> u32
     ensures ok { result ≡ OK → HasRunHeld program.old.value program.new.value (request_for request.now query.now payload.now)
         readings.now vars.old vars.new reply.new response.new }
-    ensures kept { (result ≡ OK → ⊥) → (program.new.value ≡ program.old.value) × (vars.new ≡ vars.old) × (reply.new ≡ reply.old) }
+    ensures kept { (result ≡ OK → ⊥) → (program.new.value ≡ program.old.value) × (vars.new ≡ vars.old) × (reply.new ≡ reply.old)
+        × (response.new ≡ response.old) }
     ensures empty { result ≡ EMPTY → program.old.value ≡ None }
+    ensures status { (result ≡ OK) ⊎ (result ≡ EMPTY) ⊎ (result ≡ OUT_OF_RANGE) }
     ensures range { result ≡ OUT_OF_RANGE → IsOutOfRange program.old.value request.now query.now payload.now vars.old reply.old }
 {
     let Some(mut loaded) = program.take(alloc) else {
@@ -282,7 +285,8 @@ fn run_loaded(
 ) -> u32
     ensures ok { result ≡ OK → HasRunLoaded loaded.old loaded.new (request_for request.now query.now payload.now)
         readings.now vars.old vars.new reply.new response.new }
-    ensures kept { (result ≡ OK → ⊥) → (loaded.new ≡ loaded.old) × (vars.new ≡ vars.old) × (reply.new ≡ reply.old) }
+    ensures kept { (result ≡ OK → ⊥) → (loaded.new ≡ loaded.old) × (vars.new ≡ vars.old) × (reply.new ≡ reply.old)
+        × (response.new ≡ response.old) }
     ensures range { result ≡ OUT_OF_RANGE → FitsRun loaded.old request.now query.now payload.now vars.old reply.old → ⊥ }
     ensures status { (result ≡ OK) ⊎ (result ≡ OUT_OF_RANGE) }
 {

@@ -1,5 +1,5 @@
 //! A server on one thread, for a caller that has the sockets, the clock and the device.
-ghost use Rattle.std.specs.Prelude.{◌≡◌, ◌≤◌, [], false, is_some, true, Option, Some, None, IfOk};
+ghost use Rattle.std.specs.Prelude.{◌≡◌, ◌≤◌, ◌⊎◌, [], false, is_some, true, Option, Some, None, IfOk};
 ghost use Rattle.fc_core.specs.Receiving.{emission_if};
 ghost use Rattle.fc_server.specs.Serving.{Serves};
 ghost use Rattle.fc_server.specs.States.{CanBegin, begin_of};
@@ -143,6 +143,7 @@ pub extern "C" fn numzela_server_new(alloc: Global, server: &mut Server, config:
     ensures kept { (result ≡ OK → ⊥) → server.new.value ≡ server.old.value }
     ensures empty { (result ≡ IN_USE → ⊥) → server.old.value ≡ None }
     ensures in_use { result ≡ IN_USE → is_some server.old.value ≡ true }
+    ensures status { (result ≡ OK) ⊎ (result ≡ OUT_OF_RANGE) ⊎ (result ≡ NO_MEMORY) ⊎ (result ≡ IN_USE) }
 {
     if let Some(serving) = server.take(alloc) {
         server.put(serving);
@@ -186,6 +187,7 @@ pub extern "C" fn numzela_server_receive(
     ensures received { (result ≡ EMPTY → ⊥)
         → HasReceivedHeld readings.now now from.now bytes.entry server.old.value server.new.value result out.new }
     ensures empty { result ≡ EMPTY → (server.old.value ≡ None) × (server.new.value ≡ None) }
+    ensures unwritten { (result ≡ SEND → ⊥) → out.new ≡ out.old }
 {
     let Some(mut serving) = server.take(alloc) else {
         return EMPTY;
@@ -207,6 +209,7 @@ pub extern "C" fn numzela_server_poll(
 ) -> u32
     ensures polled { (result ≡ EMPTY → ⊥) → HasPolledHeld readings.now now random server.old.value server.new.value result out.new }
     ensures empty { result ≡ EMPTY → (server.old.value ≡ None) × (server.new.value ≡ None) }
+    ensures unwritten { (result ≡ SEND → ⊥) → out.new ≡ out.old }
 {
     let Some(mut serving) = server.take(alloc) else {
         return EMPTY;
@@ -238,7 +241,7 @@ pub extern "C" fn numzela_server_deadline(
     deadline: &mut u64,
 ) -> u32
     ensures ok { (result ≡ EMPTY → ⊥) → (result ≡ OK) × HasDeadline server.old.value server.new.value deadline.new }
-    ensures empty { result ≡ EMPTY → (server.old.value ≡ None) × (server.new.value ≡ None) }
+    ensures empty { result ≡ EMPTY → (server.old.value ≡ None) × (server.new.value ≡ None) × (deadline.new ≡ deadline.old) }
 {
     let Some(serving) = server.take(alloc) else {
         return EMPTY;
@@ -267,6 +270,7 @@ impl Serving {
     ) -> u32
         ensures received { HasReceived readings.now now from.now bytes.entry self.old.alone.engine self.new.alone.engine result out.new }
         ensures status { result ≤ 1 }
+        ensures unwritten { (result ≡ SEND → ⊥) → out.new ≡ out.old }
     {
         let endpoint = Endpoint {
             ip: from.address,
@@ -280,6 +284,7 @@ impl Serving {
     fn poll(&mut self, now: u64, random: u16, readings: &Readings, out: &mut Datagram) -> u32
         ensures polled { HasPolled readings.now now random self.old.alone self.new.alone result out.new }
         ensures status { result ≤ 1 }
+        ensures unwritten { (result ≡ SEND → ⊥) → out.new ≡ out.old }
     {
         self.alone.set_handed(readings, random);
         self.flush(now, out)
@@ -289,6 +294,7 @@ impl Serving {
     fn flush(&mut self, now: u64, out: &mut Datagram) -> u32
         ensures flushed { HasFlushed now self.old.alone self.new.alone result out.new }
         ensures status { result ≤ 1 }
+        ensures unwritten { (result ≡ SEND → ⊥) → out.new ≡ out.old }
     {
         let mut settling = Settling::begin(&mut self.alone, now);
         'steps: for taken in 0..STEPS {
@@ -308,6 +314,7 @@ impl Serving {
 fn write_if(sent: bool, emission: &Emission, out: &mut Datagram) -> u32
     ensures writes { Writes result (emission_if sent emission.now) out.new }
     ensures status { result ≤ 1 }
+    ensures unwritten { (result ≡ SEND → ⊥) → out.new ≡ out.old }
 {
     if !sent {
         return OK;
