@@ -218,8 +218,8 @@ numzela_status numzela_server_poll(numzela_server *server, uint64_t now, uint16_
                                    numzela_datagram *datagram);
 
 /*
- * Writes the time in ms before which there is nothing to do unless a datagram is received;
- * UINT64_MAX if there is no such time. The caller may sleep until then.
+ * Writes a time in ms before which there is nothing to do unless a datagram is received. The caller
+ * may sleep until then; with UINT64_MAX, until a datagram is received.
  *
  * Returns NUMZELA_OK or NUMZELA_EMPTY.
  */

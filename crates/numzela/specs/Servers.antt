@@ -86,7 +86,7 @@ pub record HasAdvanced (now : ℕ) (old new : Option Serving) : Type 0 where
   pub holds : new ≡ Some after
   pub passes : Passes now before.alone.engine after.alone.engine
 
--- the deadline is the earliest of the times before which the shards have nothing to do, and the server is unchanged
+-- the deadline is a time before which the shards have nothing to do, and the server is unchanged
 pub record HasDeadline (old new : Option Serving) (deadline : ℕ) : Type 0 where
   pub before : Serving
   pub held : old ≡ Some before

@@ -13,7 +13,8 @@
 //! - **Receiving**: the server handles a datagram as the engine of `fc_server` does, whatever the history so far, and just what this sends is written.
 //! - **Polling**: the steps are those of `fc_server`'s settling. `NUMZELA_SEND` guarantees that the last step sent just what was written, and those before it nothing;
 //!   `NUMZELA_OK` that nothing was sent, and that nothing is left, no message ID was available, or 8,192 steps were taken (`AreSettled`).
-//! - **Deadlines** are the earliest of the times before which the shards have nothing to do.
+//! - **A deadline** is a time before which the shards have nothing to do. No contract says that it is the latest one, so 0 would do:
+//!   the script of `tests/c-library` checks that it is later than the time of the last poll.
 //! - **Ownership**: a handle owns what it points to, or nothing, before and after each call. So nothing is freed twice, or used after it was freed.
 //! - Not proved, since C isn't: that a caller passes pointers as the header says, and leaves the fields of a handle alone.
 //!
