@@ -63,7 +63,7 @@ enum {
 
 typedef struct { void *at; bool held; } numzela_program;
 
-/* What numzela_program_load found out. */
+/* What numzela_program_load found out. If the image is refused, all but `rule` and `slot` is 0. */
 typedef struct {
     uint32_t version;   /* of the image, 1 or 2; 0 if it is refused */
     uint32_t cost;      /* steps of the longest path: no run takes more */
