@@ -41,7 +41,7 @@ enum {
     NUMZELA_OK = 0,      /* success; there is nothing to send */
     NUMZELA_SEND = 1,    /* success; a datagram was written: send it */
     NUMZELA_REFUSED = 2, /* the image breaks a rule: see numzela_verdict */
-    NUMZELA_NOMEM = 3,   /* malloc failed; nothing changed */
+    NUMZELA_NOMEM = 3,   /* malloc failed in _load or _new; nothing changed */
     NUMZELA_EMPTY = 4,   /* the handle is empty; nothing changed */
     NUMZELA_IN_USE = 5,  /* the handle is not empty: free it first; nothing changed */
     NUMZELA_RANGE = 6    /* an argument is out of its range; nothing changed */
@@ -63,7 +63,7 @@ enum {
 
 typedef struct { void *at; bool held; } numzela_program;
 
-/* What numzela_program_load found out. */
+/* What numzela_program_load found out. If the image is refused, all but `rule` and `slot` is 0. */
 typedef struct {
     uint32_t version;   /* of the image, 1 or 2; 0 if it is refused */
     uint32_t cost;      /* steps of the longest path: no run takes more */
@@ -74,7 +74,7 @@ typedef struct {
 } numzela_verdict;
 
 typedef struct {
-    uint8_t slot;      /* number N of the resource /r/N, 0 to 63 */
+    uint8_t slot;      /* number N of the resource /r/N: any; the program reads it */
     bool is_post;      /* POST, else GET */
     bool has_format;   /* whether `format` is given */
     uint16_t format;   /* Content-Format of the payload */
@@ -185,8 +185,9 @@ numzela_status numzela_server_new(numzela_server *server, const numzela_config *
  *   readings  the sensor input of a program that runs
  *   datagram  the response, written if the result is NUMZELA_SEND
  *
- * Returns NUMZELA_SEND, NUMZELA_OK if there is no response, or NUMZELA_EMPTY. If malloc fails, the
- * response is 5.03 (Service Unavailable).
+ * Returns NUMZELA_SEND, NUMZELA_OK if there is no response, or NUMZELA_EMPTY. If malloc fails
+ * in the upload of a program, the result is NUMZELA_SEND and the response is 5.03 (Service
+ * Unavailable): the program's slot is unchanged, and the server remembers the request, as any other.
  */
 numzela_status numzela_server_receive(numzela_server *server, uint64_t now, const numzela_endpoint *from,
                                       const uint8_t *bytes, size_t size,
@@ -212,14 +213,15 @@ numzela_status numzela_server_advance(numzela_server *server, uint64_t now);
  *
  * Returns NUMZELA_SEND, NUMZELA_OK if nothing is left to do, or NUMZELA_EMPTY. NUMZELA_OK is also the
  * end if none of the server's message IDs is available: the notification waits for the next poll.
+ * The call doesn't need malloc.
  */
 numzela_status numzela_server_poll(numzela_server *server, uint64_t now, uint16_t random,
                                    const uint8_t readings[NUMZELA_READINGS],
                                    numzela_datagram *datagram);
 
 /*
- * Writes the time in ms before which there is nothing to do unless a datagram is received;
- * UINT64_MAX if there is no such time. The caller may sleep until then.
+ * Writes a time in ms before which there is nothing to do unless a datagram is received. The caller
+ * may sleep until then; with UINT64_MAX, until a datagram is received.
  *
  * Returns NUMZELA_OK or NUMZELA_EMPTY.
  */

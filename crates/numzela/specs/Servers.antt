@@ -54,7 +54,7 @@ pub record HasReceivedHeld (readings : List ℕ) (now : ℕ) (from : Peer) (byte
 
 -- ---- what is left to do
 
--- steps were taken: the status is OK, they sent nothing, and nothing is left; or it is SEND, and the last of them sent just what was written
+-- steps were taken: the status is OK, they sent nothing, and nothing is left; or it is SEND, and one of them sent just what was written, and the others nothing
 pub record HasFlushed (now : ℕ) (old new : Alone) (status : ℕ) (out : Datagram) : Type 0 where
   pub steps : List SettlingStep
   pub taken : AreStepsBy alone_calls now steps old new
@@ -86,7 +86,7 @@ pub record HasAdvanced (now : ℕ) (old new : Option Serving) : Type 0 where
   pub holds : new ≡ Some after
   pub passes : Passes now before.alone.engine after.alone.engine
 
--- the deadline is the earliest of the times before which the shards have nothing to do, and the server is unchanged
+-- the deadline is a time before which the shards have nothing to do, and the server is unchanged
 pub record HasDeadline (old new : Option Serving) (deadline : ℕ) : Type 0 where
   pub before : Serving
   pub held : old ≡ Some before

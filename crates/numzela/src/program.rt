@@ -134,7 +134,7 @@ pub struct Verdict {
     pub slot: u32,
 }
 
-/// A request without its bytes: the slot of its resource, its method, and the Content-Format of its payload.
+/// A request without its bytes: the slot of its resource, which may be any, its method, and the Content-Format of its payload.
 #[repr(C)]
 #[derive(Clone, Copy)]
 pub struct RequestHead {

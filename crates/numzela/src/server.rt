@@ -233,7 +233,9 @@ pub extern "C" fn numzela_server_advance(alloc: Global, server: &mut Server, now
     OK
 }
 
-/// Writes the time in milliseconds before which there is nothing to do unless a datagram is received, or 2^64 - 1.
+/// Writes a time in milliseconds before which there is nothing to do.
+///
+/// A datagram that is received may change that. At 2^64 - 1 there is nothing to do at any time.
 #[unsafe(no_mangle)]
 pub extern "C" fn numzela_server_deadline(
     alloc: Global,
