@@ -1,4 +1,4 @@
--- A block is whole, or goes on, where it fits behind the payloads before it.
+-- A block completes a body, or continues it, if it fits after the payloads before it.
 use Rattle.std.proofs.Common.{◌≡◌, inl, inr, ℕ, ◌+◌, ◌*◌, ◌<◌, ◌≤◌, List, [], ◌++◌, length, Bool, true, false, Option, Some, None, refl, sym, ap, ◌∙◌, subst, arith, length-append, if◌then◌else◌}
 use Rattle.std.specs.Prelude.{find, not, nat_lt, ◌==◌, ◌&&◌}
 use Rattle.std.specs.Option.{option_map}
@@ -10,11 +10,11 @@ use Rattle.coap_opts.specs.Values.{Place, block_size}
 use Rattle.coap_block.specs.Uploads.{Add, Continues, IsWhole, add_of, before_by, before_of, body_among, body_behind, body_with, checked_by, has_length, is_full, is_transfer_of, live, others, unless_more, IsTooLarge, IsFull}
 use Rattle.coap_block.specs.UnderWay.{Begins, Fits, HasLength}
 
--- the bytes of a transfer that was found
+-- the bytes of a found transfer
 abbrev pub found_bytes : Option Transfer → Option (List ℕ)
 found_bytes u = option_map (λ t. t.body.items) u
 
--- ---- what a whole body says of the checks
+-- ---- the checks that a whole body has passed
 
 pub unfull : (full : Bool) (x : Add) (body : List ℕ) → (if full then IsFull else x) ≡ IsWhole body → (full ≡ false) × (x ≡ IsWhole body)
 unfull true x body e = absurd (cc)
@@ -39,7 +39,7 @@ pub long_to : (more : Bool) (size bytes : ℕ) → HasLength more size bytes →
 long_to true size bytes h = eq-eqb bytes size h
 long_to false size bytes h = not_from_false (nat_lt size bytes) (le-ltb size bytes h)
 
--- ---- a body behind what is before it
+-- ---- a body appended to the payloads before it
 
 record IsBehind (before : List ℕ) (b : Place) (bytes body : List ℕ) : Type 0 where
   starts : (b.number * block_size b.szx == length before) ≡ true
@@ -61,7 +61,7 @@ behind_to before b bytes body h =
     let w : nat_lt 8208 (length before + length bytes) ≡ false = le-ltb 8208 (length before + length bytes) (omega (arith, le, length-append before bytes)) in
     (λ i. checked_by (h.starts i) (l i) (if w i then IsTooLarge else IsWhole (before ++ bytes))) ∙ ap IsWhole (sym h.joined)
 
--- ---- what is before it
+-- ---- the payloads before it
 
 record HasBefore (first : Bool) (u : Option Transfer) (b : Place) (bytes body : List ℕ) : Type 0 where
   before : List ℕ
@@ -90,7 +90,7 @@ begins_from : (U : List ℕ → Type 0) (rest : ℕ) (b : Place) (u : Option Tra
 begins_from U rest b u before true z under room is starts = inl (eqb-true b.number 0 z, room_from b.number rest z room, sym (some_inner [] before is))
 begins_from U rest b u before false z under room is starts = inr (eqb-false b.number 0 z, under before (under_from u before is), eqb-true (b.number * block_size b.szx) (length before) starts)
 
--- a whole body is that of a block that fits
+-- a whole body results from a fitting block
 pub fits_from : (U : List ℕ → Type 0) (held : List Transfer) (to : Endpoint) (n : ℕ) (b : Place) (bytes body : List ℕ) → ((w : List ℕ) → found_bytes (find (is_transfer_of to n) held) ≡ Some w → U w) → body_among held to n b bytes ≡ IsWhole body → Fits U (length (others to n held)) b bytes body
 fits_from U held to n b bytes body under e =
     let u = find (is_transfer_of to n) held in
@@ -98,9 +98,9 @@ fits_from U held to n b bytes body under e =
     let w = before_from (before_of b.number u) (b.number == 0) u b bytes body refl f.1 in
     record { before = w.before; begins = begins_from U (length (others to n held)) b u w.before (b.number == 0) refl under f.0 w.is w.behind.starts; long = w.behind.long; joined = w.behind.joined; within = w.behind.within }
 
--- ---- back
+-- ---- the converse
 
--- what a beginning says of the checks
+-- the checks that a beginning passes
 pub record BeginsBy (rest : ℕ) (b : Place) (u : Option Transfer) (before : List ℕ) : Type 0 where
   pub room : is_full b.number rest ≡ false
   pub is : before_of b.number u ≡ Some before
@@ -116,14 +116,14 @@ begins_to U rest b u before under (inr w) =
     let z = ne_eqb b.number 0 w.0 in
     record { room = and_left (b.number == 0) (not (nat_lt rest 16)) z; is = ap (λ (first : Bool). before_by first u) z ∙ under_to u before (under before w.1); starts = eq-eqb (b.number * block_size b.szx) (length before) w.2 }
 
--- a block that fits makes a whole body
+-- a fitting block results in a whole body
 pub fits_to : (U : List ℕ → Type 0) (held : List Transfer) (to : Endpoint) (n : ℕ) (b : Place) (bytes body : List ℕ) → ((w : List ℕ) → U w → found_bytes (find (is_transfer_of to n) held) ≡ Some w) → Fits U (length (others to n held)) b bytes body → body_among held to n b bytes ≡ IsWhole body
 fits_to U held to n b bytes body under fits =
     let u = find (is_transfer_of to n) held in
     let w = begins_to U (length (others to n held)) b u fits.before under fits.begins in
     (λ i. (if w.room i then IsFull else body_behind (w.is i) b bytes)) ∙ behind_to fits.before b bytes body (record { starts = w.starts; long = fits.long; joined = fits.joined; within = fits.within })
 
--- ---- the answer
+-- ---- the result
 
 pub whole_from : (more : Bool) (x : Add) (body : List ℕ) → unless_more more x ≡ IsWhole body → (more ≡ false) × (x ≡ IsWhole body)
 whole_from true (IsWhole w) body e = absurd (cc)
@@ -147,7 +147,7 @@ never_behind true o b bytes e = cc
 never_behind false None b bytes e = cc
 never_behind false (Some before) b bytes e = never_checked (b.number * block_size b.szx == length before) (has_length b.more (block_size b.szx) (length bytes)) (nat_lt 8208 (length before + length bytes)) (before ++ bytes) e
 
--- a body is never said to go on before it is seen whether more is to come
+-- before the M bit is checked, the result is never that a body continues
 pub never_continues : (held : List Transfer) (to : Endpoint) (n : ℕ) (b : Place) (bytes : List ℕ) → body_among held to n b bytes ≡ Continues → ⊥
 never_continues held to n b bytes e = never_behind (is_full b.number (length (others to n held))) (before_of b.number (find (is_transfer_of to n) held)) b bytes e
 

@@ -1,4 +1,4 @@
--- What is found in a list that was filtered or appended to.
+-- Searches in a list that was filtered or appended to.
 use Rattle.std.proofs.Common.{◌≡◌, List, [], ◌∷◌, ◌++◌, Bool, true, false, cond, Some, None, refl, sym, ap, ◌∙◌}
 use Rattle.std.specs.Prelude.{filter, find, ◌&&◌}
 
@@ -15,7 +15,7 @@ find-filter p q (x ∷ xs) = filtered_by p q x xs (q x) refl (find-filter p q xs
 pub find_agree : {X : Type 0} (p q : X → Bool) → ((x : X) → p x ≡ q x) → (xs : List X) → find p xs ≡ find q xs
 find_agree p q e xs = λ i. find (λ x. e x i) xs
 
--- a test that nothing passes finds nothing
+-- a search finds nothing if no element passes the test
 pub find_nothing : {X : Type 0} (p : X → Bool) → ((x : X) → p x ≡ false) → (xs : List X) → find p xs ≡ None
 find_nothing p e [] = refl
 find_nothing p e (x ∷ xs) = ap (λ (b : Bool). cond b (Some x) (find p xs)) (e x) ∙ find_nothing p e xs
@@ -24,12 +24,12 @@ behind_by : {X : Type 0} (p : X → Bool) (x : X) (xs ys : List X) (b : Bool) �
 behind_by p x xs ys true e none rest = absurd (cc)
 behind_by p x xs ys false e none rest = rest none
 
--- nothing is found before
+-- a search that finds nothing in the first part
 pub find_behind : {X : Type 0} (p : X → Bool) (xs ys : List X) → find p xs ≡ None → find p (xs ++ ys) ≡ find p ys
 find_behind p [] ys none = refl
 find_behind p (x ∷ xs) ys none = behind_by p x xs ys (p x) refl none (find_behind p xs ys)
 
--- nothing is found behind
+-- a search that finds nothing in the second part
 pub find_before : {X : Type 0} (p : X → Bool) (xs ys : List X) → find p ys ≡ None → find p (xs ++ ys) ≡ find p xs
 find_before p [] ys none = none
 find_before p (x ∷ xs) ys none = ap (λ o. cond (p x) (Some x) o) (find_before p xs ys none)

@@ -1,4 +1,4 @@
--- The cuts of a body by one size are its bytes.
+-- The blocks of a body with one size are its bytes.
 use Rattle.std.proofs.Common.{◌≡◌, ℕ, zero, suc, ◌+◌, ◌*◌, ◌≤◌, List, [], ◌++◌, length, take, drop, Bool, true, false, None, Some, refl, sym, ap, ◌∙◌, subst, ⊎_elim, arith, length-drop, if◌then◌else◌}
 use Rattle.std.specs.Prelude.{nat_lt, not}
 use Rattle.std.proofs.lemmas.Bool.{and_parts, and_cases, ltb-true, ltb-false, not-true, not-false}

@@ -1,4 +1,4 @@
--- What a block does to the transfer of its own endpoint and slot, and to those of others.
+-- The effect of a block on the transfer of its own endpoint and slot, and on those of others.
 use Rattle.std.proofs.Common.{◌≡◌, ℕ, ◌+◌, ◌≤◌, List, ◌++◌, Bool, true, false, None, refl, sym, ◌∙◌, arith}
 use Rattle.std.specs.Prelude.{find, not, nat_eq, ◌==◌, ◌&&◌}
 use Rattle.std.specs.Cmp.Lexicographic.{pointwise, bytes_decides}
@@ -22,7 +22,7 @@ equal_parts from to m n e =
 pub own_key : (from to : Endpoint) (m n : ℕ) → same_key from m to n ≡ true → (t : Transfer) → is_transfer_of from m t ≡ is_transfer_of to n t
 own_key from to m n e t = let w = equal_parts from to m n e in λ i. (pointwise nat_eq t.endpoint.ip (w.0 i) && (t.endpoint.port == w.1 i)) && (t.slot == w.2 i)
 
--- a transfer of two keys shows that they are equal
+-- two keys of one transfer are equal
 shared_key : (from to : Endpoint) (m n : ℕ) (t : Transfer) → is_transfer_of from m t ≡ true → is_transfer_of to n t ≡ true → same_key from m to n ≡ true
 shared_key from to m n t e f = let w = equal_parts t.endpoint from t.slot m e in sym (λ i. (pointwise nat_eq (w.0 i) to.ip && (w.1 i == to.port)) && (w.2 i == n)) ∙ f
 
@@ -35,20 +35,20 @@ same_bytes xs = (bytes_decides xs xs).1 refl
 pub key_itself : (to : Endpoint) (n : ℕ) → same_key to n to n ≡ true
 key_itself to n = λ i. (same_bytes to.ip i && eq-eqb to.port to.port refl i) && eq-eqb n n refl i
 
--- ---- what a block does
+-- ---- the effect of a block
 
--- of the transfers under way, that of this key
+-- the transfer in progress with this key
 abbrev pub is_found : ℕ → Endpoint → ℕ → Transfer → Bool
 is_found now to n t = is_under_way now t && is_transfer_of to n t
 
--- what is found among the transfers that a block leaves, and behind them
+-- a search among the transfers that a block doesn't change, and then the stored one
 left_found : (now at : ℕ) (from to : Endpoint) (m n : ℕ) (held : List Transfer) → find (is_found now to n) (others from m (live at held)) ≡ find (λ t. is_under_way at t && (not (is_transfer_of from m t) && is_found now to n t)) held
 left_found now at from to m n held = find-filter (is_found now to n) (λ t. not (is_transfer_of from m t)) (live at held) ∙ find-filter (λ t. not (is_transfer_of from m t) && is_found now to n t) (is_under_way at) held
 
 still_live : (now at : ℕ) (t : Transfer) → at ≤ now → is_under_way now t ≡ true → is_under_way at t ≡ true
 still_live now at t le e = let lt = ltb-true now (t.at + 247000) e in lt-ltb at (t.at + 247000) (omega (arith, lt, le))
 
--- a test that holds where both others do adds nothing
+-- a test that holds if both others do adds nothing
 stays_by : (a o l p : Bool) → (l ≡ true → a ≡ true) → (p ≡ true → o ≡ false) → (a && (not o && (l && p))) ≡ (l && p)
 stays_by a o false p f g = and_right a (not o && false) (and_right (not o) false refl)
 stays_by a o true false f g = and_right a (not o && false) (and_right (not o) false refl)
@@ -58,12 +58,12 @@ gone_by : (a o l : Bool) → (a && (not o && (l && o))) ≡ false
 gone_by a true l = and_right a false refl
 gone_by a false l = and_right a (l && false) (and_right l false refl)
 
--- nothing of another key is kept
+-- nothing of another key is stored
 kept_other : (now at : ℕ) (from to : Endpoint) (m n : ℕ) (more : Bool) (x : Add) → same_key from m to n ≡ false → find (is_found now to n) (kept_transfer more at from m x) ≡ None
 kept_other now at from to m n true (IsWhole body) e = find_nothing (λ (t : Transfer). is_under_way now t && same_key from m to n) (λ t. and_right (is_under_way now t) (same_key from m to n) e) (kept_transfer true at from m (IsWhole body))
 kept_other now at from to m n more x e = refl
 
--- a block leaves the transfer of another key, which time alone ends
+-- a block doesn't change the transfer of another key, which only time ends
 pub after_other : (held : List Transfer) (at now : ℕ) (from to : Endpoint) (m n : ℕ) (b : Place) (bytes : List ℕ) → at ≤ now → same_key from m to n ≡ false → find (is_transfer_of to n) (live now (after_block held at from m b bytes)) ≡ find (is_transfer_of to n) (live now held)
 after_other held at now from to m n b bytes le e =
     let k = kept_transfer b.more at from m (body_among (live at held) from m b bytes) in
@@ -72,7 +72,7 @@ after_other held at now from to m n b bytes le e =
     ∙ (find_before (is_found now to n) (others from m (live at held)) k (kept_other now at from to m n b.more (body_among (live at held) from m b bytes) e)
     ∙ (left_found now at from to m n held ∙ (stays ∙ sym (find-filter (is_transfer_of to n) (is_under_way now) held))))
 
--- of its own key a block leaves what is kept of it
+-- of its own key a block leaves the transfer that it stores
 pub after_own : (held : List Transfer) (at now : ℕ) (from to : Endpoint) (m n : ℕ) (b : Place) (bytes : List ℕ) → same_key from m to n ≡ true → find (is_transfer_of to n) (live now (after_block held at from m b bytes)) ≡ find (is_found now to n) (kept_transfer b.more at from m (body_among (live at held) from m b bytes))
 after_own held at now from to m n b bytes e =
     let k = kept_transfer b.more at from m (body_among (live at held) from m b bytes) in

@@ -1,4 +1,4 @@
--- What is held of an endpoint and slot is its transfer.
+-- The stored bytes of an endpoint and slot are those of its transfer.
 use Rattle.std.proofs.Common.{◌≡◌, ℕ, ◌+◌, ◌<◌, ◌≤◌, List, [], ◌∷◌, ◌++◌, length, Bool, true, false, cond, Option, Some, None, refl, sym, ap, ◌∙◌, arith, length-append}
 use Rattle.std.specs.Prelude.{◌↔◌, find, nat_lt, not, ◌&&◌}
 use Rattle.std.proofs.lemmas.Bool.{ltb-true, lt-ltb}
@@ -14,14 +14,14 @@ use Rattle.coap_block.proofs.Rooms.{has_room}
 use Rattle.coap_block.proofs.Keys.{after_other, after_own, is_found, own_key}
 use Rattle.coap_block.proofs.Bodies.{fits_from, fits_to, found_bytes, goes_on_from, never_continues, some_inner, unfull, whole_from}
 
--- ---- what is kept of a block
+-- ---- the stored result of a block
 
 one_from : (recent key : Bool) (t : Transfer) (body : List ℕ) → found_bytes (cond (recent && key) (Some t) None) ≡ Some body → (recent ≡ true) × (t.body.items ≡ body)
 one_from true true t body e = (refl, some_inner t.body.items body e)
 one_from true false t body e = absurd (cc)
 one_from false key t body e = absurd (cc)
 
--- it is a whole body, with more to come
+-- it is a whole body with more blocks to follow
 kept_from : (now at : ℕ) (from to : Endpoint) (m n : ℕ) (body : List ℕ) (more : Bool) (x : Add) → found_bytes (find (is_found now to n) (kept_transfer more at from m x)) ≡ Some body → (now < at + 247000) × (more ≡ true) × (x ≡ IsWhole body)
 kept_from now at from to m n body true (IsWhole w) e =
     let t : Transfer = record { endpoint = from; slot = m; at = at; body = record { items = w } } in
@@ -68,7 +68,7 @@ pub held_to : (h : List Addition) (now : ℕ) (to : Endpoint) (n : ℕ) (body : 
 held_to [] now to n body r u = absurd u
 held_to (a ∷ h) now to n body r u = step_to (transfers h) now a.at a.endpoint to a.slot n a.payload body (IsUnderWay a.at to n h) (IsUnderWay now to n h) r.0 (λ w. held_to h a.at to n w r.1) (λ w. held_to h now to n w (rises_on a.at now h r.0 r.1)) (same_key a.endpoint a.slot to n) a.block refl u
 
--- ---- the answer
+-- ---- the result
 
 pub added_whole : (h : List Addition) (a : Addition) (b : Place) (body : List ℕ) → RisesTo a.at h → (block_added (transfers h) a.at a.endpoint a.slot b a.payload ≡ IsWhole body) ↔ ((b.more ≡ false) × FitsBehind h a b body)
 added_whole h a b body r = (

@@ -1,26 +1,26 @@
--- Why a block is refused, said of the blocks that were added before it (RFC 7959, 2.9).
+-- The causes of a refused block, in terms of the blocks added before it (RFC 7959, section 2.9).
 use Rattle.std.specs.Prelude.{◌≡◌, ◌≢◌, ℕ, ◌+◌, ◌<◌, ◌≤◌, List, length}
 use Rattle.coap_opts.specs.Values.{Place, block_size}
 use Rattle.coap_block.specs.Transfers.{Addition}
 use Rattle.coap_block.specs.UnderWay.{BeginsBehind, HasLength, others_at}
 
--- it has number 0, and 16 transfers of other endpoints and slots are under way
+-- the block has number 0, and 16 transfers of other endpoints and slots are in progress.
 pub record FindsNoRoom (h : List Addition) (a : Addition) (b : Place) : Type 0 where
   pub first : b.number ≡ 0
   pub others : 16 ≤ others_at a h
 
--- it has another number, and doesn't begin where those before it end
+-- the block has another number, and doesn't begin at the end of those before it.
 pub record IsOutOfPlace (h : List Addition) (a : Addition) (b : Place) : Type 0 where
   pub later : b.number ≢ 0
   pub nowhere : (before : List ℕ) → BeginsBehind h a b before → ⊥
 
--- it begins there, and its payload hasn't the length of its block
+-- the block begins there, and its payload doesn't have the length of its block.
 pub record HasWrongLength (h : List Addition) (a : Addition) (b : Place) : Type 0 where
   pub before : List ℕ
   pub begins : BeginsBehind h a b before
   pub wrong : HasLength b.more (block_size b.szx) (length a.payload) → ⊥
 
--- it begins there and has that length, and the sum is above 8,208 bytes
+-- the block begins there and has that length, and the sum is above 8,208 bytes.
 pub record HasLargeSum (h : List Addition) (a : Addition) (b : Place) : Type 0 where
   pub before : List ℕ
   pub begins : BeginsBehind h a b before

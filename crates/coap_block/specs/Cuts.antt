@@ -1,22 +1,22 @@
--- The block of a body that a GET asks (RFC 7959, 2.4).
+-- The block of a body that a GET requests (RFC 7959, section 2.4).
 use Rattle.std.specs.Prelude.{ℕ, ◌+◌, ◌*◌, ◌&&◌, Bool, nat_lt, not, List, [], length, take, drop, Option, Some, None, if◌then◌else◌}
 use Rattle.coap_opts.specs.Values.{Place, block_size}
 
--- a part of a body: its bytes, and its place where it isn't the whole
+-- a part of a body: its bytes, and its place if it isn't the whole.
 pub record Part : Type 0 where
   pub bytes : List ℕ
   pub place : Option Place
 
--- the bytes of a part, if there is one
+-- the bytes of a part, if there is one.
 abbrev pub part_bytes : Option Part → List ℕ
 part_bytes None = []
 part_bytes (Some part) = part.bytes
 
--- a block that isn't the first begins at or past the end
+-- the block isn't the first, and begins at or past the end.
 abbrev pub is_past : List ℕ → ℕ → ℕ → Bool
 is_past bytes number szx = nat_lt 0 number && not (nat_lt (number * block_size szx) (length bytes))
 
--- the block of this number and size; more follow where the body goes on behind it
+-- the block with this number and size; the M bit is set if the body continues after it.
 abbrev pub block_at : List ℕ → ℕ → ℕ → Part
 block_at bytes number szx = record {
   bytes = take (block_size szx) (drop (number * block_size szx) bytes);
@@ -26,8 +26,9 @@ block_at bytes number szx = record {
 abbrev pub cut_at : List ℕ → ℕ → ℕ → Option Part
 cut_at bytes number szx = if is_past bytes number szx then None else Some (block_at bytes number szx)
 
--- the block that is asked, by its number and size alone; none where it begins at or past the end. Where no block is asked, up to 1,024
--- bytes go whole, and of more the first 1,024 (SZX 6)
+-- the requested block, by its number and size alone; `None` if it isn't the first and begins at or
+-- past the end. If no block is requested, a body of at most 1,024 bytes is whole, and of a longer
+-- one it is the first 1,024 (SZX 6).
 abbrev pub cut_of : List ℕ → Option Place → Option Part
 cut_of bytes None = if nat_lt 1024 (length bytes) then cut_at bytes 0 6 else Some (record { bytes = bytes; place = None })
 cut_of bytes (Some place) = cut_at bytes place.number place.szx

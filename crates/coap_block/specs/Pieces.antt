@@ -1,19 +1,19 @@
--- The cuts of a body by one size (RFC 7959, 2.4).
+-- The blocks of a body with one size (RFC 7959, section 2.4).
 use Rattle.std.specs.Prelude.{◌≡◌, ℕ, zero, suc, ◌+◌, ◌*◌, ◌<◌, ◌≤◌, Bool, true, false, List, [], ◌++◌, length, Some}
 use Rattle.coap_opts.specs.Values.{block_size}
 use Rattle.coap_block.specs.Cuts.{Part, cut_at, part_bytes}
 
--- the first cuts, joined
+-- the first `k` blocks, joined.
 abbrev pub joined_cuts : List ℕ → ℕ → ℕ → List ℕ
 joined_cuts bytes szx zero = []
 joined_cuts bytes szx (suc k) = joined_cuts bytes szx k ++ part_bytes (cut_at bytes k szx)
 
--- more follow a block of just the size, and the last has what is left
+-- a block with more to follow has just the block size, and the last has the rest of the body.
 abbrev pub EndsBy : Bool → ℕ → ℕ → ℕ → ℕ → Type 0
 EndsBy true size start bytes body = (bytes ≡ size) × (start + bytes < body)
 EndsBy false size start bytes body = (bytes ≤ size) × (start + bytes ≡ body)
 
--- a cut is the block of this number and size
+-- the part is the block with this number and size.
 pub record IsBlockOf (body : List ℕ) (k szx : ℕ) (part : Part) : Type 0 where
   pub more : Bool
   pub place : part.place ≡ Some (record { number = k; more = more; szx = szx })

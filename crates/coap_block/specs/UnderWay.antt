@@ -1,4 +1,5 @@
--- What a transfer is, said of the payloads that were added and of no list of transfers: those since the last block number 0, joined (RFC 7959, 2.5).
+-- A transfer in terms of the added payloads alone, without the list of transfers: the payloads
+-- since the last block number 0, joined (RFC 7959, section 2.5).
 use Rattle.std.specs.Prelude.{◌≡◌, ◌≢◌, ◌⊎◌, ℕ, ◌+◌, ◌*◌, ◌<◌, ◌≤◌, Bool, true, false, List, [], ◌∷◌, ◌++◌, length, find, Option, Some, None}
 use Rattle.std.specs.Option.{option_map}
 use Rattle.coap_msg.specs.declared.types.Endpoint.{Endpoint}
@@ -8,20 +9,20 @@ use Rattle.coap_opts.specs.Values.{Place, block_size}
 use Rattle.coap_block.specs.Uploads.{is_transfer_of, live, others, same_key}
 use Rattle.coap_block.specs.Transfers.{Addition, transfers}
 
--- the moments never fell, up to this one
+-- the times never decreased, up to `now`.
 abbrev pub RisesTo : ℕ → List Addition → Type 0
 RisesTo now [] = Unit {0}
 RisesTo now (a ∷ h) = (a.at ≤ now) × RisesTo a.at h
 
--- the bytes that are held of an endpoint and slot at a moment
+-- the stored bytes of an endpoint and slot at a time.
 abbrev pub bytes_held : ℕ → Endpoint → ℕ → List Transfer → Option (List ℕ)
 bytes_held now to n held = option_map (λ t. t.body.items) (find (is_transfer_of to n) (live now held))
 
--- how many transfers of other endpoints and slots are under way when a payload is added
+-- how many transfers of other endpoints and slots are in progress when a payload is added.
 abbrev pub others_at : Addition → List Addition → ℕ
 others_at a h = length (others a.endpoint a.slot (live a.at (transfers h)))
 
--- the block that was added, where it is of this endpoint and slot
+-- the block that was added, if it is of this endpoint and slot.
 abbrev pub block_if : Bool → Option Place → Option Place
 block_if true block = block
 block_if false block = None
@@ -29,16 +30,18 @@ block_if false block = None
 abbrev pub block_for : Endpoint → ℕ → Addition → Option Place
 block_for to n a = block_if (same_key a.endpoint a.slot to n) a.block
 
--- number 0 begins anew, where fewer than 16 others are under way; another block begins at the sum of the payloads before it
+-- number 0 begins a new body, if fewer than 16 others are in progress; another block begins at the
+-- sum of the payloads before it.
 abbrev pub Begins : (List ℕ → Type 0) → ℕ → Place → List ℕ → Type 0
 Begins UnderWay rest b before = ((b.number ≡ 0) × (rest < 16) × (before ≡ [])) ⊎ ((b.number ≢ 0) × UnderWay before × (b.number * block_size b.szx ≡ length before))
 
--- with more to come a payload has just the block's size, and the last has at most that
+-- if more blocks follow, a payload has just the block size; the last has at most that.
 abbrev pub HasLength : Bool → ℕ → ℕ → Type 0
 HasLength true size bytes = bytes ≡ size
 HasLength false size bytes = bytes ≤ size
 
--- a block that fits, and the body with it: the payloads before it and its own, joined, of at most 8,208 bytes
+-- a fitting block, and the body with it: the payloads before it and its own, joined, of at most
+-- 8,208 bytes.
 pub record Fits (UnderWay : List ℕ → Type 0) (rest : ℕ) (b : Place) (payload body : List ℕ) : Type 0 where
   pub before : List ℕ
   pub begins : Begins UnderWay rest b before
@@ -46,7 +49,8 @@ pub record Fits (UnderWay : List ℕ → Type 0) (rest : ℕ) (b : Place) (paylo
   pub joined : body ≡ before ++ payload
   pub within : length body ≤ 8208
 
--- a transfer is under way for less than a window after a block that fits and has more to come; what isn't its block leaves it
+-- a transfer is in progress for less than EXCHANGE_LIFETIME after a fitting block that has more to
+-- follow; a payload that isn't its block doesn't change it.
 pub record Continued (now : ℕ) (UnderWay : List ℕ → Type 0) (rest at : ℕ) (b : Place) (payload body : List ℕ) : Type 0 where
   pub recent : now < at + window
   pub more : b.more ≡ true
@@ -56,15 +60,15 @@ abbrev pub StillUnderWay : ℕ → ℕ → List ℕ → ℕ → (List ℕ → Ty
 StillUnderWay now at payload rest Before Left None body = Left body
 StillUnderWay now at payload rest Before Left (Some b) body = Continued now Before rest at b payload body
 
--- the transfer of an endpoint and slot that is under way at a moment, with these bytes so far
+-- the transfer of an endpoint and slot that is in progress at `now`, with these bytes so far.
 abbrev pub IsUnderWay : ℕ → Endpoint → ℕ → List Addition → List ℕ → Type 0
 IsUnderWay now to n [] body = ⊥
 IsUnderWay now to n (a ∷ h) body = StillUnderWay now a.at a.payload (others_at a h) (IsUnderWay a.at to n h) (IsUnderWay now to n h) (block_for to n a) body
 
--- a block fits behind what came before it, and makes this body
+-- a block fits after the payloads before it, and gives this body.
 abbrev pub FitsBehind : List Addition → Addition → Place → List ℕ → Type 0
 FitsBehind h a b body = Fits (IsUnderWay a.at a.endpoint a.slot h) (others_at a h) b a.payload body
 
--- a block begins where those before it end
+-- a block begins at the end of the payloads before it.
 abbrev pub BeginsBehind : List Addition → Addition → Place → List ℕ → Type 0
 BeginsBehind h a b before = Begins (IsUnderWay a.at a.endpoint a.slot h) (others_at a h) b before

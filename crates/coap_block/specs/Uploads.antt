@@ -1,4 +1,4 @@
--- The transfers that are under way (RFC 7959, 2.5).
+-- The transfers in progress (RFC 7959, section 2.5).
 use Rattle.std.specs.Prelude.{ℕ, ◌+◌, ◌*◌, ◌==◌, ◌&&◌, Bool, true, false, not, nat_lt, List, [], ◌∷◌, ◌++◌, length, filter, find, Option, Some, None, if◌then◌else◌}
 use Rattle.coap_msg.specs.declared.types.Endpoint.{Endpoint}
 use Rattle.coap_msg.specs.Endpoints.{same_endpoint}
@@ -6,28 +6,29 @@ use Rattle.coap_msg.specs.Windows.{within_window}
 use Rattle.coap_block.specs.declared.transfer.Transfer.{Transfer}
 use Rattle.coap_opts.specs.Values.{Place, block_size}
 
--- its latest block came less than a window before
+-- its latest block arrived less than EXCHANGE_LIFETIME before `now`.
 abbrev pub is_under_way : ℕ → Transfer → Bool
 is_under_way now t = within_window now t.at
 
--- the key of a transfer: an endpoint and a slot
+-- the key of a transfer: an endpoint and a slot.
 abbrev pub same_key : Endpoint → ℕ → Endpoint → ℕ → Bool
 same_key from m to n = same_endpoint from to && (m == n)
 
--- it is of this endpoint and slot
+-- the transfer has this endpoint and slot.
 abbrev pub is_transfer_of : Endpoint → ℕ → Transfer → Bool
 is_transfer_of to n t = same_key t.endpoint t.slot to n
 
--- those that aren't idle for a window
+-- the transfers that weren't idle for EXCHANGE_LIFETIME.
 abbrev pub live : ℕ → List Transfer → List Transfer
 live now held = filter (is_under_way now) held
 
--- those of other endpoints or slots
+-- the transfers of other endpoints or slots.
 abbrev pub others : Endpoint → ℕ → List Transfer → List Transfer
 others to n held = filter (λ t. not (is_transfer_of to n t)) held
 
--- what becomes of a block: more is awaited; the body is whole; it doesn't begin at the sum of those before it (4.08); its
--- payload has a wrong length (4.00); the body is too large (4.13); or there is no room for another transfer (5.03)
+-- the result for a block: more blocks are expected; the body is whole; the block doesn't begin at
+-- the sum of those before it (4.08); its payload has a wrong length (4.00); the body is too large
+-- (4.13); or there is no room for another transfer (5.03).
 pub data Add : Type 0 where
   Continues : Add
   IsWhole : (body : List ℕ) → Add
@@ -36,7 +37,8 @@ pub data Add : Type 0 where
   IsTooLarge : Add
   IsFull : Add
 
--- the payloads before a block, joined: none before number 0, else those of the transfer under way
+-- the payloads before a block, joined: none before number 0, else those of the transfer in
+-- progress.
 abbrev pub before_by : Bool → Option Transfer → Option (List ℕ)
 before_by true under_way = Some []
 before_by false None = None
@@ -45,53 +47,53 @@ before_by false (Some t) = Some t.body.items
 abbrev pub before_of : ℕ → Option Transfer → Option (List ℕ)
 before_of number under_way = before_by (number == 0) under_way
 
--- with more to come a payload has just the block's size, and the last has at most that
+-- if more blocks follow, a payload has just the block size; the last has at most that.
 abbrev pub has_length : Bool → ℕ → ℕ → Bool
 has_length true size bytes = bytes == size
 has_length false size bytes = not (nat_lt size bytes)
 
--- a body with more bytes behind it, of at most 8,208 in all
+-- a body with more bytes appended, of at most 8,208 in all.
 abbrev pub body_with : List ℕ → List ℕ → Add
 body_with before bytes = if nat_lt 8208 (length before + length bytes) then IsTooLarge else IsWhole (before ++ bytes)
 
--- the checks of where it begins and of its length, in this order, and then of the sum
+-- the checks of the block's beginning and of its length, in this order, and then of the sum.
 abbrev pub checked_by : Bool → Bool → Add → Add
 checked_by true true extended = extended
 checked_by true false extended = IsBadLength
 checked_by false length extended = IsIncomplete
 
--- a block behind the payloads before it
+-- a block appended to the payloads before it.
 abbrev pub body_behind : Option (List ℕ) → Place → List ℕ → Add
 body_behind None b bytes = IsIncomplete
 body_behind (Some before) b bytes = checked_by (b.number * block_size b.szx == length before) (has_length b.more (block_size b.szx) (length bytes)) (body_with before bytes)
 
--- a start where 16 others are under way, which is the first check
+-- a transfer starts while 16 others are in progress; this is the first check.
 abbrev pub is_full : ℕ → ℕ → Bool
 is_full number others = (number == 0) && not (nat_lt others 16)
 
--- the body with a block, among the transfers that are under way
+-- the body with a block, among the transfers in progress.
 abbrev pub body_among : List Transfer → Endpoint → ℕ → Place → List ℕ → Add
 body_among held to n b bytes = if is_full b.number (length (others to n held)) then IsFull else body_behind (before_of b.number (find (is_transfer_of to n) held)) b bytes
 
--- a body that fits goes on where more is to come
+-- a body that fits continues if more blocks follow.
 abbrev pub unless_more : Bool → Add → Add
 unless_more true (IsWhole body) = Continues
 unless_more more other = other
 
--- the transfer that is kept: one that fits, with more to come
+-- the transfer that is stored: one whose block fits and has more to follow.
 abbrev pub kept_transfer : Bool → ℕ → Endpoint → ℕ → Add → List Transfer
 kept_transfer true now to n (IsWhole body) = record { endpoint = to; slot = n; at = now; body = record { items = body } } ∷ []
 kept_transfer more now to n other = []
 
--- what becomes of a block, and of the transfers: those that are idle for a window are gone, and the block's own goes on with
--- it, last in order, or is gone
+-- the result for a block, and the transfers after it: those idle for EXCHANGE_LIFETIME are removed,
+-- and the block's own is extended and last in order, or is removed.
 abbrev pub block_added : List Transfer → ℕ → Endpoint → ℕ → Place → List ℕ → Add
 block_added held now to n b bytes = unless_more b.more (body_among (live now held) to n b bytes)
 
 abbrev pub after_block : List Transfer → ℕ → Endpoint → ℕ → Place → List ℕ → List Transfer
 after_block held now to n b bytes = others to n (live now held) ++ kept_transfer b.more now to n (body_among (live now held) to n b bytes)
 
--- without a block the payload is the whole body, and the transfers stay
+-- without a block the payload is the whole body, and no transfer changes.
 abbrev pub add_of : List Transfer → ℕ → Endpoint → ℕ → Option Place → List ℕ → Add
 add_of held now to n None bytes = body_with [] bytes
 add_of held now to n (Some b) bytes = block_added held now to n b bytes

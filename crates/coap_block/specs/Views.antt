@@ -1,4 +1,4 @@
--- What becomes of a block, and a cut, as they are seen.
+-- The result for a block, and a part of a body, as contracts see them.
 use Rattle.coap_block.specs.declared.uploads.Added.{Added}
 use Rattle.coap_block.specs.declared.uploads.Added.TheVariants as said
 use Rattle.coap_block.specs.Uploads.{Add, Continues, IsWhole, IsIncomplete, IsBadLength, IsTooLarge, IsFull}
@@ -15,7 +15,7 @@ add_seen said.BadLength = IsBadLength
 add_seen said.TooLarge = IsTooLarge
 add_seen said.Full = IsFull
 
--- a cut, as it is seen
+-- a part of a body, as contracts see it.
 abbrev pub cut_seen : Result Cut PastEnd → Option Part
 cut_seen (Ok cut) = Some (record { bytes = cut.bytes.now; place = cut.block })
 cut_seen (Err past) = None

@@ -1,14 +1,16 @@
-//! The block of a body that a GET asks (RFC 7959, 2.4).
+//! The block of a body that a GET requests (RFC 7959, section 2.4).
 ghost use Rattle.std.specs.Prelude.{◌≡◌, ◌<◌, ◌^◌};
 ghost use Rattle.coap_block.specs.Cuts.{cut_at, cut_of};
 ghost use Rattle.coap_block.specs.Views.{cut_seen};
 
 use coap_opts::Block;
 
-/// The most bytes that go whole where no block is asked, and the size of the first block of more.
+/// Maximum length in bytes of a body that is sent without Block2.
+///
+/// It is also the size of the first block of a longer body, if the request names no block.
 pub const WHOLE: usize = 1024;
 
-/// The size exponent of a block of 1,024 bytes (RFC 7959, 2.2).
+/// The size exponent of a block of 1,024 bytes (RFC 7959, section 2.2).
 const WHOLE_SZX: u8 = 6;
 
 /// A part of a body.
@@ -16,19 +18,21 @@ const WHOLE_SZX: u8 = 6;
 pub struct Cut<'a> {
     /// Its bytes.
     pub bytes: &'a [u8],
-    /// Which block of the body it is, for the Block2 option; none where the body goes whole.
+    /// Its place in the body, for the Block2 option; `None` if the body is whole.
     pub block: Option<Block>,
 }
 
-/// The block that was asked isn't the first, and begins at or past the end of the body.
+/// The error that a block isn't the first and begins at or past the body's end.
 #[derive(Clone, Copy, PartialEq, Eq)]
 pub struct PastEnd;
 
-/// Cuts the block that is asked out of a body; whether more were asked to follow is ignored. Where no block is asked, a body of
-/// up to 1,024 bytes goes whole, and of more the first 1,024.
+/// Returns the requested block of a body, by its number and size alone.
+///
+/// The requested M bit is ignored. If no block is requested, a body of at most 1,024 bytes is
+/// returned whole, and of a longer one the first 1,024 bytes.
 ///
 /// # Errors
-/// The block isn't the first, and begins at or past the end.
+/// Returns [`PastEnd`] if the block isn't the first, and begins at or past the body's end.
 pub fn slice(bytes: &[u8], block2: Option<Block>) -> Result<Cut<'_>, PastEnd>
     ensures { cut_seen result ≡ cut_of bytes.now block2 }
 {
@@ -39,7 +43,7 @@ pub fn slice(bytes: &[u8], block2: Option<Block>) -> Result<Cut<'_>, PastEnd>
     }
 }
 
-// The block of this number and size.
+// Returns the block with this number and size.
 fn cut_at(bytes: &[u8], number: u32, szx: u8) -> Result<Cut<'_>, PastEnd>
     requires number { number < 2 ^ 20 }
     requires szx { szx < 8 }

@@ -1,4 +1,4 @@
-//! Laws of what the definitions say: each function is a law, and its contract says it.
+//! Laws about the definitions. Each law is the contract of an empty function.
 ghost use Rattle.std.specs.Prelude.{◌≡◌, ◌≢◌, ◌↔◌, ℕ, ◌+◌, ◌*◌, ◌<◌, ◌≤◌, false, true, List, None, Option, Some, filter, find, length, take};
 ghost use Rattle.coap_msg.specs.declared.types.Endpoint.{Endpoint};
 ghost use Rattle.coap_block.specs.declared.transfer.Transfer.{Transfer};
@@ -10,8 +10,10 @@ ghost use Rattle.coap_block.specs.Causes.{FindsNoRoom, HasLargeSum, HasWrongLeng
 ghost use Rattle.coap_block.specs.Cuts.{Part, cut_at};
 ghost use Rattle.coap_block.specs.Pieces.{IsBlockOf, joined_cuts};
 
-/// What is held of an endpoint and slot is its transfer: the payloads since its last block number 0, joined, while its blocks fit
-/// and come less than a window apart. At most 16 are held.
+/// The stored bytes of an endpoint and slot are those of its transfer.
+///
+/// They are the payloads since its last block number 0, joined, while its blocks fit and arrive
+/// less than EXCHANGE_LIFETIME apart. At most 16 transfers are stored.
 pub fn transfers_are_payloads_joined()
     ensures held { (h : List Addition) (now : ℕ) (to : Endpoint) (n : ℕ) (body : List ℕ) →
         RisesTo now h →
@@ -19,8 +21,9 @@ pub fn transfers_are_payloads_joined()
     ensures few { (h : List Addition) → length (transfers h) ≤ 16 }
 {}
 
-/// What a block that fits makes, the payloads before it and its own, is the whole body where it is the last; where more are to
-/// come, the transfer goes on with it.
+/// A fitting block is joined to the payloads before it.
+///
+/// If it is the last, the result is the whole body. If more blocks follow, the transfer continues.
 pub fn blocks_that_fit_are_joined()
     ensures whole { (h : List Addition) (a : Addition) (b : Place) (body : List ℕ) → RisesTo a.at h →
         ((block_added (transfers h) a.at a.endpoint a.slot b a.payload ≡ IsWhole body)
@@ -30,8 +33,12 @@ pub fn blocks_that_fit_are_joined()
         ↔ ((b.more ≡ true) × ((body : List ℕ) × FitsBehind h a b body))) }
 {}
 
-/// Each refusal has its cause, and they come in this order: a start where 16 others are under way; a block that doesn't begin where
-/// those before it end; a payload that hasn't the length of its block; a sum above 8,208 bytes.
+/// Each refusal has its cause; the causes are checked in this order.
+///
+/// 1. A transfer starts while 16 others are in progress.
+/// 2. A block doesn't begin at the end of the blocks before it.
+/// 3. A payload doesn't have the length of its block.
+/// 4. The sum is above 8,208 bytes.
 pub fn refusals_have_causes()
     ensures full { (h : List Addition) (a : Addition) (b : Place) → b.number ≡ 0 → 16 ≤ others_at a h →
         block_added (transfers h) a.at a.endpoint a.slot b a.payload ≡ IsFull }
@@ -47,7 +54,7 @@ pub fn refusals_have_causes()
         block_added (transfers h) a.at a.endpoint a.slot b a.payload ≡ IsTooLarge }
 {}
 
-/// A refusal has no other cause: what becomes of a block is each of them exactly where its cause holds.
+/// A refusal has no other cause: each occurs exactly if its cause holds.
 pub fn refusals_have_only_their_causes()
     ensures full { (h : List Addition) (a : Addition) (b : Place) → RisesTo a.at h →
         ((block_added (transfers h) a.at a.endpoint a.slot b a.payload ≡ IsFull) ↔ FindsNoRoom h a b) }
@@ -59,12 +66,14 @@ pub fn refusals_have_only_their_causes()
         ((block_added (transfers h) a.at a.endpoint a.slot b a.payload ≡ IsTooLarge) ↔ HasLargeSum h a b) }
 {}
 
-/// Of an endpoint and slot at most one transfer is held.
+/// At most one transfer is stored for an endpoint and slot.
 pub fn transfers_have_one_key()
     ensures { (h : List Addition) (to : Endpoint) (n : ℕ) → length (filter (is_transfer_of to n) (transfers h)) ≤ 1 }
 {}
 
-/// A body has at most 8,208 bytes; without a block a payload is whole up to there.
+/// A body has at most 8,208 bytes.
+///
+/// A payload without a block option is a whole body up to that length.
 pub fn bodies_are_bounded()
     ensures most { (held : List Transfer) (now : ℕ) (to : Endpoint) (n : ℕ) (block : Option Place)
         (bytes body : List ℕ) →
@@ -73,7 +82,9 @@ pub fn bodies_are_bounded()
         ((add_of held now to n None bytes ≡ IsWhole bytes) ↔ (length bytes ≤ 8208)) }
 {}
 
-/// A block leaves the transfers of other endpoints and slots as they are; time alone ends them.
+/// A block doesn't change the transfers of other endpoints and slots.
+///
+/// Only time ends those.
 pub fn blocks_leave_other_transfers()
     ensures { (held : List Transfer) (at now : ℕ) (from to : Endpoint) (m n : ℕ) (b : Place)
         (bytes : List ℕ) → at ≤ now → same_key from m to n ≡ false →
@@ -81,8 +92,10 @@ pub fn blocks_leave_other_transfers()
         ≡ find (is_transfer_of to n) (live now held) }
 {}
 
-/// The blocks of a body by one size are numbered from 0 on; joined they are the body, each but the last has just the size, and
-/// of the last alone no more follow. There is none where a block that isn't the first begins at or past the end.
+/// The blocks of one size, numbered from 0 and joined, are the body.
+///
+/// Each block but the last has just the size, and has the M bit. The last doesn't have it. There is
+/// no block if it isn't the first and would begin at or past the end.
 pub fn cuts_joined_are_the_body()
     ensures joined { (body : List ℕ) (szx k : ℕ) →
         joined_cuts body szx k ≡ take (k * block_size szx) body }

@@ -1,14 +1,14 @@
 //! Block-wise transfers (RFC 7959): uploads in blocks, and bodies cut into blocks.
 //!
-//! [`Uploads`] holds the transfers that are under way; [`Uploads::add`] joins a block to its transfer, or says why the block is
-//! refused. [`slice`] gives the block of a body that a GET asks.
+//! [`Uploads`] stores the transfers in progress. [`Uploads::add`] joins a block to its transfer, or
+//! returns the reason for its refusal. [`slice`] returns the block of a body that a GET requests.
 //!
 //! ```rust
 //! use coap_block::{Added, Body, Uploads, slice};
 //! use coap_msg::Endpoint;
 //! use coap_opts::Block;
 //!
-//! /// The body of a PUT for slot 2, once its last block has come.
+//! /// Returns the body of a PUT for slot 2 after its last block.
 //! fn upload(
 //!     uploads: &mut Uploads,
 //!     now: u64,
@@ -22,7 +22,7 @@
 //!     }
 //! }
 //!
-//! /// The bytes that a GET of this body is answered, and whether more follow.
+//! /// Returns the bytes for a GET of this body, and whether more blocks follow.
 //! fn answered(body: &[u8], block2: Option<Block>) -> Option<(&[u8], bool)> {
 //!     let cut = slice(body, block2).ok()?;
 //!     let more = cut.block.is_some_and(|block| block.more());
@@ -32,11 +32,13 @@
 //!
 //! # What is proved
 //!
-//! - A block is joined to the transfer of its endpoint and slot, or refused by the first check that fails, each exactly where its cause
-//!   holds. More than 8,208 bytes are refused.
-//! - What is held of an endpoint and slot is the payloads since its last block number 0, joined, whatever came before. Of one endpoint and
-//!   slot at most one transfer is held, and at most 16 are held.
-//! - A body is cut as the asked block says, and the cuts by one size joined are the body.
+//! - A block is joined to the transfer of its endpoint and slot, or is refused by the first check
+//!   that fails; each refusal occurs exactly if its cause holds. A body of more than 8,208 bytes is
+//!   refused.
+//! - The stored bytes of an endpoint and slot are the payloads since its last block number 0,
+//!   joined, whatever was added before. At most one transfer is stored for an endpoint and slot,
+//!   and at most 16 in all.
+//! - A body is cut as the requested block says, and the blocks of one size joined are the body.
 //!
 //! By the contracts of `Uploads::add`, `slice`, `laws`.
 #![tactic(auto)]

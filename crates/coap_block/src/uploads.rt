@@ -1,4 +1,4 @@
-//! The transfers that are under way.
+//! The transfers in progress.
 ghost use Rattle.std.specs.Prelude.{◌≡◌, ◌≤◌, ◌<◌, [], ◌∷◌, ◌++◌, find, length, IfOk, vec_capacity};
 ghost use Rattle.std.specs.Option.{option_copied, option_map};
 ghost use Rattle.coap_block.specs.Uploads.{add_of, after_add, after_block, before_of, block_added, body_behind, body_with, is_full, is_transfer_of, live, others};
@@ -10,27 +10,33 @@ use coap_opts::Block;
 use std::alloc::{AllocError, Global};
 use std::marker::Model;
 
-/// How many transfers are under way at once.
+/// Maximum number of transfers in progress.
 pub const TRANSFERS: usize = 16;
 
-/// What becomes of a block of a PUT (RFC 7959, 2.5 and 2.9).
+/// The result for the payload of a PUT (RFC 7959, sections 2.5 and 2.9).
 #[derive(Drop)]
 pub enum Added {
-    /// It fits, and more is to come: 2.31 (Continue).
+    /// The block fits, and more blocks follow: 2.31 (Continue).
     Continue,
-    /// It fits and is the last, or came without Block1: the whole body.
+    /// The whole body: the block fits and is the last, or there is no Block1.
     Whole(Body),
-    /// It doesn't begin at the sum of the payloads before it: 4.08 (Request Entity Incomplete).
+    /// The block begins at a wrong place: 4.08 (Request Entity Incomplete).
+    ///
+    /// The right place is the sum of the payloads before it.
     Incomplete,
-    /// Its payload hasn't just its block's size, where more is to come, or has more than that: 4.00 (Bad Request).
+    /// The payload has a wrong length: 4.00 (Bad Request).
+    ///
+    /// If more blocks follow, it must have the block size; the last may be shorter.
     BadLength,
     /// The body has more than 8,208 bytes: 4.13 (Request Entity Too Large).
     TooLarge,
-    /// It begins a transfer where 16 others are under way: 5.03 (Service Unavailable).
+    /// A transfer starts while 16 others are in progress: 5.03 (Service Unavailable).
     Full,
 }
 
-/// The transfers that are under way, in the order of their latest blocks. Moments are in milliseconds.
+/// The transfers in progress, in the order of their latest blocks.
+///
+/// Times are in milliseconds.
 #[derive(Drop)]
 pub struct Uploads {
     held: Vec<Transfer>,
@@ -48,10 +54,10 @@ impl Model for Uploads {
 }
 
 impl Uploads {
-    /// Makes a table of no transfer, with room for 16.
+    /// Makes an empty table with room for 16 transfers.
     ///
     /// # Errors
-    /// There was no memory for them.
+    /// Returns `AllocError` if memory for the transfers can't be allocated.
     pub fn new(alloc: Global) -> Result<Uploads, AllocError>
         ensures { IfOk result (λ x. x ≡ []) }
     {
@@ -60,12 +66,17 @@ impl Uploads {
         })
     }
 
-    /// Joins the payload of a PUT to the transfer of its endpoint and slot, which is gone after its last block, after a block
-    /// that is refused, and once it is idle for 247,000 ms. Without a block the payload is the whole body, and the transfers
-    /// stay.
+    /// Joins the payload of a PUT to the transfer of its endpoint and slot.
     ///
-    /// The first of these that holds refuses a block: a start where 16 others are under way; a beginning that isn't the sum of
-    /// the payloads before it; a payload of a wrong length; a body above 8,208 bytes.
+    /// The transfer ends with its last block, with a block that is refused, and once it is idle for
+    /// 247,000 ms. Without a block the payload is the whole body, and no transfer changes.
+    ///
+    /// The first of these conditions that holds refuses a block:
+    ///
+    /// - A transfer starts while 16 others are in progress.
+    /// - The block doesn't begin at the sum of the payloads before it.
+    /// - The payload has a wrong length.
+    /// - The body would have more than 8,208 bytes.
     pub fn add(
         &mut self,
         now: u64,
@@ -83,7 +94,7 @@ impl Uploads {
         }
     }
 
-    // Joins a block.
+    // Joins a block to its transfer.
     fn add_block(
         &mut self,
         now: u64,
@@ -117,7 +128,7 @@ impl Uploads {
     }
 }
 
-// Removes what is idle for a window.
+// Removes the transfers that were idle for EXCHANGE_LIFETIME.
 fn expire(held: &mut Vec<Transfer>, now: u64)
     ensures held { held.new.items ≡ live now held.old.items }
     ensures room { vec_capacity held.new ≡ vec_capacity held.old }
@@ -135,7 +146,7 @@ fn remove(held: &mut Vec<Transfer>, endpoint: Endpoint, slot: u8)
     held.retain(|transfer| !is_transfer_of(endpoint, slot, transfer));
 }
 
-// Keeps a transfer, last in order.
+// Appends a transfer.
 fn keep(held: &mut Vec<Transfer>, transfer: Transfer)
     requires few { length held.old.items < 16 }
     requires room { 16 ≤ vec_capacity held.old }
@@ -146,14 +157,16 @@ fn keep(held: &mut Vec<Transfer>, transfer: Transfer)
     held.push_reserved(transfer);
 }
 
-// Whether a block of this number begins a transfer where so many others are under way, and has no room.
+// Returns whether a block with this number starts a transfer, and there is no room among this many
+// others.
 fn is_full(number: u32, others: usize) -> bool
     ensures { result ≡ is_full number others }
 {
     number == 0 && others >= TRANSFERS
 }
 
-// The payloads before a block of this number, joined: none before number 0, else those of the transfer under way.
+// Returns the payloads before a block with this number, joined: empty before number 0, else those
+// of the transfer in progress.
 fn before(held: &[Transfer], endpoint: Endpoint, slot: u8, number: u32) -> Option<Body>
     ensures { option_map (λ b. b.items) result ≡ before_of number (find (is_transfer_of endpoint slot) held.now) }
 {
@@ -163,7 +176,7 @@ fn before(held: &[Transfer], endpoint: Endpoint, slot: u8, number: u32) -> Optio
     find(held, endpoint, slot).map(|transfer| copy(&transfer.body))
 }
 
-// The transfer of this endpoint and slot.
+// Returns the transfer of this endpoint and slot.
 fn find(held: &[Transfer], endpoint: Endpoint, slot: u8) -> Option<&Transfer>
     ensures { option_copied result ≡ find (is_transfer_of endpoint slot) held.now }
 {
@@ -171,7 +184,7 @@ fn find(held: &[Transfer], endpoint: Endpoint, slot: u8) -> Option<&Transfer>
         .find(|transfer| is_transfer_of(endpoint, slot, transfer))
 }
 
-// Another copy of a body.
+// Returns a copy of a body.
 fn copy(body: &Body) -> Body
     ensures { result ≡ body.now }
 {
@@ -180,7 +193,8 @@ fn copy(body: &Body) -> Body
     copy
 }
 
-// A block behind the payloads before it; one that fits is whole, also where more is to come.
+// Appends a block to the payloads before it. A fitting block gives `Whole`, also if more blocks
+// follow.
 fn body_behind(before: Option<Body>, block: Block, payload: &[u8]) -> Added
     ensures { add_seen result ≡ body_behind (option_map (λ b. b.items) before) block payload.now }
 {
@@ -197,7 +211,7 @@ fn body_behind(before: Option<Body>, block: Block, payload: &[u8]) -> Added
     body_with(body, payload)
 }
 
-// A body with more bytes behind it, where they fit.
+// Appends bytes to a body, if they fit.
 fn body_with(body: Body, payload: &[u8]) -> Added
     ensures { add_seen result ≡ body_with body.items payload.now }
 {

@@ -16,7 +16,7 @@ use Rattle.coap_client.specs.Transmissions.{IsTransmission, MakesCalls}
 use Rattle.coap_client.specs.Fetching.{State, Out, Outdated, AnswersInState, AreReplies, ArePartRequests, IsAnswerToPart, IsStepOf, IsFetching, RepliesLeadTo, RepliesLeadToAgain, after_reply, state_after, taken_ids, with_taken_id}
 use Rattle.coap_client.proofs.Transmitting.{both, does_both, does_nothing, some_of}
 
--- the request of a part was transmitted, and answered by the message
+-- the request of a part was transmitted, and the message is its response.
 pub record IsExchanged (went came : List ℕ → Type 0) (between after : List PeerCall → Type 0) (e : Errand) (id : ℕ) (earlier : List ℕ) (part : Part) (m : Message) : Type 0 where
   pub answers : IsAnswerToPart went came e id earlier part m
   pub own : IsPartOf e part
@@ -24,7 +24,7 @@ pub record IsExchanged (went came : List ℕ → Type 0) (between after : List P
   pub read_is : reading_of bytes ≡ Ok m
   pub called : MakesCalls between after (IsTransmission e.confirmable (Tells e.confirmable id earlier) (message_bytes (part_request e part id)) (Some bytes))
 
--- what came answers the request of a part
+-- the message that arrived is a response to the request of a part.
 answers_part : (went came : List ℕ → Type 0) (e : Errand) (part : Part) (id : ℕ) (earlier : List ℕ) (r : SentRequest) (bytes : List ℕ) (m : Message) →
     HasTakenResponse went came r bytes → reading_of bytes ≡ Ok m →
     r.confirmable ≡ e.confirmable → r.id ≡ id → r.earlier.now ≡ earlier → r.datagram.now.items ≡ message_bytes (part_request e part id) →
@@ -40,7 +40,7 @@ answers_part went came e part id earlier r bytes m a read c i k d =
           (subst (λ x. IsTakenResponse went came x r.id r.earlier.now r.datagram.now.items bytes a.message) c a.is))));
     }
 
--- and its request was transmitted
+-- the request of that part was transmitted.
 transmits_part : (between after : List PeerCall → Type 0) (e : Errand) (part : Part) (id : ℕ) (earlier : List ℕ) (r : SentRequest) (answer : List ℕ) →
     MakesCalls between after (IsTransmission r.confirmable (TellsSent r) r.datagram.now.items (Some answer)) →
     r.confirmable ≡ e.confirmable → r.id ≡ id → r.earlier.now ≡ earlier → r.datagram.now.items ≡ message_bytes (part_request e part id) →
@@ -79,7 +79,7 @@ begins went came now e first known part body etag below p b t = record {
   called = does_nothing now (ArePartRequests e first known []) refl;
 }
 
--- one more request
+-- one more request.
 requested : (went came : List ℕ → Type 0) (before between after : List PeerCall → Type 0) (e : Errand) (first : ℕ) (known : List ℕ) (id : ℕ) (earlier : List ℕ) (part : Part) (body etag : List ℕ)
     (m : Message) (ms : List Message) → state_after e ms ≡ Out part body etag → id ≡ (first + length ms) % 65536 → earlier ≡ taken_ids known ms →
     MakesCalls before between (ArePartRequests e first known ms) → IsExchanged went came between after e id earlier part m → MakesCalls before after (ArePartRequests e first known (m ∷ ms))
@@ -127,7 +127,7 @@ pub leads_to : (went came : List ℕ → Type 0) (before after : List PeerCall �
     IsFetching went came before after e first known id earlier state → RepliesLeadTo went came e first known (λ replies. MakesCalls before after (ArePartRequests e first known replies)) state
 leads_to went came before after e first known id earlier state u = record { replies = u.replies; are = u.are; leads = u.leads; called = u.called }
 
--- what the answer leads to
+-- the state after the response.
 pub leads_on : (went came : List ℕ → Type 0) (before between after : List PeerCall → Type 0) (e : Errand) (first : ℕ) (known : List ℕ) (old new : Course) (m : Message) (step : Step) (state : State) →
     IsFetching went came before between e first known old.id old.earlier.items (Out old.part old.body.items old.etag.items) →
     IsExchanged went came between after e old.id old.earlier.items old.part m → IsStepOf (length e.payload.now) m old new step →
@@ -136,7 +136,7 @@ pub leads_on : (went came : List ℕ → Type 0) (before between after : List Pe
 leads_on went came before between after e first known old new m step state u a s is =
     one_more went came before between after e first known old.id old.earlier.items old.part old.body.items old.etag.items m new.id new.earlier.items state u a is s.id s.earlier
 
--- and there are as many replies
+-- the same, with the number of replies.
 abbrev pub HasCounted : (List ℕ → Type 0) → (List ℕ → Type 0) → (List PeerCall → Type 0) → (List PeerCall → Type 0) → Errand → ℕ → List ℕ → ℕ → List ℕ → State → ℕ → Type 0
 HasCounted went came before now e first known id earlier state n = (u : IsFetching went came before now e first known id earlier state) × (n ≤ length u.replies)
 
@@ -163,7 +163,7 @@ pub begins_counted : (went came : List ℕ → Type 0) (now : List PeerCall → 
     HasCounted went came now now e first known first known (Out part body etag) 0
 begins_counted went came now e first known part body etag below p b t = (begins went came now e first known part body etag below p b t, omega arith)
 
--- replies behind those whose last one was outdated
+-- replies after those that ended in `Outdated`.
 pub leads_again : (went came : List ℕ → Type 0) (before between after : List PeerCall → Type 0) (e : Errand) (first next : ℕ) (known : List ℕ) (state : State) → e.method ≡ Get →
     IsFetching went came before between e first [] next known Outdated →
     RepliesLeadTo went came e next known (λ replies. MakesCalls between after (ArePartRequests e next known replies)) state → RepliesLeadToAgain went came before after e first state

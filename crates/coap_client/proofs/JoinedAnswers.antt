@@ -1,4 +1,4 @@
--- What is joined of an answer before a fetch ends.
+-- The blocks of the response that are joined before a fetch ends.
 use Rattle.std.proofs.Common.{◌≡◌, ℕ, ◌+◌, ◌*◌, ◌==◌, nat_lt, nat_le, bytes_eq, true, List, [], ◌∷◌, ◌++◌, length, Option, Some, None, refl, sym, ap, subst, ◌∙◌, arith, length-append}
 use Rattle.std.specs.List.{All}
 use Rattle.std.proofs.lemmas.Bool.{eqb-true}
@@ -19,7 +19,7 @@ use Rattle.coap_client.specs.Parts.{first_part, has_more}
 use Rattle.coap_client.specs.Replies.{block1_of, block2_of, by_more, by_option, by_part, etag_of, is_continue, is_final, fits_place, is_success, is_understood, next_by_code, next_block, next_number, next_of_answer, next_of_body, next_of_whole, next_size}
 use Rattle.coap_client.proofs.NextParts.{either, place_is}
 
--- so much of the answer is there, of this version, from the last replies
+-- the response so far: these bytes, of this version, from the latest replies.
 pub record IsJoined (body etag : List ℕ) (ms : List Message) : Type 0 where
   pub blocks : List Message
   pub before : List Message
@@ -28,13 +28,14 @@ pub record IsJoined (body etag : List ℕ) (ms : List Message) : Type 0 where
   pub in_order : AreBlocksInOrder blocks
   pub version : All (λ m. etag_of m ≡ etag) blocks
 
--- what is there in a state
+-- the response so far in a state.
 abbrev pub HasJoined : List Message → State → Type 0
 HasJoined ms (Out (Answer n szx) body etag) = IsJoined body etag ms × (block_size szx * n ≡ length body)
 HasJoined ms (Out other body etag) = body ≡ []
 HasJoined ms other = Unit {0}
 
--- what an answer of so many bytes, whose Block2 has this value, may lead to where so many bytes are there
+-- the possible next steps after a response of this length, whose Block2 has this value, if the
+-- response so far has this length.
 abbrev pub JoinsAt : ℕ → ℕ → Option (List ℕ) → Next → Type 0
 JoinsAt offset count value (next.Ask (Answer n szx)) = BeginsAt offset value × (block_size szx * n ≡ offset + count)
 JoinsAt offset count value next.Last = BeginsAt offset value × IsLastBlock value
@@ -91,7 +92,7 @@ more m ms body etag j begins same = record {
   version = All-cons (λ x. etag_of x ≡ etag_of m) m j.blocks refl (subst (λ t. All (λ x. etag_of x ≡ t) j.blocks) (sym same) j.version);
 }
 
--- the last block ends it
+-- the last block ends the response.
 answer_of : (m : Message) (ms : List Message) (answer body etag : List ℕ) (j : IsJoined body etag ms) → answer ≡ body ++ m.payload → BeginsAt (length body) (block2_of m) → IsLastBlock (block2_of m) → etag_of m ≡ etag →
     IsOneAnswer answer m ms
 answer_of m ms answer body etag j is begins last same = record {
@@ -115,12 +116,12 @@ answer_alone m ms answer is begins last = record {
   version = All-nil (λ x. etag_of x ≡ etag_of m);
 }
 
--- after a reply: what is there then, and where the fetch ends by a success, the answer
+-- the response so far after a reply, and the whole response if the fetch ends by a success.
 abbrev pub Joins : Message → List Message → State → Type 0
 Joins m ms (Ended code body) = is_success code ≡ true → IsOneAnswer body m ms
 Joins m ms other = HasJoined (m ∷ ms) other
 
--- an answer begins
+-- a response begins.
 begun : (m : Message) (ms : List Message) (body etag : List ℕ) (n : Next) → body ≡ [] → JoinsAt 0 (length m.payload) (block2_of m) n → Joins m ms (moved_on n body etag m)
 begun m ms body etag (next.Ask Whole) none j = none
 begun m ms body etag (next.Ask (Body n szx)) none j = none
@@ -132,7 +133,7 @@ begun m ms body etag next.Refused none j = absurd j
 begun m ms body etag next.Stale none j = tt
 begun m ms body etag next.Misfit none j = tt
 
--- a further block is joined
+-- a further block is joined.
 grown : (m : Message) (ms : List Message) (body etag : List ℕ) (n : Next) → IsJoined body etag ms → etag_of m ≡ etag → JoinsAt (length body) (length m.payload) (block2_of m) n →
     Joins m ms (moved_on n body etag m)
 grown m ms body etag (next.Ask Whole) so same j = empty body j

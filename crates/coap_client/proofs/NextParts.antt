@@ -1,4 +1,4 @@
--- What is asked next is a part of the errand.
+-- The next part of a fetch is a part of its errand.
 use Rattle.std.proofs.Common.{◌≡◌, ℕ, ◌+◌, ◌-◌, ◌*◌, ◌<◌, ◌≤◌, ◌^◌, ◌%◌, ◌==◌, ◌&&◌, nat_lt, nat_le, bytes_eq, Bool, true, false, if◌then◌else◌, List, length, Option, Some, None, refl, sym, ap, subst, ◌∙◌, arith}
 use Rattle.std.proofs.lemmas.Bool.{and_parts, eqb-true, leb-true, lt-ltb, ltb-true}
 use Rattle.std.proofs.lemmas.Nat.{mul-le, pow-add}
@@ -14,12 +14,12 @@ use Rattle.coap_client.specs.Parts.{has_more}
 use Rattle.coap_client.specs.Replies.{block1_of, block2_of, by_more, by_option, by_part, etag_of, is_continue, is_final, fits_place, is_success, is_understood, next_block, next_by_code, next_number, next_of, next_of_answer, next_of_body, next_of_whole, next_size, size_by_block}
 use Rattle.coap_client.specs.Requests.{IsBlock, IsBodyBlock, IsPartOf}
 
--- what holds of both
+-- a property of both branches.
 pub either : {X : Type 0} (P : X → Type 0) (b : Bool) (x y : X) → (b ≡ true → P x) → (b ≡ false → P y) → P (if b then x else y)
 either P true x y f g = f refl
 either P false x y f g = g refl
 
--- a block of the answer is no larger than the one that was asked for, and begins where that begins
+-- a block of the response is no larger than the requested one, and has the same start.
 pub record IsPlace (n szx : ℕ) (b : Place) : Type 0 where
   pub smaller : b.szx ≤ szx
   pub begins : block_size b.szx * b.number ≡ block_size szx * n
@@ -29,7 +29,7 @@ place_is n szx b is =
     let both = and_parts _ _ is in
     record { smaller = leb-true _ _ both.0; begins = eqb-true _ _ both.1 }
 
--- a block in a smaller size begins where the same block begins in the larger one
+-- a block in a smaller size has the same start as the block in the larger one.
 pub begins_alike : (n szx smaller : ℕ) → smaller ≤ szx → block_size smaller * next_number n szx smaller ≡ block_size szx * (n + 1)
 begins_alike n szx smaller small =
     let split : szx + 4 ≡ (smaller + 4) + (szx - smaller) = omega (arith, small) in
@@ -37,7 +37,7 @@ begins_alike n szx smaller small =
     let regroup : 2 ^ (smaller + 4) * ((n + 1) * 2 ^ (szx - smaller)) ≡ (2 ^ (smaller + 4) * 2 ^ (szx - smaller)) * (n + 1) = omega arith in
     regroup ∙ ap (λ k. k * (n + 1)) (sym power)
 
--- the next number fits 32 bits
+-- the next number fits 32 bits.
 pub no_wrap : (n szx smaller : ℕ) → IsBlock n szx → next_number n szx smaller % 4294967296 ≡ next_number n szx smaller
 no_wrap n szx smaller block =
     let most : szx - smaller ≤ 6 = omega (arith, block.size) in
@@ -53,7 +53,7 @@ next_body_is n szx smaller r block e below =
     let under : next_number n szx smaller < 1048576 = omega (arith, whole, below) in
     ap (λ k. Ask (Body k smaller)) whole ∙ sym (ap (λ (b : Bool). if b then Ask (Body (next_number n szx smaller) smaller) else Misfit) (lt-ltb _ _ under))
 
--- the size that is gone on in is no greater
+-- the size of the next block is no greater.
 pub size_smaller : (n szx : ℕ) (b : Place) → (smaller : ℕ) → size_by_block n szx b ≡ Some smaller → smaller ≤ szx
 size_smaller n szx b smaller =
     either (λ o. o ≡ Some smaller → smaller ≤ szx) ((b.number == n) && nat_le b.szx szx) (Some b.szx) None
@@ -114,7 +114,7 @@ part_next e (Answer n szx) etag m own =
     either (IsAskOf e) (bytes_eq (etag_of m) etag) _ Stale
     (λ _. either (IsAskOf e) (is_continue m) Misfit (next_of_answer n szx m) (λ _. tt) (λ _. option_next e n szx (length m.payload) (block2_of m) own.size)) (λ _. tt)
 
--- after an answer to a part of the errand, what is asked next is a part of it
+-- after a response to a part of the errand, the next part is one of it.
 pub next_is_part : (e : Errand) (part next : Part) (etag : List ℕ) (m : Message) → IsPartOf e part → next_of (length e.payload.now) part etag m ≡ Ask next → IsPartOf e next
 next_is_part e part next etag m own is =
     subst (IsAskOf e) is (either (IsAskOf e) (is_understood m) (next_by_code (length e.payload.now) part etag m) Misfit

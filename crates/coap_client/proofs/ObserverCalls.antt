@@ -1,4 +1,4 @@
--- What is called by an observer.
+-- The calls of an observer.
 use Rattle.std.proofs.Common.{◌≡◌, ◌≤◌, ◌⊎◌, ◌+◌, ◌^◌, ℕ, zero, suc, max, inl, inr, Bool, true, false, List, [], ◌∷◌, ◌++◌, Ok, Option, Some, None, refl, sym, subst, ap, ◌∙◌, append_assoc, arith}
 use Rattle.coap_msg.specs.Reading.{reading_of}
 use Rattle.coap_msg.specs.Wire.{Message}
@@ -21,7 +21,7 @@ use Rattle.coap_client.proofs.Transmitting.{Calls, Passes, does, does_both, does
 suc_left : (k j : ℕ) → suc (k + j) ≡ suc k + j
 suc_left k j = omega arith
 
--- nothing is sent behind what is passed over while a registration is out
+-- nothing is sent after a datagram that is skipped while a registration is outstanding.
 pub passed_quietly : (token : List ℕ) (id : ℕ) (awaited : Bool) (bytes : List ℕ) (heard : Reception) (now : Calls) → TellsObserver token id bytes heard → is_passed_over awaited heard ≡ true
     → MakesCalls now now (IsPassedOver (TellsObserver token id) awaited bytes)
 passed_quietly token id awaited bytes Reply now told over = absurd (cc over)
@@ -31,7 +31,8 @@ passed_quietly token id awaited bytes Acknowledged now told over = passed (Tells
 passed_quietly token id awaited bytes Rejected now told over = absurd (cc over)
 passed_quietly token id awaited bytes Other now told over = passed (TellsObserver token id) awaited bytes Other now now told over (λ calls h. h)
 
--- what ends a wait for the answer and is neither an acknowledgement nor a rejection is a response
+-- a datagram that ends the wait for the response, and is no acknowledgement or rejection, is a
+-- response.
 pub arrived : (came : List ℕ → Type 0) (token : List ℕ) (id : ℕ) (awaited : Bool) (bytes : List ℕ) (heard : Reception) → came bytes → TellsObserver token id bytes heard
     → is_passed_over awaited heard ≡ false → (heard ≡ Acknowledged → ⊥) → (heard ≡ Rejected → ⊥) → HasArrived came (IsResponseWith token id) bytes
 arrived came token id awaited bytes Reply came_is told ends acknowledged rejected = record { message = told.message; came_is = came_is; read_is = told.read_is; holds = told.holds }
@@ -41,7 +42,7 @@ arrived came token id awaited bytes Acknowledged came_is told ends acknowledged 
 arrived came token id awaited bytes Rejected came_is told ends acknowledged rejected = absurd (rejected refl)
 arrived came token id awaited bytes Other came_is told ends acknowledged rejected = absurd (cc ends)
 
--- a notification is acknowledged, and another datagram isn't
+-- a notification is acknowledged, and another datagram isn't.
 pub acknowledged : (token bytes : List ℕ) (before after : Calls) → IsReadAs bytes (IsOwnResponse token) → Adds before after (acknowledges bytes)
     → MakesCalls before after (AcknowledgesNotification token bytes)
 acknowledged token bytes before after own adds = does before after (AcknowledgesNotification token bytes) (acknowledges bytes) adds (inl (own, refl))
@@ -49,7 +50,7 @@ acknowledged token bytes before after own adds = does before after (Acknowledges
 pub unacknowledged : (token bytes : List ℕ) (now : Calls) → (IsReadAs bytes (IsOwnResponse token) → ⊥) → MakesCalls now now (AcknowledgesNotification token bytes)
 unacknowledged token bytes now other = does now now (AcknowledgesNotification token bytes) [] (λ calls h. h) (inr (other, refl))
 
--- what neither acknowledges nor rejects a deregistration is passed over
+-- a datagram that neither acknowledges nor rejects a deregistration is skipped.
 pub passed_leaving : (token : List ℕ) (id : ℕ) (bytes : List ℕ) (before after : Calls) → (IsReadAs bytes (IsAcknowledgementOf id) → ⊥) → (IsReadAs bytes (IsReset id) → ⊥)
     → MakesCalls before after (AcknowledgesNotification token bytes) → MakesCalls before after (IsPassedOverLeaving token id bytes)
 passed_leaving token id bytes before after acknowledges_it rejects one =
@@ -66,13 +67,13 @@ left token id bytes before after own one =
 pub no_notification : (token bytes : List ℕ) (now : Calls) → (IsReadAs bytes (IsOwnResponse token) → ⊥) → MakesCalls now now (IsNoNotification token bytes)
 no_notification token bytes now other = does now now (IsNoNotification token bytes) [] (λ calls h. h) (other, refl)
 
--- a notification came, and was acknowledged
+-- a notification arrived and was acknowledged.
 pub record EndsAcknowledged (passes : Passes) (bytes : List ℕ) (calls : List PeerCall) : Type 0 where
   pub heard : List PeerCall
   pub ends : EndsOn passes bytes heard
   pub is : calls ≡ acknowledges bytes ++ heard
 
--- and then the clock was read
+-- a notification arrived, and then the clock was read.
 pub noticed : (token : List ℕ) (passes : Passes) (bytes : List ℕ) (moment : ℕ) (before between acknowledged after : Calls) → IsReadAs bytes (IsOwnResponse token)
     → MakesCalls before between (EndsOn passes bytes) → Adds between acknowledged (acknowledges bytes) → Adds acknowledged after (Reads moment ∷ [])
     → MakesCalls before after (IsNoticed token passes bytes moment)
@@ -81,7 +82,7 @@ noticed token passes bytes moment before between acknowledged after own one adds
     (does_then before between acknowledged (EndsOn passes bytes) (EndsAcknowledged passes bytes) (acknowledges bytes) one adds (λ heard h. record { heard = heard; ends = h; is = refl })) reads
     (λ calls h. record { own = own; heard = h.heard; ends = h.ends; is = ap (λ (x : List PeerCall). Reads moment ∷ x) h.is })
 
--- others are passed over behind these
+-- more datagrams are skipped after these.
 passed_behind : (other passes : Passes) → ((bytes : List ℕ) (sent : List PeerCall) → other bytes sent → passes bytes sent) → (m n : ℕ) (newer older : List PeerCall)
     → ArePassedOver other m newer → ArePassedOver passes n older → ArePassedOver passes (m + n) (newer ++ older)
 passed_behind other passes turns zero n newer older none are =
@@ -96,7 +97,7 @@ passed_behind other passes turns (suc m) n newer older one are =
       is = ap (λ (x : List PeerCall). x ++ older) one.is ∙ append_assoc one.sent (Receives (Some one.bytes) ∷ one.older) older;
     })
 
--- so many were passed over at least
+-- at least this number of datagrams were skipped.
 pub record HasPassed (passes : Passes) (least : ℕ) (calls : List PeerCall) : Type 0 where
   pub n : ℕ
   pub many : least ≤ n
@@ -138,7 +139,7 @@ awaits_behind token other passes turns least older newer (Some (bytes, moment)) 
 watching : (told : ℕ → Type 0) (token : List ℕ) (w : Watch) (bytes : List ℕ) (sent : List PeerCall) → IsNoNotification token bytes sent → IsPassedOverWatching told token w bytes sent
 watching told token w bytes sent none = inr none
 
--- the next notification that comes is shown, or the wait is over
+-- the next notification is shown, or the wait is over.
 pub awaits_next : (told : ℕ → Type 0) (token : List ℕ) (w : Watch) (least : ℕ) (answer : Option Dated) (before between after : Calls)
     → MakesCalls before between (HasPassed (IsPassedOverWatching told token w) least) → MakesCalls between after (AwaitsNotification token (IsNoNotification token) answer)
     → MakesCalls before after (AwaitsNotification token (IsPassedOverWatching told token w) answer)
@@ -147,7 +148,7 @@ awaits_next told token w least answer before between after one other =
     does_both before between after (HasPassed passes least) (AwaitsNotification token (IsNoNotification token) answer) (AwaitsNotification token passes answer) one other
     (λ older newer a b. awaits_behind token (IsNoNotification token) passes (watching told token w) least older newer answer a b)
 
--- or it is passed over
+-- the next notification is skipped.
 pub older_passed : (told : ℕ → Type 0) (token : List ℕ) (w : Watch) (least : ℕ) (bytes : List ℕ) (moment : ℕ) (before between after : Calls)
     → IsOlderNotification told token w bytes (dates bytes moment) → MakesCalls before between (HasPassed (IsPassedOverWatching told token w) least)
     → MakesCalls between after (AwaitsNotification token (IsNoNotification token) (Some (bytes, moment)))
@@ -171,7 +172,7 @@ older_passed told token w least bytes moment before between after is_older one o
       };
     })
 
--- what is told to be older is
+-- a notification classified as `Older` is an older one.
 pub is_older : (went came : List ℕ → Type 0) (told : ℕ → Type 0) (token bytes : List ℕ) (w now : Watch) (m : Message) (moment at : ℕ) (notice : Notice) → HasOwnResponse went came token bytes
     → reading_of bytes ≡ Ok m → told moment → now ≡ w → at ≡ max now.at moment → notice ≡ notice_after now at m → notice ≡ Older → IsOlderNotification told token w bytes (dates bytes moment)
 is_older went came told token bytes w now m moment at notice own read told_is same is_at is older =
@@ -186,26 +187,26 @@ is_older went came told token bytes w now m moment at notice own read told_is sa
       sent_is = refl;
     }
 
--- ---- while it is registered
+-- ---- a registered observer
 
 one_more_step : (token : List ℕ) (older step : List PeerCall) → IsObserverStep token step → IsObserving token older → IsObserving token (step ++ older)
 one_more_step token older step is_step steps = (suc steps.0, record { older = older; before = steps.1; step = step; is_step = is_step; is = refl })
 
--- a wait is begun
+-- a wait begins.
 pub waiting_step : (token : List ℕ) (seconds : ℕ) (older : List PeerCall) → IsObserving token older → IsObserving token (Waits seconds ∷ older)
 waiting_step token seconds older steps = one_more_step token older (Waits seconds ∷ []) (inl (seconds, refl)) steps
 
--- the clock is read
+-- the clock is read.
 pub reading_step : (token : List ℕ) (moment : ℕ) (older : List PeerCall) → IsObserving token older → IsObserving token (Reads moment ∷ older)
 reading_step token moment older steps = one_more_step token older (Reads moment ∷ []) (inr (inr (inl (moment, refl)))) steps
 
--- a datagram came
+-- a datagram arrived.
 step_of : (token bytes : List ℕ) (sent older : List PeerCall) → AcknowledgesNotification token bytes sent → IsObserving token older → IsObserving token (sent ++ Receives (Some bytes) ∷ older)
 step_of token bytes sent older acknowledged steps =
     subst (IsObserving token) (append_assoc sent (Receives (Some bytes) ∷ []) older)
     (one_more_step token older (sent ++ Receives (Some bytes) ∷ []) (inr (inr (inr (record { bytes = bytes; sent = sent; acknowledged = acknowledged; is = refl })))) steps)
 
--- it was a notification, and the clock is read
+-- the datagram was a notification, and the clock is read.
 dated_step : (token bytes : List ℕ) (moment : ℕ) (older : List PeerCall) → IsReadAs bytes (IsOwnResponse token) → IsObserving token older
     → IsObserving token (dates bytes moment ++ Receives (Some bytes) ∷ older)
 dated_step token bytes moment older own steps = reading_step token moment (acknowledges bytes ++ Receives (Some bytes) ∷ older) (step_of token bytes (acknowledges bytes) older (inl (own, refl)) steps)
@@ -250,25 +251,25 @@ steps_behind token (suc m) n newer older one are =
 pub observed : (token : List ℕ) (newer older : List PeerCall) → IsObserving token newer → IsObserving token older → IsObserving token (newer ++ older)
 observed token newer older a b = (a.0 + b.0, steps_behind token a.0 b.0 newer older a.1 b.1)
 
--- nothing came so far
+-- nothing arrived so far.
 pub observes_nothing : (token : List ℕ) (now : Calls) → MakesCalls now now (IsObserving token)
 observes_nothing token now = does_nothing now (IsObserving token) (0, refl)
 
--- a notification is awaited, as the watch does
+-- a notification is awaited, as the watch does.
 pub awaits_observing : (told : ℕ → Type 0) (token : List ℕ) (w : Watch) (answer : Option Dated) (before between after : Calls) → MakesCalls before between (IsObserving token)
     → MakesCalls between after (AwaitsNotification token (IsPassedOverWatching told token w) answer) → MakesCalls before after (IsObserving token)
 awaits_observing told token w answer before between after one other =
     does_both before between after (IsObserving token) (AwaitsNotification token (IsPassedOverWatching told token w) answer) (IsObserving token) one other
     (λ older newer a b. observed token newer older (awaited_steps told token w answer newer b) a)
 
--- a wait is begun
+-- a wait begins.
 pub waits_observing : (token : List ℕ) (seconds : ℕ) (before between after : Calls) → MakesCalls before between (IsObserving token) → Adds between after (Waits seconds ∷ [])
     → MakesCalls before after (IsObserving token)
 waits_observing token seconds before between after one adds =
     does_then before between after (IsObserving token) (IsObserving token) (Waits seconds ∷ []) one adds
     (λ older steps. waiting_step token seconds older steps)
 
--- it is registered, and observes
+-- the observer is registered, and observes.
 pub registered : (o : Observer) (before after : Calls) → MakesCalls before after (IsDatedRegistration o) → MakesCalls before after (IsObservation o)
 registered o before after one =
     does_of before after (IsDatedRegistration o) (IsObservation o) one (λ calls a. record { older = calls; first = a; newer = []; then = (0, refl); is = refl })

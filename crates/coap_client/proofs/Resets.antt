@@ -1,4 +1,4 @@
--- What a request is rejected by.
+-- The rejections of a request.
 use Rattle.std.proofs.Common.{◌≡◌, ℕ, Bool, true, false, List, ◌++◌, inl, inr, ap, ◌∙◌}
 use Rattle.coap_client.specs.declared.transmission.Reception.{Reception}
 use Rattle.coap_client.specs.declared.transmission.Reception.TheVariants.{Rejected}
@@ -13,7 +13,7 @@ use Rattle.coap_client.specs.Replies.{IsReset}
 use Rattle.coap_client.specs.Schedules.{EndsByReset}
 use Rattle.coap_client.specs.Transmissions.{IsLastSending}
 
--- what ends a wait is the newest call, behind whatever was called before
+-- the datagram that ends a wait is the newest call, after any earlier calls.
 ended_by_reset : (passes : List ℕ → List PeerCall → Type 0) (id : ℕ) (bytes : List ℕ) (heard : List PeerCall) → IsReadAs bytes (IsReset id) → EndsOn passes bytes heard → EndsByReset id heard
 ended_by_reset passes id bytes heard rejects e = record {
   bytes = bytes;
@@ -34,7 +34,7 @@ behind id newer older calls r is = record {
   rejects = r.rejects;
 }
 
--- where `tells` says of a rejection that it is a Reset of this id
+-- for a classification by which a rejection is a Reset with this message ID.
 module _ (tells : List ℕ → Reception → Type 0) (id : ℕ) (resets : (bytes : List ℕ) → tells bytes Rejected → IsReadAs bytes (IsReset id)) where
   rejected_by : (awaited : Bool) (heard : List PeerCall) → IsRejectedBy tells awaited heard → EndsByReset id heard
   rejected_by awaited heard r = ended_by_reset _ id r.0 heard (resets r.0 r.1) r.2

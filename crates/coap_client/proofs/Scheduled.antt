@@ -19,11 +19,11 @@ use Rattle.coap_client.specs.Faults.{EndsRejected, IsRejectedLeaving, IsRejectio
 use Rattle.coap_client.specs.Schedules.{AwaitsResponse, BeginsSchedule, full_schedule, has_code, is_scheduled, schedule, seconds_in, seconds_of}
 use Rattle.coap_client.specs.Transmissions.{ack_timeout, acknowledges_answer, AreInVain, EndsAnswered, EndsAwaited, IsAcknowledgedFirst, IsLastSending, IsSending, IsTransmission}
 
--- what is called one after the other
+-- the schedules of two lists of calls, joined.
 both : (xs ys newer older : List PeerCall) → schedule xs ≡ newer → schedule ys ≡ older → schedule (xs ++ ys) ≡ newer ++ older
 both xs ys newer older x y = filter-append is_scheduled xs ys ∙ ap (λ (l : List PeerCall). l ++ schedule ys) x ∙ ap (λ (l : List PeerCall). newer ++ l) y
 
--- an acknowledgement isn't scheduled
+-- an acknowledgement isn't scheduled.
 acknowledgement_of : (kind : MessageType) (id : ℕ) → schedule (acknowledges_kind kind id) ≡ []
 acknowledgement_of Confirmable id = refl
 acknowledgement_of NonConfirmable id = refl
@@ -49,7 +49,7 @@ acknowledgement_of_answer : (answer : Option (List ℕ)) → schedule (acknowled
 acknowledgement_of_answer None = refl
 acknowledgement_of_answer (Some answer) = acknowledgement answer
 
--- nothing that is sent behind what is passed over is scheduled
+-- nothing sent after a skipped datagram is scheduled.
 abbrev IsQuiet : (List ℕ → List PeerCall → Type 0) → Type 0
 IsQuiet passes = (bytes : List ℕ) (sent : List PeerCall) → passes bytes sent → schedule sent ≡ []
 
@@ -66,7 +66,7 @@ watching_is_quiet : (told : ℕ → Type 0) (token : List ℕ) (w : Watch) → I
 watching_is_quiet told token w bytes sent (inl older) = ap schedule older.sent_is ∙ acknowledgement bytes
 watching_is_quiet told token w bytes sent (inr none) = ap schedule none.1
 
--- while a wait lasts nothing is scheduled
+-- nothing is scheduled during a wait.
 passed : (passes : List ℕ → List PeerCall → Type 0) → IsQuiet passes → (n : ℕ) (calls : List PeerCall) → ArePassedOver passes n calls → schedule calls ≡ []
 passed passes quiet zero calls none = ap schedule none
 passed passes quiet (suc n) calls one =
@@ -82,7 +82,7 @@ over passes quiet calls o = elim o.is as (λ _. schedule calls ≡ []) [
 ended : (passes : List ℕ → List PeerCall → Type 0) → IsQuiet passes → (bytes : List ℕ) (calls : List PeerCall) → EndsOn passes bytes calls → schedule calls ≡ []
 ended passes quiet bytes calls e = ap schedule e.is ∙ passed passes quiet e.n e.older e.before
 
--- nor while the next notification is awaited
+-- nothing is scheduled during the wait for the next notification.
 pub noted_quietly : (told : ℕ → Type 0) (token : List ℕ) (w : Watch) (answer : Option Dated) (calls : List PeerCall) → AwaitsNotification token (IsPassedOverWatching told token w) answer calls
     → schedule calls ≡ []
 noted_quietly told token w None calls o = over (IsPassedOverWatching told token w) (watching_is_quiet told token w) calls o
@@ -90,25 +90,25 @@ noted_quietly told token w (Some (bytes, moment)) calls x =
     ap schedule x.is
     ∙ both (dates bytes moment) x.heard [] [] (acknowledgement bytes) (ended (IsPassedOverWatching told token w) (watching_is_quiet told token w) bytes x.heard x.ends)
 
--- an answer is awaited
+-- a response is awaited.
 awaited : (tells : List ℕ → Reception → Type 0) (answer : Option (List ℕ)) (heard : List PeerCall) → EndsAwaited tells answer heard → schedule heard ≡ []
 awaited tells None heard ends = over (IsPassedOver tells true) (request_is_quiet tells true) heard ends
 awaited tells (Some answer) heard ends = ended (IsPassedOver tells true) (request_is_quiet tells true) answer heard ends.1
 
--- after an acknowledgement it is waited for longer
+-- after an acknowledgement, the wait for the response is longer.
 acknowledged : (tells : List ℕ → Reception → Type 0) (answer : Option (List ℕ)) (heard : List PeerCall) → IsAcknowledgedFirst tells answer heard → schedule heard ≡ Waits 93 ∷ []
 acknowledged tells answer heard a =
     ap schedule a.is
     ∙ both a.more (Waits 93 ∷ a.first) [] (Waits 93 ∷ []) (awaited tells answer a.more a.ends)
     (ap (λ (l : List PeerCall). Waits 93 ∷ l) (ended (IsPassedOver tells false) (request_is_quiet tells false) a.acknowledged.0 a.first a.acknowledged.2))
 
--- and acknowledged where it asks for that
+-- the response is acknowledged if it is confirmable.
 taken : (confirmable : Bool) (tells : List ℕ → Reception → Type 0) (request : List ℕ) (answer : Option (List ℕ)) (calls : List PeerCall) (t : IsTransmission confirmable tells request answer calls)
     → schedule calls ≡ schedule t.asked
 taken confirmable tells request answer calls t =
     ap schedule t.is ∙ both (acknowledges_answer answer) t.asked [] (schedule t.asked) (acknowledgement_of_answer answer) refl
 
--- ---- of a message that isn't empty
+-- ---- a message that isn't empty
 module _ (m : Message) (coded : m.code ≡ 0 → ⊥) where
   abbrev request : List ℕ
   request = message_bytes m
@@ -116,13 +116,13 @@ module _ (m : Message) (coded : m.code ≡ 0 → ⊥) where
   has_own_code : has_code request ≡ true
   has_own_code = ap not (false_from_ne_true (m.code == 0) (λ e. coded (eqb-true m.code 0 e)))
 
-  -- it is sent, and waited for
+  -- the message is sent, and a wait begins.
   sent : (seconds : ℕ) (P : List PeerCall → Type 0) (calls newer : List PeerCall) (s : IsSending request seconds P calls) → schedule s.heard ≡ newer → schedule calls ≡ newer ++ Waits seconds ∷ Sends request ∷ []
   sent seconds P calls newer s heard =
       ap schedule s.is
       ∙ both s.heard (Waits seconds ∷ Sends request ∷ []) newer (Waits seconds ∷ Sends request ∷ []) heard (ap (λ (b : Bool). Waits seconds ∷ cond b (Sends request ∷ []) []) has_own_code)
 
-  -- the first n of the five
+  -- the first n of the five transmissions.
   abbrev first_of : ℕ → List PeerCall
   first_of n = drop (2 * (5 - n)) (full_schedule request)
 
@@ -149,7 +149,7 @@ module _ (m : Message) (coded : m.code ≡ 0 → ⊥) where
       (over passes quiet again.in_vain.heard again.in_vain.ends) again.is
       ∙ ap first_of (omega arith)
 
-  -- and then no more
+  -- the same, and no more.
   last : (passes : List ℕ → List PeerCall → Type 0) → IsQuiet passes → (P : List PeerCall → Type 0) (calls newer : List PeerCall) (s : IsLastSending passes request P calls)
       → schedule s.sending.heard ≡ newer → schedule calls ≡ newer ++ first_of (s.n + 1)
   last passes quiet P calls newer s heard =
@@ -159,7 +159,7 @@ module _ (m : Message) (coded : m.code ≡ 0 → ⊥) where
   begins : (n : ℕ) → n < 5 → BeginsSchedule request (first_of (n + 1))
   begins n few = (5 - (n + 1), omega (arith, few), refl)
 
-  -- at once, or after an acknowledgement
+  -- the response arrives after an acknowledgement or without one.
   begun : (passes : List ℕ → List PeerCall → Type 0) → IsQuiet passes → (P : List PeerCall → Type 0) (calls : List PeerCall) (s : IsLastSending passes request P calls)
       → schedule s.sending.heard ≡ [] → BeginsSchedule request (schedule calls)
   begun passes quiet P calls s heard = subst (BeginsSchedule request) (sym (last passes quiet P calls [] s heard)) (begins s.n s.few)
@@ -205,7 +205,7 @@ module _ (m : Message) (coded : m.code ≡ 0 → ⊥) where
       let quiet = leaving_is_quiet token id in
       begun passes quiet (IsAcknowledgedLeaving token id) calls s (ended passes quiet s.sending.ends.bytes s.sending.heard s.sending.ends.ends)
 
-  -- ---- rejections and silence
+  -- ---- rejections, and requests without a response
 
   rejected_at : (tells : List ℕ → Reception → Type 0) (heard : List PeerCall) → EndsRejected tells heard → (schedule heard ≡ []) ⊎ (schedule heard ≡ Waits 93 ∷ [])
   rejected_at tells heard (inl at_once) = inl (ended (IsPassedOver tells false) (request_is_quiet tells false) at_once.0 heard at_once.2)
@@ -235,7 +235,7 @@ module _ (m : Message) (coded : m.code ≡ 0 → ⊥) where
       let quiet = leaving_is_quiet token id in
       begun passes quiet (IsRejectedLeaving token id) calls s (ended passes quiet s.sending.ends.bytes s.sending.heard s.sending.ends.ends)
 
-  -- 62 seconds, or 93 behind an acknowledgement
+  -- 62 seconds, or 93 after an acknowledgement.
   pub waited_for : (calls : List PeerCall) → (schedule calls ≡ full_schedule request) ⊎ AwaitsResponse request (schedule calls) → 62 ≤ seconds_in calls
   waited_for calls (inl all) = let seconds : seconds_in calls ≡ 62 = ap (λ (l : List PeerCall). sum_by seconds_of l) all in omega (arith, seconds)
   waited_for calls (inr later) =

@@ -1,4 +1,4 @@
--- What is sent of a request's body before a fetch ends.
+-- The parts of a request's body that are sent before a fetch ends.
 use Rattle.std.proofs.Common.{◌≡◌, ℕ, ◌%◌, ◌+◌, ◌*◌, ◌≤◌, ◌==◌, nat_lt, nat_le, bytes_eq, true, List, [], ◌∷◌, ◌++◌, length, take, Option, Some, None, refl, sym, ap, subst, ◌∙◌, arith}
 use Rattle.std.proofs.lemmas.Bool.{ltb-false}
 use Rattle.std.proofs.lemmas.List.{append-nil, take_all}
@@ -21,18 +21,19 @@ use Rattle.coap_client.specs.Parts.{block_of, first_part, has_more, part_payload
 use Rattle.coap_client.specs.Replies.{block1_of, block2_of, by_more, by_option, by_part, etag_of, is_continue, is_final, fits_place, is_success, is_understood, next_block, next_by_code, next_number, next_of_answer, next_of_body, next_of_whole, next_size}
 use Rattle.coap_client.proofs.NextParts.{begins_alike, either, next_smaller}
 
--- what the request that is out brings of the body: one that asks for a further block of the answer brings nothing new
+-- the bytes of the body in the outstanding request; a request for a further block of the response
+-- has no new ones.
 abbrev pub body_of_request : Errand → State → List ℕ
 body_of_request e (Out (Answer n szx) body etag) = []
 body_of_request e (Out part body etag) = part_payload e.method e.payload.now part
 body_of_request e other = []
 
--- what the requests that these replies answer brought of the body, in order
+-- the bytes of the body in the requests that these replies answer, in order.
 abbrev pub body_sent : Errand → List Message → List ℕ
 body_sent e [] = []
 body_sent e (m ∷ ms) = body_sent e ms ++ body_of_request e (state_after e ms)
 
--- what has been sent in a state: nothing, the blocks before the one that is out, or all
+-- the bytes sent in a state: none, the blocks before the outstanding one, or all.
 abbrev pub HasSent : Errand → List ℕ → State → Type 0
 HasSent e sent (Out Whole body etag) = sent ≡ []
 HasSent e sent (Out (Body n szx) body etag) = sent ≡ take (block_size szx * n) e.payload.now
@@ -40,7 +41,7 @@ HasSent e sent (Out (Answer n szx) body etag) = sent ≡ e.payload.now
 HasSent e sent (Ended code body) = is_success code ≡ true → sent ≡ e.payload.now
 HasSent e sent other = Unit {0}
 
--- what an answer of success may lead to where so much has been sent
+-- the possible next steps after a successful response, if these bytes were sent.
 abbrev pub GoesTo : Errand → List ℕ → Next → Type 0
 GoesTo e sent (next.Ask Whole) = ⊥
 GoesTo e sent (next.Ask (Body n szx)) = sent ≡ take (block_size szx * n) e.payload.now
@@ -74,7 +75,7 @@ body_goes e sent n szx (Some smaller) small so =
     either (GoesTo e sent) (nat_lt (next_number n szx smaller) 1048576) (next.Ask (Body (next_number n szx smaller) smaller)) next.Misfit
     (λ _. so ∙ ap (λ k. take k e.payload.now) (sym (begins_alike n szx smaller (small smaller refl)))) (λ _. tt)
 
--- the blocks before one, and that one
+-- the blocks before one, and that one.
 one_block_more : (payload : List ℕ) (n szx : ℕ) → take (block_size szx * n) payload ++ block_of payload n szx ≡ take (block_size szx * (n + 1)) payload
 one_block_more payload n szx =
     let size = block_size szx in
@@ -130,7 +131,7 @@ has_sent e (m ∷ ms) = reply_has e (body_sent e ms) m (state_after e ms) (has_s
 pub whole_sent : (e : Errand) (ms : List Message) (code : ℕ) (answer : List ℕ) → state_after e ms ≡ Ended code answer → is_success code ≡ true → body_sent e ms ≡ e.payload.now
 whole_sent e ms code answer ends success = subst (HasSent e (body_sent e ms)) ends (has_sent e ms) success
 
--- the requests that brought the body
+-- the requests that had the body.
 abbrev pub with_request : Errand → ℕ → State → List Message → List Message
 with_request e id (Out (Answer n szx) body etag) rs = rs
 with_request e id (Out part body etag) rs = part_request e part id ∷ rs
@@ -168,7 +169,7 @@ requests_went went came e first known [] are = All-nil (λ r. went (message_byte
 requests_went went came e first known (m ∷ ms) are =
     one_went went came e ((first + length ms) % 65536) (taken_ids known ms) (state_after e ms) m (requests_of e first ms) are.1 (requests_went went came e first known ms are.0)
 
--- a fetch that ended by a success has sent the whole body
+-- a fetch that ended by a success has sent the whole body.
 pub went_whole : (went came : List ℕ → Type 0) (e : Errand) (first : ℕ) (known : List ℕ) (Called : List Message → Type 0) (code : ℕ) (answer : List ℕ) →
     RepliesLeadTo went came e first known Called (Ended code answer) → SendsWhole went e code
 went_whole went came e first known Called code answer l success = record {

@@ -1,4 +1,4 @@
--- What an observer shows, note by note.
+-- The messages that an observer shows, one after the other.
 use Rattle.std.proofs.Common.{◌≡◌, inl, inr, ◌⊎◌, ℕ, ◌+◌, ◌≤◌, ◌&&◌, Bool, true, false, nat_eq, nat_le, max, List, [], ◌∷◌, slice_index_or, Ok, refl, sym, ap, subst, ◌∙◌, arith, if◌then◌else◌}
 use Rattle.std.specs.Prelude.{filter}
 use Rattle.std.specs.List.{All}
@@ -28,7 +28,7 @@ marked_apart k id at now is none =
       | inr late ↦ omega (arith, ltb-false now (k.at + window) late, same)
     ]
 
--- what has a mark isn't shown again within the window
+-- a message with a mark isn't shown again within the lifetime.
 apart : (marks : List ShownMark) (id at now : ℕ) → has_mark marks id at ≡ true → is_shown_again marks id now ≡ false → at + window ≤ now
 apart [] id at now has none = absurd (cc has)
 apart (k ∷ marks) id at now has none =
@@ -38,7 +38,7 @@ apart (k ∷ marks) id at now has none =
       | inr there ↦ apart marks id at now there parts.1
     ]
 
--- marks that still count are kept
+-- marks that still count are retained.
 filtered : (marks : List ShownMark) (id at now : ℕ) → has_mark marks id at ≡ true → within_window now at ≡ true → has_mark (filter (λ k. within_window now k.at) marks) id at ≡ true
 filtered [] id at now has young = absurd (cc has)
 filtered (k ∷ marks) id at now has young =
@@ -66,7 +66,7 @@ new_mark marks id now =
     let rest = filter (λ k. within_window now k.at) marks in
     list_any-append (is_mark_of id now) rest (mark id now ∷ []) ∙ or_right (has_mark rest id now) (has_mark (mark id now ∷ []) id now) (or_left (is_mark_of id now (mark id now)) false (own_mark id now))
 
--- what was remembered is so after one more mark
+-- messages that were remembered are still remembered after one more mark.
 remembered_on : (marks : List ShownMark) (was other now : ℕ) (n : Note) → was ≤ now → IsRemembered marks was n → IsRemembered (marked marks other now) now n
 remembered_on marks was other now n later r own =
     elim (r own) as (λ _. (has_mark (marked marks other now) n.message.id n.at ≡ true) ⊎ (n.at + window ≤ now)) [
@@ -84,7 +84,7 @@ remembered_apart marks was now n p later at r none own same =
       | inr old ↦ omega (arith, old, later, at)
     ]
 
--- ---- notices
+-- ---- classifications
 
 not_older : (repeats : Bool) (y x : Notice) → (if repeats then Older else y) ≡ x → (x ≡ Older → ⊥) → (repeats ≡ false) × (y ≡ x)
 not_older true y x e other = absurd (other (sym e))
@@ -107,7 +107,7 @@ told_later told a b ta tb =
       | inr gt ↦ let is : a ≡ max a b = omega (arith, leb-false a b gt) in subst told is ta
     ]
 
--- the next one, and what the watch has then, where it is a state
+-- the next message shown, and the watch after it if it is a state.
 pub record HasNext (went came : List ℕ → Type 0) (told : ℕ → Type 0) (token : List ℕ) (id : ℕ) (latest : Note) (older : List Note) (bytes : List ℕ) (new : Watch) (last : Bool) : Type 0 where
   pub note : Note
   pub read : reading_of bytes ≡ Ok note.message
@@ -115,7 +115,7 @@ pub record HasNext (went came : List ℕ → Type 0) (told : ℕ → Type 0) (to
   pub goes_on : last ≡ false → IsWatching went came told token id note (latest ∷ older) new
   pub none : last ≡ true → notice_of note.message ≡ Last
 
--- a notification that isn't older follows
+-- a notification that isn't `Older` follows the messages shown.
 follows : (went came : List ℕ → Type 0) (told : ℕ → Type 0) (token : List ℕ) (id : ℕ) (latest : Note) (older : List Note) (w : Watch) (n : Note) (x : Notice) →
     IsWatching went came told token id latest older w → IsOwnResponse token n.message → w.at ≤ n.at → notice_after w n.at n.message ≡ x → (x ≡ Older → ⊥) → IsNext token latest older n
 follows went came told token id latest older w n x watching own later is other =
@@ -144,16 +144,16 @@ last_is w n is =
     let fresh = not_older (is_shown_again w.marks.items n.message.id n.at) (by_age w n.at (notice_of n.message)) Last is other in
     (aged w n.at (notice_of n.message) Last fresh.1 other).0
 
--- the note of what came
+-- a classification other than `Misfit`.
 unmisfit : (shown : Bool) (y x : Notice) → (if shown then y else Misfit) ≡ x → (x ≡ Misfit → ⊥) → shown ≡ true
 unmisfit true y x e other = refl
 unmisfit false y x e other = absurd (other (sym e))
 
--- what isn't a misfit can be shown
+-- a message that isn't classified as `Misfit` can be shown.
 shown_as : (m : Message) (x : Notice) → notice_of m ≡ x → (x ≡ Misfit → ⊥) → can_be_shown m ≡ true
 shown_as m x e other = unmisfit (can_be_shown m) (by_success m) x e other
 
--- neither is what is shown next
+-- the same for the next message shown.
 next_shown_as : (w : Watch) (n : Note) (x : Notice) → notice_after w n.at n.message ≡ x → (x ≡ Older → ⊥) → (x ≡ Misfit → ⊥) → can_be_shown n.message ≡ true
 next_shown_as w n x is other fits =
     let fresh = not_older (is_shown_again w.marks.items n.message.id n.at) (by_age w n.at (notice_of n.message)) x is other in
@@ -175,7 +175,7 @@ remembers marks was n ns later all =
     All-cons (IsRemembered (marked marks n.message.id n.at) n.at) n ns (λ _. inl (new_mark marks n.message.id n.at))
     (λ k d below. remembered_on marks was n.message.id n.at (slice_index_or ns k d) later (all k d below))
 
--- what is noted next
+-- the next message shown.
 pub next_note : (went came : List ℕ → Type 0) (told : ℕ → Type 0) (token : List ℕ) (id : ℕ) (latest : Note) (older : List Note) (bytes : List ℕ) (moment : ℕ) (old new : Watch) (last : Bool) →
     IsWatching went came told token id latest older old → IsNextNote went came told token bytes moment old new last → HasNext went came told token id latest older bytes new last
 next_note went came told token id latest older bytes moment old new true watching x =
@@ -212,7 +212,7 @@ first_has : (own : Bool) (id at : ℕ) → own ≡ true → has_mark (if own the
 first_has true id at is = or_left (is_mark_of id at (mark id at)) false (own_mark id at)
 first_has false id at is = absurd (cc is)
 
--- the first one
+-- the first message shown.
 pub first_note : (went came : List ℕ → Type 0) (told : ℕ → Type 0) (o : Observer) (bytes : List ℕ) (w : Watch) (m : Message) (at : ℕ) →
     IsRegistered went came o bytes → reading_of bytes ≡ Ok m → told at → notice_of m ≡ State w.sequence → w.at ≡ at → w.marks.items ≡ first_marks m at →
     IsWatching went came told o.token o.id (record { message = m; at = at }) [] w
@@ -239,7 +239,7 @@ first_note went came told o bytes w m at registered read moment state same marks
           (All-cons (IsRemembered (first_marks m at) at) n [] (λ own. inl (first_has (begins_exchange m.kind) m.id at own)) (All-nil (IsRemembered (first_marks m at) at))));
     }
 
--- the first one, where none comes behind it
+-- the first message shown, if it is the last.
 pub only_note : (went came : List ℕ → Type 0) (told : ℕ → Type 0) (o : Observer) (bytes : List ℕ) (m : Message) (at : ℕ) →
     IsRegistered went came o bytes → reading_of bytes ≡ Ok m → told at → notice_of m ≡ Last → AreNotes went came told o.token o.id (record { message = m; at = at } ∷ [])
 only_note went came told o bytes m at registered read moment last =

@@ -1,4 +1,4 @@
--- How long a client's socket waits, by the readings of its clock.
+-- The waits of a client's socket, by the readings of its clock.
 use Rattle.std.specs.Prelude.{◌≡◌, ℕ, ◌+◌, ◌-◌, ◌*◌, ◌/◌, ◌≤◌, Bool, true, false, min}
 use Rattle.std.specs.Duration.{as_nanos}
 use Rattle.std.specs.Time.{FitsClock, instant_nanos}
@@ -7,32 +7,34 @@ use Rattle.std.specs.declared.io.ErrorKind.TheVariants.{WouldBlock, TimedOut, In
 use Rattle.std.specs.declared.time.Duration.{Duration}
 use Rattle.std.specs.declared.time.Instant.{Instant}
 
--- a receive fails so where nothing came in time, or a signal interrupted it: the wait goes on
+-- the errors of a receive that don't end a wait: nothing arrived in time, or a signal interrupted
+-- it.
 abbrev pub is_transient : ErrorKind → Bool
 is_transient WouldBlock = true
 is_transient TimedOut = true
 is_transient Interrupted = true
 is_transient kind = false
 
--- a reading of the clock is at the end of a wait, or behind it
+-- the clock returned a reading at or after the end of a wait.
 pub record IsWaitOver (is_read : Instant → Type 0) (until : Instant) : Type 0 where
   pub now : Instant
   pub read_is : is_read now
   pub over : instant_nanos until ≤ instant_nanos now
 
--- a wait of so many seconds that begins at a reading of the clock ends then
+-- `until` is the end of a wait of `seconds` seconds that begins at a reading of the clock, if the
+-- clock can represent that time.
 pub record IsEndOfWait (is_read : Instant → Type 0) (seconds : ℕ) (until : Instant) : Type 0 where
   pub now : Instant
   pub read_is : is_read now
   pub ends : FitsClock (instant_nanos now + seconds * 1_000_000_000) → instant_nanos until ≡ instant_nanos now + seconds * 1_000_000_000
 
--- so much is left of a wait at a reading of the clock
+-- `left` is the rest of a wait at a reading of the clock.
 pub record IsLeftOf (is_read : Instant → Type 0) (until : Instant) (left : Duration) : Type 0 where
   pub now : Instant
   pub read_is : is_read now
   pub left_is : as_nanos left ≡ instant_nanos until - instant_nanos now
 
--- so many milliseconds are from the start to a reading of the clock, and 2^64 - 1 at most
+-- the whole milliseconds from the start to a reading of the clock, and at most 2^64 - 1.
 pub record IsMomentSince (is_read : Instant → Type 0) (start : Instant) (moment : ℕ) : Type 0 where
   pub now : Instant
   pub read_is : is_read now

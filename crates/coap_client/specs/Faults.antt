@@ -1,5 +1,6 @@
--- Why a client fails: the server rejects its request, or no answer comes to the last sending either, or an answer doesn't fit, or there is a fault of the socket or of memory.
--- Of what a client calls, the newest stands first.
+-- The errors of a client. Its request is rejected, no response arrives even to the last
+-- transmission, a response doesn't match, or the socket or memory fails. In a list of calls, the
+-- newest is first.
 use Rattle.std.specs.Prelude.{◌≡◌, ◌≢◌, ℕ, ◌+◌, ◌≤◌, ◌%◌, ◌⊎◌, max, Bool, true, false, List, [], ◌∷◌, ◌++◌, length, Ok, None}
 use Rattle.coap_msg.specs.Reading.{reading_of}
 use Rattle.coap_msg.specs.Wire.{Message, message_bytes}
@@ -26,13 +27,13 @@ use Rattle.coap_client.specs.Replies.{IsReset}
 use Rattle.coap_client.specs.Requests.{part_request}
 use Rattle.coap_client.specs.Transmissions.{most_sendings, non_wait, separate_wait, AreBehind, AreInVain, IsLastSending, IsSending, IsTransmission}
 
--- ---- a rejection (RFC 7252, 4.2), where `tells` says what a datagram is to the request
+-- ---- a rejection (RFC 7252, section 4.2); `tells` classifies a datagram for the request
 
--- this datagram rejects the request, the first that isn't passed over
+-- a datagram rejects the request, the first datagram that isn't skipped.
 abbrev pub IsRejectedBy : (List ℕ → Reception → Type 0) → Bool → List PeerCall → Type 0
 IsRejectedBy tells awaited heard = (bytes : List ℕ) × tells bytes Rejected × EndsOn (IsPassedOver tells awaited) bytes heard
 
--- it was acknowledged before
+-- the request was acknowledged, and then rejected.
 pub record IsRejectedLater (tells : List ℕ → Reception → Type 0) (heard : List PeerCall) : Type 0 where
   pub first : List PeerCall
   pub acknowledged : IsAcknowledgedBy tells first
@@ -43,28 +44,30 @@ pub record IsRejectedLater (tells : List ℕ → Reception → Type 0) (heard : 
 abbrev pub EndsRejected : (List ℕ → Reception → Type 0) → List PeerCall → Type 0
 EndsRejected tells heard = IsRejectedBy tells false heard ⊎ IsRejectedLater tells heard
 
--- a request is sent, a confirmable one again as long as each wait is over, until it is rejected
+-- a request is sent until it is rejected; a confirmable one is retransmitted at the end of each
+-- wait.
 abbrev pub IsRejection : Bool → (List ℕ → Reception → Type 0) → List ℕ → List PeerCall → Type 0
 IsRejection true tells request calls = IsLastSending (IsPassedOver tells false) request (EndsRejected tells) calls
 IsRejection false tells request calls = IsSending request non_wait (IsRejectedBy tells true) calls
 
--- it is transmitted, and not answered
+-- a request is transmitted, and has no response.
 abbrev pub IsSilence : Bool → (List ℕ → Reception → Type 0) → List ℕ → List PeerCall → Type 0
 IsSilence confirmable tells request calls = IsTransmission confirmable tells request None calls
 
--- the fault comes of the peer: it rejected the request, or returned an error
+-- the peer is the cause of the error: it rejected the request, or returned an error.
 abbrev pub IsOfPeer : (PeerError → Type 0) → Type 0 → FetchFault → Type 0
 IsOfPeer is_error rejected fault.Rejected = rejected
 IsOfPeer is_error rejected (fault.Socket error) = is_error error
 IsOfPeer is_error rejected other = ⊥
 
--- ---- a fetch, where `Makes` says that calls of a kind are made
+-- ---- a fetch; `Makes` says that calls with a property are made
 
--- more requests than a body and an answer have blocks
+-- a number of requests: more than a body and a response have blocks.
 abbrev pub most_requests : ℕ
 most_requests = 4194304
 
--- the request of the part that is out ends so, behind those that were answered by these replies
+-- the outstanding request of the fetch ends as `Ends` says, after the requests that have these
+-- replies.
 pub record EndsOnRequest (e : Errand) (first : ℕ) (known : List ℕ) (Ends : Bool → (List ℕ → Reception → Type 0) → List ℕ → List PeerCall → Type 0) (replies : List Message)
     (calls : List PeerCall) : Type 0 where
   pub older : List PeerCall
@@ -79,13 +82,14 @@ pub record EndsOnRequest (e : Errand) (first : ℕ) (known : List ℕ) (Ends : B
   pub ends : Ends e.confirmable (Tells e.confirmable id (taken_ids known replies)) (message_bytes (part_request e part id)) last
   pub is : calls ≡ last ++ older
 
--- replies to the requests from this id on came, and such calls were made for them
+-- replies to the requests from this message ID on arrived, and the calls for them were made.
 pub record HasReplies (went came : List ℕ → Type 0) (e : Errand) (first : ℕ) (known : List ℕ) (Called : List Message → Type 0) : Type 0 where
   pub replies : List Message
   pub are : AreReplies went came e first known replies
   pub called : Called replies
 
--- a request isn't answered, behind those that were; or an answer doesn't fit, or one changed; or a request or what an answer brings had no memory
+-- the cause of an error: a request has no response, after those that have one; a response doesn't
+-- match, or the response changed; or there was no memory for a request or a response.
 abbrev pub StopsBy : (List ℕ → Type 0) → (List ℕ → Type 0) → ((List PeerCall → Type 0) → Type 0) → Errand → ℕ → List ℕ → FetchFault → Type 0
 StopsBy went came Makes e first known fault.Silence = HasReplies went came e first known (λ replies. Makes (EndsOnRequest e first known IsSilence replies))
 StopsBy went came Makes e first known fault.Rejected = HasReplies went came e first known (λ replies. Makes (EndsOnRequest e first known IsRejection replies))
@@ -96,13 +100,14 @@ StopsBy went came Makes e first known fault.Misfit =
 StopsBy went came Makes e first known fault.Changed = RepliesLeadTo went came e first known (λ replies. Makes (ArePartRequests e first known replies)) Outdated
 StopsBy went came Makes e first known other = ⊥
 
--- what an attempt fails by: a changed answer is none of these
+-- the errors of an attempt; a changed response isn't one of them.
 abbrev pub IsAttemptFault : (List ℕ → Type 0) → (List ℕ → Type 0) → (PeerError → Type 0) → ((List PeerCall → Type 0) → Type 0) → Errand → ℕ → List ℕ → FetchFault → Type 0
 IsAttemptFault went came is_error Makes e first known (fault.Socket error) = is_error error
 IsAttemptFault went came is_error Makes e first known fault.Changed = ⊥
 IsAttemptFault went came is_error Makes e first known other = StopsBy went came Makes e first known other
 
--- the answer to a GET changed, so that the fetch was begun again by requests of later ids, and stops so
+-- the response to a GET changed, the fetch started again with requests of later message IDs, and
+-- then stopped with this error.
 pub record StopsAgain (went came : List ℕ → Type 0) (Makes : (List PeerCall → Type 0) → Type 0) (e : Errand) (first : ℕ) (fault : FetchFault) : Type 0 where
   pub outdated : List Message
   pub are : AreReplies went came e first [] outdated
@@ -112,7 +117,8 @@ pub record StopsAgain (went came : List ℕ → Type 0) (Makes : (List PeerCall 
   pub next_is : next ≡ (first + length outdated) % 65536
   pub stops : StopsBy went came (λ Calls. Makes (AreBehind (ArePartRequests e first [] outdated) Calls)) e next (taken_ids [] outdated) fault
 
--- what a fetch fails by: an error of the peer; or at once by what an attempt does, or so when it was begun again; by a changed answer only where it changed twice, or to another method
+-- the errors of a fetch: an error of the peer, or one of its attempt, the first or the second. A
+-- changed response is an error if it changed twice, or if the method isn't GET.
 abbrev pub IsFetchFault : (List ℕ → Type 0) → (List ℕ → Type 0) → (PeerError → Type 0) → ((List PeerCall → Type 0) → Type 0) → Errand → ℕ → FetchFault → Type 0
 IsFetchFault went came is_error Makes e first (fault.Socket error) = is_error error
 IsFetchFault went came is_error Makes e first fault.Changed = ((e.method ≢ Get) × StopsBy went came Makes e first [] fault.Changed) ⊎ StopsAgain went came Makes e first fault.Changed
@@ -123,14 +129,14 @@ IsFetchFault went came is_error Makes e first other = StopsBy went came Makes e 
 abbrev pub registration_of : Observer → List ℕ
 registration_of o = message_bytes (observe_request o.errand.now Register o.token o.id)
 
--- the deregistration has the next id
+-- the deregistration has the next message ID.
 abbrev pub leaving_id : Observer → ℕ
 leaving_id o = (o.id + 1) % 65536
 
 abbrev pub deregistration_of : Observer → List ℕ
 deregistration_of o = message_bytes (observe_request o.errand.now Deregister o.token (leaving_id o))
 
--- what a registration fails by: nothing was called where there was no memory for it
+-- the errors of a registration; if there was no memory for it, no call was made.
 abbrev pub IsRegistrationFault : (PeerError → Type 0) → ((List PeerCall → Type 0) → Type 0) → Observer → FetchFault → Type 0
 IsRegistrationFault is_error Makes o fault.Silence = Makes (IsSilence true (TellsObserver o.token o.id) (registration_of o))
 IsRegistrationFault is_error Makes o fault.Rejected = Makes (IsRejection true (TellsObserver o.token o.id) (registration_of o))
@@ -138,13 +144,14 @@ IsRegistrationFault is_error Makes o (fault.Memory error) = Makes (λ calls. cal
 IsRegistrationFault is_error Makes o (fault.Socket error) = is_error error
 IsRegistrationFault is_error Makes o other = ⊥
 
--- while it deregisters, by a request of this id: a Reset of that came
+-- a Reset of the deregistration with this message ID arrived.
 pub record IsRejectedLeaving (token : List ℕ) (id : ℕ) (heard : List PeerCall) : Type 0 where
   pub bytes : List ℕ
   pub rejects : IsReadAs bytes (IsReset id)
   pub ends : EndsOn (IsPassedOverLeaving token id) bytes heard
 
--- what a deregistration fails by: it is sent in vain to the end, or rejected, or the peer returned an error
+-- the errors of a deregistration request: it was sent by the whole schedule without an
+-- acknowledgement, it was rejected, or the peer returned an error.
 abbrev pub IsLeavingFault : (PeerError → Type 0) → ((List PeerCall → Type 0) → Type 0) → Observer → FetchFault → Type 0
 IsLeavingFault is_error Makes o fault.Silence = Makes (AreInVain (IsPassedOverLeaving o.token (leaving_id o)) (deregistration_of o) most_sendings)
 IsLeavingFault is_error Makes o fault.Rejected =
@@ -152,12 +159,13 @@ IsLeavingFault is_error Makes o fault.Rejected =
 IsLeavingFault is_error Makes o (fault.Socket error) = is_error error
 IsLeavingFault is_error Makes o other = ⊥
 
--- or nothing was called, where there was no memory for it
+-- the errors of a deregistration: these, or there was no memory for the request and no call was
+-- made.
 abbrev pub IsDeregistrationFault : (PeerError → Type 0) → ((List PeerCall → Type 0) → Type 0) → Observer → FetchFault → Type 0
 IsDeregistrationFault is_error Makes o (fault.Memory error) = Makes (λ calls. calls ≡ [])
 IsDeregistrationFault is_error Makes o other = IsLeavingFault is_error Makes o other
 
--- the last notification that came is so to the observer, at the moment that the clock says then
+-- the last notification received has this classification, at the time that the clock then returned.
 pub record EndsOnNotification (told : ℕ → Type 0) (token : List ℕ) (w : Watch) (P : Notice → Type 0) (calls : List PeerCall) : Type 0 where
   pub bytes : List ℕ
   pub message : Message
@@ -172,7 +180,8 @@ abbrev pub IsNewState : Notice → Type 0
 IsNewState (notice.State sequence) = Unit {0}
 IsNewState other = ⊥
 
--- a response with the token came that can't be shown: in the acknowledgement of the registration, which has this id, or in a message of its own
+-- a response with the token arrived that can't be shown. It is piggybacked on the acknowledgement
+-- of the registration, which has this message ID, or a separate response.
 pub record UnfitCame (came : List ℕ → Type 0) (token : List ℕ) (id : ℕ) : Type 0 where
   pub bytes : List ℕ
   pub message : Message
@@ -181,7 +190,8 @@ pub record UnfitCame (came : List ℕ → Type 0) (token : List ℕ) (id : ℕ) 
   pub own : IsResponseWith token id message
   pub unfit : can_be_shown message ≡ false
 
--- what the wait for the next notification fails by: one that can't be shown, or a newer one that had no memory
+-- the errors of the wait for the next notification: one that can't be shown, a newer one for which
+-- there was no memory, or an error of the peer.
 abbrev pub IsNotificationFault : (List ℕ → Type 0) → (PeerError → Type 0) → ((List PeerCall → Type 0) → Type 0) → (ℕ → Type 0) → List ℕ → Watch → FetchFault → Type 0
 IsNotificationFault came is_error Makes told token w fault.Part =
     Makes (EndsOnNotification told token w (λ n. n ≡ notice.Misfit)) × ((id : ℕ) → UnfitCame came token id)

@@ -1,4 +1,5 @@
--- A fetch as a list of replies, the newest first, each to the request that the ones before it have led to.
+-- A fetch as a list of replies, newest first. Each is a reply to the request that results from the
+-- earlier ones.
 use Rattle.std.specs.Prelude.{◌≡◌, ℕ, ◌+◌, ◌%◌, ◌⊎◌, if◌then◌else◌, List, [], ◌∷◌, ◌++◌, length, Some, Ok}
 use Rattle.coap_msg.specs.Reading.{reading_of}
 use Rattle.coap_msg.specs.Wire.{Message, message_bytes}
@@ -20,14 +21,17 @@ use Rattle.coap_client.specs.Replies.{begins_exchange, etag_of, next_of}
 use Rattle.coap_client.specs.Requests.{IsPartOf, part_request}
 use Rattle.coap_client.specs.Transmissions.{AreBehind, IsTransmission, MakesCalls}
 
--- a request is out, and so much of the answer is there, with this ETag; or the fetch has ended; or a further block of the answer was of another version; or an answer didn't fit
+-- the state of a fetch. `Out`: a request is outstanding, and the response so far has these bytes
+-- and this ETag. `Ended`: the fetch has ended. `Outdated`: a further block of the response was of
+-- another version. `Lost`: a response didn't match.
 pub data State : Type 0 where
   Out : (part : Part) (body etag : List ℕ) → State
   Ended : (code : ℕ) (body : List ℕ) → State
   Outdated : State
   Lost : State
 
--- a reply brings a block of the answer where a further one is asked for; one to a block of the request's body brings none
+-- a reply adds a block of the response if a further one is requested; a reply to a block of the
+-- request's body adds none.
 abbrev pub going_on : Part → List ℕ → List ℕ → Message → State
 going_on (Answer n szx) body etag m = Out (Answer n szx) (body ++ m.payload) (etag_of m)
 going_on other body etag m = Out other body etag
@@ -43,12 +47,12 @@ abbrev pub after_reply : ℕ → Message → State → State
 after_reply count m (Out part body etag) = moved_on (next_of count part etag m) body etag m
 after_reply count m other = other
 
--- what these replies lead to, where the request's body has so many bytes
+-- the state after these replies.
 abbrev pub state_after : Errand → List Message → State
 state_after e [] = Out (first_part e.method (length e.payload.now)) [] []
 state_after e (m ∷ ms) = after_reply (length e.payload.now) m (state_after e ms)
 
--- behind these ids, those of the replies that came in messages of their own, in order
+-- these message IDs, and after them those of the replies that were separate responses, in order.
 abbrev pub with_taken_id : Message → List ℕ → List ℕ
 with_taken_id m ids = if begins_exchange m.kind then ids ++ m.id ∷ [] else ids
 
@@ -56,23 +60,25 @@ abbrev pub taken_ids : List ℕ → List Message → List ℕ
 taken_ids known [] = known
 taken_ids known (m ∷ ms) = with_taken_id m (taken_ids known ms)
 
--- a datagram came that spells the message, which answers the request of a part
+-- a datagram arrived that encodes the message, a response to the request of a part.
 pub record IsAnswerToPart (went came : List ℕ → Type 0) (e : Errand) (id : ℕ) (earlier : List ℕ) (part : Part) (m : Message) : Type 0 where
   pub bytes : List ℕ
   pub is : IsTakenResponse went came e.confirmable id earlier (message_bytes (part_request e part id)) bytes m
 
--- the request that is out is answered by the message
+-- the message is a response to the outstanding request.
 abbrev pub AnswersInState : (List ℕ → Type 0) → (List ℕ → Type 0) → Errand → ℕ → List ℕ → State → Message → Type 0
 AnswersInState went came e id earlier (Out part body etag) m = IsAnswerToPart went came e id earlier part m
 AnswersInState went came e id earlier other m = ⊥
 
--- each is a reply to the request before it, whose ids count up from the first; messages of the ids that are known answered others
+-- each message is a reply to the request before it. The message IDs of the requests count up from
+-- `first`; the `known` IDs are those of responses to other requests.
 abbrev pub AreReplies : (List ℕ → Type 0) → (List ℕ → Type 0) → Errand → ℕ → List ℕ → List Message → Type 0
 AreReplies went came e first known [] = Unit {0}
 AreReplies went came e first known (m ∷ ms) =
     AreReplies went came e first known ms × AnswersInState went came e ((first + length ms) % 65536) (taken_ids known ms) (state_after e ms) m
 
--- the request of the part that is out, with this message id, is transmitted behind those before, and its answer spells the message
+-- the request of the outstanding part, with this message ID, is transmitted after the earlier ones,
+-- and its response encodes the message.
 pub record IsNextRequest (Before : List PeerCall → Type 0) (e : Errand) (id : ℕ) (earlier : List ℕ) (state : State) (m : Message) (calls : List PeerCall) : Type 0 where
   pub older : List PeerCall
   pub before : Before older
@@ -87,20 +93,21 @@ pub record IsNextRequest (Before : List PeerCall → Type 0) (e : Errand) (id : 
   pub transmission : IsTransmission e.confirmable (Tells e.confirmable id earlier) (message_bytes (part_request e part id)) (Some answer) last
   pub is : calls ≡ last ++ older
 
--- for each of these replies its request, and nothing else
+-- the calls for these replies: one request for each of them, and nothing else.
 abbrev pub ArePartRequests : Errand → ℕ → List ℕ → List Message → List PeerCall → Type 0
 ArePartRequests e first known [] calls = calls ≡ []
 ArePartRequests e first known (m ∷ ms) calls =
     IsNextRequest (ArePartRequests e first known ms) e ((first + length ms) % 65536) (taken_ids known ms) (state_after e ms) m calls
 
--- replies to the requests from this id on lead to this state, and so much is called for them
+-- replies to the requests from this message ID on result in this state, with these calls.
 pub record RepliesLeadTo (went came : List ℕ → Type 0) (e : Errand) (first : ℕ) (known : List ℕ) (Called : List Message → Type 0) (state : State) : Type 0 where
   pub replies : List Message
   pub are : AreReplies went came e first known replies
   pub leads : state_after e replies ≡ state
   pub called : Called replies
 
--- after replies to a GET whose last one was outdated, others to requests of later ids lead to this state
+-- replies to a GET ended in `Outdated`, and after them others, to requests of later message IDs,
+-- result in this state.
 pub record RepliesLeadToAgain (went came : List ℕ → Type 0) (before after : List PeerCall → Type 0) (e : Errand) (first : ℕ) (state : State) : Type 0 where
   pub outdated : List Message
   pub are : AreReplies went came e first [] outdated
@@ -111,13 +118,15 @@ pub record RepliesLeadToAgain (went came : List ℕ → Type 0) (before after : 
   pub again : RepliesLeadTo went came e next (taken_ids [] outdated)
       (λ replies. MakesCalls before after (AreBehind (ArePartRequests e first [] outdated) (ArePartRequests e next (taken_ids [] outdated) replies))) state
 
--- the fetch ends with this code and body, at once or begun again once, and nothing is called but for its replies
+-- the fetch ends with this code and body, in its first attempt or its second, and no other calls
+-- are made.
 abbrev pub IsFetched : (List ℕ → Type 0) → (List ℕ → Type 0) → (List PeerCall → Type 0) → (List PeerCall → Type 0) → Errand → ℕ → ℕ → List ℕ → Type 0
 IsFetched went came before after e first code body =
     RepliesLeadTo went came e first [] (λ replies. MakesCalls before after (ArePartRequests e first [] replies)) (Ended code body)
     ⊎ RepliesLeadToAgain went came before after e first (Ended code body)
 
--- replies have led to this state, so that the next request has this id, and messages of these ids have answered; so much was called for them
+-- replies have resulted in this state, so that the next request has this message ID, and `earlier`
+-- are the IDs of the separate responses. The calls are those for these replies.
 pub record IsFetching (went came : List ℕ → Type 0) (before now : List PeerCall → Type 0) (e : Errand) (first : ℕ) (known : List ℕ) (id : ℕ) (earlier : List ℕ) (state : State) : Type 0 where
   pub replies : List Message
   pub are : AreReplies went came e first known replies
@@ -126,7 +135,7 @@ pub record IsFetching (went came : List ℕ → Type 0) (before now : List PeerC
   pub earlier_is : earlier ≡ taken_ids known replies
   pub called : MakesCalls before now (ArePartRequests e first known replies)
 
--- what one attempt comes to
+-- the result of an attempt.
 abbrev pub IsAttempt : (List ℕ → Type 0) → (List ℕ → Type 0) → (List PeerCall → Type 0) → (List PeerCall → Type 0) → Errand → ℕ → List ℕ → Attempt → Type 0
 IsAttempt went came before after e first known (attempt.Ended f) =
     RepliesLeadTo went came e first known (λ replies. MakesCalls before after (ArePartRequests e first known replies)) (Ended f.code.byte f.body.items)
@@ -134,7 +143,8 @@ IsAttempt went came before after e first known (attempt.Outdated id earlier) = I
 IsAttempt went came before after e first known attempt.Misfit =
     RepliesLeadTo went came e first known (λ replies. MakesCalls before after (ArePartRequests e first known replies)) Lost
 
--- what an answer makes of a fetch under way: the next request is out, or it has ended, or the answer was outdated, or it doesn't fit
+-- the fetch after a response: the next request is outstanding, or it has ended, or the response
+-- changed, or it doesn't match.
 abbrev pub IsNow : State → Course → Step → Type 0
 IsNow state c step.GoesOn = state ≡ Out c.part c.body.items c.etag.items
 IsNow state c (step.Ended code) = state ≡ Ended code.byte c.body.items
@@ -146,7 +156,7 @@ pub record IsStepOf (count : ℕ) (m : Message) (old new : Course) (step : Step)
   pub id : new.id ≡ (old.id + 1) % 65536
   pub earlier : new.earlier.items ≡ with_taken_id m old.earlier.items
 
--- the same request is out, and the same is there of the answer
+-- the same request is outstanding, and the response so far is unchanged.
 pub record IsSameAnswer (old new : Course) : Type 0 where
   pub part : new.part ≡ old.part
   pub body : new.body.items ≡ old.body.items

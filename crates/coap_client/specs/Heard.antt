@@ -1,4 +1,4 @@
--- What a datagram from the server is to the request that is out.
+-- The classification of a datagram with respect to the outstanding request.
 use Rattle.std.specs.Prelude.{◌≡◌, ℕ, ◌≤◌, ◌⊎◌, Bool, true, false, List, length, take, Ok}
 use Rattle.coap_msg.specs.Wire.{Message, message_bytes}
 use Rattle.coap_msg.specs.Reading.{reading_of}
@@ -11,7 +11,7 @@ use Rattle.coap_client.specs.declared.transmission.SentRequest.{SentRequest}
 use Rattle.coap_client.specs.Replies.{IsEmptyAcknowledgement, IsReply, IsReset, IsSeparate, is_taken}
 use Rattle.coap_client.specs.Requests.{acknowledgement}
 
--- an empty acknowledgement came
+-- an empty acknowledgement arrived.
 pub record CameAcknowledgement (came : List ℕ → Type 0) (id : ℕ) : Type 0 where
   pub bytes : List ℕ
   pub message : Message
@@ -19,34 +19,37 @@ pub record CameAcknowledgement (came : List ℕ → Type 0) (id : ℕ) : Type 0 
   pub read_is : reading_of bytes ≡ Ok message
   pub is : IsEmptyAcknowledgement id message
 
--- a response in a message of its own, which isn't one of those before; a confirmable request has been acknowledged then
+-- the message is a separate response, and none of the earlier ones; if the request is confirmable,
+-- it has been acknowledged.
 pub record IsSeparateTo (came : List ℕ → Type 0) (confirmable : Bool) (id : ℕ) (earlier : List ℕ) (m : Message) : Type 0 where
   pub own : IsSeparate m
   pub new : is_taken earlier m.id ≡ false
   pub awaited : confirmable ≡ true → CameAcknowledgement came id
 
--- a response in the acknowledgement, which only a confirmable request has
+-- the message is a piggybacked response; only a confirmable request has one.
 pub record IsPiggybacked (confirmable : Bool) (id : ℕ) (m : Message) : Type 0 where
   pub own : IsReply id m
   pub asked : confirmable ≡ true
 
--- the message answers the request of this id, where separate responses of these ids came before
+-- the message is a response to the request with this message ID; the separate responses so far have
+-- the `earlier` IDs.
 abbrev pub IsResponseFor : (List ℕ → Type 0) → Bool → ℕ → List ℕ → Message → Type 0
 IsResponseFor came confirmable id earlier m = IsPiggybacked confirmable id m ⊎ IsSeparateTo came confirmable id earlier m
 
--- this request was sent, and a datagram came that spells the message, which answers it
+-- this request was sent, and a datagram arrived that encodes the message, a response to it.
 pub record IsResponseTo (went came : List ℕ → Type 0) (confirmable : Bool) (id : ℕ) (earlier request bytes : List ℕ) (m : Message) : Type 0 where
   pub asked : went request
   pub came_is : came bytes
   pub read_is : reading_of bytes ≡ Ok m
   pub responds : IsResponseFor came confirmable id earlier m
 
--- and the message was acknowledged where it asks for that (RFC 7252, 4.2)
+-- the same, and the message was acknowledged if it is confirmable (RFC 7252, section 4.2).
 pub record IsTakenResponse (went came : List ℕ → Type 0) (confirmable : Bool) (id : ℕ) (earlier request bytes : List ℕ) (m : Message) : Type 0 where
   pub asked : IsResponseTo went came confirmable id earlier request bytes m
   pub acknowledged : m.kind ≡ Confirmable → went (message_bytes (acknowledgement m.id))
 
--- the bytes spell a response to a request, and one that was acknowledged
+-- the bytes encode a response to the request; and, in the second record, one that was acknowledged
+-- if it is confirmable.
 pub record HasResponse (went came : List ℕ → Type 0) (r : SentRequest) (bytes : List ℕ) : Type 0 where
   pub message : Message
   pub is : IsResponseTo went came r.confirmable r.id r.earlier.now r.datagram.now.items bytes message
@@ -55,19 +58,22 @@ pub record HasTakenResponse (went came : List ℕ → Type 0) (r : SentRequest) 
   pub message : Message
   pub is : IsTakenResponse went came r.confirmable r.id r.earlier.now r.datagram.now.items bytes message
 
--- a separate response that came before, or didn't
+-- the message is a separate response that was received before, or wasn't.
 pub record IsSeparateAmong (earlier : List ℕ) (before : Bool) (m : Message) : Type 0 where
   pub own : IsSeparate m
   pub before_is : is_taken earlier m.id ≡ before
 
--- none of all
+-- the message is neither a piggybacked nor a separate response, nor an empty acknowledgement, nor a
+-- rejection.
 pub record IsOther (confirmable : Bool) (id : ℕ) (m : Message) : Type 0 where
   pub reply : IsPiggybacked confirmable id m → ⊥
   pub acknowledged : IsEmptyAcknowledgement id m → ⊥
   pub rejected : IsReset id m → ⊥
   pub separate : IsSeparate m → ⊥
 
--- the request of this id is answered, acknowledged or rejected; or a response came in a message of its own, for the first time or again; or none of these
+-- the classification of a message. The request with this message ID has a response, an
+-- acknowledgement or a rejection; or the message is a separate response, new or received before; or
+-- it is none of these.
 abbrev pub IsHeardAs : Bool → ℕ → List ℕ → Message → Reception → Type 0
 IsHeardAs confirmable id earlier m Reply = IsPiggybacked confirmable id m
 IsHeardAs confirmable id earlier m Separate = IsSeparateAmong earlier false m
@@ -76,13 +82,14 @@ IsHeardAs confirmable id earlier m Acknowledged = IsEmptyAcknowledgement id m
 IsHeardAs confirmable id earlier m Rejected = IsReset id m
 IsHeardAs confirmable id earlier m Other = IsOther confirmable id m
 
--- the datagram spells a message of this kind
+-- the datagram encodes a message with this property.
 pub record IsReadAs (bytes : List ℕ) (P : Message → Type 0) : Type 0 where
   pub message : Message
   pub read_is : reading_of bytes ≡ Ok message
   pub holds : P message
 
--- what a datagram is to the request of this id; one that spells no message is none of these
+-- the classification of a datagram for the request with this message ID; one that encodes no
+-- message is `Other`.
 abbrev pub Tells : Bool → ℕ → List ℕ → List ℕ → Reception → Type 0
 Tells confirmable id earlier bytes Other = (m : Message) → reading_of bytes ≡ Ok m → IsOther confirmable id m
 Tells confirmable id earlier bytes heard = IsReadAs bytes (λ m. IsHeardAs confirmable id earlier m heard)
@@ -90,12 +97,13 @@ Tells confirmable id earlier bytes heard = IsReadAs bytes (λ m. IsHeardAs confi
 abbrev pub TellsSent : SentRequest → List ℕ → Reception → Type 0
 TellsSent r bytes heard = Tells r.confirmable r.id r.earlier.now bytes heard
 
--- a response that came before is acknowledged where it asks for that
+-- a response that was received before is acknowledged if it is confirmable.
 abbrev pub AcknowledgesRepeat : (List ℕ → Type 0) → List ℕ → Reception → Type 0
 AcknowledgesRepeat went bytes Repeat = (m : Message) → reading_of bytes ≡ Ok m → m.kind ≡ Confirmable → went (message_bytes (acknowledgement m.id))
 AcknowledgesRepeat went bytes _ = Unit {0}
 
--- what came answers a request, in its acknowledgement, or where that is awaited in a message of its own
+-- the message is a response to the request: a piggybacked one, or a separate one if that is
+-- awaited.
 abbrev pub IsAwaitedReply : SentRequest → Bool → Message → Type 0
 IsAwaitedReply r awaited m = IsPiggybacked r.confirmable r.id m ⊎ ((awaited ≡ true) × IsSeparateAmong r.earlier.now false m)
 
@@ -105,7 +113,7 @@ pub record IsAwaitedAnswer (came : List ℕ → Type 0) (r : SentRequest) (await
   pub read_is : reading_of bytes ≡ Ok message
   pub answers : IsAwaitedReply r awaited message
 
--- what listening comes to
+-- the outcome of a wait.
 abbrev pub Listens : (List ℕ → Type 0) → SentRequest → Bool → List ℕ → Listened → Type 0
 Listens came r awaited buffer (listened.Answer count) = (count ≤ length buffer) × IsAwaitedAnswer came r awaited (take count buffer)
 Listens came r awaited buffer listened.Acknowledged = CameAcknowledgement came r.id

@@ -1,4 +1,4 @@
--- What a fetch sent of the request's body, and what it joined of the answer.
+-- The parts of a request's body that a fetch sent, and the parts of the response that it joined.
 use Rattle.std.specs.Prelude.{◌≡◌, ℕ, ◌*◌, ◌≤◌, true, false, List, [], ◌∷◌, ◌++◌, length, Option, Some, None}
 use Rattle.std.specs.List.{All}
 use Rattle.coap_msg.specs.Wire.{Message, message_bytes}
@@ -7,27 +7,30 @@ use Rattle.coap_opts.specs.Values.{block_size, place_in}
 use Rattle.coap_client.specs.declared.errand.Errand.{Errand}
 use Rattle.coap_client.specs.Replies.{block1_of, block2_of, etag_of, is_success}
 
--- the payloads of these messages, of which the newest is the first, in order
+-- the payloads of these messages, newest first, joined in order of arrival.
 abbrev pub payloads : List Message → List ℕ
 payloads [] = []
 payloads (m ∷ ms) = payloads ms ++ m.payload
 
--- Block2 names the block that begins at this offset (RFC 7959, 2.2); without it the answer begins
+-- Block2 names the block that begins at this offset (RFC 7959, section 2.2); without Block2 the
+-- offset is 0.
 abbrev pub BeginsAt : ℕ → Option (List ℕ) → Type 0
 BeginsAt offset None = offset ≡ 0
 BeginsAt offset (Some value) = block_size (place_in value).szx * (place_in value).number ≡ offset
 
--- each begins where the ones before it end
+-- each block begins at the end of those before it.
 abbrev pub AreBlocksInOrder : List Message → Type 0
 AreBlocksInOrder [] = Unit {0}
 AreBlocksInOrder (m ∷ ms) = AreBlocksInOrder ms × BeginsAt (length (payloads ms)) (block2_of m)
 
--- no block is behind this one
+-- no block follows this one.
 abbrev pub IsLastBlock : Option (List ℕ) → Type 0
 IsLastBlock None = Unit {0}
 IsLastBlock (Some value) = (place_in value).more ≡ false
 
--- the answer is what this reply and the last ones before it bring, joined: no block is behind it, each begins where the ones before it end, and all have one ETag, or none (RFC 7959, 2.4)
+-- the response consists of the payloads of this reply and of the latest ones before it, joined. No
+-- block follows, each block begins at the end of those before it, and all have one ETag, or none
+-- (RFC 7959, section 2.4).
 pub record IsOneAnswer (answer : List ℕ) (m : Message) (replies : List Message) : Type 0 where
   pub older : List Message
   pub before : List Message
@@ -37,17 +40,18 @@ pub record IsOneAnswer (answer : List ℕ) (m : Message) (replies : List Message
   pub in_order : AreBlocksInOrder (m ∷ older)
   pub version : All (λ x. etag_of x ≡ etag_of m) older
 
--- requests that were sent bring the whole body, in order
+-- requests that were sent have the whole body, in order.
 pub record WentWhole (went : List ℕ → Type 0) (body : List ℕ) : Type 0 where
   pub requests : List Message
   pub each : All (λ r. went (message_bytes r)) requests
   pub joined : payloads requests ≡ body
 
--- where the fetch ended by a success, they do
+-- if the fetch ended with a success, requests that were sent have the whole body.
 abbrev pub SendsWhole : (List ℕ → Type 0) → Errand → ℕ → Type 0
 SendsWhole went e code = is_success code ≡ true → WentWhole went e.payload.now
 
--- a success says that block n was taken, which has others behind it: by a Block1 that names it and no greater size, or by 2.31 without one (RFC 7959, 2.3 and 2.9.1)
+-- a success says that the server took block n, after which more follow: by a Block1 that names the
+-- block and no greater size, or by 2.31 without Block1 (RFC 7959, sections 2.3 and 2.9.1).
 abbrev pub NamesTaken : ℕ → ℕ → Message → Option (List ℕ) → Type 0
 NamesTaken n szx m None = m.code ≡ registered.CONTINUE.byte
 NamesTaken n szx m (Some value) = ((place_in value).number ≡ n) × ((place_in value).szx ≤ szx)

@@ -1,4 +1,5 @@
--- What is called while a wait lasts: datagrams come that are passed over, until one ends it. Of a list of calls the newest stands first.
+-- The calls during a wait: datagrams arrive that are skipped, until one ends the wait. In a list of
+-- calls, the newest is first.
 use Rattle.std.specs.Prelude.{◌≡◌, ℕ, zero, suc, ◌+◌, ◌≤◌, ◌^◌, ◌⊎◌, not, Bool, true, false, List, [], ◌∷◌, ◌++◌, take, Result, Ok, Err, Some, None}
 use Rattle.coap_msg.specs.Reading.{reading_of}
 use Rattle.coap_msg.specs.Wire.{Message, message_bytes}
@@ -14,7 +15,7 @@ use Rattle.coap_client.specs.Requests.{acknowledgement}
 
 -- ---- any wait
 
--- one more datagram comes that is passed over, and this is sent behind it
+-- one more datagram arrives that is skipped, and the `sent` calls follow it.
 pub record PassesOneMore (passes : List ℕ → List PeerCall → Type 0) (Before : List PeerCall → Type 0) (calls : List PeerCall) : Type 0 where
   pub older : List PeerCall
   pub before : Before older
@@ -23,19 +24,19 @@ pub record PassesOneMore (passes : List ℕ → List PeerCall → Type 0) (Befor
   pub passed : passes bytes sent
   pub is : calls ≡ sent ++ Receives (Some bytes) ∷ older
 
--- n datagrams come that are passed over
+-- n datagrams arrive that are skipped.
 abbrev pub ArePassedOver : (List ℕ → List PeerCall → Type 0) → ℕ → List PeerCall → Type 0
 ArePassedOver passes zero calls = calls ≡ []
 ArePassedOver passes (suc n) calls = PassesOneMore passes (ArePassedOver passes n) calls
 
--- the wait is over; or so many datagrams came that no more are listened to
+-- the wait is over, or at least 2^64 - 1 datagrams arrived, which is the maximum.
 pub record IsOver (passes : List ℕ → List PeerCall → Type 0) (heard : List PeerCall) : Type 0 where
   pub n : ℕ
   pub older : List PeerCall
   pub before : ArePassedOver passes n older
   pub is : (heard ≡ Receives None ∷ older) ⊎ ((heard ≡ older) × (2 ^ 64 ≤ n + 1))
 
--- this datagram ends it, the first that isn't passed over
+-- this datagram ends the wait, the first that isn't skipped.
 pub record EndsOn (passes : List ℕ → List PeerCall → Type 0) (bytes : List ℕ) (heard : List PeerCall) : Type 0 where
   pub n : ℕ
   pub older : List PeerCall
@@ -44,7 +45,8 @@ pub record EndsOn (passes : List ℕ → List PeerCall → Type 0) (bytes : List
 
 -- ---- acknowledgements
 
--- a confirmable message is acknowledged by its id (RFC 7252, 4.2), and nothing else is
+-- the acknowledgement of a confirmable message, by its message ID (RFC 7252, section 4.2); no other
+-- message has one.
 abbrev pub acknowledges_kind : MessageType → ℕ → List PeerCall
 acknowledges_kind Confirmable id = Sends (message_bytes (acknowledgement id)) ∷ []
 acknowledges_kind other id = []
@@ -56,9 +58,10 @@ acknowledges_read (Err bad) = []
 abbrev pub acknowledges : List ℕ → List PeerCall
 acknowledges bytes = acknowledges_read (reading_of bytes)
 
--- ---- a wait for an answer
+-- ---- a wait for a response
 
--- what is passed over: what came before and what is none of all; a response in a message of its own where none is awaited, and an acknowledgement where one is
+-- the datagrams that are skipped: a response received before, and any unrelated one; a separate
+-- response if none is awaited, and an acknowledgement if one is.
 abbrev pub is_passed_over : Bool → Reception → Bool
 is_passed_over awaited Repeat = true
 is_passed_over awaited Other = true
@@ -66,39 +69,40 @@ is_passed_over awaited Separate = not awaited
 is_passed_over awaited Acknowledged = awaited
 is_passed_over awaited ended = false
 
--- what answers: a response in the acknowledgement, and where it is awaited one in a message of its own
+-- the datagrams that are responses: a piggybacked one, and a separate one if that is awaited.
 abbrev pub is_answering : Bool → Reception → Bool
 is_answering awaited Reply = true
 is_answering awaited Separate = awaited
 is_answering awaited heard = false
 
--- what is sent behind a datagram: the acknowledgement of a response that came before
+-- the messages sent after a datagram: the acknowledgement of a response received before.
 abbrev pub sent_behind : Reception → List ℕ → List PeerCall
 sent_behind Repeat bytes = acknowledges bytes
 sent_behind heard bytes = []
 
--- a datagram is passed over by what it is to the request, which `tells` says
+-- a datagram is skipped because of its classification, which `tells` gives.
 pub record IsPassedOver (tells : List ℕ → Reception → Type 0) (awaited : Bool) (bytes : List ℕ) (sent : List PeerCall) : Type 0 where
   pub heard : Reception
   pub told : tells bytes heard
   pub passed : is_passed_over awaited heard ≡ true
   pub sent_is : sent ≡ sent_behind heard bytes
 
--- and one answers it
+-- a datagram is a response because of its classification.
 pub record AnswersAwaited (tells : List ℕ → Reception → Type 0) (awaited : Bool) (bytes : List ℕ) : Type 0 where
   pub heard : Reception
   pub told : tells bytes heard
   pub answers : is_answering awaited heard ≡ true
 
--- this answer came
+-- this response arrived.
 abbrev pub IsAnsweredBy : (List ℕ → Reception → Type 0) → Bool → List ℕ → List PeerCall → Type 0
 IsAnsweredBy tells awaited answer heard = AnswersAwaited tells awaited answer × EndsOn (IsPassedOver tells awaited) answer heard
 
--- an acknowledgement without an answer came, where none had come before
+-- an acknowledgement without a response arrived, and none had arrived before.
 abbrev pub IsAcknowledgedBy : (List ℕ → Reception → Type 0) → List PeerCall → Type 0
 IsAcknowledgedBy tells heard = (bytes : List ℕ) × tells bytes Acknowledged × EndsOn (IsPassedOver tells false) bytes heard
 
--- what was called while the wait lasted; an acknowledgement ends it only where no answer in a message of its own is awaited
+-- the calls during a wait, by its outcome. An acknowledgement ends the wait only if no separate
+-- response is awaited.
 abbrev pub IsHeard : (List ℕ → Reception → Type 0) → Bool → List ℕ → Listened → List PeerCall → Type 0
 IsHeard tells awaited buffer listened.Nothing heard = IsOver (IsPassedOver tells awaited) heard
 IsHeard tells awaited buffer listened.Acknowledged heard = (awaited ≡ false) × IsAcknowledgedBy tells heard

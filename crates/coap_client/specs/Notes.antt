@@ -1,4 +1,5 @@
--- What an observer shows: each came, each state is newer than the one before it, and none is shown twice.
+-- The notifications that an observer shows: each was received, each state is newer than the one
+-- before it, and none is shown twice.
 use Rattle.std.specs.Prelude.{◌≡◌, ℕ, ◌+◌, ◌≤◌, ◌%◌, ◌&&◌, ◌⊎◌, nat_eq, Bool, true, false, max, List, [], ◌∷◌, length, take, Option, Some, None, Ok}
 use Rattle.std.specs.List.{All, list_any}
 use Rattle.coap_msg.specs.Reading.{reading_of}
@@ -21,20 +22,22 @@ use Rattle.coap_client.specs.Notices.{IsOwnResponse, IsReplyWith, can_be_shown, 
 use Rattle.coap_client.specs.Replies.{IsEmptyAcknowledgement, IsReset, begins_exchange}
 use Rattle.coap_client.specs.Requests.{acknowledgement}
 
--- ---- what comes to an observer
+-- ---- the messages that an observer receives
 
--- a response with the token, in the acknowledgement of the request of this id or in a message of its own
+-- a response with the token: piggybacked on the acknowledgement of the request with this message
+-- ID, or separate.
 abbrev pub IsResponseWith : List ℕ → ℕ → Message → Type 0
 IsResponseWith token id m = IsReplyWith token id m ⊎ IsOwnResponse token m
 
--- none of these
+-- the message isn't a response with the token, and neither acknowledges nor rejects the request.
 pub record IsNoneOf (token : List ℕ) (id : ℕ) (m : Message) : Type 0 where
   pub reply : IsReplyWith token id m → ⊥
   pub notification : IsOwnResponse token m → ⊥
   pub acknowledged : IsEmptyAcknowledgement id m → ⊥
   pub rejected : IsReset id m → ⊥
 
--- what a datagram is to an observer whose request of this id is out; one that spells no message is none of these
+-- the classification of a message for an observer whose request with this message ID is
+-- outstanding; a datagram that encodes no message is `Other`.
 abbrev pub IsHeardBy : List ℕ → ℕ → Message → Reception → Type 0
 IsHeardBy token id m Reply = IsResponseWith token id m
 IsHeardBy token id m Acknowledged = IsEmptyAcknowledgement id m
@@ -46,40 +49,42 @@ abbrev pub TellsObserver : List ℕ → ℕ → List ℕ → Reception → Type 
 TellsObserver token id bytes Other = (m : Message) → reading_of bytes ≡ Ok m → IsNoneOf token id m
 TellsObserver token id bytes heard = IsReadAs bytes (λ m. IsHeardBy token id m heard)
 
--- a datagram came that spells a message of this kind
+-- a datagram arrived that encodes a message with this property.
 pub record HasArrived (came : List ℕ → Type 0) (P : Message → Type 0) (bytes : List ℕ) : Type 0 where
   pub message : Message
   pub came_is : came bytes
   pub read_is : reading_of bytes ≡ Ok message
   pub holds : P message
 
--- what listening for the answer comes to
+-- the outcome of the wait for the response.
 abbrev pub HearsAnswer : (List ℕ → Type 0) → List ℕ → ℕ → List ℕ → Listened → Type 0
 HearsAnswer came token id buffer (listened.Answer count) = (count ≤ length buffer) × HasArrived came (IsResponseWith token id) (take count buffer)
 HearsAnswer came token id buffer listened.Acknowledged = CameAcknowledgement came id
 HearsAnswer came token id buffer listened.Nothing = Unit {0}
 
--- ---- what is shown
+-- ---- the messages that it shows
 
--- a message that was shown, and the moment at which it was, in milliseconds
+-- a message that was shown, and the time in milliseconds.
 pub record Note : Type 0 where
   pub message : Message
   pub at : ℕ
 
--- a datagram came that spells the message, and where that is confirmable it was acknowledged (RFC 7252, 4.2)
+-- a datagram arrived that encodes the message, and the message was acknowledged if it is
+-- confirmable (RFC 7252, section 4.2).
 pub record IsHeardFrom (went came : List ℕ → Type 0) (bytes : List ℕ) (m : Message) : Type 0 where
   pub came_is : came bytes
   pub read_is : reading_of bytes ≡ Ok m
   pub acknowledged : m.kind ≡ Confirmable → went (message_bytes (acknowledgement m.id))
 
--- the registration was sent, and this answered it
+-- the registration was sent, and this is the response to it.
 pub record IsRegistered (went came : List ℕ → Type 0) (o : Observer) (bytes : List ℕ) : Type 0 where
   pub asked : went (message_bytes (observe_request o.errand.now Register o.token o.id))
   pub message : Message
   pub heard : IsHeardFrom went came bytes message
   pub own : IsResponseWith o.token o.id message
 
--- it is a response with the token of the registration, which had this id, can be shown, and was at a moment that was told
+-- the message is a response with the token of the registration, which had this message ID. It can
+-- be shown, and its time is one that the clock returned.
 pub record IsNoteOf (went came : List ℕ → Type 0) (told : ℕ → Type 0) (token : List ℕ) (id : ℕ) (n : Note) : Type 0 where
   pub bytes : List ℕ
   pub heard : IsHeardFrom went came bytes n.message
@@ -87,23 +92,26 @@ pub record IsNoteOf (went came : List ℕ → Type 0) (told : ℕ → Type 0) (t
   pub whole : can_be_shown n.message ≡ true
   pub moment : told n.at
 
--- a state is newer than one of this sequence number and moment (RFC 7641, 3.4)
+-- a state is newer than one of this sequence number and time (RFC 7641, section 3.4).
 abbrev pub IsNewerThan : ℕ → ℕ → Notice → ℕ → Type 0
 IsNewerThan sequence at (State v) now = is_newer sequence at v now ≡ true
 IsNewerThan sequence at other now = Unit {0}
 
--- the earlier one is a state; the later one is no earlier moment's, and where it is a state too, a newer one
+-- the earlier one is a state, and the later one isn't earlier in time. If the later one is a state
+-- too, it is newer.
 pub record IsAfter (earlier later : Note) : Type 0 where
   pub sequence : ℕ
   pub state : notice_of earlier.message ≡ State sequence
   pub moments : earlier.at ≤ later.at
   pub newer : IsNewerThan sequence earlier.at (notice_of later.message) later.at
 
--- the later one isn't the earlier one again: it has another id, or came 247 s later (RFC 7252, 4.5 and 4.8.2)
+-- the later message isn't a duplicate of the earlier one: it has another message ID, or arrived at
+-- least 247 s later (RFC 7252, sections 4.5 and 4.8.2).
 abbrev pub IsApart : Note → Note → Type 0
 IsApart later earlier = begins_exchange earlier.message.kind ≡ true → earlier.message.id ≡ later.message.id → earlier.at + window ≤ later.at
 
--- behind the first one that is shown, each is a notification, later and newer than the one before it, and none of those before
+-- each message shown after the first is a notification, follows the one before it, and is a
+-- duplicate of none of the earlier ones.
 pub record IsNext (token : List ℕ) (before : Note) (older : List Note) (n : Note) : Type 0 where
   pub own : IsOwnResponse token n.message
   pub after : IsAfter before n
@@ -113,32 +121,32 @@ abbrev pub FollowsNotes : List ℕ → List Note → Note → Type 0
 FollowsNotes token [] n = Unit {0}
 FollowsNotes token (before ∷ older) n = IsNext token before older n
 
--- what is shown, the newest first
+-- the messages shown, newest first.
 abbrev pub AreNotes : (List ℕ → Type 0) → (List ℕ → Type 0) → (ℕ → Type 0) → List ℕ → ℕ → List Note → Type 0
 AreNotes went came told token id [] = Unit {0}
 AreNotes went came told token id (n ∷ ns) = AreNotes went came told token id ns × IsNoteOf went came told token id n × FollowsNotes token ns n
 
--- ---- step by step
+-- ---- one message after the other
 
 abbrev pub is_mark_of : ℕ → ℕ → ShownMark → Bool
 is_mark_of id at k = nat_eq k.id id && nat_eq k.at at
 
--- a mark of this id and moment is there
+-- there is a mark with this message ID and time.
 abbrev pub has_mark : List ShownMark → ℕ → ℕ → Bool
 has_mark marks id at = list_any (is_mark_of id at) marks
 
--- a message of its own that was shown has a mark, or is 247 s old
+-- a separate response that was shown has a mark, or is at least 247 s old.
 abbrev pub IsRemembered : List ShownMark → ℕ → Note → Type 0
 IsRemembered marks now n = begins_exchange n.message.kind ≡ true → (has_mark marks n.message.id n.at ≡ true) ⊎ (n.at + window ≤ now)
 
--- these were shown, and the watch has the newest of them, which is a state, and remembers all
+-- these messages were shown. The watch has the state of the newest one, and remembers all.
 pub record IsWatching (went came : List ℕ → Type 0) (told : ℕ → Type 0) (token : List ℕ) (id : ℕ) (latest : Note) (older : List Note) (w : Watch) : Type 0 where
   pub are : AreNotes went came told token id (latest ∷ older)
   pub state : notice_of latest.message ≡ State w.sequence
   pub moment : w.at ≡ latest.at
   pub remembered : All (IsRemembered w.marks.items w.at) (latest ∷ older)
 
--- the next note, at this moment: the last one, or a state, which is kept
+-- the next message shown at this time is a state, and the watch records it.
 pub record IsKept (old new : Watch) (at : ℕ) (m : Message) : Type 0 where
   pub notice : notice_after old at m ≡ State new.sequence
   pub moment : new.at ≡ at
@@ -155,21 +163,22 @@ pub record IsNextNote (went came : List ℕ → Type 0) (told : ℕ → Type 0) 
   pub own : IsOwnResponse token message
   pub shown : IsShownAs last old new (max old.at moment) message
 
--- where no note comes, nothing is shown
+-- if no notification is to be shown, the watch is unchanged.
 abbrev pub Watches : (List ℕ → Type 0) → (List ℕ → Type 0) → (ℕ → Type 0) → List ℕ → List ℕ → Watch → Watch → Option NotedMessage → Type 0
 Watches went came told token buffer old new None = new ≡ old
 Watches went came told token buffer old new (Some noted) =
     (noted.count ≤ length buffer) × IsNextNote went came told token (take noted.count buffer) noted.moment old new noted.last
 
--- a notification came, and was acknowledged where it asks for that
+-- a notification arrived, and was acknowledged if it is confirmable.
 pub record HasOwnResponse (went came : List ℕ → Type 0) (token bytes : List ℕ) : Type 0 where
   pub message : Message
   pub heard : IsHeardFrom went came bytes message
   pub own : IsOwnResponse token message
 
--- ---- the end
+-- ---- the deregistration
 
--- an acknowledgement of the request of this id, with an answer or without
+-- the message is an acknowledgement of the request with this message ID, with or without a
+-- response.
 pub record IsAcknowledgementOf (id : ℕ) (m : Message) : Type 0 where
   pub kind : m.kind ≡ Acknowledgement
   pub id_is : m.id ≡ id
@@ -178,7 +187,7 @@ pub record HasAcknowledgement (came : List ℕ → Type 0) (id : ℕ) : Type 0 w
   pub bytes : List ℕ
   pub is : HasArrived came (IsAcknowledgementOf id) bytes
 
--- the deregistration was sent, and acknowledged
+-- the deregistration was sent and acknowledged.
 pub record HasDeregistered (went came : List ℕ → Type 0) (o : Observer) : Type 0 where
   pub asked : went (message_bytes (observe_request o.errand.now Deregister o.token ((o.id + 1) % 65536)))
   pub acknowledged : HasAcknowledgement came ((o.id + 1) % 65536)

@@ -1,4 +1,4 @@
--- What an observer sends, and what a response is to it (RFC 7641).
+-- The requests of an observer, and the classification of responses to it (RFC 7641).
 use Rattle.std.specs.Prelude.{◌≡◌, ℕ, ◌+◌, ◌-◌, ◌&&◌, ◌||◌, Bool, true, false, nat_eq, nat_lt, nat_le, filter, if◌then◌else◌, List, [], ◌∷◌, ◌++◌, length, Option, Some, None}
 use Rattle.std.specs.List.{list_any}
 use Rattle.coap_msg.specs.Windows.{within_window}
@@ -22,12 +22,13 @@ use Rattle.coap_client.specs.Parts.{largest_szx, resource_options}
 use Rattle.coap_client.specs.Paths.{slices_in}
 use Rattle.coap_client.specs.Replies.{begins_exchange, first_or_none, is_response, is_success, is_understood, next_of_answer}
 
--- the value of Observe: 0 registers, 1 deregisters (RFC 7641, 2)
+-- the value of Observe: 0 registers, 1 deregisters (RFC 7641, section 2).
 abbrev pub observe_value : Interest → ℕ
 observe_value Register = 0
 observe_value Deregister = 1
 
--- the GET by which an observer of an errand's resource registers or deregisters, under its token (RFC 7641, 3.1 and 3.6)
+-- the GET with a token that registers or deregisters an observer of an errand's resource (RFC 7641,
+-- sections 3.1 and 3.6).
 abbrev pub observe_request : Errand → Interest → List ℕ → ℕ → Message
 observe_request e interest token id = record {
   kind = Confirmable;
@@ -38,20 +39,23 @@ observe_request e interest token id = record {
   payload = [];
 }
 
--- a piggybacked response to the request of this id and token (RFC 7252, 5.2.1)
+-- the message is the piggybacked response to the request with this message ID and token (RFC 7252,
+-- section 5.2.1).
 pub record IsReplyWith (token : List ℕ) (id : ℕ) (m : Message) : Type 0 where
   pub kind : m.kind ≡ Acknowledgement
   pub id_is : m.id ≡ id
   pub token_is : m.token ≡ token
   pub response : is_response m.code ≡ true
 
--- a response in a message of its own to a request of this token: each notification is one (RFC 7641, 1.2)
+-- the message is a separate response to a request with this token; each notification is one (RFC
+-- 7641, section 1.2).
 pub record IsOwnResponse (token : List ℕ) (m : Message) : Type 0 where
   pub kind : begins_exchange m.kind ≡ true
   pub token_is : m.token ≡ token
   pub response : is_response m.code ≡ true
 
--- the sequence number of a state: the value of Observe, which has 3 bytes at most (RFC 7641, 2 and 3.4)
+-- the sequence number of a state: the value of Observe, of at most 3 bytes (RFC 7641, sections 2
+-- and 3.4).
 abbrev pub sequence_in : Option (List ℕ) → Option ℕ
 sequence_in None = None
 sequence_in (Some value) = if nat_le (length value) 3 then Some (uint_value value) else None
@@ -59,21 +63,24 @@ sequence_in (Some value) = if nat_le (length value) 3 then Some (uint_value valu
 abbrev pub sequence_of : Message → Option ℕ
 sequence_of m = sequence_in (first_or_none (values_in option.OBSERVE m.options))
 
--- the state of sequence number v2 that came at moment t2 is newer than that of v1 that came at t1, in milliseconds (RFC 7641, 3.4)
+-- the state of sequence number v2 that arrived at t2 is newer than that of v1 that arrived at t1;
+-- times are in milliseconds (RFC 7641, section 3.4).
 abbrev pub is_newer : ℕ → ℕ → ℕ → ℕ → Bool
 is_newer v1 t1 v2 t2 =
     (nat_lt v1 v2 && nat_lt (v2 - v1) 8388608) || ((nat_lt v2 v1 && nat_lt 8388608 (v1 - v2)) || nat_lt (t1 + 128000) t2)
 
--- nothing comes behind it
+-- no block follows.
 abbrev pub is_last_part : Next → Bool
 is_last_part next.Last = true
 is_last_part other = false
 
--- it can be shown: no critical option is unknown, and it is whole by itself, as what a fetch gets by its first request (RFC 7959, 2.4)
+-- the message can be shown. No critical option is unknown, and it is whole by itself, like the
+-- response to the first request of a fetch (RFC 7959, section 2.4).
 abbrev pub can_be_shown : Message → Bool
 can_be_shown m = is_understood m && is_last_part (next_of_answer 0 largest_szx m)
 
--- a success with a sequence number is a state, behind which others may come; without one, and where it is an error, it is the last (RFC 7641, 3.2 and 4.2)
+-- a success with a sequence number is a state, and more may follow. A success without one is the
+-- last response, and so is an error (RFC 7641, sections 3.2 and 4.2).
 abbrev pub by_sequence : Option ℕ → Notice
 by_sequence None = Last
 by_sequence (Some v) = State v
@@ -84,11 +91,12 @@ by_success m = if is_success m.code then by_sequence (sequence_of m) else Last
 abbrev pub notice_of : Message → Notice
 notice_of m = if can_be_shown m then by_success m else Misfit
 
--- a message of this id was shown less than 247 s before: this one repeats it (RFC 7252, 4.5)
+-- a message with this message ID was shown less than 247 s before, so that this one is a duplicate
+-- (RFC 7252, section 4.5).
 abbrev pub is_shown_again : List ShownMark → ℕ → ℕ → Bool
 is_shown_again marks id at = list_any (λ k. nat_eq k.id id && within_window at k.at) marks
 
--- what a response in a message of its own is, at this moment, to an observer that has shown these
+-- the classification of a separate response at this time, for an observer with this watch.
 abbrev pub by_age : Watch → ℕ → Notice → Notice
 by_age w at (State v) = if is_newer w.sequence w.at v at then State v else Older
 by_age w at other = other
@@ -99,10 +107,10 @@ notice_after w at m = if is_shown_again w.marks.items m.id at then Older else by
 abbrev pub mark : ℕ → ℕ → ShownMark
 mark id at = record { id = id; at = at }
 
--- the mark of the first one that is shown, where it is a message of its own
+-- the mark of the first message shown, if it is a separate response.
 abbrev pub first_marks : Message → ℕ → List ShownMark
 first_marks m at = if begins_exchange m.kind then mark m.id at ∷ [] else []
 
--- the marks that still count at this moment, and one more
+-- the marks that still count at this time, and one more.
 abbrev pub marked : List ShownMark → ℕ → ℕ → List ShownMark
 marked marks id at = filter (λ k. within_window at k.at) marks ++ mark id at ∷ []

@@ -1,4 +1,5 @@
--- What an observer calls: its registration, what it listens to while it is registered, and its deregistration. Of a list of calls the newest stands first.
+-- The calls of an observer: its registration, its waits while it is registered, and its
+-- deregistration. In a list of calls, the newest is first.
 use Rattle.std.specs.Prelude.{◌≡◌, ℕ, zero, suc, ◌+◌, ◌%◌, ◌⊎◌, max, option_map, Bool, true, false, List, [], ◌∷◌, ◌++◌, take, Ok, Option, Some, None}
 use Rattle.coap_msg.specs.Reading.{reading_of}
 use Rattle.coap_msg.specs.Wire.{Message, message_bytes}
@@ -18,7 +19,7 @@ use Rattle.coap_client.specs.Transmissions.{AreBehind, IsLastSending, IsTransmis
 
 -- ---- the registration
 
--- it is transmitted, and answered
+-- the registration is transmitted, and has a response.
 abbrev pub IsRegistration : Observer → List ℕ → List PeerCall → Type 0
 IsRegistration o answer calls =
     IsTransmission true (TellsObserver o.token o.id) (message_bytes (observe_request o.errand.now Register o.token o.id)) (Some answer) calls
@@ -26,7 +27,7 @@ IsRegistration o answer calls =
 abbrev pub IsAnsweredRegistration : Observer → List PeerCall → Type 0
 IsAnsweredRegistration o calls = (answer : List ℕ) × IsRegistration o answer calls
 
--- and then the clock is read
+-- the registration has a response, and then the clock is read.
 pub record IsDatedRegistration (o : Observer) (calls : List PeerCall) : Type 0 where
   pub older : List PeerCall
   pub answered : IsAnsweredRegistration o older
@@ -35,19 +36,20 @@ pub record IsDatedRegistration (o : Observer) (calls : List PeerCall) : Type 0 w
 
 -- ---- notifications
 
--- what is none is passed over
+-- a datagram that isn't a notification is skipped.
 abbrev pub IsNoNotification : List ℕ → List ℕ → List PeerCall → Type 0
 IsNoNotification token bytes sent = (IsReadAs bytes (IsOwnResponse token) → ⊥) × (sent ≡ [])
 
--- behind one its acknowledgement is sent, where it asks for that, and nothing behind another datagram
+-- a notification is acknowledged if it is confirmable; nothing is sent after another datagram.
 abbrev pub AcknowledgesNotification : List ℕ → List ℕ → List PeerCall → Type 0
 AcknowledgesNotification token bytes sent = (IsReadAs bytes (IsOwnResponse token) × (sent ≡ acknowledges bytes)) ⊎ IsNoNotification token bytes sent
 
--- a notification is acknowledged, where it asks for that, and then the clock is read
+-- a notification is acknowledged if it is confirmable, and then the clock is read.
 abbrev pub dates : List ℕ → ℕ → List PeerCall
 dates bytes moment = Reads moment ∷ acknowledges bytes
 
--- one that isn't shown: it repeats what was, or is no newer, at the moment that the clock says then
+-- a notification that isn't shown: it is a duplicate of one already shown, or isn't newer, at the
+-- time that the clock then returns.
 pub record IsOlderNotification (told : ℕ → Type 0) (token : List ℕ) (w : Watch) (bytes : List ℕ) (sent : List PeerCall) : Type 0 where
   pub message : Message
   pub read_is : reading_of bytes ≡ Ok message
@@ -57,44 +59,46 @@ pub record IsOlderNotification (told : ℕ → Type 0) (token : List ℕ) (w : W
   pub older : notice_after w (max w.at moment) message ≡ Older
   pub sent_is : sent ≡ dates bytes moment
 
--- that is passed over as well
+-- during a watch, such a notification is skipped too.
 abbrev pub IsPassedOverWatching : (ℕ → Type 0) → List ℕ → Watch → List ℕ → List PeerCall → Type 0
 IsPassedOverWatching told token w bytes sent = IsOlderNotification told token w bytes sent ⊎ IsNoNotification token bytes sent
 
--- this one came, and was acknowledged; then the clock said this moment
+-- this notification arrived and was acknowledged if it is confirmable; then the clock returned this
+-- time.
 pub record IsNoticed (token : List ℕ) (passes : List ℕ → List PeerCall → Type 0) (bytes : List ℕ) (moment : ℕ) (calls : List PeerCall) : Type 0 where
   pub own : IsReadAs bytes (IsOwnResponse token)
   pub heard : List PeerCall
   pub ends : EndsOn passes bytes heard
   pub is : calls ≡ dates bytes moment ++ heard
 
--- a notification, and the moment that the clock says behind it
+-- a notification, and the time that the clock returned after it.
 abbrev pub Dated : Type 0
 Dated = List ℕ × ℕ
 
--- or none, and the wait is over
+-- the wait for a notification: one arrives, or the wait is over.
 abbrev pub AwaitsNotification : List ℕ → (List ℕ → List PeerCall → Type 0) → Option Dated → List PeerCall → Type 0
 AwaitsNotification token passes None calls = IsOver passes calls
 AwaitsNotification token passes (Some (bytes, moment)) calls = IsNoticed token passes bytes moment calls
 
--- the notification at the start of the buffer, if one came
+-- the notification at the start of the buffer, if one arrived.
 abbrev pub dated_in : List ℕ → Option DatedMessage → Option Dated
 dated_in buffer came = option_map (λ x. (take x.count buffer, x.moment)) came
 
--- if one is to be shown
+-- the notification at the start of the buffer, if one is to be shown.
 abbrev pub noted_in : List ℕ → Option NotedMessage → Option Dated
 noted_in buffer noted = option_map (λ x. (take x.count buffer, x.moment)) noted
 
--- ---- while it is registered
+-- ---- a registered observer
 
--- a datagram comes, and is acknowledged where it is a notification that asks for that
+-- a datagram arrives, and is acknowledged if it is a confirmable notification.
 pub record ComesToObserver (token : List ℕ) (step : List PeerCall) : Type 0 where
   pub bytes : List ℕ
   pub sent : List PeerCall
   pub acknowledged : AcknowledgesNotification token bytes sent
   pub is : step ≡ sent ++ Receives (Some bytes) ∷ []
 
--- or a wait is begun, or over, or the clock is read
+-- a step of a registered observer: a wait begins or is over, the clock is read, or a datagram
+-- arrives.
 abbrev pub IsObserverStep : List ℕ → List PeerCall → Type 0
 IsObserverStep token step =
     ((seconds : ℕ) × (step ≡ Waits seconds ∷ [])) ⊎ ((step ≡ Receives None ∷ []) ⊎ (((moment : ℕ) × (step ≡ Reads moment ∷ [])) ⊎ ComesToObserver token step))
@@ -113,30 +117,31 @@ AreObserverSteps token (suc n) calls = IsOneMoreStep (AreObserverSteps token n) 
 abbrev pub IsObserving : List ℕ → List PeerCall → Type 0
 IsObserving token calls = (n : ℕ) × AreObserverSteps token n calls
 
--- it registers, and observes
+-- the observer registers, and then observes.
 abbrev pub IsObservation : Observer → List PeerCall → Type 0
 IsObservation o calls = AreBehind (IsDatedRegistration o) (IsObserving o.token) calls
 
 -- ---- the deregistration
 
--- while it is out, with this id, what neither acknowledges nor rejects it is passed over
+-- while the deregistration with this message ID is outstanding, a datagram is skipped that neither
+-- acknowledges nor rejects it.
 pub record IsPassedOverLeaving (token : List ℕ) (id : ℕ) (bytes : List ℕ) (sent : List PeerCall) : Type 0 where
   pub acknowledged : IsReadAs bytes (IsAcknowledgementOf id) → ⊥
   pub rejected : IsReadAs bytes (IsReset id) → ⊥
   pub notification : AcknowledgesNotification token bytes sent
 
--- it was acknowledged
+-- the deregistration was acknowledged.
 pub record IsAcknowledgedLeaving (token : List ℕ) (id : ℕ) (heard : List PeerCall) : Type 0 where
   pub bytes : List ℕ
   pub acknowledges_it : IsReadAs bytes (IsAcknowledgementOf id)
   pub ends : EndsOn (IsPassedOverLeaving token id) bytes heard
 
--- it was, or the wait is over
+-- the deregistration was acknowledged, or the wait is over.
 abbrev pub IsOverUnlessLeft : List ℕ → ℕ → Bool → List PeerCall → Type 0
 IsOverUnlessLeft token id true heard = IsAcknowledgedLeaving token id heard
 IsOverUnlessLeft token id false heard = IsOver (IsPassedOverLeaving token id) heard
 
--- it is sent until it is acknowledged
+-- the deregistration is sent until it is acknowledged.
 abbrev pub IsDeregistrationOf : Observer → ℕ → List PeerCall → Type 0
 IsDeregistrationOf o id calls =
     IsLastSending (IsPassedOverLeaving o.token id) (message_bytes (observe_request o.errand.now Deregister o.token id)) (IsAcknowledgedLeaving o.token id) calls

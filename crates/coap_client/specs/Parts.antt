@@ -1,5 +1,6 @@
--- What a client's requests carry: the whole body, a block of a body that is too large for one (RFC 7959, 2.5), or what asks for
--- a further block of an answer (RFC 7959, 2.4).
+-- The contents of a client's requests. A request has the whole body, or a block of a body that is
+-- too large for one request (RFC 7959, section 2.5). Or it has a block option that requests a
+-- further block of the response (RFC 7959, section 2.4).
 use Rattle.std.specs.Prelude.{ℕ, ◌+◌, ◌*◌, ◌≤◌, ◌^◌, nat_lt, Bool, true, false, min, if◌then◌else◌, List, [], ◌∷◌, ◌++◌, length, take, drop, map, sum_by, Option, Some, None}
 use Rattle.coap_msg.specs.declared.types.MessageType.{MessageType}
 use Rattle.coap_msg.specs.declared.types.MessageType.TheVariants.{Confirmable, NonConfirmable}
@@ -11,23 +12,25 @@ use Rattle.coap_client.specs.declared.part.Part.{Part}
 use Rattle.coap_client.specs.declared.part.Part.TheVariants.{Whole, Body, Answer}
 use Rattle.arrayvec.specs.ArrayVec.{ArrayVec}
 
--- the bytes of the largest block, and its size as options write it: its exponent less 4
+-- the length of the largest block in bytes, and its size in block options: the exponent less 4.
 abbrev pub largest_block : ℕ
 largest_block = 1024
 
 abbrev pub largest_szx : ℕ
 largest_szx = 6
 
--- how many bytes of a body go with one request: a PUT's go in blocks, others whole
+-- the number of bytes of a body in one request: a PUT sends blocks, the other methods the whole
+-- body.
 abbrev pub most_at_once : Method → ℕ → ℕ
 most_at_once Put count = min count largest_block
 most_at_once other count = count
 
--- the room of an option: five bytes go before its value at most
+-- the room of an option: at most five bytes precede its value.
 abbrev pub option_room : List ℕ → ℕ
 option_room value = length value + 5
 
--- each request fits a datagram of 1,280 bytes: of these, 18 are kept for the header, the marker and a block option
+-- each request fits a datagram of 1,280 bytes; 18 of these are reserved for the header, the payload
+-- marker and a block option.
 pub record FitsDatagrams (method : Method) (segments query : List (List ℕ)) (payload : List ℕ) : Type 0 where
   pub room : sum_by option_room segments + (sum_by option_room query + most_at_once method (length payload)) ≤ 1262
   pub blocks : length payload ≤ 2 ^ 30
@@ -36,43 +39,45 @@ abbrev pub request_kind : Bool → MessageType
 request_kind true = Confirmable
 request_kind false = NonConfirmable
 
--- the first request: a PUT's body of more than a block goes in blocks
+-- the first request: a PUT's body that is longer than a block is sent in blocks.
 abbrev pub first_part : Method → ℕ → Part
 first_part Put count = if nat_lt largest_block count then Body 0 largest_szx else Whole
 first_part other count = Whole
 
--- whether block n of this size has another one behind it, where there are so many bytes
+-- whether a block follows block n of this size, in a body of `count` bytes.
 abbrev pub has_more : ℕ → ℕ → ℕ → Bool
 has_more count n szx = nat_lt (block_size szx * (n + 1)) count
 
--- the value of a block option
+-- the value of a block option.
 abbrev pub block_option : ℕ → Bool → ℕ → List ℕ
 block_option n more szx = block_bytes (record { number = n; more = more; szx = szx })
 
--- an option of this number for each value
+-- an option of this number for each value.
 abbrev pub numbered : ℕ → List (List ℕ) → List (ℕ × List ℕ)
 numbered number values = map (λ v. (number, v)) values
 
--- the Content-Format of a payload, where one is given (RFC 7252, 5.10.3)
+-- the Content-Format of a payload, if there is one (RFC 7252, section 5.10.3).
 abbrev pub format_option : Option ℕ → List (ℕ × List ℕ)
 format_option None = []
 format_option (Some format) = (option.CONTENT_FORMAT, uint_bytes format) ∷ []
 
--- a request goes with the body, whole or by a block of it; one that asks for a further block of the answer does so where it is a GET
+-- whether a request has the body, or a block of it; a request for a further block of the response
+-- has it only if it is a GET.
 abbrev pub brings_body : Method → Part → Bool
 brings_body Get part = true
 brings_body method (Answer n szx) = false
 brings_body method part = true
 
--- the Content-Format goes where the body does
+-- the Content-Format is in the requests that have the body.
 abbrev pub format_options : Method → Part → Option ℕ → List (ℕ × List ℕ)
 format_options method part format = if brings_body method part then format_option format else []
 
--- the resource: its path and its query (RFC 7252, 5.10.1)
+-- the options of a resource: its path and its query (RFC 7252, section 5.10.1).
 abbrev pub resource_options : List (List ℕ) → List (List ℕ) → List (ℕ × List ℕ)
 resource_options segments query = numbered option.URI_PATH segments ++ numbered option.URI_QUERY query
 
--- with the Content-Format between the two, by the order of the options' numbers (RFC 7252, 3.1)
+-- the same with the Content-Format between the two, in the order of the option numbers (RFC 7252,
+-- section 3.1).
 abbrev pub request_options : List (List ℕ) → List (ℕ × List ℕ) → List (List ℕ) → List (ℕ × List ℕ)
 request_options segments format query = numbered option.URI_PATH segments ++ (format ++ numbered option.URI_QUERY query)
 
@@ -81,17 +86,18 @@ part_options Whole count = []
 part_options (Body n szx) count = (option.BLOCK1, block_option n (has_more count n szx) szx) ∷ []
 part_options (Answer n szx) count = (option.BLOCK2, block_option n false szx) ∷ []
 
--- an option as it is written
+-- an option with its value's bytes.
 abbrev pub option_in : Option (ℕ × ArrayVec ℕ) → List (ℕ × List ℕ)
 option_in None = []
 option_in (Some (number, value)) = (number, value.items) ∷ []
 
--- a GET's body goes again with each request, since its answer is made anew for each; that of others has gone
+-- a GET has its body in each request, since the server makes the response again for each; the other
+-- methods have sent it.
 abbrev pub answer_payload : Method → List ℕ → List ℕ
 answer_payload Get payload = payload
 answer_payload other payload = []
 
--- block n of a body
+-- block n of a body.
 abbrev pub block_of : List ℕ → ℕ → ℕ → List ℕ
 block_of payload n szx = take (block_size szx) (drop (block_size szx * n) payload)
 

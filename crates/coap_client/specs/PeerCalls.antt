@@ -1,4 +1,4 @@
--- What a client calls on a peer. Of a list of calls the newest stands first.
+-- The calls of a client on a peer. In a list of calls, the newest is first.
 use Rattle.std.specs.Prelude.{ℕ, List, ◌++◌, take, Option}
 use Rattle.std.specs.IoError.{error_kind}
 use Rattle.std.specs.Option.{option_map}
@@ -6,25 +6,25 @@ use Rattle.std.specs.Option.{option_map}
 abbrev domain_of : {A B : Type 0} → (A → B) → Type 0
 domain_of {A = A} f = A
 
--- an error of a peer: the library names the type of an `io::Error` by its functions alone
+-- an error of a peer; the library names the type of an `io::Error` only by its functions.
 abbrev pub PeerError : Type 0
 PeerError = domain_of error_kind
 
 pub data PeerCall : Type 0 where
-  -- a datagram is sent
+  -- a datagram is sent.
   Sends : (bytes : List ℕ) → PeerCall
-  -- a wait of so many seconds is begun
+  -- a wait of `seconds` seconds begins.
   Waits : (seconds : ℕ) → PeerCall
-  -- a datagram comes while the wait lasts; or none, since it is over
+  -- a datagram arrives during the wait; or none, since the wait is over.
   Receives : (bytes : Option (List ℕ)) → PeerCall
-  -- the clock is read: it is this moment, in milliseconds
+  -- the clock is read, and returns this time in milliseconds.
   Reads : (moment : ℕ) → PeerCall
 
--- these calls are added to those before
+-- these calls are added to the earlier ones.
 abbrev pub Adds : (List PeerCall → Type 0) → (List PeerCall → Type 0) → List PeerCall → Type 0
 Adds before after more = (calls : List PeerCall) → before calls → after (more ++ calls)
 
--- the datagram at the start of the buffer, if one came
+-- the datagram at the start of the buffer, if one arrived.
 abbrev pub received_bytes : List ℕ → Option ℕ → Option (List ℕ)
 received_bytes buffer count = option_map (λ n. take n buffer) count
 

@@ -1,4 +1,4 @@
--- Which messages answer a request, and what an answer says of the next one.
+-- The messages that answer a request, and the next step of a fetch after a response.
 use Rattle.std.specs.Prelude.{◌≡◌, ℕ, ◌+◌, ◌-◌, ◌*◌, ◌/◌, ◌^◌, ◌%◌, ◌==◌, ◌&&◌, ◌||◌, not, Bool, true, false, nat_eq, nat_lt, nat_le, if◌then◌else◌, bytes_eq, List, [], ◌∷◌, length, Option, Some, None}
 use Rattle.std.specs.List.{list_all, list_any}
 use Rattle.coap_msg.specs.Wire.{Message}
@@ -14,62 +14,66 @@ use Rattle.coap_client.specs.declared.reply.Next.{Next}
 use Rattle.coap_client.specs.declared.reply.Next.TheVariants.{Ask, Last, Refused, Stale, Misfit}
 use Rattle.coap_client.specs.Parts.{has_more, largest_szx}
 
--- a response: class 2, 4 or 5 (RFC 7252, 5.9)
+-- a response code: class 2, 4 or 5 (RFC 7252, section 5.9).
 abbrev pub is_response : ℕ → Bool
 is_response code = (code / 32 == 2) || ((code / 32 == 4) || (code / 32 == 5))
 
--- a piggybacked response to the request of this id, which had no token (RFC 7252, 5.2.1)
+-- the message is the piggybacked response to the request with this message ID, which had no token
+-- (RFC 7252, section 5.2.1).
 pub record IsReply (id : ℕ) (m : Message) : Type 0 where
   pub kind : m.kind ≡ Acknowledgement
   pub id_is : m.id ≡ id
   pub token : m.token ≡ []
   pub response : is_response m.code ≡ true
 
--- an empty acknowledgement of the request of this id: its response comes in a message of its own (RFC 7252, 5.2.2)
+-- the message is an empty acknowledgement of the request with this message ID, so that its response
+-- is separate (RFC 7252, section 5.2.2).
 pub record IsEmptyAcknowledgement (id : ℕ) (m : Message) : Type 0 where
   pub kind : m.kind ≡ Acknowledgement
   pub id_is : m.id ≡ id
   pub empty : m.code ≡ 0
 
--- confirmable or not: a message that begins an exchange
+-- the message begins an exchange: it is confirmable or non-confirmable.
 abbrev pub begins_exchange : MessageType → Bool
 begins_exchange Confirmable = true
 begins_exchange NonConfirmable = true
 begins_exchange other = false
 
--- a response in a message of its own, to a request without a token (RFC 7252, 5.2.2 and 5.2.3)
+-- the message is a separate response to a request without a token (RFC 7252, sections 5.2.2 and
+-- 5.2.3).
 pub record IsSeparate (m : Message) : Type 0 where
   pub kind : begins_exchange m.kind ≡ true
   pub token : m.token ≡ []
   pub response : is_response m.code ≡ true
 
--- a message with one of these ids has come before
+-- a message with one of these message IDs was received before.
 abbrev pub is_taken : List ℕ → ℕ → Bool
 is_taken earlier id = list_any (λ y. nat_eq y id) earlier
 
--- the request of this id is rejected (RFC 7252, 4.2)
+-- the message rejects the request with this message ID (RFC 7252, section 4.2).
 pub record IsReset (id : ℕ) (m : Message) : Type 0 where
   pub kind : m.kind ≡ Reset
   pub id_is : m.id ≡ id
   pub empty : m.code ≡ 0
 
--- an option that may be ignored where it isn't known, or one of the two critical ones that a client knows of responses (RFC 7252, 5.4.1 and 5.4.6)
+-- an option that may be ignored if it is unknown, or one of the two critical ones that a client
+-- knows in responses (RFC 7252, sections 5.4.1 and 5.4.6).
 abbrev pub is_known_option : ℕ → Bool
 is_known_option number = (number % 2 == 0) || ((number == option.BLOCK1) || (number == option.BLOCK2))
 
--- at most one option of this number
+-- there is at most one option of this number.
 abbrev pub is_single : ℕ → Message → Bool
 is_single number m = nat_le (length (values_in number m.options)) 1
 
--- no critical option is unknown, or stands there again (RFC 7252, 5.4.1 and 5.4.5)
+-- no critical option is unknown or repeated (RFC 7252, sections 5.4.1 and 5.4.5).
 abbrev pub is_understood : Message → Bool
 is_understood m = list_all (λ o. is_known_option o.0) m.options && (is_single option.BLOCK1 m && is_single option.BLOCK2 m)
 
--- the class of success (RFC 7252, 5.9.1)
+-- the success class (RFC 7252, section 5.9.1).
 abbrev pub is_success : ℕ → Bool
 is_success code = code / 32 == 2
 
--- the body is taken so far, and more of it is to come (RFC 7959, 2.9.1)
+-- the server took the body so far, and expects more of it (RFC 7959, section 2.9.1).
 abbrev pub is_continue : Message → Bool
 is_continue m = m.code == registered.CONTINUE.byte
 
@@ -77,7 +81,7 @@ abbrev pub first_or_none : List (List ℕ) → Option (List ℕ)
 first_or_none [] = None
 first_or_none (v ∷ vs) = Some v
 
--- the values of Block1 and Block2 (RFC 7959, 2.1)
+-- the values of Block1 and Block2 (RFC 7959, section 2.1).
 abbrev pub block1_of : Message → Option (List ℕ)
 block1_of m = first_or_none (values_in option.BLOCK1 m.options)
 
@@ -88,38 +92,42 @@ abbrev pub or_empty : Option (List ℕ) → List ℕ
 or_empty None = []
 or_empty (Some v) = v
 
--- the ETag, or no byte
+-- the ETag, or no bytes.
 abbrev pub etag_of : Message → List ℕ
 etag_of m = or_empty (first_or_none (values_in option.ETAG m.options))
 
--- after a block of the answer that has others behind it
+-- the next step after a block of the response that others follow.
 abbrev pub next_block : Place → Next
 next_block b = if nat_lt (b.number + 1) 1048576 then Ask (Answer (b.number + 1) b.szx) else Misfit
 
--- a block of the answer that has so many bytes: just its size where others are behind it, and no more than that where none is
+-- the next step after a block of `count` bytes of the response. If others follow, it has just the
+-- block size; if not, at most that.
 abbrev pub by_more : Place → ℕ → Next
 by_more b count = if b.more
     then (if count == block_size b.szx then next_block b else Misfit)
     else (if nat_le count (block_size b.szx) then Last else Misfit)
 
--- the block begins where the one begins that was asked for, and is no larger (RFC 7959, 2.3 and 2.4)
+-- the block begins at the start of the requested one, and is no larger (RFC 7959, sections 2.3 and
+-- 2.4).
 abbrev pub fits_place : ℕ → ℕ → Place → Bool
 fits_place n szx b = nat_le b.szx szx && (block_size b.szx * b.number == block_size szx * n)
 
 abbrev pub by_block : ℕ → ℕ → ℕ → Place → Next
 by_block n szx count b = if fits_place n szx b then by_more b count else Misfit
 
--- without Block2 an answer is whole
+-- a response without Block2 is whole.
 abbrev pub by_option : ℕ → ℕ → ℕ → Option (List ℕ) → Next
 by_option n szx count None = if n == 0 then Last else Misfit
 by_option n szx count (Some value) = if nat_le (length value) 3 then by_block n szx count (place_in value) else Misfit
 
--- what comes after the answer to what asked for block n of this size
+-- the next step after the response to a request for block n of this size.
 abbrev pub next_of_answer : ℕ → ℕ → Message → Next
 next_of_answer n szx m = by_option n szx (length m.payload) (block2_of m)
 
--- in which size the rest of the body goes, where a success says that block n was taken: by its Block1, which names that block and a size that is no greater, or by 2.31 without one
--- (RFC 7959, 2.3 and 2.9.1). A success that isn't 2.31 is one of a server that carries each block out by itself, or waits for the others.
+-- the size for the rest of the body, if a success says that the server took block n. It says so by
+-- a Block1 that names that block and a size that is no greater, or by 2.31 without Block1 (RFC
+-- 7959, sections 2.3 and 2.9.1). A success other than 2.31 is from a server that carries out each
+-- block by itself, or waits for the others.
 abbrev pub size_by_block : ℕ → ℕ → Place → Option ℕ
 size_by_block n szx b = if (b.number == n) && nat_le b.szx szx then Some b.szx else None
 
@@ -127,7 +135,7 @@ abbrev pub next_size : ℕ → ℕ → Bool → Option (List ℕ) → Option ℕ
 next_size n szx continued None = if continued then Some szx else None
 next_size n szx continued (Some value) = if nat_le (length value) 3 then size_by_block n szx (place_in value) else None
 
--- the block behind block n, as it is counted in blocks of a size that is no greater
+-- the number of the block after block n, counted in blocks of a size that is no greater.
 abbrev pub next_number : ℕ → ℕ → ℕ → ℕ
 next_number n szx smaller = (n + 1) * 2 ^ (szx - smaller)
 
@@ -136,7 +144,8 @@ next_of_body n szx None = Misfit
 next_of_body n szx (Some smaller) =
     if nat_lt (next_number n szx smaller) 1048576 then Ask (Body (next_number n szx smaller) smaller) else Misfit
 
--- a success is the answer to the whole request: it isn't 2.31, and where it has a Block1, that names block n and says that the server has all (RFC 7959, 2.3)
+-- a success is the response to the whole request: it isn't 2.31, and its Block1, if there is one,
+-- names block n and says that the server has the whole body (RFC 7959, section 2.3).
 abbrev pub names_last : ℕ → Place → Bool
 names_last n b = (b.number == n) && not b.more
 
@@ -150,7 +159,7 @@ is_final n m = not (is_continue m) && says_last n (block1_of m)
 abbrev pub next_of_whole : ℕ → Message → Next
 next_of_whole n m = if is_final n m then next_of_answer 0 largest_szx m else Misfit
 
--- a further block is of the version that the blocks before it are of (RFC 7959, 2.4)
+-- a further block is of the same version as the blocks before it (RFC 7959, section 2.4).
 abbrev pub next_of_further : ℕ → ℕ → List ℕ → Message → Next
 next_of_further n szx etag m =
     if bytes_eq (etag_of m) etag then (if is_continue m then Misfit else next_of_answer n szx m) else Stale
@@ -164,6 +173,7 @@ by_part count (Body n szx) etag m =
 abbrev pub next_by_code : ℕ → Part → List ℕ → Message → Next
 next_by_code count part etag m = if is_success m.code then by_part count part etag m else Refused
 
--- what comes after the answer to a part, where the body has so many bytes, and the blocks of the answer so far are of this version
+-- the next step after the response to a part, if the body has `count` bytes and the response's
+-- blocks so far have this ETag.
 abbrev pub next_of : ℕ → Part → List ℕ → Message → Next
 next_of count part etag m = if is_understood m then next_by_code count part etag m else Misfit

@@ -1,4 +1,4 @@
--- The requests that a client sends, and how it acknowledges a response.
+-- The requests of a client, and its acknowledgement of a response.
 use Rattle.std.specs.Prelude.{◌≡◌, ℕ, ◌*◌, ◌<◌, ◌≤◌, ◌^◌, [], ◌++◌, length}
 use Rattle.coap_msg.specs.Wire.{Message}
 use Rattle.coap_msg.specs.declared.types.MessageType.TheVariants.{Acknowledgement}
@@ -11,24 +11,24 @@ use Rattle.coap_client.specs.declared.part.Part.TheVariants.{Whole, Body, Answer
 use Rattle.coap_client.specs.Paths.{slices_in}
 use Rattle.coap_client.specs.Parts.{format_options, largest_szx, most_at_once, part_options, part_payload, request_kind, request_options}
 
--- a block's number has 20 bits, and no block is larger than 1,024 bytes (RFC 7959, 2.2)
+-- the number of a block has 20 bits, and a block has at most 1,024 bytes (RFC 7959, section 2.2).
 pub record IsBlock (n szx : ℕ) : Type 0 where
   pub number : n < 2 ^ 20
   pub size : szx ≤ largest_szx
 
--- a block of the body: only a PUT's goes in blocks
+-- a block of the body; only a PUT sends blocks.
 pub record IsBodyBlock (e : Errand) (n szx : ℕ) : Type 0 where
   pub block : IsBlock n szx
   pub method : e.method ≡ Put
   pub within : block_size szx * n < length e.payload.now
 
--- the part is one of the errand's
+-- the part is one of the errand's.
 abbrev pub IsPartOf : Errand → Part → Type 0
 IsPartOf e Whole = most_at_once e.method (length e.payload.now) ≡ length e.payload.now
 IsPartOf e (Body n szx) = IsBodyBlock e n szx
 IsPartOf e (Answer n szx) = IsBlock n szx
 
--- the request of a part, with this message id and no token
+-- the request of a part, with this message ID and no token.
 abbrev pub part_request : Errand → Part → ℕ → Message
 part_request e part id = record {
   kind = request_kind e.confirmable;
@@ -41,6 +41,6 @@ part_request e part id = record {
   payload = part_payload e.method e.payload.now part;
 }
 
--- the acknowledgement of a message, which has nothing but its id (RFC 7252, 4.2)
+-- the acknowledgement of a message, which has only its message ID (RFC 7252, section 4.2).
 abbrev pub acknowledgement : ℕ → Message
 acknowledgement id = record { kind = Acknowledgement; code = 0; id = id; token = []; options = []; payload = [] }

@@ -1,4 +1,4 @@
-//! What a client asks, and the requests that ask it.
+//! Errands: the request that a client is to make, and its messages.
 ghost use Rattle.std.specs.Prelude.{◌≡◌, ◌+◌, ◌*◌, ◌<◌, ◌≤◌, ◌++◌, ◌↔◌, IfOk, IfSome, IsNone, None, OnOk, Some, length, min, sum_by};
 ghost use Rattle.coap_msg.specs.Wire.{message_bytes};
 ghost use Rattle.coap_msg.specs.Writing.{options_in};
@@ -15,29 +15,38 @@ use coap_opts::number::{BLOCK1, BLOCK2, CONTENT_FORMAT, URI_PATH, URI_QUERY};
 use coap_opts::{Block, Method, UintBytes, encode_uint};
 use std::alloc::{AllocError, Global};
 
-/// The bytes of the largest block.
+/// Length of the largest block, in bytes.
 pub const LARGEST_BLOCK: usize = 1024;
 
-/// The size of the largest block as options write it: its exponent less 4 (RFC 7959, 2.2).
+/// Size of the largest block in block options.
+///
+/// It is the exponent less 4 (RFC 7959, section 2.2).
 pub const LARGEST_SZX: u8 = 6;
 
-/// The most bytes of a path and a query, each segment and each argument with five more, and what goes of a body at once.
+/// Maximum room of the path, the query and the body's part in a request.
+///
+/// In bytes. Each segment and each argument takes five bytes more than its length.
 const ROOM: usize = 1262;
 
-/// The most bytes that go before the value of an option.
+/// Maximum number of bytes before the value of an option.
 const OPTION_HEAD: usize = 5;
 
-/// The most bytes of a body: a block's number has 20 bits.
+/// Maximum length of a body, in bytes: the number of a block has 20 bits.
 const MOST: usize = 1 << 30;
 
-/// A resource: its path, and the arguments of its query, each of which goes as a Uri-Query (RFC 7252, 5.10.1).
+/// A resource: its path, and the arguments of its query.
+///
+/// Each argument is sent as a Uri-Query option (RFC 7252, section 5.10.1).
 #[derive(Drop)]
 pub struct RequestTarget<'a> {
     pub path: Path<'a>,
     pub query: Vec<&'a [u8]>,
 }
 
-/// What is asked: a method of a resource, and the request's body, with its Content-Format if one is given, by confirmable requests or others. Each of them fits a datagram.
+/// A request to make: a method, a resource, and a body.
+///
+/// The body has a Content-Format if one is given. The messages are confirmable or non-confirmable,
+/// and each of them fits a datagram.
 #[derive(Drop)]
 pub struct Errand<'a> {
     pub confirmable: bool,
@@ -52,8 +61,12 @@ impl<'a> Errand<'a> {
     ghost use Rattle.coap_client.specs.Parts.{first_part, has_more, part_options, part_payload};
     ghost use Rattle.coap_client.specs.Requests.{IsBlock, IsPartOf, part_request};
 
-    /// Builds the errand of these, where its requests fit a datagram: the segments of the path and the arguments of the query, each with
-    /// five bytes more, and what goes of the body at once have at most 1,262 bytes together. Of a PUT's body 1,024 bytes go at once.
+    /// Builds the errand, or returns `None` if its requests don't fit a datagram.
+    ///
+    /// They fit if these have at most 1,262 bytes together: the segments of the path and the
+    /// arguments of the query, each with five bytes more, and the part of the body in one request.
+    /// A PUT sends at most 1,024 bytes of its body in one request; the other methods send all of
+    /// it. A body has at most 2^30 bytes.
     pub fn new(
         confirmable: bool,
         method: Method,
@@ -82,7 +95,9 @@ impl<'a> Errand<'a> {
         }
     }
 
-    /// Returns the errand with this Content-Format of its body, by its number (RFC 7252, 12.3).
+    /// Returns the errand with this Content-Format for its body.
+    ///
+    /// The format is a number of the registry (RFC 7252, section 12.3).
     pub fn with_content_format(self, format: u16) -> Errand<'a>
         ensures format { result.content_format ≡ Some format }
         ensures others { (result.confirmable ≡ self.entry.confirmable) × (result.method ≡ self.entry.method)
@@ -105,6 +120,9 @@ impl<'a> Errand<'a> {
     }
 
     /// Returns the first part of the fetch.
+    ///
+    /// It is the first block, of 1,024 bytes, if the method is PUT and the body is longer than
+    /// that. Otherwise it is the whole body.
     pub fn first_part(&self) -> Part
         ensures first { result ≡ first_part self.now.method (length self.now.payload.now) }
         ensures own { IsPartOf self.now result }
@@ -119,7 +137,7 @@ impl<'a> Errand<'a> {
         }
     }
 
-    /// Returns whether the block of the body of this number and size has another one behind it.
+    /// Returns whether more of the body follows the block of this number and size.
     pub fn has_more(&self, number: u32, szx: u8) -> bool
         requires { IsBlock number szx }
         ensures { result ≡ has_more (length self.now.payload.now) number szx }
@@ -128,10 +146,12 @@ impl<'a> Errand<'a> {
         self.payload.len() > block.size() * (block.number() as usize + 1)
     }
 
-    /// Writes the request of a part, with this message id, in place of what the datagram held.
+    /// Writes the request of a part with this message ID.
+    ///
+    /// The request replaces the contents of `datagram`.
     ///
     /// # Errors
-    /// There was no memory for the list of its options.
+    /// Returns `AllocError` if memory can't be allocated for the list of options.
     pub fn write(
         &self,
         alloc: Global,
@@ -157,7 +177,8 @@ impl<'a> Errand<'a> {
         Ok(())
     }
 
-    // The Content-Format of a part's request: it goes where the body does.
+    // Returns the Content-Format option of a part's request: there is one only together with the
+    // body.
     fn format_of(&self, part: Part) -> Option<(u16, UintBytes)>
         ensures format { option_in result ≡ format_options self.now.method part self.now.content_format }
         ensures short { IfSome result (λ o. (o.0 ≡ CONTENT_FORMAT) × (length o.1.items ≤ 2)) }
@@ -170,7 +191,7 @@ impl<'a> Errand<'a> {
         }
     }
 
-    // The block option of a part's request.
+    // Returns the block option of a part's request.
     fn block_of(&self, part: Part) -> Option<(u16, UintBytes)>
         requires { IsPartOf self.now part }
         ensures { option_in result ≡ part_options part (length self.now.payload.now) }
@@ -187,7 +208,7 @@ impl<'a> Errand<'a> {
         }
     }
 
-    // What a part's request carries.
+    // Returns the payload of a part's request.
     fn payload_of(&self, part: Part) -> &'a [u8]
         requires { IsPartOf self.now part }
         ensures { result.now ≡ part_payload self.now.method self.now.payload.now part }
@@ -207,7 +228,7 @@ impl<'a> Errand<'a> {
     }
 }
 
-// The number of a Content-Format, in two bytes at most.
+// Encodes a Content-Format in at most two bytes.
 fn encode_format(format: u16) -> UintBytes
     ensures bytes { result.items ≡ uint_bytes format }
     ensures short { length result.items ≤ 2 }
@@ -215,7 +236,7 @@ fn encode_format(format: u16) -> UintBytes
     encode_uint(u64::from(format))
 }
 
-// Whether a part's request brings the body, or some of it.
+// Returns whether a part's request has the body, or a block of it.
 fn brings_body(method: Method, part: Part) -> bool
     ensures { result ≡ spec.brings_body method part }
 {
@@ -246,7 +267,7 @@ fn method_code(method: Method) -> Code
     }
 }
 
-// How many bytes of a body go with one request.
+// Returns the number of bytes of a body that are sent in one request.
 fn most_at_once(method: Method, count: usize) -> usize
     ensures { result ≡ spec.most_at_once method count }
 {
@@ -256,7 +277,7 @@ fn most_at_once(method: Method, count: usize) -> usize
     }
 }
 
-// What room the options of these values have, up to 2^64 - 1.
+// Returns the room of the options with these values, and at most 2^64 - 1.
 fn room_of(values: &[&[u8]]) -> usize
     ensures { result ≡ min (sum_by option_room (slices_in values.entry.now)) 18446744073709551615 }
 {
@@ -267,7 +288,7 @@ fn room_of(values: &[&[u8]]) -> usize
     room
 }
 
-// The options of a request: its resource, with the format of its body before the query, and a block.
+// Builds the options of a request: the path, the body's format, the query, and a block.
 fn options_with<'a>(
     alloc: Global,
     target: &'a RequestTarget<'a>,
@@ -285,7 +306,7 @@ fn options_with<'a>(
     Ok(options)
 }
 
-// Adds an option, if there is one.
+// Adds the option if there is one.
 fn push_option<'a>(
     options: &mut Vec<(u16, &'a [u8])>,
     option: &'a Option<(u16, UintBytes)>,

@@ -1,4 +1,4 @@
-//! The fetch itself: requests go out one after the other, each when the one before it was answered.
+//! Fetches: one request after the other, each after the previous response.
 ghost use Rattle.std.specs.Prelude.{◌≡◌, ℕ, ◌+◌, ◌++◌, ◌%◌, [], IfErr, IfOk, OnOk, if◌then◌else◌, length};
 ghost use Rattle.coap_client.specs.Requests.{IsPartOf};
 ghost use Rattle.coap_client.specs.Replies.{begins_exchange};
@@ -19,32 +19,37 @@ use std::alloc::{AllocError, Global};
 use std::io;
 use thiserror::Error;
 
-/// More requests than there are blocks of a body and of an answer.
+/// Number of requests: more than a body and a response have blocks.
 const REQUESTS: u32 = 1 << 22;
 
-/// Why a fetch brings no answer.
+/// The errors of a fetch and of an observer.
 #[derive(Debug, Drop, Error)]
 pub enum FetchFault {
-    /// No answer came, to the last sending of a request either.
+    /// No response arrived, not even to the last transmission of a request.
     #[error("no answer")]
     Silence,
-    /// The server answered a request by a Reset message (RFC 7252, 4.2).
+    /// The server rejected a request by a Reset message (RFC 7252, section 4.2).
     #[error("the request was rejected")]
     Rejected,
-    /// A success doesn't say that the block of the body was taken that it answers, or doesn't bring the block of the answer that was asked for; or an answer has a critical
-    /// option that a client doesn't know.
+    /// The response doesn't match the request.
+    ///
+    /// A success doesn't say that the server took the block of the body, or it doesn't have the
+    /// requested block of the response. Or a response has an unknown critical option.
     #[error("the answer doesn't fit the block that was sent or asked for, or has a critical option that isn't known")]
     Misfit,
-    /// A further block is of another version of the answer than the blocks before it, for the second time, or where the request can't be made again.
+    /// The response changed during the fetch.
+    ///
+    /// A further block is of another version than the blocks before it. That happened for the
+    /// second time, or for the first time and the method isn't GET.
     #[error("the answer changed while its blocks were fetched")]
     Changed,
-    /// What an observer is notified of has more blocks, or a critical option that a client doesn't know.
+    /// A notification has more blocks, or an unknown critical option.
     #[error("what is observed has more than one block, or a critical option that isn't known")]
     Part,
     /// Sending or receiving failed.
     #[error("UDP: {0}")]
     Socket(#[source] io::Error),
-    /// There was no memory for a request or for the answer.
+    /// Memory couldn't be allocated for a request or for the response.
     #[error("{0}")]
     Memory(#[source] AllocError),
 }
@@ -65,33 +70,44 @@ impl From<AllocError> for FetchFault {
     }
 }
 
-/// What a fetch brings.
+/// The result of a fetch.
 #[derive(Drop)]
 pub struct Fetched {
-    /// The code of the last answer.
+    /// The code of the last response.
     pub code: Code,
-    /// The payloads of the answer's blocks, joined; where the code is no success, that answer's payload alone.
+    /// The payloads of the response's blocks, joined.
+    ///
+    /// If the code isn't a success, the payload of that last response alone.
     pub body: Vec<u8>,
 }
 
-/// What one attempt comes to.
+/// The result of one attempt.
 #[derive(Drop)]
 pub enum Attempt {
-    /// The answer.
+    /// The fetch has its response.
     Ended(Fetched),
-    /// The answer changed while its blocks were fetched: the next request's id, and the ids of the separate responses so far.
+    /// The response changed during the fetch.
+    ///
+    /// Has the message ID of the next request, and those of the separate responses so far.
     Outdated(u16, Vec<u16>),
-    /// None: an answer doesn't fit its request.
+    /// A response doesn't match its request.
     Misfit,
 }
 
-/// Asks the server, by requests whose ids count up from the first. A body that is too large goes by blocks, and a larger answer
-/// is asked for by blocks, of 1,024 bytes or of the smaller size that the server names (RFC 7959). A confirmable request is sent again where no answer comes within 2
-/// seconds, then 4, 8 and 16, and given up 32 seconds after the last sending; once it is acknowledged, its answer is waited for 93 seconds. The answer to
-/// another is waited for 32 seconds. Where the answer to a GET changes while its blocks are fetched, the fetch begins again, once.
+/// Fetches the response to the errand; message IDs count up from `first_id`.
+///
+/// A body that is too large for one request is sent in blocks. A larger response is requested in
+/// blocks, of 1,024 bytes or of the smaller size that the server names (RFC 7959).
+///
+/// A confirmable request is retransmitted if there is no response within 2 seconds, then 4, 8 and
+/// 16. The client gives up 32 seconds after the last transmission. Once the request is
+/// acknowledged, the client waits 93 seconds for the response. It waits 32 seconds for the response
+/// to a non-confirmable request.
+///
+/// If the response to a GET changes during the fetch, the fetch starts again, once.
 ///
 /// # Errors
-/// What [`FetchFault`] says.
+/// Returns the [`FetchFault`] that ended the fetch.
 pub fn fetch<P: Peer>(
     alloc: Global,
     peer: &mut P,
@@ -118,7 +134,7 @@ pub fn fetch<P: Peer>(
     }
 }
 
-// Asks the server from the first part on.
+// Makes one attempt, from the first part on.
 fn fetch_once<P: Peer>(
     alloc: Global,
     peer: &mut P,
@@ -165,20 +181,21 @@ fn fetch_once<P: Peer>(
     Err(FetchFault::Misfit)
 }
 
-/// What an answer leads to.
+/// The effect of a response on a fetch.
 #[derive(Clone, Copy, PartialEq, Eq)]
 pub enum Step {
-    /// The next request.
+    /// The next request follows.
     GoesOn,
-    /// The end of the fetch, with this code.
+    /// The fetch ends with this code.
     Ended(Code),
-    /// The fetch's end: the answer changed.
+    /// The fetch ends: the response changed.
     Outdated,
-    /// The fetch's end: the answer doesn't fit its request.
+    /// The fetch ends: the response doesn't match its request.
     Misfit,
 }
 
-// A fetch under way: the request that is out, what is there of the answer, with its ETag, and the ids of the separate responses so far.
+// The state of a fetch: the outstanding request, the response so far with its ETag, and the message
+// IDs of the separate responses so far.
 #[derive(Drop)]
 struct Course {
     id: u16,
@@ -189,7 +206,7 @@ struct Course {
 }
 
 impl Course {
-    // The request that is out.
+    // Returns the outstanding request.
     fn request<'a>(&'a self, confirmable: bool, datagram: &'a Datagram) -> SentRequest<'a>
         ensures { (result.datagram.now ≡ datagram.entry.now) × (result.id ≡ self.entry.now.id) × (result.confirmable ≡ confirmable)
             × (result.earlier.now ≡ self.entry.now.earlier.items) }
@@ -202,7 +219,8 @@ impl Course {
         }
     }
 
-    // Takes the answer to the request that is out: what it leads to. The next request is set, or the answer is whole.
+    // Receives the response to the outstanding request and returns its effect. Sets the next
+    // request, unless the fetch ends.
     fn hear(&mut self, errand: &Errand<'_>, message: &Message<'_>) -> Result<Step, AllocError>
         requires { IsPartOf errand.now self.old.part }
         ensures own { OnOk result (IsPartOf errand.now self.new.part) }
@@ -228,7 +246,7 @@ impl Course {
         }
     }
 
-    // Counts an answer: the next request has the next id, and the answer's own is kept where it came in a message of its own.
+    // Counts a response: increments the message ID, and records the ID of a separate response.
     fn count(&mut self, message: &Message<'_>) -> Result<(), AllocError>
         ensures id { OnOk result (self.new.id ≡ (self.old.id + 1) % 65536) }
         ensures earlier { OnOk result (self.new.earlier.items ≡ with_taken_id message.now self.old.earlier.items) }
@@ -241,7 +259,8 @@ impl Course {
         Ok(())
     }
 
-    // Sets the next request, and keeps what this answer brings.
+    // Sets the next request. Adds the payload of this response if a further block of it is
+    // requested.
     fn go_on(&mut self, part: Part, message: &Message<'_>) -> Result<(), AllocError>
         ensures after { OnOk result (going_on part self.old.body.items self.old.etag.items message.now
             ≡ Out self.new.part self.new.body.items self.new.etag.items) }

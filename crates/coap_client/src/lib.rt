@@ -1,62 +1,125 @@
-//! A client's requests, what it makes of replies, and the fetch over both; an observer; a ping; a server as a client has it.
+//! A CoAP client: block-wise fetches, an observer, and pings.
+//!
+//! The modules hold the requests, the classification of replies, the fetch, the observer, the ping,
+//! and the server as a client sees it.
 //!
 //! # What is proved
 //!
-//! - A text is a path exactly where it is a slash before each segment of 1 to 255 bytes. If it is none, the number of its first segment that is empty or too long,
-//!   counted from 1, and which of these it is; or it begins with no slash.
-//! - A datagram is received into 1,281 bytes, one more than a message has at most; one that fills them may be cut, and is passed over.
-//! - Each request of an errand is a message that fits a datagram, of the whole body, a block of it, or a block option that asks for a
-//!   further block of the answer, in the size that the server named last. A Content-Format, if the errand has one, goes with each request that brings the
-//!   body or a block of it, between the path and the query.
-//! - A datagram answers a request in its acknowledgement or in a message of its own, acknowledges it, rejects it, or none of these. What
-//!   comes after each answer, nothing where it has a critical option that isn't known, or two Block1 or two Block2.
-//! - What a fetch gives is what a list of replies leads to: for each of them the request that the ones before have led to was handed to
-//!   `Peer::send`, and its datagram came from `Peer::receive`. A separate one is that of a request whose acknowledgement came, unless it
-//!   was non-confirmable, and its id is none of those before; and it was acknowledged where it is confirmable, and again where it comes
-//!   again.
-//! - What a fetch that ends with an answer calls on its peer, call by call (`Peer::called`), is told by what comes: for each of these replies
-//!   its request, whose ids count up, each once the one before was answered, and nothing behind the last. A confirmable one is sent again, by
-//!   the same bytes, when a wait is over, of 2, 4, 8 and 16 seconds, so five times at most; once it is acknowledged it isn't, and 93 seconds
-//!   more are waited. Another is sent once, and waited for 32 seconds. The first datagram that answers, acknowledges or rejects a request ends
-//!   its wait; a separate response answers only where one is awaited, and one of an id that has answered before doesn't. Beside requests nothing
-//!   is sent but the acknowledgements of answers and of those, each where it is confirmable, once.
-//! - Why a fetch fails, by what it called. *No answer*: after requests that were answered, the last one was sent by that whole schedule. Its
-//!   waits are 62 seconds together at least, or 32 for a non-confirmable request; or 2^64 - 1 datagrams came in one wait. *Rejected*: the last
-//!   datagram that came is a Reset message with the request's id (RFC 7252, 4.2). *An answer that doesn't fit*: the replies lead to one, or
-//!   there are 2^22 of them. *Changed*: a further block has another ETag, for the second time; or for the first time where the method isn't
-//!   GET. *Out of memory*: each request that was sent was answered; no clause says that there was none. *UDP*: a call of the peer returned that
-//!   error; what was called before it isn't in a clause. There is no other error.
-//! - Where a fetch ends by a success, requests that were handed over bring the whole body, joined; each block of it goes behind a success
-//!   that says that the one before was taken; and the answer is the payloads of blocks of one ETag, or of none, each of which begins where the
-//!   ones before it end, and behind the last of which there is none. What a result rests on is begun again once at most, and only for a GET.
-//! - An observer's registration and deregistration are messages that fit a datagram, with its token, and are sent again as a confirmable
-//!   request of a fetch is, until one is answered, the other acknowledged; while the one is out its answer alone is acknowledged, while the
-//!   other is each confirmable notification. What a response is to it, exactly, by
-//!   RFC 7641's comparison: a newer state, one answer for what isn't newer and for a repeat of what was shown, the last, or one that can't
+//! *Paths and messages:*
+//!
+//! - A text is a path exactly if it consists of segments of 1 to 255 bytes, each after a slash.
+//!   Otherwise the error has the number of the first segment that is empty or too long, counted
+//!   from 1, and says which of these it is. Or it says that the text doesn't begin with a slash.
+//! - A datagram is received into 1,281 bytes, one more than the maximum length of a message. A
+//!   datagram that fills them may be truncated, and is skipped.
+//! - Each request of an errand is a message that fits a datagram. It has the whole body, a block of
+//!   it, or a block option that requests a further block of the response. The size of that block is
+//!   the one that the server named last. A Content-Format, if the errand has one, is in each
+//!   request with the body or a block of it, between the path and the query.
+//! - Each datagram has one meaning for a request: a piggybacked response, a separate response, an
+//!   acknowledgement, a rejection, or none of these. The next step after each response is defined
+//!   exactly. There is none after a response with an unknown critical option, or with two Block1 or
+//!   two Block2.
+//!
+//! *A fetch that returns a response:*
+//!
+//! - Its result follows from a list of replies. For each reply, the request that results from the
+//!   earlier ones was passed to `Peer::send`, and the reply's datagram came from `Peer::receive`.
+//! - A separate response is one to a request whose acknowledgement arrived, unless the request was
+//!   non-confirmable. Its message ID is none of the earlier ones. A confirmable one is
+//!   acknowledged, and acknowledged again if it is received again.
+//! - Its calls on the peer (`Peer::called`) follow, call by call, from the datagrams received.
+//!   There is one request for each of these replies, sent once the one before has its response, and
+//!   nothing after the last. Message IDs count up.
+//! - A confirmable request is retransmitted with the same bytes after waits of 2, 4, 8 and 16
+//!   seconds, so it is sent at most five times. After its acknowledgement it isn't sent again, and
+//!   the wait is 93 seconds more. A non-confirmable request is sent once, with a wait of 32
+//!   seconds.
+//! - The first datagram that answers, acknowledges or rejects a request ends its wait. A separate
+//!   response answers only if one is awaited, and not if its message ID has answered before.
+//! - Apart from requests, only acknowledgements are sent: one for each confirmable response, also
+//!   for one whose message ID has answered before.
+//! - If the fetch ends with a success, requests that were sent have the whole body, joined. Each
+//!   block of the body follows a success that says that the server took the one before. The
+//!   response consists of the payloads of blocks of one ETag, or of none. Each of them begins at
+//!   the end of those before it, and none follows the last.
+//! - The fetch starts again at most once, and only for a GET.
+//!
+//! *A fetch that fails, in terms of its calls:*
+//!
+//! - *No answer*: earlier requests have their responses, and the last one was sent by the whole
+//!   schedule. Its waits add up to at least 62 seconds, or to 32 for a non-confirmable request. Or
+//!   2^64 - 1 datagrams arrived in one wait.
+//! - *Rejected*: the last datagram received is a Reset message with the request's ID (RFC 7252,
+//!   section 4.2).
+//! - *A response that doesn't match*: the replies lead to one, or there are 2^22 replies.
+//! - *Changed*: a further block has another ETag, for the second time, or for the first time and
+//!   the method isn't GET.
+//! - *Out of memory*: each request that was sent has its response. No clause says that memory was
+//!   exhausted.
+//! - *UDP*: a call on the peer returned that error. No clause says which calls were made before it.
+//! - There is no other error.
+//!
+//! *An observer:*
+//!
+//! - Its registration and its deregistration are messages that fit a datagram, with its token. They
+//!   are retransmitted as a confirmable request of a fetch is, the first until it has a response,
+//!   the second until it is acknowledged. While the registration is outstanding, only its response
+//!   is acknowledged. While the deregistration is outstanding, each confirmable notification is.
+//! - The classification of a response is exact, by RFC 7641's comparison. It is a newer state; not
+//!   newer, or a duplicate of one already shown (one result for both); the last; or one that can't
 //!   be shown.
-//! - What an observer shows next came by `Peer::receive`, is a response with its token in a message of its own, was acknowledged where it
-//!   is confirmable, and is a state newer than what was shown last, at a moment that the peer told, or the last, of which no clause says
-//!   that it is newer. What it passes over is no notification, or is no newer, or repeats what was shown, and nothing is sent but the
-//!   acknowledgement of each confirmable notification. A deregistration that ends well was sent and acknowledged.
-//! - Why an observer fails. A registration isn't answered, or a deregistration isn't acknowledged: it was sent by the whole schedule. One is
-//!   rejected: the last datagram that came is a Reset message with its id. Out of memory: nothing was called. While it waits: the last
-//!   notification can't be shown, or is a newer state that there was no memory for; so an older one never ends the observation. Or a call of the
-//!   peer returned an error. `deregister_by` asks the peer to send its request, whatever comes of it.
-//! - Of that comparison: that 0 is newer than 16,777,215, that what is ahead by 8,388,607 is newer, and what is behind by 8,388,609, of two
-//!   8,388,608 apart neither within 128 s, nor the same number, and any 128,001 ms later; that of two at one moment at most one is newer; and
-//!   that what can be shown is the last where it has no Observe, or one of four bytes, and a success with one of three a state. A registration
-//!   has Observe 0, a deregistration Observe 1.
-//! - A ping is an empty confirmable message. It ends well only if a Reset message with its id came (RFC 7252, 4.3); *no answer* is returned only after the
-//!   whole schedule of a confirmable request. What else comes is passed over, and nothing else is sent.
-//! - A receive of [`UdpPeer`] returns nothing only if a reading of its clock is at the wait's end or after it. An interruption by a signal ends no wait and is no
-//!   error: an error is one of the clock, or one of the socket that isn't `Interrupted`, `WouldBlock` or `TimedOut`.
-//! - A wait of [`UdpPeer`] ends so many seconds after a reading of its clock, and its moments are the milliseconds from its start to a reading. An observer reads the
-//!   clock after the receive of each notification, and its acknowledgement.
+//! - The next notification to show came from `Peer::receive`. It is a separate response with the
+//!   observer's token, and was acknowledged if it is confirmable. It is a state newer than the one
+//!   shown last, at a time that the peer returned; or it is the last, and no clause says that the
+//!   last is newer.
+//! - A skipped datagram isn't a notification, or isn't newer, or is a duplicate of one already
+//!   shown. Nothing is sent except the acknowledgement of each confirmable notification.
+//! - A successful deregistration was sent and acknowledged.
 //!
-//! By the contracts of `Path::parse`, `Errand::new`, `Errand::write`, `is_reply`, `is_separate`, `next_of`, `fetch`, `laws`;
-//! `Observer::register`, `deregister`, `deregister_by`, `notice_of`, `is_newer`, `Watch::notice_of`, `keep`, `next`; `ping`; `UdpPeer`.
+//! *An observer that fails:*
 //!
-//! Of [`UdpPeer`] no public clause says what its socket sends and hears, or that a receive ends when its wait does: tests try that over a socket.
+//! - A registration has no response, or a deregistration no acknowledgement: it was sent by the
+//!   whole schedule.
+//! - A request is rejected: the last datagram received is a Reset message with its ID.
+//! - Out of memory: no call was made.
+//! - During the wait for a notification: the last one can't be shown, or is a newer state for which
+//!   there was no memory. So an older one never ends the observation.
+//! - Or a call on the peer returned an error.
+//! - `deregister_by` calls the peer to send its request in each case.
+//!
+//! *RFC 7641's comparison:*
+//!
+//! - 0 is newer than 16,777,215. A number ahead by 8,388,607 is newer, and so is one lower by
+//!   8,388,609.
+//! - Of two numbers 8,388,608 apart, neither is newer within 128 s. The same number isn't either.
+//!   Any number is newer 128,001 ms later.
+//! - Of two states at the same time, at most one is newer.
+//! - A response that can be shown is the last if it has no Observe, or one of four bytes. A success
+//!   with an Observe of three bytes is a state.
+//! - A registration has Observe 0, a deregistration Observe 1.
+//!
+//! *A ping* is an empty confirmable message:
+//!
+//! - It succeeds only if a Reset message with its ID arrives (RFC 7252, section 4.3). *No answer*
+//!   is returned only after the whole schedule of a confirmable request.
+//! - Other datagrams are skipped, and nothing else is sent.
+//!
+//! *A [`UdpPeer`]:*
+//!
+//! - A receive returns nothing only if a reading of its clock is at or after the end of the wait.
+//!   An interruption by a signal doesn't end a wait and isn't an error. An error is one of the
+//!   clock, or one of the socket other than `Interrupted`, `WouldBlock` and `TimedOut`.
+//! - A wait ends the given number of seconds after a reading of the clock. The peer's times are the
+//!   milliseconds from its start to a reading.
+//! - An observer reads the clock after the receive of each notification, and its acknowledgement.
+//!
+//! By the contracts of `Path::parse`, `Errand::new`, `Errand::write`, `is_reply`, `is_separate`,
+//! `next_of`, `fetch`, `laws`; `Observer::register`, `deregister`, `deregister_by`, `notice_of`,
+//! `is_newer`, `Watch::notice_of`, `keep`, `next`; `ping`; `UdpPeer`.
+//!
+//! No public clause of [`UdpPeer`] says which bytes its socket sends and receives, or that a
+//! receive ends with its wait. Tests try that over a socket.
 #![tactic(auto)]
 
 pub mod errand;

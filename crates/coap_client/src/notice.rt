@@ -1,4 +1,4 @@
-//! What an observer asks, and what a response is to it (RFC 7641).
+//! The requests of an observer, and its classification of responses (RFC 7641).
 ghost use Rattle.std.specs.Prelude.{◌≡◌, ◌↔◌, ◌≤◌, IsTrue, length};
 ghost use Rattle.coap_opts.specs.Values.{uint_value};
 ghost use Rattle.coap_client.specs.Notices.{IsOwnResponse, IsReplyWith};
@@ -11,46 +11,54 @@ use coap_msg::{Code, Message, MessageType};
 use coap_opts::decode_uint;
 use coap_opts::number::OBSERVE;
 
-/// The class of the codes of success (RFC 7252, 5.9.1).
+/// Class of the success codes (RFC 7252, section 5.9.1).
 const SUCCESS: u8 = 2;
 
-/// The classes of the codes of errors (RFC 7252, 5.9.2 and 5.9.3).
+/// Classes of the error codes (RFC 7252, sections 5.9.2 and 5.9.3).
 const CLIENT_ERROR: u8 = 4;
 
 const SERVER_ERROR: u8 = 5;
 
-/// Half of the sequence numbers, which have 24 bits (RFC 7641, 3.4).
+/// Half of the sequence numbers, which have 24 bits (RFC 7641, section 3.4).
 const HALF: u32 = 1 << 23;
 
-/// How old a state is, in milliseconds, when each one that comes is newer: 128 seconds (RFC 7641, 3.4).
+/// Age in milliseconds above which any other state is newer.
+///
+/// It is 128 seconds (RFC 7641, section 3.4).
 const OLD: u64 = 128_000;
 
-/// The most bytes of a value of Observe (RFC 7641, 2).
+/// Maximum length of the value of Observe, in bytes (RFC 7641, section 2).
 const VALUE: usize = 3;
 
-/// What a GET with Observe asks (RFC 7641, 2).
+/// The action of a GET with Observe (RFC 7641, section 2).
 #[derive(Clone, Copy, PartialEq, Eq)]
 pub enum Interest {
-    /// To be notified of changes.
+    /// Starts notifications of changes.
     Register,
-    /// To be notified no longer.
+    /// Ends notifications.
     Deregister,
 }
 
-/// What a response is to an observer.
+/// The classification of a response to an observer.
 #[derive(Clone, Copy, PartialEq, Eq)]
 pub enum Notice {
-    /// A state of the resource, of this sequence number: others may come.
+    /// A state of the resource with this sequence number; more may follow.
     State(u32),
-    /// A state that is no newer than the one that was shown last, or a message that was shown already.
+    /// A state no newer than the one shown last, or a message shown already.
     Older,
-    /// The last one: an error, or a state without a sequence number, whose server doesn't notify (RFC 7641, 3.2 and 4.2).
+    /// The last response: an error, or a state without a sequence number.
+    ///
+    /// The server of such a state doesn't notify (RFC 7641, sections 3.2 and 4.2).
     Last,
-    /// It can't be shown: an option is critical and unknown, or there is more of it in further blocks.
+    /// A response that can't be shown.
+    ///
+    /// It has an unknown critical option, or more of it follows in further blocks.
     Misfit,
 }
 
-/// Returns whether a message answers the request of this id and token in its acknowledgement.
+/// Returns whether `message` is the piggybacked response to a request.
+///
+/// The request has this token and this message ID.
 pub fn is_reply_with(token: &[u8], id: u16, message: &Message<'_>) -> bool
     ensures { IsTrue result ↔ IsReplyWith token.now id message.now }
 {
@@ -60,7 +68,9 @@ pub fn is_reply_with(token: &[u8], id: u16, message: &Message<'_>) -> bool
         && is_response(message.code())
 }
 
-/// Returns whether a message is a response with this token (RFC 7641, 3.2), and is no acknowledgement.
+/// Returns whether `message` is a separate response with this token.
+///
+/// It is confirmable or non-confirmable (RFC 7641, section 3.2).
 pub fn is_notification(token: &[u8], message: &Message<'_>) -> bool
     ensures { IsTrue result ↔ IsOwnResponse token.now message.now }
 {
@@ -73,7 +83,9 @@ fn is_response(code: Code) -> bool
     matches!(code.class(), SUCCESS | CLIENT_ERROR | SERVER_ERROR)
 }
 
-/// Returns whether a state of the second sequence number, at the second moment in milliseconds, is newer than one of the first, at the first (RFC 7641, 3.4).
+/// Returns whether the second state is newer than the first.
+///
+/// Each has a sequence number and a time of arrival in milliseconds (RFC 7641, section 3.4).
 pub fn is_newer(first: u32, first_at: u64, second: u32, second_at: u64) -> bool
     ensures { result ≡ spec.is_newer first first_at second second_at }
 {
@@ -82,7 +94,7 @@ pub fn is_newer(first: u32, first_at: u64, second: u32, second_at: u64) -> bool
         || second_at.saturating_sub(first_at) > OLD
 }
 
-/// Classifies a response to an observer, whatever was shown before.
+/// Classifies a response to an observer, regardless of earlier ones.
 pub fn notice_of(message: &Message<'_>) -> Notice
     ensures { result ≡ spec.notice_of message.now }
 {
@@ -98,7 +110,7 @@ pub fn notice_of(message: &Message<'_>) -> Notice
     }
 }
 
-// The sequence number of a state.
+// Returns the sequence number of a state.
 fn sequence_of(message: &Message<'_>) -> Option<u32>
     ensures { result ≡ spec.sequence_of message.now }
 {
@@ -115,7 +127,8 @@ fn decode(value: &[u8]) -> u32
     decode_uint(value) as u32
 }
 
-// Whether an answer is whole by itself: it names no block, or the first one with none behind it.
+// Returns whether a response is whole: it has no Block2, or one that names the first block and says
+// that no more follow.
 fn is_whole(message: &Message<'_>) -> bool
     ensures { result ≡ spec.is_last_part (replies.next_of_answer 0 6 message.now) }
 {

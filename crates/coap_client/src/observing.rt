@@ -1,4 +1,4 @@
-//! An observer: it registers, hears what it is notified of, and deregisters (RFC 7641).
+//! Observers: registration, notifications and deregistration (RFC 7641).
 ghost use Rattle.std.specs.Prelude.{◌≡◌, ◌↔◌, ◌∷◌, ◌≤◌, IfErr, IfOk, IfSome, IsTrue, OnOk, length, take, true};
 ghost use Rattle.coap_msg.specs.Wire.{message_bytes};
 ghost use Rattle.coap_msg.specs.Writing.{options_in};
@@ -30,11 +30,13 @@ use coap_opts::number::{OBSERVE, URI_PATH, URI_QUERY};
 use coap_opts::{UintBytes, encode_uint};
 use std::alloc::{AllocError, Global};
 
-/// The bytes of an observer's token.
+/// Length of an observer's token, in bytes.
 pub const TOKEN: usize = 4;
 
-/// Who observes a resource: the errand that names it, a token by which its notifications are told, and the id of the registration. The deregistration has the next
-/// id.
+/// An observer of a resource.
+///
+/// It has the errand that names the resource, the token that identifies its notifications, and the
+/// message ID of the registration. The deregistration has the next message ID.
 #[derive(Clone, Copy)]
 pub struct Observer<'a> {
     pub errand: &'a Errand<'a>,
@@ -42,14 +44,20 @@ pub struct Observer<'a> {
     pub id: u16,
 }
 
-/// A notification that came: how many bytes at the start of the buffer it is, and at which moment, in milliseconds.
+/// A received notification.
+///
+/// It has its length in bytes, from the start of the buffer, and its time of arrival in
+/// milliseconds.
 #[derive(Clone, Copy, PartialEq, Eq)]
 pub struct DatedMessage {
     pub count: usize,
     pub moment: u64,
 }
 
-/// A notification that is shown: how many bytes at the start of the buffer it is, at which moment it came, in milliseconds, and whether none comes behind it.
+/// A notification to show.
+///
+/// It has its length in bytes, from the start of the buffer, its time of arrival in milliseconds,
+/// and whether it is the last.
 #[derive(Clone, Copy, PartialEq, Eq)]
 pub struct NotedMessage {
     pub count: usize,
@@ -58,11 +66,14 @@ pub struct NotedMessage {
 }
 
 impl<'a> Observer<'a> {
-    /// Registers: sends a confirmable GET with Observe 0, and again where it isn't answered or acknowledged in time, as a fetch does; how many bytes at the start
-    /// of the buffer its answer is. A confirmable answer is acknowledged.
+    /// Registers the observer, and returns the length of the response in bytes.
+    ///
+    /// Sends a confirmable GET with Observe 0, and retransmits it as a fetch does. The response is
+    /// at the start of `buffer`. A confirmable response is acknowledged.
     ///
     /// # Errors
-    /// No answer came, the request was rejected, or sending, receiving or memory failed.
+    /// Returns an error if there is no response, if the request is rejected, or if sending,
+    /// receiving or allocating memory fails.
     pub fn register<P: Peer>(
         &self,
         alloc: Global,
@@ -91,7 +102,7 @@ impl<'a> Observer<'a> {
         Ok(count)
     }
 
-    // Sends the registration until it is answered.
+    // Sends the registration until there is a response.
     fn ask<P: Peer>(
         &self,
         peer: &mut P,
@@ -119,7 +130,7 @@ impl<'a> Observer<'a> {
         Ok(None)
     }
 
-    // Waits for the answer of an acknowledged registration.
+    // Waits for the response to an acknowledged registration.
     fn await_answer<P: Peer>(
         &self,
         peer: &mut P,
@@ -138,7 +149,7 @@ impl<'a> Observer<'a> {
         }
     }
 
-    // Listens for the answer while a wait lasts, and passes over what doesn't end it.
+    // Receives datagrams until one ends the wait or the wait is over; skips the others.
     fn listen<P: Peer>(
         &self,
         peer: &mut P,
@@ -166,10 +177,14 @@ impl<'a> Observer<'a> {
         Ok(Listened::Nothing)
     }
 
-    /// Deregisters: sends a confirmable GET with Observe 1 until it is acknowledged. Confirmable notifications that come meanwhile are acknowledged, and not shown.
+    /// Deregisters the observer.
+    ///
+    /// Sends a confirmable GET with Observe 1 until it is acknowledged. Confirmable notifications
+    /// that arrive in the meantime are acknowledged, and not shown.
     ///
     /// # Errors
-    /// No acknowledgement came, the request was rejected, or sending, receiving or memory failed.
+    /// Returns an error if there is no acknowledgement, if the request is rejected, or if sending,
+    /// receiving or allocating memory fails.
     pub fn deregister<P: Peer>(
         &self,
         alloc: Global,
@@ -184,10 +199,10 @@ impl<'a> Observer<'a> {
         self.deregister_by(peer, &datagram, buffer)
     }
 
-    /// Returns the request by which it deregisters.
+    /// Builds the deregistration request.
     ///
     /// # Errors
-    /// There was no memory for its options.
+    /// Returns `AllocError` if memory can't be allocated for the options.
     pub fn deregistration(&self, alloc: Global) -> Result<Datagram, AllocError>
         ensures { IfOk result (λ d. d.items ≡ deregistration_of self.now) }
     {
@@ -203,10 +218,13 @@ impl<'a> Observer<'a> {
         Ok(datagram)
     }
 
-    /// Deregisters as [`Observer::deregister`] does, by the request that [`Observer::deregistration`] returned, and needs no memory.
+    /// Deregisters with the request from [`Observer::deregistration`].
+    ///
+    /// It does the same as [`Observer::deregister`], and needs no memory.
     ///
     /// # Errors
-    /// No acknowledgement came, the request was rejected, or sending or receiving failed. The peer was asked to send it all the same.
+    /// Returns an error if there is no acknowledgement, if the request is rejected, or if sending
+    /// or receiving fails. In each case the peer was called to send the request.
     pub fn deregister_by<P: Peer>(
         &self,
         peer: &mut P,
@@ -231,11 +249,14 @@ impl<'a> Observer<'a> {
 }
 
 impl Watch {
-    /// Waits for the next notification that is to be shown, while a wait lasts, and keeps that it is. Others are passed over: older ones, and repeats. A confirmable
-    /// one is acknowledged, shown or not. `None` where the wait is over.
+    /// Waits for the next notification to show, and records a state as shown.
+    ///
+    /// Skips older notifications and duplicates. A confirmable notification is acknowledged, shown
+    /// or not. Returns `None` if the wait is over.
     ///
     /// # Errors
-    /// A notification can't be shown, or sending, receiving or memory failed.
+    /// Returns an error if a notification can't be shown, or if sending, receiving or allocating
+    /// memory fails.
     pub fn next<P: Peer>(
         &mut self,
         peer: &mut P,
@@ -280,7 +301,8 @@ impl Watch {
     }
 }
 
-// The next notification that comes while a wait lasts, and the moment that it is then. A confirmable one is acknowledged.
+// Receives the next notification during a wait, acknowledges it if it is confirmable, and then
+// reads the clock.
 fn hear<P: Peer>(
     peer: &mut P,
     token: &[u8],
@@ -306,7 +328,7 @@ fn hear<P: Peer>(
     Ok(None)
 }
 
-// Whether a datagram is a notification.
+// Returns whether a datagram is a notification.
 fn tells_notification(token: &[u8], bytes: &[u8]) -> bool
     ensures { IsTrue result ↔ IsReadAs bytes.now (IsOwnResponse token.now) }
 {
@@ -316,7 +338,7 @@ fn tells_notification(token: &[u8], bytes: &[u8]) -> bool
     }
 }
 
-// What a datagram is to an observer whose registration has this id.
+// Classifies a datagram for an observer whose registration has this message ID.
 fn hear_datagram(token: &[u8], id: u16, bytes: &[u8]) -> Reception
     ensures { TellsObserver token.now id bytes.now result }
 {
@@ -340,8 +362,9 @@ fn hear_message(token: &[u8], id: u16, message: &Message<'_>) -> Reception
     }
 }
 
-// Listens, while a wait lasts, for the acknowledgement of the request of this id, with an answer or without. Confirmable notifications with the token are
-// acknowledged: else the server would send them again (RFC 7641, 3.5).
+// Waits for the acknowledgement of the request with this message ID, with or without a response.
+// Confirmable notifications with the token are acknowledged: otherwise the server would retransmit
+// them (RFC 7641, section 3.5).
 fn is_acknowledged<P: Peer>(
     peer: &mut P,
     token: &[u8],
@@ -369,7 +392,7 @@ fn is_acknowledged<P: Peer>(
     Ok(false)
 }
 
-// Acknowledges a notification that asks for it.
+// Acknowledges a confirmable notification.
 fn acknowledge_notification<P: Peer>(
     peer: &mut P,
     token: &[u8],
@@ -385,7 +408,8 @@ fn acknowledge_notification<P: Peer>(
     Ok(())
 }
 
-// Whether a datagram is the acknowledgement of the request of this id, with an answer or without.
+// Returns whether a datagram acknowledges the request with this message ID, with or without a
+// response.
 fn tells_acknowledgement(id: u16, bytes: &[u8]) -> bool
     ensures { IsTrue result ↔ IsReadAs bytes.now (IsAcknowledgementOf id) }
 {
@@ -395,7 +419,7 @@ fn tells_acknowledgement(id: u16, bytes: &[u8]) -> bool
     }
 }
 
-// Whether a datagram rejects the request of this id.
+// Returns whether a datagram rejects the request with this message ID.
 pub(crate) fn tells_reset(id: u16, bytes: &[u8]) -> bool
     ensures { IsTrue result ↔ IsReadAs bytes.now (IsReset id) }
 {
@@ -405,7 +429,7 @@ pub(crate) fn tells_reset(id: u16, bytes: &[u8]) -> bool
     }
 }
 
-// Writes the GET with Observe of an errand's resource, in place of what the datagram held.
+// Writes the GET with Observe for an errand's resource. It replaces the contents of `datagram`.
 fn write_request(
     alloc: Global,
     errand: &Errand<'_>,
@@ -431,7 +455,7 @@ fn write_request(
     Ok(())
 }
 
-// The value of Observe (RFC 7641, 2).
+// Returns the value of Observe (RFC 7641, section 2).
 fn value_of(interest: Interest) -> UintBytes
     ensures { result.items ≡ uint_bytes (observe_value interest) }
 {
@@ -441,7 +465,7 @@ fn value_of(interest: Interest) -> UintBytes
     })
 }
 
-// Observe, and the options that name an errand's resource.
+// Builds the options: Observe, and those that name an errand's resource.
 fn options_of<'a>(
     alloc: Global,
     errand: &'a Errand<'a>,

@@ -1,12 +1,15 @@
 //! The parts of a fetch.
 
-/// What one request of a fetch carries or asks for. A block is told by its number and by its size, the exponent less 4 (RFC 7959, 2.2).
+/// The part of a fetch that one request carries or requests.
+///
+/// A block is named by its number and its size. The size is the exponent less 4 (RFC 7959, section
+/// 2.2).
 #[derive(Clone, Copy, PartialEq, Eq)]
 pub enum Part {
     /// The whole body.
     Whole,
-    /// A block of the body (RFC 7959, 2.5).
+    /// A block of the body (RFC 7959, section 2.5).
     Body { number: u32, szx: u8 },
-    /// A further block of the answer (RFC 7959, 2.4).
+    /// A further block of the response (RFC 7959, section 2.4).
     Answer { number: u32, szx: u8 },
 }

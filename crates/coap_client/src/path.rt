@@ -7,38 +7,43 @@ ghost use Rattle.coap_client.specs.PathErrors.{IsPathFault, IsUnfit, TellsNoPath
 use std::alloc::Global;
 use thiserror::Error;
 
-/// The most bytes of a segment (RFC 7252, 5.10).
+/// Maximum length of a segment, in bytes (RFC 7252, section 5.10).
 const SEGMENT: usize = 255;
 
-/// The segments of a path, each of which goes as a Uri-Path.
+/// The segments of a path, each sent as a Uri-Path option.
 #[derive(Drop)]
 pub struct Path<'a> {
     pub segments: Vec<&'a [u8]>,
     ghost are: { (All IsSegment (slices_in segments.items)) },
 }
 
-/// Why a text is no path.
+/// The reason why a text isn't a path.
 #[derive(Clone, Copy, Debug, PartialEq, Eq, Error)]
 pub enum PathError {
-    /// It doesn't begin with a slash.
+    /// The text doesn't begin with a slash.
     #[error("a path begins with a slash, as /r/1")]
     NoSlash,
-    /// The segment of this number, counted from 1, has no byte.
+    /// The segment of this number, counted from 1, is empty.
     #[error("segment {0} of the path is empty: between two slashes, and behind the last one, stand 1 to 255 bytes")]
     Empty(usize),
-    /// The segment of this number, counted from 1, has more than 255 bytes (RFC 7252, 5.10).
+    /// The segment of this number, counted from 1, has more than 255 bytes.
+    ///
+    /// The limit is that of RFC 7252, section 5.10.
     #[error("segment {0} of the path has more than 255 bytes")]
     Long(usize),
-    /// There was no memory for it.
+    /// Memory couldn't be allocated for the segments.
     #[error("out of memory")]
     NoMemory,
 }
 
 impl<'a> Path<'a> {
-    /// Reads a path: a slash before each segment of 1 to 255 bytes. The empty text is the path without segments.
+    /// Parses a path: a slash before each segment of 1 to 255 bytes.
+    ///
+    /// The empty text is the path without segments.
     ///
     /// # Errors
-    /// The text is no path, or there was no memory for its segments.
+    /// Returns [`PathError`] if the text isn't a path, or if memory can't be allocated for its
+    /// segments.
     pub fn parse(alloc: Global, text: &'a [u8]) -> Result<Path<'a>, PathError>
         ensures path { IfOk result (λ p. IsSlashed text.entry.now (slices_in p.segments.items)) }
         ensures none { IfErr result (TellsNoPath text.entry.now) }
@@ -64,7 +69,7 @@ impl<'a> Path<'a> {
     }
 }
 
-// What is wrong with the segment of this number, which has 1 to 255 bytes where nothing is.
+// Returns the fault of the segment with this number, or `None` if it has 1 to 255 bytes.
 fn fault_of(segment: &[u8], number: usize) -> Option<PathError>
     ensures { MatchOption result ((0 < length segment.now) × (length segment.now ≤ 255)) (IsUnfit segment.now number) }
 {
@@ -77,7 +82,7 @@ fn fault_of(segment: &[u8], number: usize) -> Option<PathError>
     }
 }
 
-// What stands behind the slash that a text begins with.
+// Returns the text after its first byte if that is a slash.
 fn after_slash(text: &[u8]) -> Option<&[u8]>
     ensures { MatchOption result (HasNoSlash text.now) (λ after. text.now ≡ slash ∷ after.now) }
 {
@@ -87,7 +92,7 @@ fn after_slash(text: &[u8]) -> Option<&[u8]>
     }
 }
 
-// What stands before the first slash, and the rest, which begins with that slash where there is one.
+// Splits the text before its first slash; without a slash, the rest is empty.
 fn first_segment(text: &[u8]) -> (&[u8], &[u8])
     ensures { IsFirstSegment text.now result.0.now result.1.now }
 {

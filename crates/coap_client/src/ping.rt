@@ -1,4 +1,6 @@
-//! A ping: whether a server is there, without a request (RFC 7252, 4.3).
+//! Pings: a check that a server responds, without a request.
+//!
+//! The ping is that of RFC 7252, section 4.3.
 ghost use Rattle.std.specs.Prelude.{◌≡◌, IfErr, IfOk, OnErr, OnOk};
 ghost use Rattle.std.specs.Bool.{OnTrue};
 ghost use Rattle.coap_client.specs.Faults.{IsOfPeer};
@@ -11,10 +13,13 @@ use crate::peer::{BUFFER, Buffer, Peer};
 use crate::transmission::{SENDINGS, ack_timeout, send};
 use coap_msg::{Code, Datagram, MessageType, Outgoing, write};
 
-/// Pings the server: sends an empty confirmable message of this id, and again as a confirmable request is sent, until a Reset message of that id comes.
+/// Pings the server with an empty confirmable message of this message ID.
+///
+/// Retransmits it as a confirmable request, until a Reset message with that ID arrives.
 ///
 /// # Errors
-/// No such message came, which is [`FetchFault::Silence`], or sending or receiving failed.
+/// Returns [`FetchFault::Silence`] if no such message arrived, or the error if sending or receiving
+/// failed.
 pub fn ping<P: Peer>(peer: &mut P, id: u16) -> Result<(), FetchFault>
     ensures pong { OnOk result (HasPong P.went P.came id) }
     ensures called { OnOk result (MakesCalls (P.called peer.old) (P.called peer.new) (IsPinged id)) }
@@ -31,7 +36,7 @@ pub fn ping<P: Peer>(peer: &mut P, id: u16) -> Result<(), FetchFault>
     Err(FetchFault::Silence)
 }
 
-// Listens, while a wait lasts, for the Reset message of this id.
+// Waits for the Reset message with this message ID.
 fn is_rejected<P: Peer>(peer: &mut P, id: u16, buffer: &mut Buffer) -> Result<bool, FetchFault>
     ensures pong { IfOk result (λ is. OnTrue is (CamePong P.came id)) }
     ensures called { IfOk result (λ is. MakesCalls (P.called peer.old) (P.called peer.new) (IsOverUnlessPong id is)) }

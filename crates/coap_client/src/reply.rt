@@ -1,4 +1,4 @@
-//! Replies: which messages answer a request, and what comes after the answer.
+//! Replies: the messages that answer a request, and the next step of a fetch.
 ghost use Rattle.std.specs.Prelude.{◌≡◌, ◌≤◌, ◌↔◌, IfSome, IsTrue, Some, [], length, true};
 ghost use Rattle.std.specs.List.{list_all};
 ghost use Rattle.coap_client.specs.Requests.{IsBlock, IsPartOf};
@@ -11,44 +11,51 @@ use coap_msg::{Code, Message, MessageType};
 use coap_opts::Block;
 use coap_opts::number::{BLOCK1, BLOCK2, ETAG};
 
-/// The class of the codes of success (RFC 7252, 5.9.1).
+/// Class of the success codes (RFC 7252, section 5.9.1).
 const SUCCESS: u8 = 2;
 
-/// The class of the codes of errors of the client (RFC 7252, 5.9.2).
+/// Class of the client error codes (RFC 7252, section 5.9.2).
 const CLIENT_ERROR: u8 = 4;
 
-/// The class of the codes of errors of the server (RFC 7252, 5.9.3).
+/// Class of the server error codes (RFC 7252, section 5.9.3).
 const SERVER_ERROR: u8 = 5;
 
-/// How many blocks can be told apart.
+/// Number of block numbers.
 const BLOCKS: u32 = 1 << 20;
 
-/// The most bytes of a block option's value (RFC 7959, 2.2).
+/// Maximum length of a block option's value, in bytes (RFC 7959, section 2.2).
 const BLOCK_VALUE: usize = 3;
 
-/// What comes after the answer to a part.
+/// The next step after the response to a part.
 #[derive(Clone, Copy, PartialEq, Eq)]
 pub enum Next {
-    /// This part. An answer to a block of the body brings nothing, one to another part brings a block of the answer.
+    /// The request of this part.
+    ///
+    /// The response to a block of the body adds nothing to the result. The response to another part
+    /// adds a block.
     Ask(Part),
-    /// The answer's last bytes are here.
+    /// The end: this response has the last bytes.
     Last,
-    /// The code is no success: what comes with it is the answer.
+    /// The end: the code isn't a success, and this response is the result.
     Refused,
-    /// The block of the answer is of another version than the blocks before it.
+    /// The block is of another version than the blocks before it.
     Stale,
-    /// The answer is none to that part.
+    /// The response doesn't match the part.
     Misfit,
 }
 
-/// Returns whether a message is the piggybacked response to the request of this id, which had no token (RFC 7252, 5.2.1).
+/// Returns whether `message` is the piggybacked response to a request.
+///
+/// The request has this message ID and no token (RFC 7252, section 5.2.1).
 pub fn is_reply(id: u16, message: &Message<'_>) -> bool
     ensures { IsTrue result ↔ IsReply id message.now }
 {
     message.kind() == MessageType::Acknowledgement && message.id() == id && is_response(message)
 }
 
-/// Returns whether a message acknowledges the request of this id, and doesn't answer it: a separate response is to come.
+/// Returns whether `message` acknowledges a request without answering it.
+///
+/// The request has this message ID. A separate response is to follow.
 pub fn is_empty_acknowledgement(id: u16, message: &Message<'_>) -> bool
     ensures { IsTrue result ↔ IsEmptyAcknowledgement id message.now }
 {
@@ -57,14 +64,16 @@ pub fn is_empty_acknowledgement(id: u16, message: &Message<'_>) -> bool
         && message.code() == Code::EMPTY
 }
 
-/// Returns whether a message is a separate response to a request that had no token, and is no acknowledgement (RFC 7252, 5.2.2).
+/// Returns whether `message` is a separate response without a token.
+///
+/// It is confirmable or non-confirmable (RFC 7252, section 5.2.2).
 pub fn is_separate(message: &Message<'_>) -> bool
     ensures { IsTrue result ↔ IsSeparate message.now }
 {
     begins_exchange(message.kind()) && is_response(message)
 }
 
-// Whether a message has the code of a response, and no token.
+// Returns whether a message has the code of a response, and no token.
 fn is_response(message: &Message<'_>) -> bool
     ensures { IsTrue result ↔ ((message.now.token ≡ []) × (spec.is_response message.now.code ≡ true)) }
 {
@@ -75,7 +84,9 @@ fn is_response(message: &Message<'_>) -> bool
         )
 }
 
-/// Returns whether messages of this type begin an exchange: they are confirmable, or non-confirmable.
+/// Returns whether messages of this type begin an exchange.
+///
+/// These are the confirmable and the non-confirmable messages.
 pub fn begins_exchange(kind: MessageType) -> bool
     ensures { result ≡ spec.begins_exchange kind }
 {
@@ -85,14 +96,18 @@ pub fn begins_exchange(kind: MessageType) -> bool
     }
 }
 
-/// Returns whether a message is a Reset of the request of this id (RFC 7252, 4.2).
+/// Returns whether `message` is a Reset for the request with this message ID.
+///
+/// See RFC 7252, section 4.2.
 pub fn is_reset(id: u16, message: &Message<'_>) -> bool
     ensures { IsTrue result ↔ IsReset id message.now }
 {
     message.kind() == MessageType::Reset && message.id() == id && message.code() == Code::EMPTY
 }
 
-/// Returns what comes after this answer to a part, where the blocks of the answer so far have this ETag.
+/// Returns the next step after the response to a part.
+///
+/// `etag` is the ETag of the response's blocks so far.
 pub fn next_of(errand: &Errand<'_>, part: Part, etag: &[u8], message: &Message<'_>) -> Next
     requires { IsPartOf errand.now part }
     ensures { result ≡ spec.next_of (length errand.now.payload.now) part etag.now message.now }
@@ -116,7 +131,9 @@ pub fn next_of(errand: &Errand<'_>, part: Part, etag: &[u8], message: &Message<'
     }
 }
 
-/// Returns the ETag of an answer; empty where it has none (RFC 7252, 5.10.6).
+/// Returns the ETag of a response; empty if there is none.
+///
+/// The option is that of RFC 7252, section 5.10.6.
 pub fn etag_of<'a>(message: &Message<'a>) -> &'a [u8]
     ensures { result.now ≡ spec.etag_of message.now }
 {
@@ -126,7 +143,7 @@ pub fn etag_of<'a>(message: &Message<'a>) -> &'a [u8]
     }
 }
 
-// Whether no critical option is unknown, or stands there again.
+// Returns whether no critical option is unknown or repeated.
 pub(crate) fn is_understood(message: &Message<'_>) -> bool
     ensures { result ≡ spec.is_understood message.now }
 {
@@ -144,7 +161,7 @@ fn are_known(message: &Message<'_>) -> bool
     true
 }
 
-// Whether an option may be ignored where it isn't known, or is one of the critical ones that a client knows.
+// Returns whether an option may be ignored if unknown, or is a critical one that a client knows.
 fn is_known_option(number: u16) -> bool
     ensures { result ≡ spec.is_known_option number }
 {
@@ -158,14 +175,15 @@ fn is_single(number: u16, message: &Message<'_>) -> bool
     values.next().is_none() || values.next().is_none()
 }
 
-// Whether the body is taken so far, and more of it is to come.
+// Returns whether the server took the body so far and expects more of it.
 fn is_continue(message: &Message<'_>) -> bool
     ensures { result ≡ spec.is_continue message.now }
 {
     message.code() == Code::CONTINUE
 }
 
-// In which size the rest of the body goes, where a success says that this block, which has others behind it, was taken.
+// Returns the block size for the rest of the body. `None` if the response, a success, doesn't say
+// that the server took this block, which isn't the last.
 fn next_size(number: u32, szx: u8, message: &Message<'_>) -> Option<u8>
     ensures size { result ≡ spec.next_size number szx (spec.is_continue message.now) (spec.block1_of message.now) }
     ensures smaller { IfSome result (λ smaller. smaller ≤ szx) }
@@ -185,7 +203,7 @@ fn size_by_block(number: u32, szx: u8, block: Block) -> Option<u8>
     (block.number() == number && block.szx() <= szx).then_some(block.szx())
 }
 
-// The block of the body behind this one, in a size that is no greater.
+// Returns the next block of the body, in a size that is no greater.
 fn next_of_body(number: u32, szx: u8, smaller: u8) -> Next
     requires block { IsBlock number szx }
     requires smaller { smaller ≤ szx }
@@ -202,7 +220,8 @@ fn next_of_body(number: u32, szx: u8, smaller: u8) -> Next
     }
 }
 
-// What comes after a success that answers all of the request, of whose body this block is the last.
+// Returns the next step after a success that answers the whole request. `number` is the last block
+// of the body.
 fn next_of_whole(number: u32, message: &Message<'_>) -> Next
     ensures { result ≡ spec.next_of_whole number message.now }
 {
@@ -213,7 +232,8 @@ fn next_of_whole(number: u32, message: &Message<'_>) -> Next
     }
 }
 
-// Whether an answer's Block1, where it has one, names this block and says that the server has all of the body.
+// Returns whether Block1, if there is one, names this block and says that the server has the whole
+// body.
 fn says_last(number: u32, message: &Message<'_>) -> bool
     ensures { result ≡ spec.says_last number (spec.block1_of message.now) }
 {
@@ -229,7 +249,7 @@ fn names_last(number: u32, block: Block) -> bool
     block.number() == number && !block.more()
 }
 
-// What comes after a success that answers what asked for a further block of the answer.
+// Returns the next step after a success that answers a request for a further block of the response.
 fn next_of_further(number: u32, szx: u8, etag: &[u8], message: &Message<'_>) -> Next
     requires { IsBlock number szx }
     ensures { result ≡ spec.next_of_further number szx etag.now message.now }
@@ -243,7 +263,7 @@ fn next_of_further(number: u32, szx: u8, etag: &[u8], message: &Message<'_>) -> 
     next_of_answer(number, szx, message)
 }
 
-// What comes after a success that answers what asked for this block.
+// Returns the next step after a success that answers a request for this block.
 pub(crate) fn next_of_answer(number: u32, szx: u8, message: &Message<'_>) -> Next
     requires { IsBlock number szx }
     ensures { result ≡ spec.next_of_answer number szx message.now }
@@ -262,7 +282,7 @@ pub(crate) fn next_of_answer(number: u32, szx: u8, message: &Message<'_>) -> Nex
     }
 }
 
-// Whether a block begins where the one begins that was asked for, and is no larger.
+// Returns whether a block begins at the start of the requested one, and is no larger.
 fn fits_place(number: u32, szx: u8, block: Block) -> bool
     requires { IsBlock number szx }
     ensures { result ≡ spec.fits_place number szx block }
@@ -272,7 +292,7 @@ fn fits_place(number: u32, szx: u8, block: Block) -> bool
         && block.size() * block.number() as usize == asked.size() * asked.number() as usize
 }
 
-// What comes after this block of so many bytes.
+// Returns the next step after this block of `count` bytes.
 fn after_block(count: usize, block: Block) -> Next
     ensures { result ≡ spec.by_more block count }
 {

@@ -1,4 +1,4 @@
-//! What comes from the server: a request goes out, and again until it is answered or acknowledged.
+//! Transmission: sends a request until it has a response or an acknowledgement.
 ghost use Rattle.std.specs.Prelude.{◌≡◌, ◌<◌, ◌≤◌, [], ◌∷◌, IfErr, IfOk, IfSome, OnOk, false, length, take, true};
 ghost use Rattle.coap_msg.specs.Wire.{message_bytes};
 ghost use Rattle.coap_msg.specs.Reading.{reading_of};
@@ -17,59 +17,66 @@ use crate::peer::{Buffer, Peer};
 use crate::reply::{is_empty_acknowledgement, is_reply, is_reset, is_separate};
 use coap_msg::{Code, Datagram, Message, MessageType, Outgoing, read, write};
 
-/// How often a confirmable request is sent at most: once, and MAX_RETRANSMIT times again (RFC 7252, 4.8).
+/// Maximum number of transmissions of a confirmable request.
+///
+/// It is once, and MAX_RETRANSMIT times again (RFC 7252, section 4.8).
 pub(crate) const SENDINGS: u32 = 5;
 
-/// How long the answer to the first sending of a request is waited for, in seconds (ACK_TIMEOUT, RFC 7252, 4.8).
+/// Wait for the response to the first transmission, in seconds.
+///
+/// It is ACK_TIMEOUT (RFC 7252, section 4.8).
 const ACK_TIMEOUT: u64 = 2;
 
-/// How long an answer is waited for once the request was acknowledged, in seconds: as long as a sender waits for an
-/// acknowledgement at most, MAX_TRANSMIT_WAIT (RFC 7252, 4.8.2).
+/// Wait for the response to an acknowledged request, in seconds.
+///
+/// It is MAX_TRANSMIT_WAIT, the longest time that a sender waits for an acknowledgement (RFC 7252,
+/// section 4.8.2).
 pub(crate) const SEPARATE_WAIT: u64 = 93;
 
-/// How long the answer to a non-confirmable request is waited for, in seconds.
+/// Wait for the response to a non-confirmable request, in seconds.
 const NON_WAIT: u64 = 32;
 
-/// A request that goes out.
+/// A request to send.
 #[derive(Clone, Copy)]
 pub struct SentRequest<'a> {
     pub datagram: &'a Datagram,
     pub id: u16,
     pub confirmable: bool,
-    /// The ids of the separate responses so far: to other requests.
+    /// The message IDs of the separate responses to earlier requests.
     pub earlier: &'a [u16],
 }
 
-/// What a datagram from the server is to the request that is out.
+/// The classification of a datagram with respect to the outstanding request.
 #[derive(Clone, Copy, PartialEq, Eq)]
 pub enum Reception {
-    /// Its answer, in its acknowledgement, or told by its token.
+    /// The response, piggybacked or identified by its token.
     Reply,
-    /// An answer in a message of its own, without a token.
+    /// A separate response, without a token.
     Separate,
-    /// The same, which came before.
+    /// A separate response that was received before.
     Repeat,
-    /// Its acknowledgement, without an answer.
+    /// An acknowledgement without a response.
     Acknowledged,
-    /// Its rejection.
+    /// A rejection.
     Rejected,
     /// None of these.
     Other,
 }
 
-/// What came while a wait lasted.
+/// The outcome of a wait.
 #[derive(Clone, Copy, PartialEq, Eq)]
 pub enum Listened {
-    /// An answer of so many bytes.
+    /// A response of this length in bytes.
     Answer(usize),
-    /// The acknowledgement without an answer.
+    /// An acknowledgement without a response.
     Acknowledged,
-    /// None of these.
+    /// Neither of these.
     Nothing,
 }
 
-/// Computes how long the answer to the sending that comes after so many others of its request is waited for, in seconds: each time twice
-/// as long (RFC 7252, 4.2, without the random part).
+/// Returns the wait for a response after `sendings` other transmissions.
+///
+/// In seconds; it doubles each time (RFC 7252, section 4.2, without the random part).
 pub(crate) fn ack_timeout(sendings: u32) -> u64
     requires { sendings < most_sendings }
     ensures { result ≡ ack_timeout sendings }
@@ -77,11 +84,14 @@ pub(crate) fn ack_timeout(sendings: u32) -> u64
     ACK_TIMEOUT << sendings
 }
 
-/// Sends a request, and again where it isn't answered or acknowledged in time; how many bytes at the start of the buffer its answer
-/// is, or `None` where none came, to the last sending either. A confirmable answer is acknowledged.
+/// Sends a request, and returns the length of its response in bytes.
+///
+/// Retransmits the request if it has no response or acknowledgement in time. The response is at the
+/// start of `buffer`. Returns `None` if there is no response, not even to the last transmission. A
+/// confirmable response is acknowledged.
 ///
 /// # Errors
-/// The request was rejected, or sending or receiving failed.
+/// Returns an error if the request is rejected, or if sending or receiving fails.
 pub fn ask<P: Peer>(
     peer: &mut P,
     request: &SentRequest<'_>,
@@ -101,7 +111,7 @@ pub fn ask<P: Peer>(
     Ok(Some(count))
 }
 
-// Asks by a confirmable request, or by another.
+// Sends a confirmable or a non-confirmable request, and waits for its response.
 fn transmit<P: Peer>(
     peer: &mut P,
     request: &SentRequest<'_>,
@@ -121,7 +131,7 @@ fn transmit<P: Peer>(
     }
 }
 
-// Asks by a confirmable request.
+// Sends a confirmable request, and waits for its response.
 fn ask_again<P: Peer>(
     peer: &mut P,
     request: &SentRequest<'_>,
@@ -148,7 +158,7 @@ fn ask_again<P: Peer>(
     Ok(None)
 }
 
-// Asks by a non-confirmable request.
+// Sends a non-confirmable request, and waits for its response.
 fn ask_once<P: Peer>(
     peer: &mut P,
     request: &SentRequest<'_>,
@@ -166,7 +176,7 @@ fn ask_once<P: Peer>(
     await_separate(peer, request, buffer)
 }
 
-// Sends a request, and begins a wait of so many seconds.
+// Sends a request, and begins a wait of `seconds` seconds.
 pub(crate) fn send<P: Peer>(
     peer: &mut P,
     request: &Datagram,
@@ -182,7 +192,7 @@ pub(crate) fn send<P: Peer>(
     Ok(())
 }
 
-// Waits for an answer, where the request was acknowledged or asks for no acknowledgement.
+// Waits for a separate response: the request was acknowledged or is non-confirmable.
 fn await_separate<P: Peer>(
     peer: &mut P,
     request: &SentRequest<'_>,
@@ -201,7 +211,7 @@ fn await_separate<P: Peer>(
     }
 }
 
-// Listens while a wait lasts, and passes over what doesn't end it.
+// Receives datagrams until one ends the wait or the wait is over; skips the others.
 fn listen<P: Peer>(
     peer: &mut P,
     request: &SentRequest<'_>,
@@ -229,8 +239,8 @@ fn listen<P: Peer>(
     Ok(Listened::Nothing)
 }
 
-// Whether a wait goes on behind a datagram: a response in a message of its own is an answer only where one is awaited, and an acknowledgement ends the wait only where
-// none is.
+// Returns whether a datagram is skipped, so that the wait goes on. A separate response ends the
+// wait only if one is awaited, and an acknowledgement only if none is.
 pub(crate) fn is_passed_over(awaited: bool, heard: Reception) -> bool
     ensures { result ≡ is_passed_over awaited heard }
 {
@@ -242,7 +252,8 @@ pub(crate) fn is_passed_over(awaited: bool, heard: Reception) -> bool
     }
 }
 
-// What a datagram is to a request. A response that came before is acknowledged again, where it asks for that (RFC 7252, 4.2).
+// Classifies a datagram with respect to a request. A confirmable response that was received before
+// is acknowledged again (RFC 7252, section 4.2).
 fn hear_from<P: Peer>(
     peer: &mut P,
     request: &SentRequest<'_>,
@@ -260,7 +271,7 @@ fn hear_from<P: Peer>(
     Ok(heard)
 }
 
-// What a datagram is to a request.
+// Classifies a datagram with respect to a request.
 fn hear_datagram(request: &SentRequest<'_>, bytes: &[u8]) -> Reception
     ensures { TellsSent request.now bytes.now result }
 {
@@ -288,7 +299,7 @@ fn hear_message(request: &SentRequest<'_>, message: &Message<'_>) -> Reception
     }
 }
 
-// Acknowledges a message that asks for it (RFC 7252, 4.2).
+// Acknowledges a confirmable message (RFC 7252, section 4.2).
 pub(crate) fn acknowledge<P: Peer>(peer: &mut P, bytes: &[u8]) -> Result<(), FetchFault>
     ensures went { OnOk result ((m : wire.Message) → reading_of bytes.now ≡ Ok m → m.kind ≡ Confirmable
         → P.went (message_bytes (acknowledgement m.id))) }

@@ -16,16 +16,16 @@ use std::time::{Clock, Duration, Instant};
 
 /// A monotonic clock whose readings a contract can name.
 pub trait Ticks {
-    // Which readings it has given.
+    // The readings that it returned.
     ghost is_read: { Reading → Type 0 } = { λ _. ⊤ };
 
-    // Which errors it has returned.
+    // The errors that it returned.
     ghost is_error: { PeerError → Type 0 } = { λ _. ⊤ };
 
     /// Reads the clock.
     ///
     /// # Errors
-    /// There is no clock.
+    /// Returns an error if there is no clock.
     fn read(&self) -> io::Result<Instant>
         ensures reading { IfOk result is_read }
         ensures error { IfErr result is_error };
@@ -37,8 +37,10 @@ impl<C: Clock> Ticks for C {
     }
 }
 
-/// The server at an address and a port, as a socket of the client's own has it: that is connected to it, so that it tells where nobody
-/// listens at the port.
+/// The server at an address and a port, on a socket of the client's own.
+///
+/// The socket is connected to the server, so that it reports an error if nothing listens at the
+/// port.
 #[derive(Drop)]
 pub struct UdpPeer<'a, T: Ticks> {
     ticks: &'a T,
@@ -52,7 +54,7 @@ impl<'a, T: Ticks> UdpPeer<'a, T> {
     /// Connects to the server at this address and port.
     ///
     /// # Errors
-    /// There is no socket, or the clock can't be read.
+    /// Returns an error if there is no socket, or if the clock can't be read.
     pub fn at<R: Net>(net: &R, ticks: &'a T, address: SocketAddrV4) -> io::Result<UdpPeer<'a, T>> {
         let socket = UdpSocket::bind(net, SocketAddrV4::new(Ipv4Addr::UNSPECIFIED, 0))?;
         socket.connect(address)?;
@@ -66,7 +68,7 @@ impl<'a, T: Ticks> UdpPeer<'a, T> {
         })
     }
 
-    // How long the wait lasts from now on.
+    // Returns the rest of the wait from now on.
     fn left(&self) -> io::Result<Duration>
         ensures left { IfOk result (IsLeftOf T.is_read self.now.until) }
         ensures error { IfErr result T.is_error }
@@ -75,14 +77,16 @@ impl<'a, T: Ticks> UdpPeer<'a, T> {
         Ok(self.until.duration_since(now))
     }
 
-    // Whether a datagram of this endpoint is the server's.
+    // Returns whether a datagram from this endpoint is the server's.
     fn is_from(&self, from: SocketAddr) -> bool
         ensures { IsTrue result ↔ (from ≡ self.now.address) }
     {
         from == self.address
     }
 
-    // Waits so long for a datagram: how many bytes it is. `None` where none came that is the server's, or a signal interrupted it. One that came before the socket was connected may be another's, and one that fills the buffer may be cut.
+    // Waits for a datagram for `left`, and returns its length in bytes. `None` if no datagram of
+    // the server arrived, or if a signal interrupted the wait. A datagram from before the
+    // connection may be another host's. One that fills the buffer may be truncated.
     fn receive_once(&self, left: Duration, buffer: &mut Buffer) -> io::Result<Option<usize>>
         ensures whole { IfOk result (λ r. IfSome r (λ count. count < length buffer.new)) }
         ensures error { IfErr result (λ e. is_transient (error_kind e) ≡ false) }
@@ -147,7 +151,8 @@ impl<'a, T: Ticks> Peer for UdpPeer<'a, T> {
     }
 }
 
-// Whether an error of receiving says that nothing came in time, or that a signal interrupted it.
+// Returns whether a receive error means that nothing arrived in time, or that a signal interrupted
+// it.
 fn is_over(error: &io::Error) -> bool
     ensures { result ≡ is_transient (error_kind error.now) }
 {
@@ -157,14 +162,14 @@ fn is_over(error: &io::Error) -> bool
     )
 }
 
-// The end of a wait of so many seconds; without a wait where no clock has it.
+// Returns the end of a wait of `seconds` seconds; `now` if the clock can't represent it.
 fn end_of(now: Instant, seconds: u64) -> Instant
     ensures { FitsClock (instant_nanos now + seconds * 1_000_000_000) → instant_nanos result ≡ instant_nanos now + seconds * 1_000_000_000 }
 {
     now.checked_add(Duration::from_secs(seconds)).unwrap_or(now)
 }
 
-// So many milliseconds, and 2^64 - 1 at most.
+// Returns the duration in whole milliseconds, and at most 2^64 - 1.
 fn millis_of(elapsed: Duration) -> u64
     ensures { result ≡ min (as_nanos elapsed / 1_000_000) 18446744073709551615 }
 {

@@ -1,4 +1,6 @@
-//! What an observer has shown, by which it tells what is newer.
+//! Watches: the notifications that an observer has shown.
+//!
+//! They decide whether a later one is newer.
 ghost use Rattle.std.specs.Prelude.{◌≡◌, IfOk, OnOk};
 ghost use Rattle.coap_client.specs.Notices.{first_marks, is_shown_again, marked, notice_after};
 ghost use Rattle.coap_msg.specs.Windows.{within_window};
@@ -9,15 +11,19 @@ use coap_msg::Message;
 use coap_msg::types::WINDOW;
 use std::alloc::{AllocError, Global};
 
-/// A message of its own that was shown: its id, and the moment at which it was, in milliseconds.
+/// The mark of a separate response that was shown.
+///
+/// It has the message ID, and the time in milliseconds.
 #[derive(Clone, Copy, PartialEq, Eq)]
 pub struct ShownMark {
     pub id: u16,
     pub at: u64,
 }
 
-/// The sequence number and the moment of the state that was shown last, and the messages of their own that were shown in the last 247 seconds: one of these that
-/// comes again is a repeat (RFC 7252, 4.5).
+/// The latest state shown, and the messages shown in the last 247 seconds.
+///
+/// The state has its sequence number and its time in milliseconds. The messages are separate
+/// responses; one of them that is received again is a duplicate (RFC 7252, section 4.5).
 #[derive(Drop)]
 pub struct Watch {
     pub sequence: u32,
@@ -26,10 +32,12 @@ pub struct Watch {
 }
 
 impl Watch {
-    /// Begins the watch of an observer that has shown this message first, a state of this sequence number, at this moment in milliseconds.
+    /// Begins a watch after the first message shown.
+    ///
+    /// The message is a state with this sequence number, shown at `at` in milliseconds.
     ///
     /// # Errors
-    /// There was no memory for its mark.
+    /// Returns `AllocError` if memory can't be allocated for its mark.
     pub fn first(
         alloc: Global,
         sequence: u32,
@@ -53,7 +61,7 @@ impl Watch {
         })
     }
 
-    /// Classifies a response in a message of its own, at this moment in milliseconds.
+    /// Classifies a separate response received at `at`, in milliseconds.
     pub fn notice_of(&self, at: u64, message: &Message<'_>) -> Notice
         ensures { result ≡ notice_after self.now at message.now }
     {
@@ -68,7 +76,7 @@ impl Watch {
         }
     }
 
-    // Whether a message of this id was shown less than 247 seconds before.
+    // Returns whether a message with this message ID was shown less than 247 seconds before.
     fn repeats(&self, id: u16, at: u64) -> bool
         ensures { result ≡ is_shown_again self.now.marks.items id at }
     {
@@ -77,10 +85,14 @@ impl Watch {
             .any(|mark| mark.id == id && is_kept(mark, at))
     }
 
-    /// Keeps that a state of this sequence number is shown, at this moment in milliseconds, in a message of its own of this id.
+    /// Records that a state is shown.
+    ///
+    /// It has this sequence number and is shown at `at`, in milliseconds, in a separate response
+    /// with this message ID.
     ///
     /// # Errors
-    /// There was no memory for its mark: it is as if it hadn't come, but that older marks are gone.
+    /// Returns `AllocError` if memory can't be allocated for its mark. Then the watch is unchanged,
+    /// except that older marks are gone.
     pub fn keep(&mut self, sequence: u32, at: u64, id: u16) -> Result<(), AllocError>
         ensures shown { OnOk result ((self.new.sequence ≡ sequence) × (self.new.at ≡ at)) }
         ensures marks { OnOk result (self.new.marks.items ≡ marked self.old.marks.items id at) }
@@ -93,7 +105,7 @@ impl Watch {
     }
 }
 
-// Whether a mark still counts at a moment in milliseconds.
+// Returns whether a mark still counts at this time in milliseconds.
 fn is_kept(mark: &ShownMark, at: u64) -> bool
     ensures { result ≡ within_window at mark.now.at }
 {

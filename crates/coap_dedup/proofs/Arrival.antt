@@ -1,4 +1,4 @@
--- What a ring in order of arrival keeps.
+-- Properties that a ring in order of arrival keeps.
 use Rattle.std.proofs.Common.{◌≡◌, ℕ, ◌+◌, ◌<◌, ◌≤◌, List, [], ◌∷◌, ◌++◌, length, map, drop, Bool, true, false, cond, Some, None, refl, sym, ap, ◌∙◌, subst, ⊎_elim, arith, length-append}
 use Rattle.std.specs.Prelude.{filter, slice_get}
 use Rattle.std.proofs.lemmas.Bool.{cases_lt, lt-ltb, le-ltb, ltb-true}
@@ -7,7 +7,7 @@ use Rattle.coap_dedup.specs.declared.exchange.Opened.{Opened}
 use Rattle.coap_dedup.specs.Exchanges.{Exchange, is_live}
 use Rattle.coap_dedup.specs.Views.{Arrives, IsArrived, InOrder, as_exchange, request_is_live}
 
--- ---- what expires
+-- ---- expired requests
 
 -- the first is live, so all are
 all_live : (number since now at : ℕ) (os : List Opened) → Arrives number since now os → at < since + 247000 → filter (request_is_live at) os ≡ os
@@ -24,7 +24,7 @@ live_from number since now at o os a live =
 dead_from : (at : ℕ) (o : Opened) (os : List Opened) → request_is_live at o ≡ false → filter (request_is_live at) (o ∷ os) ≡ filter (request_is_live at) os
 dead_from at o os dead = ap (λ (b : Bool). cond b (o ∷ filter (request_is_live at) os) (filter (request_is_live at) os)) dead
 
--- of a ring, by its front
+-- the same for a ring, from its front
 pub live_front : (at : ℕ) (os : List Opened) (o : Opened) → InOrder os → slice_get os 0 ≡ Some o → request_is_live at o ≡ true → filter (request_is_live at) os ≡ os
 live_front at [] o a front live = refl
 live_front at (x ∷ os) o a front live = let same : x ≡ o = cc front in live_from a.first 0 a.now at x os a.order (ap (request_is_live at) same ∙ live)
@@ -51,7 +51,7 @@ later : (number since now at : ℕ) (os : List Opened) → now ≤ at → Arrive
 later number since now at [] le a = tt
 later number since now at (o ∷ os) le a = let b = a.2 in (a.0, a.1, omega (arith, b, le), later (number + 1) o.at now at os le a.3)
 
--- what is let go is the first so many
+-- the expired requests are the first of the list
 record IsCut (first at : ℕ) (os : List Opened) : Type 0 where
   gone : ℕ
   order : Arrives (first + gone) 0 at (filter (request_is_live at) os)
@@ -90,7 +90,7 @@ expired_arrived opened now at os le a =
 pub fewer : (opened now at : ℕ) (os : List Opened) → now ≤ at → IsArrived now opened os → length (filter (request_is_live at) os) ≤ length os
 fewer opened now at os le a = let c = (cut a.first 0 now at os le a.order).count in omega (arith, c)
 
--- one more, opened now
+-- one more request, opened now
 more : (number since now at : ℕ) (os : List Opened) (o : Opened) → now ≤ at → since ≤ at → o.number ≡ number + length os → o.at ≡ at → Arrives number since now os → Arrives number since at (os ++ o ∷ [])
 more number since now at [] o le low n m a = (n ∙ omega arith, omega (arith, m, low), omega (arith, m), tt)
 more number since now at (x ∷ os) o le low n m a = let b = a.2 in (a.0, a.1, omega (arith, b, le), more (number + 1) x.at now at os o le (omega (arith, b, le)) (n ∙ omega arith) m a.3)
@@ -101,7 +101,7 @@ opened_arrived opened now at os o le n m a =
     let long = length-append os (o ∷ []) in
     record { first = a.first; order = more a.first 0 now at os o le (omega arith) (n ∙ count) m a.order; count = omega (arith, count, long) }
 
--- ---- how it is seen
+-- ---- the view in contracts
 
 seen_if : (kept : List Kept) (b : Bool) (o : Opened) (os : List Opened) → map (as_exchange kept) (cond b (o ∷ os) os) ≡ cond b (as_exchange kept o ∷ map (as_exchange kept) os) (map (as_exchange kept) os)
 seen_if kept true o os = refl

@@ -1,4 +1,4 @@
--- A search by halves, in keys that rise.
+-- A binary search in increasing keys.
 use Rattle.std.proofs.Common.{◌≡◌, ℕ, zero, suc, ◌+◌, ◌-◌, ◌/◌, ◌<◌, ◌≤◌, List, length, map, T, Some, ap, ◌∙◌, ⊎_elim, arith}
 use Rattle.std.specs.Prelude.{slice_get}
 use Rattle.std.specs.declared.cmp.Ordering.TheVariants.{Less, Greater}
@@ -12,7 +12,7 @@ use Rattle.coap_dedup.specs.Requests.{AreAbove, AreBelow, left_after}
 use Rattle.coap_dedup.proofs.Index.{Entry, rises}
 use Rattle.coap_dedup.proofs.Keys.{key_total}
 
--- the key is between these places, after so many comparisons
+-- the key is between these places after this many comparisons
 pub record IsBetween (ks : List Key) (k : Key) (low high probes : ℕ) : Type 0 where
   pub below : AreBelow ks k low
   pub above : AreAbove ks k high
@@ -45,7 +45,7 @@ none_left n = let le = at_most 65536 n in omega (arith, le)
 none_left_of_few : (n : ℕ) → left_after 1024 (suc (suc (suc (suc (suc (suc (suc (suc (suc (suc (suc n))))))))))) ≡ 0
 none_left_of_few n = let le = at_most 1024 n in omega (arith, le)
 
--- while a key is left, fewer than seventeen were compared
+-- while a key is left, fewer than 17 were compared
 pub fewer : (ks : List Key) (k : Key) (low high probes : ℕ) → IsBetween ks k low high probes → low < high → probes < 17
 fewer ks k low high probes b lt =
     let left = b.left in
@@ -57,7 +57,7 @@ fewer ks k low high probes b lt =
     absurd (omega (arith, left, lt, none)))
     (cases_lt probes 17)
 
--- of at most 1,024 keys fewer than eleven
+-- of at most 1,024 keys, fewer than 11 were compared
 pub fewer_than_eleven : (ks : List Key) (k : Key) (low high probes : ℕ) → IsBetween ks k low high probes → low < high → length ks ≤ 1024 → probes < 11
 fewer_than_eleven ks k low high probes b lt small =
     let left = b.left_of_few small in

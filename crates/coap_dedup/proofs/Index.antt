@@ -1,4 +1,4 @@
--- What the index tells: where a key is in order, and whose it is.
+-- The index: the place of a key in the order of keys, and the request of the key.
 use Rattle.std.proofs.Common.{◌≡◌, ℕ, zero, suc, ◌+◌, ◌%◌, ◌<◌, ◌≤◌, List, [], ◌∷◌, ◌++◌, length, length-append, length-drop, map, drop, Bool, true, false, cond, T, Option, Some, None, refl, sym, ap, subst, ◌∙◌, ⊎_elim, arith}
 use Rattle.std.specs.Prelude.{◌&&◌, find, slice_get, slice_index_or, option_map, is_some}
 use Rattle.std.specs.List.{insert, position_or_len, remove}
@@ -73,7 +73,7 @@ found_by : (os : List Opened) (e : Entry) (x : Option Opened) → find (has_key 
 found_by os e None found is = absurd (cc is)
 found_by os e (Some o) found is = record { request = o; found = found; key_is = sym (same_of e.0 o.key (holds e.0 os o found)); number_is = cc is }
 
--- ---- entries whose keys rise
+-- ---- entries with increasing keys
 
 apart : (r : Ordering) → r ≡ Less → is_eq r ≡ false
 apart r e = ap is_eq e
@@ -177,7 +177,7 @@ numbered_at number since now i [] o a is = absurd (cc is)
 numbered_at number since now zero (x ∷ os) o a is = let same : o ≡ x = cc is in let n = a.0 in ap (λ (y : Opened). y.number) same ∙ omega (arith, n)
 numbered_at number since now (suc i) (x ∷ os) o a is = let n = numbered_at (number + 1) x.at now i os o a.3 is in omega (arith, n)
 
--- it is found in the ring, so many after the oldest
+-- it is found in the ring, at its distance from the oldest
 pub found_after : (os : List Opened) (place i after : ℕ) (oldest : Opened) → InOrder os → length os ≤ 65536 → slice_get os 0 ≡ Some oldest → (a : IsAt os place i)
     → ((number : ℕ) → oldest.number ≤ number → number < oldest.number + 65536 → number % 65536 ≡ place → oldest.number + after ≡ number) → slice_get os after ≡ Some a.request
 found_after os place i after oldest order few front a counts =
@@ -207,9 +207,9 @@ keys_length os places is = length-map (entries (by_key os)) (λ (e : Entry). e.0
 pub key_at : (os : List Opened) (i : ℕ) (k : Key) (n : ℕ) → slice_get (entries (by_key os)) i ≡ Some (k, n) → slice_get (keys (by_key os)) i ≡ Some k
 key_at os i k n is = slice_get-map (λ (e : Entry). e.0) (entries (by_key os)) i ∙ ap (option_map (λ (e : Entry). e.0)) is
 
--- ---- what a search found
+-- ---- results of a search
 
--- two entries at an index are one
+-- two requests with the key at one index are the same
 pub same_key_at : (os : List Opened) (i : ℕ) (k : Key) (o : Opened) → slice_get (keys (by_key os)) i ≡ Some k → slice_get (entries (by_key os)) i ≡ Some (o.key, o.number) → o.key ≡ k
 same_key_at os i k o at_i entry = let there = key_at os i o.key o.number entry in cc (at_i, there)
 
@@ -244,7 +244,7 @@ absent : (k : Key) (es : List Entry) → ((i : ℕ) (x : Key) → slice_get (map
 absent k [] other = refl
 absent k (e ∷ es) other = ap (λ (b : Bool). cond b (Some e.1) (entry_list.find key_cmp k es)) (other 0 e.0 refl) ∙ absent k es (λ i x is. other (suc i) x is)
 
--- none has a key that would be in a gap
+-- no request has a key with an insertion point
 pub none_found : (os : List Opened) (k : Key) (i : ℕ) → IsGap (keys (by_key os)) k i → find (has_key k) os ≡ None
 none_found os k i gap =
     let other : (j : ℕ) (x : Key) → slice_get (keys (by_key os)) j ≡ Some x → eq_by_cmp key_cmp k x ≡ false = λ j x is. (eq_by_cmp_equiv key_total).symm k x ∙ ⊎_elim
@@ -253,7 +253,7 @@ none_found os k i gap =
     (cases_lt j i) in
     no_request (find (has_key k) os) (sym (get_is k os) ∙ (get-entries (by_key os) k ∙ absent k (entries (by_key os)) other))
 
--- one has a key that is in the index
+-- a request has each key of the index
 pub some_found : (os : List Opened) (k : Key) (i : ℕ) → slice_get (keys (by_key os)) i ≡ Some k → find (has_key k) os ≡ None → ⊥
 some_found os k i at_i none =
     let there = key_entry (entries (by_key os)) i k at_i in
@@ -261,7 +261,7 @@ some_found os k i at_i none =
     let not : entry_list.find key_cmp k (entries (by_key os)) ≡ None = sym (get-entries (by_key os) k) ∙ (get_is k os ∙ ap (option_map (λ o. o.number)) none) in
     cc (got, not)
 
--- ---- one more, or one less
+-- ---- one request more, or one less
 
 put_in_gap : (k : Key) (n : ℕ) (es : List Entry) (i : ℕ) → IsGap (map (λ e. e.0) es) k i → entry_list.put key_cmp k n es ≡ insert es i (k, n)
 put_in_gap k n [] zero gap = refl
@@ -310,7 +310,7 @@ first_taken : (k : Key) (n : ℕ) (es : List Entry) (i : ℕ) → entry_list.fin
 first_taken k n es zero none is = refl
 first_taken k n es (suc i) none is = absurd (not_there k es i none is)
 
--- what was put in is taken out
+-- removing an inserted entry restores the list
 taken_out : (k : Key) (n : ℕ) (es : List Entry) (i : ℕ) → entry_list.find key_cmp k es ≡ None → slice_get (map (λ e. e.0) (entry_list.put key_cmp k n es)) i ≡ Some k → remove (entry_list.put key_cmp k n es) i ≡ es
 taken_out k n [] zero none is = refl
 taken_out k n [] (suc i) none is = absurd (cc is)
@@ -339,7 +339,7 @@ missing : (x : Option ℕ) → is_some x ≡ false → x ≡ None
 missing None e = refl
 missing (Some n) e = absurd (cc e)
 
--- the index after the oldest was let go
+-- the index after the oldest request was removed
 pub popped : (o : Opened) (os : List Opened) (places : List ℕ) (i : ℕ) → IsIndex (o ∷ os) places → slice_get (keys (by_key (o ∷ os))) i ≡ Some o.key → IsIndex os (remove places i)
 popped o os places i is at_i =
     let m = by_key os in
@@ -367,7 +367,7 @@ front_found (o ∷ os) k i front gap =
     let some : find (has_key k) (o ∷ os) ≡ Some o = ap (λ (b : Bool). cond b (Some o) (find (has_key k) os)) first in
     cc (some, none)
 
--- the ring and the index after the oldest was let go
+-- the ring and the index after the oldest request was removed
 pub are_popped : (ring rest : Buffer Opened) (index fewer : Vec ℕ) (i : ℕ) (k : Key) → AreRequests ring index → option_map (λ o. o.key) (slice_get ring.items 0) ≡ Some k → slice_get (keys (by_key ring.items)) i ≡ Some k
     → rest ≡ buffer (drop 1 ring.items) ring.capacity → fewer.items ≡ remove index.items i → vec_capacity fewer ≡ vec_capacity index → AreRequests rest fewer
 are_popped ring rest index fewer i k are front at_i is removed same =
@@ -390,7 +390,7 @@ no_entries : (es : List Entry) → length es ≡ 0 → [] ≡ map place_of (map 
 no_entries [] none = refl
 no_entries (e ∷ es) none = absurd (omega (arith, none))
 
--- the ring and the index at first
+-- the initial ring and index
 pub none_indexed : (n : ℕ) (ring : Buffer Opened) (index : Vec ℕ) → n ≤ 65536 → ring ≡ buffer [] n → index.items ≡ [] → n ≤ vec_capacity index → AreRequests ring index
 none_indexed n ring index most is none room =
     let items : ring.items ≡ [] = ap (λ (b : Buffer Opened). b.items) is in

@@ -1,4 +1,4 @@
--- The order of keys, and when two are the same.
+-- The order and the equality of keys.
 use Rattle.std.proofs.Common.{◌≡◌, ℕ, ◌+◌, ◌*◌, ◌/◌, ◌%◌, ◌<◌, List, [], ◌∷◌, Bool, true, false, ap, refl, sym, ◌∙◌, arith}
 use Rattle.std.specs.Prelude.{◌==◌, ◌&&◌, nat_eq}
 use Rattle.std.specs.Ordering.{eq_by_cmp}
@@ -48,7 +48,7 @@ bytes_to q a b c d lb lc ld e =
     (and_from _ _ (eq-eqb (q / 256 % 256) c (omega (arith, e, lb, lc, ld)))
     (and_from _ _ (eq-eqb (q % 256) d (omega (arith, e, lb, lc, ld))) refl)))
 
--- an address is that of a key just if its number is
+-- an address is that of a key exactly if its number is
 pub same_address : (ip : List ℕ) (k : Key) → AreBytes ip → pointwise nat_eq (endpoint_of k).ip ip ≡ is_key_at ip k
 same_address ip k w =
     let q = k.number / 4294967296 in
@@ -58,7 +58,7 @@ same_address ip k w =
     (λ e. eq-eqb q (address_number ip) (bytes_from q w.a w.b w.c w.d e ∙ sym number))
     (λ e. bytes_to q w.a w.b w.c w.d w.fit.1 w.fit.2 w.fit.3 (eqb-true q (address_number ip) e ∙ number))
 
--- ---- a key is that of an endpoint and a message id just if both are the same
+-- ---- a key has an endpoint and a message ID exactly if both are equal
 
 parts_from : (n a p m : ℕ) → n / 4294967296 ≡ a → n / 65536 % 65536 ≡ p → n % 65536 ≡ m → n ≡ a * 4294967296 + p * 65536 + m
 parts_from n a p m ea ep em = omega (arith, ea, ep, em)
@@ -83,7 +83,7 @@ same_key to id k w =
     (eq-eqb (n % 65536) id (omega (arith, same, lm))))
     ∙ sym (unsigned_tied n (a * 4294967296 + p * 65536 + id)))
 
--- a key has the endpoint and the message id that it is of
+-- a key has the endpoint and the message ID of its request
 bytes_are : (q a b c d : ℕ) → b < 256 → c < 256 → d < 256 → q ≡ a * 16777216 + b * 65536 + c * 256 + d → address_bytes q ≡ a ∷ b ∷ c ∷ d ∷ []
 bytes_are q a b c d lb lc ld e =
     let e1 : q / 16777216 ≡ a = omega (arith, e, lb, lc, ld) in

@@ -1,4 +1,4 @@
--- Which place an exchange has, and what an answer there changes.
+-- The place of an exchange, and the effect of a response stored there.
 use Rattle.std.proofs.Common.{◌≡◌, ℕ, zero, suc, ◌+◌, ◌-◌, ◌/◌, ◌%◌, ◌<◌, ◌≤◌, List, [], ◌∷◌, ◌++◌, length, map, drop, set, Bool, true, false, cond, Option, Some, None, refl, sym, ap, ◌∙◌, ⊎_elim, arith, length-set}
 use Rattle.std.specs.Prelude.{filter, find, nat_lt, slice_get, slice_index_or, ◌==◌, ◌&&◌, ◌||◌}
 use Rattle.std.specs.List.{list_any}
@@ -22,7 +22,7 @@ use Rattle.coap_dedup.specs.Views.{Arrives, IsArrived, IsGone, IsNumbered, answe
 use Rattle.std.proofs.lemmas.Cmp.{eq_by_cmp_equiv}
 use Rattle.coap_dedup.proofs.Keys.{key_total, same_key}
 
--- of so many places, numbers less than so many apart have different ones
+-- numbers that differ by less than the number of places have different places
 apart : (n p q : ℕ) → q < p → p < q + n → q % n ≡ p % n → ⊥
 apart n p q lt near e =
     let at_p = div-add-mod p n in
@@ -32,11 +32,11 @@ apart n p q lt near e =
     (λ (le : p / n ≤ q / n). let more = mul-le-mul_left n le in omega (arith, lt, e, at_p, at_q, more))
     (cases_lt (q / n) (p / n))
 
--- the places are as many after a write
+-- a write keeps the number of places
 written_at : (kept : List Kept) (i : ℕ) (k : Kept) (o : Opened) → as_exchange (set kept i k) o ≡ with_answer (slice_index_or (set kept i k) (o.number % length kept) no_answer) o
 written_at kept i k o = ap (λ (n : ℕ). with_answer (slice_index_or (set kept i k) (o.number % n) no_answer) o) (length-set kept i k)
 
--- what is kept elsewhere stays
+-- other places keep their contents
 elsewhere : (kept : List Kept) (p : ℕ) (k : Kept) (o : Opened) → (o.number % length kept ≡ p % length kept → ⊥) → as_exchange (set kept (p % length kept) k) o ≡ as_exchange kept o
 elsewhere kept p k o ne = written_at kept (p % length kept) k o ∙ ap (λ (x : Kept). with_answer x o) (get_or-set_other kept (p % length kept) (o.number % length kept) k no_answer ne)
 
@@ -54,9 +54,9 @@ all_before number since now p kept k (o ∷ os) lt near a =
     λ i. elsewhere kept p k o (apart (length kept) p o.number (omega (arith, is, lt)) (omega (arith, is, near))) i
     ∷ all_before (number + 1) o.at now p kept k os (omega (arith, lt)) (omega (arith, near)) a.3 i
 
--- ---- an answer that comes too late, or to no exchange that is held
+-- ---- a response after the lifetime, or to no stored exchange
 
--- the exchange of this number, if it is among these, isn't live
+-- the exchange with this number, if it is among these, is past its lifetime
 abbrev pub NoneLive : ℕ → ℕ → ℕ → List Opened → Type 0
 NoneLive number at p os = (i : ℕ) (o : Opened) → slice_get os i ≡ Some o → p ≡ number + i → request_is_live at o ≡ false
 
@@ -110,7 +110,7 @@ numbered_from opened now number os o numbered a =
     let held = numbered.held in
     omega (arith, count, before, held)
 
--- ---- an answer in time
+-- ---- a response within the lifetime
 
 head_open : (at p : ℕ) (kept : List Kept) (o : Opened) → o.number ≡ p → request_is_live at o ≡ true → is_open at p (as_exchange kept o) ≡ true
 head_open at p kept o is live = λ i. eq-eqb o.number p is i && live i
@@ -158,7 +158,7 @@ one_answered number since now at (suc i) kept bytes (x ∷ os) o few found live 
 
 -- ---- a request of an endpoint and a message id
 
--- as many of an address are seen as there are
+-- the view has as many requests of an address as the ring
 pub share_seen : (kept : List Kept) (ip : List ℕ) (os : List Opened) → share_of ip (map (as_exchange kept) os) ≡ length (filter (is_of_address ip) os)
 share_seen kept ip [] = refl
 share_seen kept ip (o ∷ os) = elim (is_of_address ip o) as (λ b. length (cond b (as_exchange kept o ∷ filter (is_at ip) (map (as_exchange kept) os)) (filter (is_at ip) (map (as_exchange kept) os))) ≡ length (cond b (o ∷ filter (is_of_address ip) os) (filter (is_of_address ip) os))) [
@@ -202,7 +202,7 @@ place_in_room false place new = absurd (cc new)
 place_in_room true true new = refl
 place_in_room true false new = absurd (cc new)
 
--- it has a key that none has which is held
+-- no stored request has its key
 pub new_key : (kept : List Kept) (to : Endpoint) (id : ℕ) (room : Room) (os : List Opened) → IsPeer to id → look_by (find (is_of to id) (map (as_exchange kept) os)) room ≡ IsNew → find (has_key (key_of to id)) os ≡ None
 new_key kept to id room os w new = found_key to id os w ∙ not_found kept (find (is_from to id) os) room (sym (look_seen kept to id room os) ∙ new)
 
@@ -217,7 +217,7 @@ has_space (Some e) t ip new = absurd (not_again e.confirmable e.answer new)
 pub keeps_all : {X : Type 0} (n : ℕ) (xs : List X) → length xs ≤ n → keep_last n xs ≡ xs
 keeps_all n xs le = let none : length xs - n ≡ 0 = omega (arith, le) in ap (λ (k : ℕ). drop k xs) none
 
--- it is seen last, without an answer
+-- it is last in the view, without a response
 pub opened_last : (first now p : ℕ) (kept : List Kept) (bytes : ArrayVec ℕ) (os : List Opened) (o : Opened) → p ≡ first + length os → length os < length kept → o.number ≡ p → Arrives first 0 now os →
     map (as_exchange (set kept (p % length kept) (record { answered = false; bytes = bytes }))) (os ++ o ∷ []) ≡ map (as_exchange kept) os ++ with_answer no_answer o ∷ []
 opened_last first now p kept bytes os o count few is a =

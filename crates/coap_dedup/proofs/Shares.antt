@@ -1,4 +1,4 @@
--- How many requests are of an address: in the order of keys they are next to each other.
+-- The number of requests of an address: in the order of keys they are adjacent.
 use Rattle.std.proofs.Common.{◌≡◌, ℕ, zero, suc, ◌+◌, ◌-◌, ◌*◌, ◌/◌, ◌<◌, ◌≤◌, List, [], ◌∷◌, length, map, Bool, true, false, cond, not, T, Option, Some, None, refl, sym, ap, ◌∙◌, ⊎_elim, arith}
 use Rattle.std.specs.Prelude.{◌==◌, filter, nat_lt, slice_get, is_some, ◌&&◌}
 use Rattle.std.specs.declared.cmp.Ordering.{Ordering}
@@ -18,7 +18,7 @@ use Rattle.coap_dedup.specs.Views.{is_of_address}
 use Rattle.coap_dedup.proofs.Index.{Entry, keys_few, rises}
 use Rattle.coap_dedup.proofs.Keys.{key_total, same_address, same_if}
 
--- ---- the requests of an address, by the entries of the index
+-- ---- the requests of an address, from the entries of the index
 
 counted_if : (b : Bool) (e : Entry) (es : List Entry) → length (cond b (e ∷ es) es) ≡ cond b 1 0 + length es
 counted_if true e es = omega arith
@@ -27,7 +27,7 @@ counted_if false e es = omega arith
 abbrev of_keys : (Key → Bool) → List Entry → List Entry
 of_keys p es = filter (λ e. p e.0) es
 
--- a new entry counts once, wherever it is put
+-- a new entry counts once, wherever it is inserted
 put_there : (p : Key → Bool) (k : Key) (n : ℕ) (e : Entry) (es : List Entry) (r : Ordering) → key_cmp k e.0 ≡ r → entry_list.find key_cmp k (e ∷ es) ≡ None
     → (entry_list.find key_cmp k es ≡ None → length (of_keys p (entry_list.put key_cmp k n es)) ≡ cond (p k) 1 0 + length (of_keys p es))
     → length (of_keys p (entry_list.by_order r ((k, n) ∷ e ∷ es) ((e.0, n) ∷ es) (e ∷ entry_list.put key_cmp k n es))) ≡ cond (p k) 1 0 + length (of_keys p (e ∷ es))
@@ -72,7 +72,7 @@ entries_count p (o ∷ os) distinct =
     let one = request_if (p o.key) o (filter (λ x. p x.key) os) in
     ap (λ (es : List Entry). length (of_keys p es)) (entries-insert key_total m o.key o.number) ∙ omega (arith, put, rest, one)
 
--- ---- numbers in order
+-- ---- ordered numbers
 
 number_less : (n m : ℕ) → nat_cmp n m ≡ Less → n < m
 number_less n m is = ranked n m Less (sym is)
@@ -92,7 +92,7 @@ is_one a (Some k) = key_number_at a k
 abbrev pub keys_in : List Entry → List Key
 keys_in es = map (λ e. e.0) es
 
--- the keys before this place are below those of the address, and from there on none is
+-- the keys before this place are below those of the address, and none from there on is
 pub record IsFirst (a : ℕ) (ks : List Key) (i : ℕ) : Type 0 where
   pub below : (j : ℕ) (x : Key) → j < i → slice_get ks j ≡ Some x → x.number < a * 4294967296
   pub above : (j : ℕ) (x : Key) → i ≤ j → slice_get ks j ≡ Some x → a * 4294967296 ≤ x.number
@@ -133,7 +133,8 @@ sorted_rest : (a b : Bool) → T (a && b) → T b
 sorted_rest true b t = t
 sorted_rest false b t = absurd t
 
--- from the first key that an address can have on, its keys come first: it has a share of them just if the last of as many is its
+-- from the least key of an address on, its keys come first; so the address has a share of them
+-- exactly if the last of that many is its own
 counts_from : (a : ℕ) (es : List Entry) → T (entry_list.is_sorted key_cmp es) → ((j : ℕ) (x : Key) → slice_get (keys_in es) j ≡ Some x → a * 4294967296 ≤ x.number)
     → (others : ℕ) → nat_lt (length (of_keys (key_number_at a) es)) (suc others) ≡ not (is_one a (slice_get (keys_in es) others))
 counts_from a [] sorted above others = lt-ltb 0 (suc others) (omega arith)
@@ -173,7 +174,7 @@ fewer_at ip os i share others w distinct first is =
     ap (nat_lt (length (filter (is_of_address ip) os))) is
     ∙ (ap (λ n. nat_lt n (suc others)) (sym count) ∙ counts a (entries (by_key os)) i others (entries_sorted (by_key os)) first)
 
--- where a search for the first key of an address ends, its keys begin
+-- the keys of an address begin at the end of a search for its least key
 pub start_found : (ip : List ℕ) (i : ℕ) (k : Key) (os : List Opened) → k ≡ first_key ip → slice_get (keys (by_key os)) i ≡ Some k → IsStart ip (keys (by_key os)) i
 start_found ip i k os is at =
     let within = slice_get_within (keys (by_key os)) i k at in
@@ -201,14 +202,14 @@ start_gap ip i k os is gap =
 first_of : (ip : List ℕ) (ks : List Key) (i : ℕ) → IsStart ip ks i → IsFirst (address_number ip) ks i
 first_of ip ks i w = record { below = w.below; above = w.above }
 
--- there are fewer where the last of a share would be behind all keys
+-- there are fewer if the end of a full share would be past the last key
 pub fewer_behind : (ip : List ℕ) (os : List Opened) (i share : ℕ) → AreBytes ip → len (by_key os) ≡ length os → IsStart ip (keys (by_key os)) i → 1 ≤ share → length (keys (by_key os)) < i + share
     → nat_lt (length (filter (is_of_address ip) os)) share ≡ true
 fewer_behind ip os i share w distinct start some behind =
     fewer_at ip os i share (share - 1) w distinct (first_of ip (keys (by_key os)) i start) (omega (arith, some))
     ∙ ap (λ (x : Option Key). not (is_one (address_number ip) x)) (slice_get_past (keys (by_key os)) (i + (share - 1)) (omega (arith, some, behind)))
 
--- else by the key there
+-- otherwise the key at that place decides
 pub fewer_there : (ip : List ℕ) (os : List Opened) (i share : ℕ) (k : Key) → AreBytes ip → len (by_key os) ≡ length os → IsStart ip (keys (by_key os)) i → 1 ≤ share
     → slice_get (keys (by_key os)) (i + (share - 1)) ≡ Some k → nat_lt (length (filter (is_of_address ip) os)) share ≡ not (is_key_at ip k)
 fewer_there ip os i share k w distinct start some there =

@@ -1,4 +1,5 @@
--- The exchanges that are held (after RFC 7252, 4.5; the one window for all requests is this project's own).
+-- The stored exchanges (after RFC 7252, section 4.5; the same lifetime for all requests is this
+-- project's choice).
 use Rattle.std.specs.Prelude.{ℕ, ◌==◌, ◌&&◌, Bool, max, min, true, false, nat_eq, nat_lt, List, filter, length, find, Option, Some, None, if◌then◌else◌}
 use Rattle.std.specs.Cmp.Lexicographic.{pointwise}
 use Rattle.arrayvec.specs.ArrayVec.{ArrayVec}
@@ -9,8 +10,8 @@ use Rattle.coap_dedup.specs.declared.exchange.Limits.{Limits}
 use Rattle.coap_dedup.specs.declared.exchanges.Room.{Room}
 use Rattle.coap_dedup.specs.declared.exchanges.Room.TheVariants.{Free, Full, OverShare}
 
--- a request that was opened: whose it is, its message id, whether it is confirmable, its number and moment, and its answer,
--- where it has one
+-- an opened request: its endpoint, its message ID, whether it is confirmable, its number and time,
+-- and its response, if it has one.
 pub record Exchange : Type 0 where
   pub endpoint : Endpoint
   pub id : ℕ
@@ -19,42 +20,42 @@ pub record Exchange : Type 0 where
   pub at : ℕ
   pub answer : Option (ArrayVec ℕ)
 
--- how many exchanges are held at most: the limit, or the nearest of 1 to 65,536
+-- the maximum number of stored exchanges: the limit, or the nearest number from 1 to 65,536.
 abbrev pub places_of : Limits → ℕ
 places_of l = max 1 (min l.exchanges 65536)
 
--- the limits, the moment, how many exchanges were opened, and those that are held, in order of arrival
+-- the limits, the time, how many exchanges were opened, and the stored ones, in order of arrival.
 pub record Table : Type 0 where
   pub limits : Limits
   pub now : ℕ
   pub opened : ℕ
   pub held : List Exchange
 
--- it was opened less than a window before
+-- it was opened less than EXCHANGE_LIFETIME before `now`.
 abbrev pub is_live : ℕ → Exchange → Bool
 is_live now e = within_window now e.at
 
--- it is of this endpoint and message id
+-- it has this endpoint and message ID.
 abbrev pub is_of : Endpoint → ℕ → Exchange → Bool
 is_of to id e = same_endpoint e.endpoint to && (e.id == id)
 
--- it is of this address
+-- it has this address.
 abbrev pub is_at : List ℕ → Exchange → Bool
 is_at ip e = pointwise nat_eq e.endpoint.ip ip
 
--- how many of these are of this address
+-- how many of these exchanges have this address.
 abbrev pub share_of : List ℕ → List Exchange → ℕ
 share_of ip held = length (filter (is_at ip) held)
 
--- a place is free, and the count of exchanges isn't at its end
+-- a place is free, and the count of opened exchanges isn't at its maximum.
 abbrev pub has_place : Table → Bool
 has_place t = nat_lt (length t.held) (places_of t.limits) && nat_lt t.opened 18446744073709551615
 
--- fewer are held of an address than its share
+-- fewer exchanges of the address are stored than its share.
 abbrev pub has_share : Table → List ℕ → Bool
 has_share t ip = nat_lt (share_of ip t.held) t.limits.share
 
--- the room for one more exchange of an address: its share comes before the places
+-- the room for one more exchange of an address: its share is checked before the places.
 abbrev pub room_by : Bool → Bool → Room
 room_by false place = OverShare
 room_by true false = Full
@@ -63,8 +64,9 @@ room_by true true = Free
 abbrev pub room_at : Table → List ℕ → Room
 room_at t ip = room_by (has_share t ip) (has_place t)
 
--- what a request is: new; a repeat of one in progress; of a confirmable one that was answered by these bytes; of a
--- non-confirmable one that was answered; new where no place is free; or new where its address has its whole share
+-- the class of a request: new; a duplicate of a request in progress; of a confirmable one with this
+-- response; of a non-confirmable one with a response; new with no free place; new with its address
+-- at its full share.
 pub data Look : Type 0 where
   IsNew : Look
   IsBusy : Look
@@ -73,7 +75,7 @@ pub data Look : Type 0 where
   IsFull : Look
   IsOverShare : Look
 
--- a repeat of this exchange
+-- a duplicate of this exchange.
 abbrev pub repeated_by : Bool → Option (ArrayVec ℕ) → Look
 repeated_by confirmable None = IsBusy
 repeated_by confirmable (Some bytes) = if confirmable then IsAgain bytes.items else IsSilent
@@ -90,7 +92,7 @@ abbrev pub look_by : Option Exchange → Room → Look
 look_by (Some e) room = repeat_of e
 look_by None room = new_by room
 
--- what a request of this endpoint and message id is, to what is held
+-- the class of a request with this endpoint and message ID.
 abbrev pub look_at : Table → Endpoint → ℕ → Look
 look_at t to id = look_by (find (is_of to id) t.held) (room_at t to.ip)
 

@@ -6,11 +6,11 @@ use Rattle.std.specs.Ordering.{nat_cmp, on}
 use Rattle.coap_msg.specs.declared.types.Endpoint.{Endpoint}
 use Rattle.coap_dedup.specs.declared.key.Key.{Key}
 
--- an address as a number of 32 bits
+-- an address as a number of 32 bits.
 abbrev pub address_number : List ℕ → ℕ
 address_number ip = from_be_bytes w32 ip
 
--- four bytes
+-- the address has four bytes.
 pub record AreBytes (ip : List ℕ) : Type 0 where
   pub a : ℕ
   pub b : ℕ
@@ -19,17 +19,18 @@ pub record AreBytes (ip : List ℕ) : Type 0 where
   pub ip_is : ip ≡ a ∷ b ∷ c ∷ d ∷ []
   pub fit : (a < 256) × (b < 256) × (c < 256) × (d < 256)
 
--- an endpoint and a message id that fit their types
+-- an endpoint and a message ID that fit their types.
 pub record IsPeer (to : Endpoint) (id : ℕ) : Type 0 where
   pub bytes : AreBytes to.ip
   pub port_fits : to.port < 65536
   pub id_fits : id < 65536
 
--- the key of a request: the address, the port and the message id, from the highest bits to the lowest
+-- the key of a request: its address, its port and its message ID, from the highest bits to the
+-- lowest.
 abbrev pub key_of : Endpoint → ℕ → Key
 key_of to id = record { number = address_number to.ip * 4294967296 + to.port * 65536 + id }
 
--- they are read back: the bytes of the address, the port, and the message id
+-- the inverse: the bytes of the address, the port, and the message ID.
 abbrev pub address_bytes : ℕ → List ℕ
 address_bytes n = (n / 16777216) ∷ (n / 65536 % 256) ∷ (n / 256 % 256) ∷ (n % 256) ∷ []
 
@@ -39,14 +40,14 @@ endpoint_of k = record { ip = address_bytes (k.number / 4294967296); port = k.nu
 abbrev pub id_of : Key → ℕ
 id_of k = k.number % 65536
 
--- the first key that a request of an address can have
+-- the least key that a request of an address can have.
 abbrev pub first_key : List ℕ → Key
 first_key ip = record { number = address_number ip * 4294967296 }
 
--- a key of this address
+-- a key of this address.
 abbrev pub is_key_at : List ℕ → Key → Bool
 is_key_at ip k = k.number / 4294967296 == address_number ip
 
--- in order of addresses, then of ports, then of message ids
+-- keys are ordered by address, then by port, then by message ID.
 abbrev pub key_cmp : Key → Key → Ordering
 key_cmp = on (λ k. k.number) nat_cmp

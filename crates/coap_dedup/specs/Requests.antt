@@ -1,4 +1,4 @@
--- How a request that is held is found: by its key.
+-- The search for a stored request by its key.
 use Rattle.std.specs.Prelude.{◌≡◌, ℕ, zero, suc, ◌/◌, ◌<◌, ◌≤◌, ◌%◌, Bool, List, length, map, slice_get, Option, Some, IfSome}
 use Rattle.std.specs.Ordering.{eq_by_cmp}
 use Rattle.std.specs.declared.cmp.Ordering.TheVariants.{Less, Greater}
@@ -12,20 +12,20 @@ use Rattle.coap_dedup.specs.declared.requests.Gap.{Gap}
 use Rattle.coap_dedup.specs.Keys.{first_key, key_cmp}
 use Rattle.coap_dedup.specs.Views.{InOrder}
 
--- it has this key
+-- the request has this key.
 abbrev pub has_key : Key → Opened → Bool
 has_key k o = eq_by_cmp key_cmp k o.key
 
--- the number of the request of each key
+-- the number of the request of each key.
 abbrev pub by_key : List Opened → FinMap key_cmp ℕ
 by_key os = from_entries (map (λ o. (o.key, o.number)) os)
 
--- the places of these requests in the order of their keys, of which no two are the same
+-- `places` are the places of these requests in the order of their keys, which are distinct.
 pub record IsIndex (os : List Opened) (places : List ℕ) : Type 0 where
   pub distinct : len (by_key os) ≡ length os
   pub sorted : places ≡ map (λ n. n % 65536) (values (by_key os))
 
--- a ring in order of arrival, of 65,536 at most, and its index, with room for as many
+-- a ring in order of arrival, of at most 65,536 requests, and its index, with room for as many.
 pub record AreRequests (ring : Buffer Opened) (index : Vec ℕ) : Type 0 where
   pub capacity : ring.capacity ≤ 65536
   pub few : length ring.items ≤ ring.capacity
@@ -33,35 +33,36 @@ pub record AreRequests (ring : Buffer Opened) (index : Vec ℕ) : Type 0 where
   pub room : ring.capacity ≤ vec_capacity index
   pub is_index : IsIndex ring.items index.items
 
--- how many keys are left after so many comparisons, of this many
+-- how many of `most` keys are left after this number of comparisons.
 abbrev pub left_after : ℕ → ℕ → ℕ
 left_after most zero = most
 left_after most (suc n) = left_after most n / 2
 
--- the keys before this place come before the key
+-- the keys before this place are less than the key.
 abbrev pub AreBelow : List Key → Key → ℕ → Type 0
 AreBelow ks k i = (j : ℕ) (x : Key) → j < i → slice_get ks j ≡ Some x → key_cmp x k ≡ Less
 
--- the keys from this place on come after it
+-- the keys from this place on are greater than it.
 abbrev pub AreAbove : List Key → Key → ℕ → Type 0
 AreAbove ks k i = (j : ℕ) (x : Key) → i ≤ j → slice_get ks j ≡ Some x → key_cmp x k ≡ Greater
 
--- the key would be at this place
+-- the key's insertion point is this place.
 pub record IsGap (ks : List Key) (k : Key) (i : ℕ) : Type 0 where
   pub within : i ≤ length ks
   pub below : AreBelow ks k i
   pub above : AreAbove ks k i
 
--- the keys of an address begin at this place, or would begin: those before it are less than each of them, and those from it on aren't
+-- the keys of an address begin at this place, or would begin: the keys before it are less than each
+-- of them, and those from it on aren't.
 pub record IsStart (ip : List ℕ) (ks : List Key) (i : ℕ) : Type 0 where
   pub within : i ≤ length ks
   pub below : (j : ℕ) (x : Key) → j < i → slice_get ks j ≡ Some x → x.number < (first_key ip).number
   pub above : (j : ℕ) (x : Key) → i ≤ j → slice_get ks j ≡ Some x → (first_key ip).number ≤ x.number
 
--- the key that is kept with a gap would be there, where one is kept
+-- the cached insertion point, if any, is right for its key.
 abbrev pub HasGap : List Opened → Option Gap → Type 0
 HasGap os gap = IfSome gap (λ g. IsGap (keys (by_key os)) g.key g.index)
 
--- the oldest has this number, where there is one
+-- the oldest request, if there is one, has this number.
 abbrev pub IsOldest : List Opened → ℕ → Type 0
 IsOldest os number = (o : Opened) → slice_get os 0 ≡ Some o → number ≡ o.number

@@ -1,4 +1,5 @@
--- How what is held is seen: the requests in order of arrival, and their answers, each at its number modulo the number of places.
+-- The table as contracts see it: the requests in order of arrival, and their responses, each at its
+-- number modulo the number of places.
 use Rattle.std.specs.Prelude.{◌≡◌, ℕ, ◌+◌, ◌-◌, ◌%◌, ◌<◌, ◌≤◌, ◌==◌, ◌&&◌, Bool, true, false, nat_eq, List, [], ◌∷◌, ◌++◌, length, replicate, slice_get, slice_index_or, slice_set, Option, Some, None}
 use Rattle.std.specs.Cmp.Lexicographic.{pointwise}
 use Rattle.arrayvec.specs.ArrayVec.{ArrayVec}
@@ -15,7 +16,7 @@ use Rattle.coap_dedup.specs.Keys.{endpoint_of, id_of}
 abbrev pub no_answer : Kept
 no_answer = record { answered = false; bytes = record { items = [] } }
 
--- all places, where only these were touched
+-- all places, if only these were touched.
 abbrev pub padded : ℕ → List Kept → List Kept
 padded places kept = kept ++ replicate (places - length kept) no_answer
 
@@ -26,7 +27,7 @@ abbrev pub answer_if : Bool → ArrayVec ℕ → Option (ArrayVec ℕ)
 answer_if false bytes = None
 answer_if true bytes = Some bytes
 
--- an exchange, by what is kept at its place
+-- an exchange, from the contents of its place.
 abbrev pub with_answer : Kept → Opened → Exchange
 with_answer k o = record { endpoint = endpoint_of o.key; id = id_of o.key; confirmable = o.confirmable; number = o.number; at = o.at; answer = answer_if k.answered k.bytes }
 
@@ -36,48 +37,49 @@ as_exchange kept o = with_answer (kept_at kept o.number) o
 abbrev pub request_is_live : ℕ → Opened → Bool
 request_is_live now o = within_window now o.at
 
--- it is of this address
+-- the request has this address.
 abbrev pub is_of_address : List ℕ → Opened → Bool
 is_of_address ip o = pointwise nat_eq (endpoint_of o.key).ip ip
 
 abbrev pub is_from : Endpoint → ℕ → Opened → Bool
 is_from to id o = same_endpoint (endpoint_of o.key) to && (id_of o.key == id)
 
--- consecutive numbers, and moments that never fall, up to this one
+-- consecutive numbers from `number` on, and times from `since` to `now` that never decrease.
 abbrev pub Arrives : ℕ → ℕ → ℕ → List Opened → Type 0
 Arrives number since now [] = Unit {0}
 Arrives number since now (o ∷ os) = (o.number ≡ number) × (since ≤ o.at) × (o.at ≤ now) × Arrives (number + 1) o.at now os
 
--- the requests that are held, of so many that were opened
+-- the stored requests, if `opened` were opened in all.
 pub record IsArrived (now opened : ℕ) (os : List Opened) : Type 0 where
   pub first : ℕ
   pub order : Arrives first 0 now os
   pub count : opened ≡ first + length os
 
--- they are in order of arrival
+-- the requests are in order of arrival.
 pub record InOrder (os : List Opened) : Type 0 where
   pub first : ℕ
   pub now : ℕ
   pub order : Arrives first 0 now os
 
--- the request of this number, of those that are held, where so many were opened
+-- the request with this number is stored, if `opened` were opened in all.
 pub record IsNumbered (os : List Opened) (opened number : ℕ) (o : Opened) : Type 0 where
   pub place : slice_get os (length os - (opened - number)) ≡ Some o
   pub before : number < opened
   pub held : opened ≤ number + length os
 
--- no request of this number is held
+-- no request with this number is stored.
 abbrev pub IsGone : List Opened → ℕ → ℕ → Type 0
 IsGone os opened number = number < opened → number + length os < opened
 
--- there are no more requests than the limit, in order of arrival, and a place for the answer of each
+-- there are at most as many requests as the limit, in order of arrival, and there is a place for
+-- the response of each.
 pub record AreExchanges (limits : Limits) (now opened : ℕ) (ring : Buffer Opened) (kept : List Kept) : Type 0 where
   pub capacity : ring.capacity ≡ places_of limits
   pub few : length ring.items ≤ places_of limits
   pub places : length kept ≡ places_of limits
   pub arrived : IsArrived now opened ring.items
 
--- the places, one of them without its answer, or with this one
+-- the places, one of them without its response, or with this response.
 abbrev pub forgotten : List Kept → ℕ → List Kept
 forgotten kept number = slice_set kept (number % length kept) (record { answered = false; bytes = (kept_at kept number).bytes })
 

@@ -1,4 +1,4 @@
-//! The answers of the exchanges that are held.
+//! The responses of the stored exchanges.
 ghost use Rattle.std.specs.Prelude.{◌≡◌, ◌+◌, ◌-◌, ◌<◌, ◌≤◌, ◌++◌, length, option_map, replicate, vec_capacity, IfOk};
 ghost use Rattle.coap_dedup.specs.Views.{answer_if, answered_at, forgotten, kept_at, no_answer};
 
@@ -7,10 +7,13 @@ use coap_msg::Datagram;
 use std::alloc::{AllocError, Global};
 use std::marker::Model;
 
-/// The answers of the exchanges that are held, each at its exchange's number modulo the number of places, and never moved.
+/// The responses of the stored exchanges, which never move in memory.
 ///
-/// Memory is reserved for all places at the start. A place's memory is touched once an answer is kept there or at a later place, so a server that answers
-/// little has few pages of it resident. A clause sees all places: those that weren't touched have no answer.
+/// The response of an exchange is at the exchange's number modulo the number of places.
+///
+/// Memory is reserved for all places at the start. A place's memory is touched when a response is
+/// first stored there or at a later place. So a server that responds little has few of these pages
+/// resident. In contracts all places are visible; a place that wasn't touched has no response.
 #[derive(Drop)]
 pub(crate) struct Answers {
     places: usize,
@@ -30,7 +33,7 @@ impl Model for Answers {
 }
 
 impl Answers {
-    // `places` places without an answer.
+    // Makes `places` places without a response.
     pub(crate) fn new(alloc: Global, places: usize) -> Result<Answers, AllocError>
         requires { 1 ≤ places }
         ensures { IfOk result (λ a. length a ≡ places) }
@@ -41,7 +44,7 @@ impl Answers {
         })
     }
 
-    // The answer at the place of this number, if there is one.
+    // Returns the response at the place of this number, if there is one.
     pub(crate) fn get(&self, number: u64) -> Option<&Datagram>
         ensures { let kept = kept_at self.now number in
             option_map (λ bytes. bytes.now) result ≡ answer_if kept.answered kept.bytes }
@@ -52,7 +55,7 @@ impl Answers {
         }
     }
 
-    // Makes the place of this number free of an answer.
+    // Clears the place of this number.
     pub(crate) fn forget(&mut self, number: u64)
         ensures { self.new ≡ forgotten self.old number }
     {
@@ -62,7 +65,7 @@ impl Answers {
         }
     }
 
-    // Writes an answer to the place of this number.
+    // Stores a response at the place of this number.
     pub(crate) fn keep(&mut self, number: u64, bytes: &Datagram)
         ensures { self.new ≡ answered_at self.old number bytes.now }
     {
@@ -74,7 +77,7 @@ impl Answers {
     }
 }
 
-// Touches the places up to this one: those that weren't yet have no answer.
+// Touches the places up to this one; the newly touched have no response.
 fn touch(kept: &mut Vec<Kept>, place: usize)
     requires { place < vec_capacity kept.old }
     ensures items { kept.new.items ≡ kept.old.items ++ replicate (place + 1 - length kept.old.items) no_answer }

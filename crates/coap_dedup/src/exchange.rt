@@ -1,4 +1,4 @@
-//! One exchange.
+//! An exchange, and the limits on the number of exchanges.
 ghost use Rattle.std.specs.Prelude.{◌≡◌, ◌%◌, ◌<◌, ◌≤◌};
 ghost use Rattle.coap_msg.specs.Windows.{within_window};
 ghost use Rattle.coap_dedup.specs.Exchanges.{places_of};
@@ -6,13 +6,15 @@ ghost use Rattle.coap_dedup.specs.Exchanges.{places_of};
 use crate::key::Key;
 use coap_msg::{Datagram, WINDOW};
 
-/// The default number of exchanges that are held at once.
+/// Default limit on the number of stored exchanges.
 pub const EXCHANGES: usize = 1024;
 
-/// The most exchanges that can be held at once, since an index of them has numbers of 16 bits.
+/// Greatest possible number of stored exchanges.
+///
+/// It is the limit of their index, which has numbers of 16 bits.
 pub const MOST_EXCHANGES: usize = 65_536;
 
-/// The most exchanges that are held at once, and the most of one IP address.
+/// Limits on the stored exchanges: in all, and of one IP address.
 #[derive(Clone, Copy, Debug, PartialEq, Eq)]
 pub struct Limits {
     pub exchanges: usize,
@@ -20,7 +22,9 @@ pub struct Limits {
 }
 
 impl Limits {
-    /// Returns how many exchanges are held at most: `exchanges`, or the nearest of 1 to 65,536.
+    /// Returns the maximum number of stored exchanges.
+    ///
+    /// It is `exchanges`, or the nearest number from 1 to 65,536.
     pub fn places(&self) -> usize
         ensures places { result ≡ places_of self.now }
         ensures some { 1 ≤ result }
@@ -30,13 +34,13 @@ impl Limits {
     }
 }
 
-/// 1,024 exchanges, which may all be of one address.
+/// The default limits: 1,024 exchanges, all of which may be of one address.
 pub const DEFAULT_LIMITS: Limits = Limits {
     exchanges: EXCHANGES,
     share: MOST_EXCHANGES,
 };
 
-/// A request that was opened: its key, whether it is confirmable, its number and moment.
+/// An opened request: its key, whether it is confirmable, its number and its time.
 #[derive(Clone, Copy)]
 pub(crate) struct Opened {
     pub(crate) key: Key,
@@ -45,21 +49,22 @@ pub(crate) struct Opened {
     pub(crate) at: u64,
 }
 
-/// Where the answer of an exchange is kept, once it is answered.
+/// The stored response of an exchange, once there is one.
 #[derive(Drop)]
 pub(crate) struct Kept {
     pub(crate) answered: bool,
     pub(crate) bytes: Datagram,
 }
 
-// Whether it was opened less than a window before.
+// Returns whether the request was opened less than EXCHANGE_LIFETIME ago.
 pub(crate) fn is_live(now: u64, opened: &Opened) -> bool
     ensures { result ≡ within_window now opened.now.at }
 {
     now < opened.at || now - opened.at < WINDOW
 }
 
-// The place of the exchange of this number, of `places`: no two that are held at once have the same.
+// Returns the place of the exchange with this number, of `places` places. No two stored exchanges
+// have the same place.
 pub(crate) fn place(number: u64, places: usize) -> usize
     requires { 0 < places }
     ensures place { result ≡ number % places }
@@ -68,7 +73,7 @@ pub(crate) fn place(number: u64, places: usize) -> usize
     (number % places as u64) as usize
 }
 
-// Writes a datagram over another.
+// Overwrites a datagram with `bytes`.
 pub(crate) fn write_over(written: &mut Datagram, bytes: &Datagram)
     ensures { written.new ≡ bytes.now }
 {
@@ -76,7 +81,7 @@ pub(crate) fn write_over(written: &mut Datagram, bytes: &Datagram)
     let _fits = written.try_extend_from_slice(bytes.as_slice());
 }
 
-// Another copy of a datagram.
+// Returns a copy of a datagram.
 pub(crate) fn copy(bytes: &Datagram) -> Datagram
     ensures { result ≡ bytes.now }
 {

@@ -1,4 +1,4 @@
-//! The exchanges that are held.
+//! The exchange table.
 ghost use Rattle.std.specs.Prelude.{◌≡◌, ◌+◌, ◌<◌, ◌≤◌, [], length, map, option_map, IfOk, MatchOption};
 ghost use Rattle.std.specs.List.{list_any};
 ghost use Rattle.coap_dedup.specs.Exchanges.{look_at, places_of, has_place, has_share, repeated_by, room_at, IsNew};
@@ -14,40 +14,42 @@ use coap_msg::{Datagram, Endpoint};
 use std::alloc::{AllocError, Global};
 use std::marker::Model;
 
-/// What a request is to the exchanges that are held.
+/// The class of a request, by the stored exchanges.
 #[derive(Drop)]
 pub enum Looked {
-    /// It is new. [`Exchanges::room`] returns whether there is room for it.
+    /// A new request. [`Exchanges::room`] returns whether there is room for it.
     New,
-    /// It repeats one in progress.
+    /// A duplicate of a request in progress.
     Busy,
-    /// It repeats a confirmable one that was answered by these bytes.
+    /// A duplicate of a confirmable request that got this response.
     Again(Datagram),
-    /// It repeats a non-confirmable one that was answered.
+    /// A duplicate of a non-confirmable request that got a response.
     Silent,
 }
 
-/// The room for a new request of an IP address.
+/// The room for a new request from an IP address.
 #[derive(Clone, Copy)]
 pub enum Room {
-    /// There is room for it.
+    /// There is room for the request.
     Free,
-    /// As many exchanges are held as the limit, or 2^64 - 1 were ever opened.
+    /// The limit on exchanges is reached, or 2^64 - 1 were ever opened.
     Full,
-    /// As many exchanges of the address are held as its share.
+    /// The address has reached its share of the exchanges.
     OverShare,
 }
 
-/// What becomes of an answer.
+/// The result of storing a response.
 #[derive(Clone, Copy, PartialEq, Eq)]
 pub enum Closed {
-    /// It is kept for the repeats of its request.
+    /// The response is stored for duplicates of its request.
     Closed,
-    /// Its exchange isn't held, or is a window old or more. Nothing changed.
+    /// The exchange isn't stored, or is past its lifetime. Nothing changed.
     Late,
 }
 
-/// The exchanges that are less than a window old, in order of arrival. Moments are in milliseconds.
+/// The exchanges within their lifetime, in order of arrival.
+///
+/// Times are in milliseconds.
 #[derive(Drop)]
 pub struct Exchanges {
     limits: Limits,
@@ -71,10 +73,10 @@ impl Model for Exchanges {
 }
 
 impl Exchanges {
-    /// Makes an empty table with as many places as `limits` says (RFC 7252, 4.5).
+    /// Makes an empty table with as many places as `limits` allows.
     ///
     /// # Errors
-    /// There was no memory for them.
+    /// Returns `AllocError` if memory for the places can't be allocated.
     pub fn new(alloc: Global, limits: Limits) -> Result<Exchanges, AllocError>
         ensures { IfOk result (λ x. x ≡ record { limits = limits; now = 0; opened = 0; held = [] }) }
     {
@@ -88,7 +90,9 @@ impl Exchanges {
         })
     }
 
-    /// Expires what is a window old or more, and returns what a request of this endpoint and message id is.
+    /// Expires exchanges past their lifetime, and classifies a request.
+    ///
+    /// `endpoint` and `id` are the request's endpoint and message ID.
     pub fn look(&mut self, now: u64, endpoint: Endpoint, id: u16) -> Looked
         requires { self.old.now ≤ now }
         ensures looked { look_of result (room_at (expired self.old now) endpoint.ip) ≡ look_at (expired self.old now) endpoint id }
@@ -105,7 +109,9 @@ impl Exchanges {
         }
     }
 
-    /// Returns the room for a new request of an address. An address above its share has none, whatever else is held.
+    /// Returns the room for a new request from an address.
+    ///
+    /// An address that has reached its share has no room, whatever else is stored.
     pub fn room(&self, ip: [u8; 4]) -> Room
         ensures { result ≡ room_at self.entry.now ip }
     {
@@ -116,14 +122,15 @@ impl Exchanges {
         }
     }
 
-    // Whether there is a place for one more exchange.
+    // Returns whether there is a place for one more exchange.
     fn has_place(&self) -> bool
         ensures { result ≡ has_place self.entry.now }
     {
         self.requests.len() < self.limits.places() && self.opened < u64::MAX
     }
 
-    // Whether fewer are held of this address than its share. They are counted only where as many are held at all.
+    // Returns whether fewer exchanges of this address are stored than its share. They are counted
+    // only if as many are stored in all.
     fn has_share(&self, ip: [u8; 4]) -> bool
         ensures { result ≡ has_share self.entry.now ip }
     {
@@ -134,7 +141,7 @@ impl Exchanges {
         self.requests.are_fewer(ip, share)
     }
 
-    /// Opens an exchange for a request that is new, and gives its number.
+    /// Opens an exchange for a new request, and returns its number.
     pub fn open(&mut self, now: u64, endpoint: Endpoint, id: u16, confirmable: bool) -> u64
         requires moment { self.old.now ≤ now }
         requires new { look_at self.old endpoint id ≡ IsNew }
@@ -154,7 +161,7 @@ impl Exchanges {
         number
     }
 
-    /// Keeps the answer of the exchange of this number.
+    /// Stores the response of the exchange with this number.
     pub fn close(&mut self, now: u64, opening: u64, bytes: &Datagram) -> Closed
         ensures closed { result ≡ closing (list_any (is_open now opening) self.old.held) }
         ensures after { self.new ≡ record self.old { held = map (answered now opening bytes.now) self.old.held } }
@@ -168,7 +175,7 @@ impl Exchanges {
         }
     }
 
-    /// Lets go of what is a window old or more.
+    /// Expires the exchanges past their lifetime.
     pub fn expire(&mut self, now: u64)
         requires { self.old.now ≤ now }
         ensures { self.new ≡ expired self.old now }
@@ -177,8 +184,9 @@ impl Exchanges {
         self.requests.expire(now);
     }
 
-    /// Counts the keys that the last [`Exchanges::look`] compared to find its request: 17 at most, 11 if there are at most 1,024 places, and 0 before the
-    /// first.
+    /// Returns how many keys the last [`Exchanges::look`] compared.
+    ///
+    /// It is at most 17, at most 11 if there are at most 1,024 places, and 0 before the first call.
     pub fn probes(&self) -> u32
         ensures most { result ≤ 17 }
         ensures few { places_of self.entry.now.limits ≤ 1024 → result ≤ 11 }
@@ -187,7 +195,7 @@ impl Exchanges {
     }
 }
 
-// What a repeat of an exchange is, by its request and its answer.
+// Returns the class of a duplicate, from its request and the response.
 fn repeat(confirmable: bool, answer: Option<&Datagram>) -> Looked
     ensures { (room : Room) → look_of result room ≡ repeated_by confirmable (option_map (λ bytes. bytes.now) answer.entry) }
 {
@@ -198,7 +206,7 @@ fn repeat(confirmable: bool, answer: Option<&Datagram>) -> Looked
     }
 }
 
-// The request of this number, of those that are held, where so many were opened.
+// Returns the stored request with this number; `opened` is how many were opened.
 fn numbered(requests: &Requests, opened: u64, number: u64) -> Option<Opened>
     ensures { MatchOption result (IsGone requests.now.items opened number) (IsNumbered requests.now.items opened number) }
 {

@@ -6,7 +6,7 @@ use coap_msg::Endpoint;
 use std::cmp::Ordering;
 use std::marker::Model;
 
-/// How many keys were compared.
+/// The number of compared keys.
 #[derive(Drop)]
 pub(crate) struct Probes {
     count: u32,
@@ -21,7 +21,7 @@ impl Model for Probes {
 }
 
 impl Probes {
-    // None yet.
+    // Returns a count of 0.
     pub(crate) fn none() -> Probes
         ensures { result ≡ 0 }
     {
@@ -35,8 +35,10 @@ impl Probes {
     }
 }
 
-/// A request's address, port and message id, from the highest bits of a number to the lowest. So in the order of keys those of an address are next to each other,
-/// and one comparison of numbers compares all three.
+/// A request's address, port and message ID as one number.
+///
+/// The address has the highest bits, and the message ID the lowest. So in the order of keys those
+/// of an address are adjacent, and one comparison of numbers compares all three.
 #[derive(Clone, Copy)]
 pub(crate) struct Key {
     number: u64,
@@ -54,7 +56,7 @@ impl Key {
         }
     }
 
-    // The first key that a request of this address can have.
+    // Returns the least key that a request from this address can have.
     pub(crate) fn first_of(ip: [u8; 4]) -> Key
         ensures key { result ≡ first_key ip }
         ensures bytes { AreBytes ip }
@@ -65,7 +67,7 @@ impl Key {
         }
     }
 
-    // How it compares to another. No other call but `is_of` reads a key, and this one is counted.
+    // Compares two keys, and counts the comparison. Only `is_of` also reads a key.
     pub(crate) fn order(&self, other: &Key, probes: &mut Probes) -> Ordering
         requires { probes.old < 4294967295 }
         ensures order { result ≡ key_cmp self.now other.now }
@@ -75,7 +77,7 @@ impl Key {
         self.number.cmp(&other.number)
     }
 
-    // Whether it is of this address.
+    // Returns whether the key is of this address.
     pub(crate) fn is_of(&self, ip: [u8; 4]) -> bool
         ensures { result ≡ is_key_at ip self.now }
     {

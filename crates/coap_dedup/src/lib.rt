@@ -1,7 +1,10 @@
-//! Exchanges: requests that were opened, in order of arrival and by an index of their keys, and what they were answered (RFC 7252, 4.5).
+//! Exchanges: stored requests and responses, to recognise duplicates.
 //!
-//! [`Exchanges`] holds the requests that are less than a window old. [`Exchanges::look`] tells of a request whether it is
-//! new or a repeat; [`Exchanges::open`] and [`Exchanges::close`] begin an exchange and keep its answer.
+//! See RFC 7252, section 4.5. The exchanges are in order of arrival, with an index of their keys.
+//!
+//! [`Exchanges`] stores the requests that arrived within EXCHANGE_LIFETIME. [`Exchanges::look`]
+//! returns whether a request is new or a duplicate. [`Exchanges::open`] begins an exchange, and
+//! [`Exchanges::close`] stores its response.
 //!
 //! ```rust
 //! ghost use Rattle.std.specs.Prelude.{◌≤◌};
@@ -9,7 +12,9 @@
 //! use coap_dedup::{Exchanges, Looked, Room};
 //! use coap_msg::{Datagram, Endpoint};
 //!
-//! /// A confirmable request's answer: a repeat within 247,000 ms gets the bytes of the first one.
+//! /// Returns the response to a confirmable request.
+//! ///
+//! /// A duplicate within 247,000 ms gets the bytes of the first response.
 //! fn answer_once(
 //!     exchanges: &mut Exchanges,
 //!     now: u64,
@@ -36,11 +41,14 @@
 //!
 //! # What is proved
 //!
-//! - A request is new, or repeats an exchange that is less than 247,000 ms old: one in progress, or one whose answer is kept (`look`).
-//! - There is room for a new one of an IP address if fewer than its share are held of the address, and fewer than the limit in all (`room`).
-//! - A new one is opened where there is room (`open`), and each answer is kept for its own exchange (`close`).
-//! - What `probes` returns is 17 at most, however many are held, and 11 at most of a table of 1,024 places. That this is the number of keys which the last look
-//!   compared is no clause of `look`.
+//! - A request is new, or a duplicate of an exchange that is less than 247,000 ms old: one in
+//!   progress, or one with a stored response (`look`).
+//! - There is room for a new request of an IP address if fewer than its share are stored for the
+//!   address, and fewer than the limit in all (`room`).
+//! - A new exchange is opened if there is room (`open`), and each response is stored for its own
+//!   exchange (`close`).
+//! - `probes` returns at most 17 for every table, and at most 11 for a table of 1,024 places. The
+//!   contract of `look` doesn't say that this is the number of keys that the last look compared.
 //!
 //! By the contracts of `Exchanges::look`, `room`, `open`, `close`, `expire`, `probes`.
 #![tactic(auto)]

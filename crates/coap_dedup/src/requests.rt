@@ -1,4 +1,4 @@
-//! The requests of the exchanges that are held.
+//! The requests in the exchange table, and an index of them.
 ghost use Rattle.std.specs.Prelude.{◌≡◌, ◌+◌, ◌%◌, ◌<◌, ◌≤◌, [], ◌∷◌, ◌++◌, ℕ, None, Some, drop, filter, find, length, nat_lt, option_map, slice_get, IfOk, IfErr, IfSome};
 ghost use Rattle.circular_buffer.specs.Buffer.{buffer};
 ghost use Rattle.std.specs.FinMap.{entries, keys};
@@ -13,17 +13,19 @@ use std::alloc::{AllocError, Global};
 use std::cmp::Ordering;
 use std::marker::Model;
 
-/// Where a key that no request has would be in the order of keys.
+/// An insertion point: the index at which an absent key would be.
 #[derive(Clone, Copy)]
 pub(crate) struct Gap {
     key: Key,
     index: usize,
 }
 
-/// The requests of the exchanges that are held, in order of arrival, and their places in the order of their keys; and the gap of the key
-/// that was last looked for in vain, so that its request is put there without another search.
+/// The stored requests in order of arrival, and an index in the order of keys.
 ///
-/// No call but [`Requests::new`] takes memory.
+/// The insertion point of the last key that wasn't found is cached, so that its request is inserted
+/// without a second search.
+///
+/// Only [`Requests::new`] allocates memory.
 #[derive(Drop)]
 pub(crate) struct Requests {
     ring: HeapCircularBuffer<Opened>,
@@ -44,7 +46,7 @@ impl Model for Requests {
 }
 
 impl Requests {
-    // None, and room for `capacity`.
+    // Makes an empty buffer with room for `capacity` requests.
     pub(crate) fn new(alloc: Global, capacity: usize) -> Result<Requests, AllocError>
         requires { capacity ≤ 65536 }
         ensures { IfOk result (λ x. x ≡ buffer [] capacity) }
@@ -62,14 +64,15 @@ impl Requests {
         self.ring.len()
     }
 
-    // The request that arrived after so many of those that are held.
+    // Returns the request that arrived after `after` of the stored ones.
     pub(crate) fn get(&self, after: usize) -> Option<Opened>
         ensures { result ≡ slice_get self.now.items after }
     {
         self.ring.get(after).copied()
     }
 
-    // The request of this key, by at most 17 comparisons, 11 of at most 1,024.
+    // Returns the request with this key, after at most 17 comparisons of keys, or 11 for at most
+    // 1,024 requests.
     pub(crate) fn find(&mut self, key: &Key, probes: &mut Probes) -> Option<Opened>
         requires { probes.old ≡ 0 }
         ensures found { result ≡ find (has_key key.now) self.old.items }
@@ -86,7 +89,7 @@ impl Requests {
         }
     }
 
-    // Takes one more in, which arrived last.
+    // Appends a request, which arrived last.
     pub(crate) fn push(&mut self, request: Opened)
         requires room { length self.old.items < self.old.capacity }
         requires new { find (has_key request.key) self.old.items ≡ None }
@@ -99,7 +102,7 @@ impl Requests {
         self.ring.push_back(request);
     }
 
-    // Where a key that no request has would be in the order of keys: it was looked for last, mostly.
+    // Returns the insertion point of a key that no request has. It is usually cached.
     fn gap_for(&self, key: &Key) -> usize
         requires { find (has_key key.now) self.now.items ≡ None }
         ensures { IsGap (keys (by_key self.now.items)) key.now result }
@@ -112,7 +115,7 @@ impl Requests {
         }
     }
 
-    // The gap of the key that was last looked for in vain, where it is this one.
+    // Returns the cached insertion point, if it is that of this key.
     fn known_gap(&self, key: &Key) -> Option<usize>
         ensures { IfSome result (IsGap (keys (by_key self.now.items)) key.now) }
     {
@@ -123,7 +126,7 @@ impl Requests {
         }
     }
 
-    // Lets go of what is too old: the oldest, while they are.
+    // Expires requests past their lifetime, the oldest first.
     pub(crate) fn expire(&mut self, now: u64)
         ensures { self.new ≡ buffer (filter (request_is_live now) self.old.items) self.old.capacity }
     {
@@ -136,7 +139,8 @@ impl Requests {
         }
     }
 
-    // Lets go of the oldest, which has this key. It isn't made a part of its caller, which mostly finds that none is too old.
+    // Removes the oldest request, which has this key. It isn't inlined, since its caller usually
+    // finds that no request has expired.
     #[inline(never)]
     fn pop(&mut self, key: Key)
         requires { option_map (λ o. o.key) (slice_get self.old.items 0) ≡ Some key }
@@ -149,7 +153,7 @@ impl Requests {
         self.ring.pop_front();
     }
 
-    // Where the request of this key is in the order of keys, or where it would be.
+    // Returns the index of the request with this key, or the insertion point of the key.
     fn search(&self, key: &Key, probes: &mut Probes) -> Result<usize, usize>
         requires { probes.old ≡ 0 }
         ensures found { IfOk result (λ i. slice_get (keys (by_key self.now.items)) i ≡ Some key.now) }
@@ -171,8 +175,9 @@ impl Requests {
         Err(low)
     }
 
-    // Whether fewer than `share` requests are of an address. In the order of keys they are next to each other, so the last one of a share tells. It isn't
-    // inlined: mostly its caller finds fewer held than a share, and doesn't ask.
+    // Returns whether fewer than `share` requests are of an address. In the order of keys they are
+    // adjacent, so the key at the end of a full share decides. It isn't inlined: its caller usually
+    // finds fewer requests than a share, and doesn't call it.
     #[inline(never)]
     pub(crate) fn are_fewer(&self, ip: [u8; 4], share: usize) -> bool
         ensures { result ≡ nat_lt (length (filter (is_of_address ip) self.now.items)) share }
@@ -187,7 +192,7 @@ impl Requests {
         !self.at(self.first(), start + (share - 1)).key.is_of(ip)
     }
 
-    // Where the requests of an address begin in the order of keys, or would begin.
+    // Returns the index of an address's first request in the order of keys, or its insertion point.
     fn start_of(&self, ip: [u8; 4]) -> usize
         ensures start { IsStart ip (keys (by_key self.now.items)) result }
         ensures bytes { AreBytes ip }
@@ -197,7 +202,7 @@ impl Requests {
         }
     }
 
-    // The number of the oldest; 0 where none is held.
+    // Returns the number of the oldest request, or 0 if none is stored.
     fn first(&self) -> u64
         ensures { IsOldest self.now.items result }
     {
@@ -207,7 +212,8 @@ impl Requests {
         }
     }
 
-    // The request at this index, in the order of keys, where the oldest has this number.
+    // Returns the request at this index in the order of keys; `first` is the oldest request's
+    // number.
     fn at(&self, first: u64, index: usize) -> &Opened
         requires first { IsOldest self.now.items first }
         requires index { index < length self.now.items }
@@ -221,14 +227,14 @@ impl Requests {
     }
 }
 
-// The low 16 bits of a number: no two that are held at once have the same.
+// Returns the low 16 bits of a number. No two stored requests have the same.
 fn low_bits(number: u64) -> u16
     ensures { result ≡ number % 65536 }
 {
     (number % 65_536) as u16
 }
 
-// After how many of those from this number on the one with these low bits arrived.
+// Returns how many requests, from `first` on, arrived before the one with these low bits.
 fn after(first: u64, low: u16) -> usize
     ensures { (number : ℕ) → first ≤ number → number < first + 65536 → number % 65536 ≡ low → first + result ≡ number }
 {

@@ -1,4 +1,4 @@
--- How many bytes a message takes.
+-- Lengths of encoded messages, in bytes.
 use Rattle.std.proofs.Common.{ℕ, ◌+◌, ◌<◌, ◌≤◌, Bool, true, false, if◌then◌else◌, List, [], ◌∷◌, ◌++◌, length, arith, length-append}
 use Rattle.coap_msg.specs.Wire.{Message, IsMessage, AreOptions, extension, option_bytes, options_bytes, payload_bytes, message_bytes}
 
@@ -27,7 +27,8 @@ message_size m =
     let rest = options_bytes 0 m.options ++ payload_bytes m.payload in
     omega (arith, length-append m.token rest, length-append (options_bytes 0 m.options) (payload_bytes m.payload), payload_size m.payload)
 
--- parts within their limits, with a code other than 0.00, make a message where they have room together
+-- parts within their limits, with a code other than 0.00, are a message if their lengths fit
+-- together
 pub message_fits : (m : Message) → 0 < m.code → m.code < 256 → m.id < 65536 → length m.token ≤ 8 → AreOptions 0 m.options → length m.token + length (options_bytes 0 m.options) + length m.payload + 5 ≤ 1280 → IsMessage m
 message_fits m c d i t o s = record {
   code = d;

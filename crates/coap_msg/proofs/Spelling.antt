@@ -1,4 +1,5 @@
--- Options: bytes that they are written as are read as them, and bytes that are read as them are what they are written as.
+-- Options: an encoded option is decoded to itself, and decoded bytes are the encoding of the
+-- result.
 use Rattle.std.proofs.Common.{◌≡◌, ℕ, zero, suc, ◌+◌, ◌-◌, ◌*◌, ◌/◌, ◌%◌, ◌<◌, ◌≤◌, ◌==◌, ◌≢◌, Bool, true, false, nat_lt, if◌then◌else◌, List, [], ◌∷◌, ◌++◌, length, Option, Some, None, refl, sym, ◌∙◌, ap, subst, arith, length-append, append_assoc, inl, inr}
 use Rattle.std.proofs.lemmas.Bool.{ltb-true, eqb-true, lt-ltb, le-ltb, ne_eqb, cases_lt}
 use Rattle.std.proofs.lemmas.List.{append-nil}
@@ -9,7 +10,7 @@ use Rattle.coap_msg.proofs.Steps.{came, passed, passes, split-append, joins, Are
 
 -- ---- numbers
 
--- the three forms of a number
+-- the three forms of a number's encoding
 small : (n : ℕ) → n < 13 → (nibble n ≡ n) × (extension n ≡ [])
 small n h = (rw (lt-ltb n 13 h) refl, rw (lt-ltb n 13 h) refl)
 
@@ -34,7 +35,7 @@ number_large n rest l =
     let whole : 256 * ((n - 269) / 256) + (n - 269) % 256 + 269 ≡ n = omega arith in
     rw ((large n l).0, (large n l).1) (ap (λ m. Some (m, rest)) whole)
 
--- a number that is written is read, with what is after it
+-- decoding the encoding of a number gives the number and the bytes after it
 number_at-of : (n : ℕ) (rest : List ℕ) → number_at (nibble n) (extension n ++ rest) ≡ Some (n, rest)
 number_at-of n rest =
     elim (cases_lt n 13) [
@@ -42,7 +43,7 @@ number_at-of n rest =
       | inr l ↦ elim (cases_lt n 269) [ inl h ↦ number_middle n rest l h | inr m ↦ number_large n rest m ]
     ]
 
--- a nibble byte and bytes that are read as a number
+-- a nibble byte and bytes from which a number is decoded
 record IsNumber (first : ℕ) (bytes : List ℕ) (found : ℕ × List ℕ) : Type 0 where
   nibble_is : first ≡ nibble found.0
   bytes_are : bytes ≡ extension found.0 ++ found.1
@@ -119,7 +120,7 @@ option_by before number value rest upper lower o u l du ml =
     ap (λ n. Some (record { number = n; value = value; after = rest })) whole
     ))
 
--- an option that is written is read, with what is after it
+-- decoding the encoding of an option gives the option and the bytes after it
 pub option_at-of : (before number : ℕ) (value rest : List ℕ) → IsOption before number value →
     option_at before (option_bytes (number - before) value ++ rest) ≡ Some (record { number = number; value = value; after = rest })
 option_at-of before number value rest o =
@@ -131,7 +132,7 @@ option_at-of before number value rest o =
     ap (λ xs. (16 * upper + lower) ∷ xs) (append_assoc (extension (number - before)) (extension (length value) ++ value) rest ∙ ap (λ xs. extension (number - before) ++ xs) (append_assoc (extension (length value)) value rest)) in
     ap (option_at before) same ∙ option_by before number value rest upper lower o refl refl (omega arith) (omega arith)
 
--- bytes that are read as an option
+-- bytes from which an option is decoded
 pub record IsRawOption (before : ℕ) (bytes : List ℕ) (o : RawOption) : Type 0 where
   pub bytes_are : bytes ≡ option_bytes (o.number - before) o.value ++ o.after
   pub option : IsOption before o.number o.value
@@ -187,7 +188,7 @@ unmarked delta value e =
     let l : nibble (length value) < 15 = nibble_below (length value) in
     omega arith
 
--- what is found after an option that is written
+-- the options decoded after an encoded option
 options_at-first : (n before number : ℕ) (value rest : List ℕ) → IsOption before number value →
     options_at (suc n) before (option_bytes (number - before) value ++ rest) ≡ with_first (record { number = number; value = value; after = rest }) (options_at n number rest)
 unfolding options_at
@@ -197,7 +198,7 @@ options_at-first n before number value rest o =
 length-first : (delta : ℕ) (value rest : List ℕ) → length rest < length (option_bytes delta value ++ rest)
 length-first delta value rest = omega (arith, length-append (extension delta ++ (extension (length value) ++ value)) rest)
 
--- options that are written are read, with what is after them
+-- decoding the encoding of options gives the options and the bytes after them
 pub options_at-of : (n before : ℕ) (options : List (ℕ × List ℕ)) (after : List ℕ) → AreOptions before options → is_end after ≡ true →
     length (options_bytes before options ++ after) ≤ n → options_at n before (options_bytes before options ++ after) ≡ Some (options, after)
 options_at-of n before [] after o e h = options_at-end n before after e h
@@ -208,7 +209,7 @@ options_at-of (suc n) before ((number, value) ∷ options) after o e h =
     let shorter : length rest ≤ n = omega (arith, h, ap length same, length-first (number - before) value rest) in
     ap (options_at (suc n) before) same ∙ (options_at-first n before number value rest o.0 ∙ rw (options_at-of n number options after o.1 e shorter) refl)
 
--- bytes that are read as options
+-- bytes from which options are decoded
 pub record AreListed (before : ℕ) (bytes : List ℕ) (found : Listed) : Type 0 where
   pub bytes_are : bytes ≡ options_bytes before found.0 ++ found.1
   pub options : AreOptions before found.0
@@ -263,7 +264,7 @@ HasOptions-of before options bytes o e =
     let same : options_of before bytes ≡ options = ap (options_of before) e ∙ options_of-of before options o in
     (record { bytes_are = rw same e; options = rw same o }, same)
 
--- what a step over options finds
+-- the result of one step over options
 none_by : (before : ℕ) (bytes : List ℕ) (options : List (ℕ × List ℕ)) → bytes ≡ options_bytes before options → AreOptions before options → option_at before bytes ≡ None → options ≡ []
 none_by before bytes [] b o e = refl
 none_by before bytes ((number, value) ∷ options) b o e = absurd (cc (e, ap (option_at before) b ∙ option_at-of before number value (options_bytes number options) o.0))

@@ -1,11 +1,11 @@
--- Values that come in steps or after a test, lists in two parts, and lists of bytes.
+-- Values computed in steps or after a test, lists in two parts, and lists of bytes.
 use Rattle.std.proofs.Common.{◌≡◌, ℕ, suc, ◌<◌, Bool, true, false, nat_le, List, [], ◌∷◌, ◌++◌, length, take, drop, get_or, Option, Some, None, refl, sym, ◌∙◌, subst, arith, length-append}
 use Rattle.std.proofs.Math.Seq.{take-append_seam, drop-append_seam}
 use Rattle.std.proofs.lemmas.List.{take-append-drop, length-take-le}
 use Rattle.std.proofs.lemmas.Bool.{leb-true, le-leb}
 use Rattle.coap_msg.specs.Reading.{◌>>=◌, guard, split}
 
--- a value that comes in two steps
+-- a value computed in two steps
 pub record Came {A B : Type 0} (o : Option A) (f : A → Option B) (y : B) : Type 0 where
   pub value : A
   pub first : o ≡ Some value
@@ -27,7 +27,7 @@ passed true x y e = record { test = refl; same = cc e }
 pub passes : {A : Type 0} (b : Bool) (x : A) → b ≡ true → guard b x ≡ Some x
 passes b x e = rw e refl
 
--- the front and the back of a list
+-- a list split into its front and its back
 pub split-append : (xs ys : List ℕ) → split (length xs) (xs ++ ys) ≡ Some (xs, ys)
 split-append xs ys =
     passes (nat_le (length xs) (length (xs ++ ys))) (take (length xs) (xs ++ ys), drop (length xs) (xs ++ ys)) (le-leb _ _ (omega (arith, length-append xs ys))) ∙
@@ -53,7 +53,7 @@ pub record AreBytes (bytes : List ℕ) : Type 0 where
 pub tail_bytes : (b : ℕ) (bytes : List ℕ) → AreBytes (b ∷ bytes) → AreBytes bytes
 tail_bytes b bytes h = record { each = λ k. h.each (suc k) }
 
--- what is after bytes are bytes
+-- the back of a list of bytes is a list of bytes
 pub back_bytes : (xs ys : List ℕ) → AreBytes (xs ++ ys) → AreBytes ys
 back_bytes [] ys h = h
 back_bytes (x ∷ xs) ys h = back_bytes xs ys (tail_bytes x (xs ++ ys) h)

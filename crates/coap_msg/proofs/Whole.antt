@@ -1,4 +1,4 @@
--- The message that `message_of` finds is the one that the bytes spell.
+-- The message that `message_of` returns is the one that the bytes encode.
 use Rattle.std.proofs.Common.{◌≡◌, ℕ, ◌+◌, ◌*◌, ◌/◌, ◌%◌, ◌<◌, ◌≤◌, ◌==◌, ◌&&◌, Bool, true, false, nat_le, if◌then◌else◌, List, [], ◌∷◌, ◌++◌, length, Option, Some, None, Ok, Err, refl, ◌∙◌, ap, subst, arith}
 use Rattle.std.specs.Prelude.{slice_index}
 use Rattle.std.proofs.lemmas.Bool.{leb-true, eqb-true, eqb-false, le-leb, eq-eqb, and_from, and_parts}
@@ -57,7 +57,7 @@ payload_from (b ∷ c ∷ rest) payload e =
     let p = passed (b == 255) (c ∷ rest) payload e in
     ap (λ x. x ∷ c ∷ rest) (eqb-true b 255 p.test) ∙ ap payload_bytes p.same
 
--- ---- how much stands after the id
+-- ---- how many bytes follow the message ID
 
 sized_by : (code : ℕ) (rest : List ℕ) (is_empty : Bool) → (code == 0) ≡ is_empty → length rest ≤ 1276 → (code ≡ 0 → length rest ≡ 0) → nat_le (length rest) (if is_empty then 0 else 1276) ≡ true
 sized_by code rest true e h f = le-leb (length rest) 0 (omega (arith, f (eqb-true code 0 e)))
@@ -67,7 +67,7 @@ sized_to : (code : ℕ) (rest : List ℕ) (is_empty : Bool) → (code == 0) ≡ 
 sized_to code rest true e h = let none : length rest ≤ 0 = leb-true _ _ h in (omega arith, λ z. omega arith)
 sized_to code rest false e h = (leb-true _ _ h, λ z. absurd (eqb-false code 0 e z))
 
--- ---- bytes that are written are read
+-- ---- an encoded message is parsed
 
 message_by-of : (m : Message) → IsMessage m →
     message_by (first_byte m.kind m.token) m.code m.id (m.token ++ (options_bytes 0 m.options ++ payload_bytes m.payload)) ≡ Some m
@@ -93,7 +93,7 @@ message_of-of m h =
 pub spelled_is_found : (bytes : List ℕ) (m : Message) → SpellsMessage bytes m → message_of bytes ≡ Some m
 spelled_is_found bytes m s = ap message_of s.bytes_are ∙ message_of-of m s.limits
 
--- ---- bytes that are read are what is written
+-- ---- a parsed message is the encoded one
 
 chosen : {A : Type 0} (b : Bool) (x : Option A) (y : A) → (if b then x else None) ≡ Some y → (b ≡ true) × (x ≡ Some y)
 chosen true x y e = (refl, e)
@@ -165,7 +165,7 @@ found_is_spelled (x ∷ y ∷ []) m b e = absurd (cc e)
 found_is_spelled (x ∷ y ∷ z ∷ []) m b e = absurd (cc e)
 found_is_spelled (x ∷ y ∷ z ∷ w ∷ rest) m b e = whole_from x y z w rest m b e
 
--- ---- bytes that spell no message
+-- ---- bytes that encode no message
 
 pub none_is_spelled : (bytes : List ℕ) → message_of bytes ≡ None → SpellsNone bytes
 none_is_spelled bytes e m s = absurd (cc (e, spelled_is_found bytes m s))
@@ -183,7 +183,7 @@ pub bad_is_bad : (bytes : List ℕ) → message_of bytes ≡ None → IsBad byte
 unfolding bad_of
 bad_is_bad bytes e = bad_by bytes _ refl (none_is_spelled bytes e)
 
--- ---- what a reader finds by it
+-- ---- the result for a reader
 
 pub read_some : (bytes : List ℕ) (m : Message) → message_of bytes ≡ Some m → reading_of bytes ≡ Ok m
 unfolding reading_of
@@ -196,7 +196,7 @@ read_none bytes e = rw e refl
 pub written_again : (m : Message) → IsMessage m → reading_of (message_bytes m) ≡ Ok m
 written_again m h = read_some (message_bytes m) m (message_of-of m h)
 
--- ---- what is read is right, and nothing else is
+-- ---- the parser returns the encoded message, and nothing else
 
 message_read : (bytes : List ℕ) (m : Message) (o : Option Message) → AreBytes bytes → message_of bytes ≡ o → reading_of bytes ≡ Ok m → SpellsMessage bytes m
 message_read bytes m None b found is = absurd (cc (read_none bytes found, is))

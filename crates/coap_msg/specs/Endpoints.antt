@@ -1,4 +1,4 @@
--- When two endpoints are the same (RFC 7252, 1.2).
+-- The equality of two endpoints (RFC 7252, section 1.2).
 use Rattle.std.specs.Prelude.{◌==◌, ◌&&◌, nat_eq, Bool}
 use Rattle.std.specs.Cmp.Lexicographic.{pointwise}
 use Rattle.coap_msg.specs.declared.types.Endpoint.{Endpoint}

@@ -1,38 +1,39 @@
--- What the parser's steps find in the bytes behind a token: options, and where they end.
+-- Results of the parser's steps on the bytes after a token: the options, and the place of their
+-- end.
 use Rattle.std.specs.Prelude.{◌≡◌, ℕ, ◌==◌, Bool, true, List, [], ◌∷◌, length, Option, Some, None}
 use Rattle.coap_msg.specs.declared.types.MessageType.{MessageType}
 use Rattle.coap_msg.specs.Wire.{Message, AreOptions, options_bytes}
 use Rattle.coap_msg.specs.Reading.{Listed, options_at}
 
--- there the options end: nothing stands there, or a marker
+-- the options end here: there are no bytes, or a marker.
 abbrev pub is_end : List ℕ → Bool
 is_end [] = true
 is_end (b ∷ bytes) = b == 255
 
--- the options alone; none where bytes spell none
+-- the options alone; the empty list if the bytes encode none.
 abbrev pub all_of : Option Listed → List (ℕ × List ℕ)
 all_of None = []
 all_of (Some (options, after)) = options
 
--- the options that bytes spell with nothing after them
+-- the options that bytes encode with nothing after them.
 unfoldable pub options_of : ℕ → List ℕ → List (ℕ × List ℕ)
 options_of before bytes = all_of (options_at (length bytes) before bytes)
 
--- the message of these parts, its options by their bytes
+-- the message with these parts; `options` is the encoding of its options.
 abbrev pub message_from : MessageType → ℕ → ℕ → List ℕ → List ℕ → List ℕ → Message
 message_from kind code id token options payload = record { kind = kind; code = code; id = id; token = token; options = options_of 0 options; payload = payload }
 
--- the bytes spell options and nothing else
+-- the bytes encode options and nothing else.
 pub record HasOptions (before : ℕ) (bytes : List ℕ) : Type 0 where
   pub bytes_are : bytes ≡ options_bytes before (options_of before bytes)
   pub options : AreOptions before (options_of before bytes)
 
--- what is after the options that stand first
+-- the bytes after the options at the start.
 pub record EndsIn (bytes after : List ℕ) : Type 0 where
   pub options : List (ℕ × List ℕ)
   pub found : options_at (length bytes) 0 bytes ≡ Some (options, after)
 
--- the same, with the options' own bytes
+-- the same, with the bytes of the options.
 pub record AreSplit (bytes options after : List ℕ) : Type 0 where
   pub found : options_at (length bytes) 0 bytes ≡ Some (options_of 0 options, after)
   pub has_options : HasOptions 0 options

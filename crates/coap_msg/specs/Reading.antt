@@ -1,4 +1,4 @@
--- The message that bytes spell, as a function, and what they are where they spell none.
+-- The message that bytes encode, as a function, and the classification of bytes that encode none.
 use Rattle.std.specs.Prelude.{◌≡◌, ℕ, zero, suc, ◌+◌, ◌*◌, ◌/◌, ◌%◌, ◌≤◌, ◌==◌, ◌&&◌, Bool, true, false, nat_lt, nat_le, if◌then◌else◌, List, [], ◌∷◌, length, take, drop, slice_index, Option, Some, None, option_and_then, Result, Ok, Err}
 use Rattle.coap_msg.specs.declared.types.MessageType.{MessageType}
 use Rattle.coap_msg.specs.declared.types.MessageType.TheVariants.{Confirmable, NonConfirmable, Acknowledgement, Reset}
@@ -6,69 +6,70 @@ use Rattle.coap_msg.specs.declared.types.Bad.{Bad}
 use Rattle.coap_msg.specs.declared.types.Bad.TheVariants as bad
 use Rattle.coap_msg.specs.Wire.{Message, SpellsMessage}
 
--- the next step of a value that may be missing
+-- applies the next step to a value that may be missing.
 infixl 10 ◌>>=◌
 abbrev pub ◌>>=◌ : {A B : Type 0} → Option A → (A → Option B) → Option B
 o >>= f = option_and_then f o
 
--- a value where the test holds
+-- a value if the test holds.
 abbrev pub guard : {A : Type 0} → Bool → A → Option A
 guard false x = None
 guard true x = Some x
 
--- ---- where bytes spell no message
+-- ---- bytes that encode no message
 
--- the bytes spell no message
+-- the bytes encode no message.
 abbrev pub SpellsNone : List ℕ → Type 0
 SpellsNone bytes = (m : Message) → SpellsMessage bytes m → ⊥
 
--- version 1 and type 0 stand in a header that isn't cut, of a datagram that isn't too long
+-- a complete header has version 1 and type 0, and the datagram isn't too long.
 pub record IsConfirmable (bytes : List ℕ) : Type 0 where
   pub long : 4 ≤ length bytes
   pub short : length bytes ≤ 1280
   pub first : slice_index bytes 0 / 16 ≡ 4
 
--- the message id in a header
+-- the message ID in a header.
 abbrev pub id_of : List ℕ → ℕ
 id_of bytes = 256 * slice_index bytes 2 + slice_index bytes 3
 
--- a format error in a confirmable message is rejected; every other datagram that spells no message is ignored
+-- a format error in a confirmable message is rejected; every other datagram that encodes no message
+-- is ignored.
 abbrev pub IsBad : List ℕ → Bad → Type 0
 IsBad bytes bad.Ignore = SpellsNone bytes × (IsConfirmable bytes → ⊥)
 IsBad bytes (bad.Reset id) = SpellsNone bytes × IsConfirmable bytes × (id ≡ id_of bytes)
 
 -- ---- as functions
 
--- a type by the first byte, where the version is 1
+-- a type from the first byte, if the version is 1.
 abbrev pub type_of : ℕ → Option MessageType
 type_of first =
     if first / 16 == 4 then Some Confirmable else (if first / 16 == 5 then Some NonConfirmable else (
     if first / 16 == 6 then Some Acknowledgement else (if first / 16 == 7 then Some Reset else None)))
 
--- the token's length by the first byte
+-- the token's length from the first byte.
 abbrev pub token_length : ℕ → Option ℕ
 token_length first = guard (nat_le (first % 16) 8) (first % 16)
 
--- the first so many bytes, and what is after them, where there are so many
+-- the first `count` bytes and the bytes after them, if there are at least `count`.
 abbrev pub split : ℕ → List ℕ → Option (List ℕ × List ℕ)
 split count bytes = guard (nat_le count (length bytes)) (take count bytes, drop count bytes)
 
--- an 8-bit extended value, with its bias of 13
+-- an 8-bit extended value, with its bias of 13.
 abbrev pub ext8 : List ℕ → Option (ℕ × List ℕ)
 ext8 (b ∷ rest) = Some (b + 13, rest)
 ext8 _ = None
 
--- a 16-bit extended value, with its bias of 269
+-- a 16-bit extended value, with its bias of 269.
 abbrev pub ext16 : List ℕ → Option (ℕ × List ℕ)
 ext16 (b ∷ c ∷ rest) = Some (256 * b + c + 269, rest)
 ext16 _ = None
 
--- the delta or length by its nibble and the bytes after it, and what is after those
+-- the delta or length from its nibble and the bytes after it, with the bytes that follow.
 abbrev pub number_at : ℕ → List ℕ → Option (ℕ × List ℕ)
 number_at nibble bytes =
     if nat_lt nibble 13 then Some (nibble, bytes) else (if nibble == 13 then ext8 bytes else (if nibble == 14 then ext16 bytes else None))
 
--- an option, after one of this number, and what is after it
+-- an option after one with the number `before`, and the bytes after it.
 pub record RawOption : Type 0 where
   pub number : ℕ
   pub value : List ℕ
@@ -83,16 +84,16 @@ option_at before (first ∷ rest) =
     split count after_count >>= λ (value, after).
     Some (record { number = number; value = value; after = after })
 
--- options, and the bytes after them: none, or what a marker begins
+-- options, and the bytes after them: none, or those from a marker on.
 abbrev pub Listed : Type 0
 Listed = List (ℕ × List ℕ) × List ℕ
 
--- an option in front of those that were found
+-- an option prepended to those found.
 abbrev pub with_first : RawOption → Option Listed → Option Listed
 with_first o None = None
 with_first o (Some (options, after)) = Some (((o.number, o.value) ∷ options), after)
 
--- the options that stand first, of which there are at most so many as there are bytes
+-- the options at the start, at most `count` of them; there are never more than bytes.
 unfoldable pub options_at : ℕ → ℕ → List ℕ → Option Listed
 options_at count before [] = Some ([], [])
 options_at zero before (b ∷ bytes) = None
@@ -100,13 +101,13 @@ options_at (suc count) before (b ∷ bytes) =
     if b == 255 then Some ([], b ∷ bytes) else
     (option_at before (b ∷ bytes) >>= λ o. with_first o (options_at count o.number o.after))
 
--- what stands after the options: nothing, or the marker and at least one byte
+-- the payload from the bytes after the options: no bytes, or the marker and at least one byte.
 abbrev pub payload_at : List ℕ → Option (List ℕ)
 payload_at [] = Some []
 payload_at (b ∷ []) = None
 payload_at (b ∷ c ∷ payload) = guard (b == 255) (c ∷ payload)
 
--- a header's bytes, and what is after them
+-- the message from a header's bytes and the bytes after the header.
 abbrev pub message_by : ℕ → ℕ → ℕ → List ℕ → Option Message
 message_by first code id rest =
     type_of first >>= λ kind.
@@ -116,26 +117,26 @@ message_by first code id rest =
     payload_at after >>= λ payload.
     Some (record { kind = kind; code = code; id = id; token = token; options = options; payload = payload })
 
--- code 0.00 has nothing after the id, and there are at most 1,280 bytes
+-- a message with code 0.00 ends after its message ID, and a datagram has at most 1,280 bytes.
 abbrev pub is_sized : ℕ → List ℕ → Bool
 is_sized code rest = nat_le (length rest) (if code == 0 then 0 else 1276)
 
--- the message that bytes spell
+-- the message that the bytes encode.
 unfoldable pub message_of : List ℕ → Option Message
 message_of (first ∷ code ∷ high ∷ low ∷ rest) =
     if is_sized code rest then message_by first code (256 * high + low) rest else None
 message_of _ = None
 
--- what is answered to bytes that spell none
+-- the way to reject bytes that encode none.
 unfoldable pub bad_of : List ℕ → Bad
 bad_of bytes =
     if (nat_le 4 (length bytes) && nat_le (length bytes) 1280) && (slice_index bytes 0 / 16 == 4) then bad.Reset (id_of bytes) else bad.Ignore
 
--- the message, or else this answer
+-- the message, or else this rejection.
 abbrev pub or_bad : Option Message → Bad → Result Message Bad
 or_bad None e = Err e
 or_bad (Some m) e = Ok m
 
--- the message that bytes spell, or what is answered to bytes that spell none
+-- the message that the bytes encode, or the way to reject bytes that encode none.
 unfoldable pub reading_of : List ℕ → Result Message Bad
 reading_of bytes = or_bad (message_of bytes) (bad_of bytes)

@@ -1,10 +1,11 @@
--- How long an exchange or a transfer is kept (EXCHANGE_LIFETIME: RFC 7252, 4.8.2).
+-- The time for which an exchange or a transfer is stored (EXCHANGE_LIFETIME: RFC 7252, section
+-- 4.8.2).
 use Rattle.std.specs.Prelude.{ℕ, ◌+◌, Bool, nat_lt}
 
--- the window, in milliseconds
+-- EXCHANGE_LIFETIME, in milliseconds.
 abbrev pub window : ℕ
 window = 247000
 
--- that moment was less than a window before
+-- the time `at` was less than EXCHANGE_LIFETIME before `now`.
 abbrev pub within_window : ℕ → ℕ → Bool
 within_window now at = nat_lt now (at + window)

@@ -1,4 +1,6 @@
-//! Laws of what the definitions say, for the crates above: each function is a law, and its contract says it.
+//! Laws about the definitions, for the crates above.
+//!
+//! Each law is the contract of an empty function.
 ghost use Rattle.std.specs.Prelude.{◌≡◌, ◌↔◌, ◌≤◌, ◌+◌, ℕ, Err, List, Ok, Some, length};
 ghost use Rattle.coap_msg.specs.declared.types.Bad.{Bad};
 ghost use Rattle.coap_msg.specs.Wire.{IsMessage, Message, SpellsMessage, message_bytes, option_bytes, options_bytes};
@@ -7,32 +9,36 @@ ghost use Rattle.coap_msg.specs.Codes.{code};
 
 use crate::code::Code;
 
-/// What is written is read again as that message.
+/// Encoding and then parsing a message gives that message.
 pub fn written_is_read()
     ensures { (m : Message) → IsMessage m → reading_of (message_bytes m) ≡ Ok m }
 {}
 
-/// Bytes spell one message at most, and it is the one that `message_of` finds.
+/// Bytes encode at most one message, the one that `message_of` returns.
 pub fn messages_have_one_spelling(bytes: &[u8])
     ensures found { (m : Message) → SpellsMessage bytes.now m → message_of bytes.now ≡ Some m }
     ensures spelled { (m : Message) → message_of bytes.now ≡ Some m → SpellsMessage bytes.now m }
 {}
 
-/// Bytes are read as the message that they spell, and as nothing else; where they spell none, a confirmable message with a format error is
-/// to be rejected by its message id, and all else is to be ignored (RFC 7252, 4.2 and 4.3).
+/// Bytes are parsed as a message exactly if they encode it.
+///
+/// A confirmable message with a format error is to be rejected with its message ID. All other bytes
+/// that encode no message are to be ignored (RFC 7252, sections 4.2 and 4.3).
 pub fn readings_are_right(bytes: &[u8])
     ensures message { (m : Message) → ((reading_of bytes.now ≡ Ok m) ↔ SpellsMessage bytes.now m) }
     ensures bad { (e : Bad) → ((reading_of bytes.now ≡ Err e) ↔ IsBad bytes.now e) }
 {}
 
-/// How many bytes a message takes at most, for who is to write one.
+/// Upper bounds on the lengths of an encoded option and an encoded message.
 pub fn messages_are_short()
     ensures option { (delta : ℕ) (value : List ℕ) → length (option_bytes delta value) ≤ length value + 5 }
     ensures message { (m : Message) → length (message_bytes m) ≤
         length m.token + length (options_bytes 0 m.options) + length m.payload + 5 }
 {}
 
-/// The codes that have names, by class and detail (RFC 7252, 12.1; RFC 7959, 6).
+/// The named codes, by class and detail.
+///
+/// See RFC 7252, section 12.1, and RFC 7959, section 6.
 pub fn codes_are_registered()
     ensures empty { Code.EMPTY.byte ≡ code 0 0 }
     ensures get { Code.GET.byte ≡ code 0 1 }

@@ -1,13 +1,16 @@
-//! CoAP messages, and how a datagram spells one (RFC 7252, 3); endpoints and emissions.
+//! CoAP messages and their encoding in a datagram; endpoints and emissions.
 //!
-//! [`read`] parses a datagram into a zero-copy [`Message`]; [`write`] emits the one encoding of an [`Outgoing`], and [`writer`]
-//! has its steps for who writes options of another type. A clause sees a message as `specs/Wire`'s record: type, code, id,
-//! token, options in order, payload.
+//! The message format is that of RFC 7252, section 3.
+//!
+//! [`read`] parses a datagram into a zero-copy [`Message`]. [`write`] emits the one encoding of an
+//! [`Outgoing`]. [`writer`] has the steps of `write`, for callers that write options of another
+//! type. In contracts a message is the record of `specs/Wire`: type, code, id, token, options in
+//! order, payload.
 //!
 //! ```rust
 //! use coap_msg::{Code, read};
 //!
-//! /// The message id of a datagram that is a GET.
+//! /// Returns the message ID of a datagram that is a GET.
 //! fn id_of_get(bytes: &[u8]) -> Option<u16> {
 //!     let message = read(bytes).ok()?;
 //!     (message.code() == Code::GET).then_some(message.id())
@@ -16,9 +19,11 @@
 //!
 //! # What is proved
 //!
-//! - Every message: what is read is spelled so, what is spelled so is read, and each message has one spelling.
-//! - A reset is answered exactly at a format error in a confirmable message.
-//! - What is written is the one spelling, also step by step. Each named code is its class and detail.
+//! - For every message: the parsed message is the one that the datagram encodes, every encoded
+//!   message is parsed, and each message has one encoding.
+//! - `read` asks for a Reset exactly if a confirmable message has a format error.
+//! - `write` emits the one encoding, as do its steps. Each named code has the class and the detail
+//!   of its RFC.
 //!
 //! By the contracts of `read`, `write`, `Options`, `Message::values`, `writer`, `laws`.
 #![tactic(auto)]

@@ -1,4 +1,4 @@
-//! A message as it was read.
+//! A parsed message.
 ghost use Rattle.std.specs.Prelude.{◌≡◌, ◌≤◌, length};
 ghost use Rattle.coap_msg.specs.Parsing.{HasOptions, message_from};
 ghost use Rattle.coap_msg.specs.Values.{values_in};
@@ -9,7 +9,9 @@ use crate::types::MessageType;
 use crate::values::Values;
 use std::marker::Model;
 
-/// A message; token, options and payload are lent from the datagram (RFC 7252, 3).
+/// A parsed message (RFC 7252, section 3).
+///
+/// Its token, options and payload are borrowed from the datagram.
 #[derive(Drop)]
 pub struct Message<'a> {
     kind: MessageType,
@@ -33,7 +35,7 @@ impl<'a> Model for Message<'a> {
 }
 
 impl<'a> Message<'a> {
-    /// The message of these parts, `options` being the bytes that spell them.
+    /// Returns the message with these parts; `options` is the encoding of its options.
     pub(crate) fn new(
         kind: MessageType,
         code: Code,
@@ -70,7 +72,7 @@ impl<'a> Message<'a> {
         self.code
     }
 
-    /// Returns the message id.
+    /// Returns the message ID.
     pub fn id(&self) -> u16
         ensures { result ≡ self.now.id }
     {
@@ -85,21 +87,25 @@ impl<'a> Message<'a> {
         self.token
     }
 
-    /// Iterates over the options, each with its number and its value, in order. They are read where they stand, a second time.
+    /// Iterates over the options in order, each with its number and its value.
+    ///
+    /// The options are decoded again from the datagram's bytes.
     pub fn options(&self) -> Options<'a>
         ensures { result ≡ self.now.options }
     {
         Options::new(self.options)
     }
 
-    /// Iterates over the values of the options of this number, in order; none where there is no such option.
+    /// Iterates in order over the values of the options with this number.
+    ///
+    /// There are none if the message has no such option.
     pub fn values(&self, number: u16) -> Values<'a>
         ensures { result ≡ values_in number self.now.options }
     {
         Values::new(number, self.options())
     }
 
-    /// Returns the payload; empty where there is none.
+    /// Returns the payload, which is empty if the message has none.
     pub fn payload(&self) -> &'a [u8]
         ensures { result.now ≡ self.now.payload }
     {

@@ -1,4 +1,4 @@
-//! The options of a message, read where they stand.
+//! The options of a message, decoded from the datagram's bytes.
 ghost use Rattle.std.specs.Prelude.{◌≡◌, ◌<◌, ◌+◌, length, nat_lt, IfSome, MatchOption};
 ghost use Rattle.std.specs.Iterator.{YieldsFirstBy, item_count};
 ghost use Rattle.coap_msg.specs.Reading.{guard, number_at, option_at, options_at};
@@ -8,7 +8,9 @@ ghost use Rattle.coap_msg.specs.Options.{IsFirstOf};
 use crate::wire::{EXT8_BIAS, EXT16_BIAS, NIBBLE_EXT8, NIBBLE_EXT16, PAYLOAD_MARKER, number_of};
 use std::marker::Model;
 
-/// The options of a message that are still to come, each with its number and its value, in order. A clause sees that list.
+/// An iterator over a message's options, each with its number and its value.
+///
+/// In contracts it is the list of the options that are left, in order.
 #[derive(Drop)]
 pub struct Options<'a> {
     before: u16,
@@ -27,7 +29,7 @@ impl<'a> Model for Options<'a> {
 }
 
 impl<'a> Options<'a> {
-    /// The options that these bytes spell.
+    /// Iterates over the options that these bytes encode.
     pub(crate) fn new(bytes: &'a [u8]) -> Self
         requires { HasOptions 0 bytes.now }
         ensures { result ≡ options_of 0 bytes.entry.now }
@@ -51,7 +53,7 @@ impl<'a> Iterator for Options<'a> {
     }
 }
 
-/// An option as it is encoded, and the bytes after it.
+/// A decoded option, and the bytes after it.
 #[derive(Drop)]
 struct RawOption<'a> {
     number: u16,
@@ -59,7 +61,7 @@ struct RawOption<'a> {
     after: &'a [u8],
 }
 
-/// Decodes the first option, after one of the number `before`.
+/// Decodes the first option; the option before it has the number `before`.
 #[tactic(auto, unfolding(crate::specs::Reading::option_at))]
 fn split_option(before: u16, bytes: &[u8]) -> Option<RawOption<'_>>
     ensures option { MatchOption result (option_at before bytes.now ≡ None) (IsFirstOf before bytes.now) }
@@ -79,7 +81,9 @@ fn split_option(before: u16, bytes: &[u8]) -> Option<RawOption<'_>>
     })
 }
 
-/// Decodes a delta or length by its nibble and the bytes after it, and gives what is after those.
+/// Decodes a delta or length from its nibble and the bytes after it.
+///
+/// Returns it with the bytes that follow.
 fn read_extended(nibble: u8, bytes: &[u8]) -> Option<(u32, &[u8])>
     ensures number { MatchOption result (number_at nibble bytes.now ≡ None)
         (λ n. number_at nibble bytes.now ≡ Some (n.0, n.1.now)) }
@@ -97,7 +101,9 @@ fn read_extended(nibble: u8, bytes: &[u8]) -> Option<(u32, &[u8])>
     }
 }
 
-/// Adds a delta to the number before; an option number has 16 bits.
+/// Adds `delta` to the option number `before`.
+///
+/// Returns `None` if the sum doesn't fit the 16 bits of an option number.
 fn number_above(before: u16, delta: u32) -> Option<u16>
     requires { delta < 65805 }
     ensures { result ≡ guard (nat_lt (before + delta) 65536) (before + delta) }
@@ -110,7 +116,7 @@ fn number_above(before: u16, delta: u32) -> Option<u16>
     }
 }
 
-/// The options that stand first, and what is after them.
+/// Splits bytes into the options at their start and the bytes after the options.
 pub(crate) fn split_options(bytes: &[u8]) -> Option<(&[u8], &[u8])>
     ensures { MatchOption result (options_at (length bytes.now) 0 bytes.now ≡ None)
         (λ parts. AreSplit bytes.now parts.0.now parts.1.now) }
@@ -120,7 +126,7 @@ pub(crate) fn split_options(bytes: &[u8]) -> Option<(&[u8], &[u8])>
     Some((options, after))
 }
 
-/// What is after the options that stand first.
+/// Returns the bytes after the options at the start.
 fn after_options(bytes: &[u8]) -> Option<&[u8]>
     ensures { MatchOption result (options_at (length bytes.now) 0 bytes.now ≡ None)
         (λ after. EndsIn bytes.now after.now) }
@@ -135,7 +141,7 @@ fn after_options(bytes: &[u8]) -> Option<&[u8]>
     Some(rest)
 }
 
-/// There the options end: nothing stands there, or a marker.
+/// Returns whether the options end here: there are no bytes, or a payload marker.
 fn at_end(bytes: &[u8]) -> bool
     ensures { result ≡ is_end bytes.now }
 {

@@ -1,4 +1,4 @@
-//! From a datagram to a message.
+//! Parsing: from a datagram to a message.
 ghost use Rattle.std.specs.Prelude.{◌≡◌, ◌/◌, ◌==◌, IfErr, IfOk, MatchOption, Ok};
 ghost use Rattle.coap_msg.specs.Wire.{Message as Stated, SpellsMessage};
 ghost use Rattle.coap_msg.specs.Reading.{IsBad, bad_of, is_sized, message_by, message_of, payload_at, reading_of};
@@ -12,11 +12,13 @@ use crate::wire::{
     ACKNOWLEDGEMENT, CONFIRMABLE, HEADER, NON_CONFIRMABLE, PAYLOAD_MARKER, RESET, number_of,
 };
 
-/// Parses the message that a datagram spells (RFC 7252, 3), lent from its bytes.
+/// Parses the message that a datagram encodes, without copying.
+///
+/// The format is that of RFC 7252, section 3.
 ///
 /// # Errors
-/// What is to be done about a datagram that spells none: a confirmable message with a format error is rejected, by its
-/// message id; everything else is ignored.
+/// Returns [`Bad`] if the datagram encodes no message: `Reset` with the message ID for a
+/// confirmable message with a format error, and `Ignore` for everything else.
 pub fn read(bytes: &[u8]) -> Result<Message<'_>, Bad>
     ensures message { IfOk result (SpellsMessage bytes.now) }
     ensures spelled { (m : Stated) → SpellsMessage bytes.now m → result ≡ Ok m }
@@ -29,7 +31,7 @@ pub fn read(bytes: &[u8]) -> Result<Message<'_>, Bad>
     }
 }
 
-/// What is answered to a datagram that spells no message.
+/// Returns the way to reject a datagram that encodes no message.
 #[tactic(auto, unfolding(crate::specs::Reading::bad_of))]
 fn refusal(bytes: &[u8]) -> Bad
     ensures { result ≡ bad_of bytes.now }
@@ -62,7 +64,9 @@ fn parse(bytes: &[u8]) -> Option<Message<'_>>
     }
 }
 
-/// An empty message has nothing after its id, and a datagram at most 1,280 bytes.
+/// Returns whether the size is allowed.
+///
+/// An empty message ends after its message ID, and a datagram has at most 1,280 bytes.
 fn is_whole(code: u8, rest: &[u8]) -> bool
     ensures { result ≡ is_sized code rest.now }
 {
@@ -83,7 +87,7 @@ fn parse_parts(first: u8, code: u8, id: u16, rest: &[u8]) -> Option<Message<'_>>
     Some(Message::new(kind, Code { byte: code }, id, token, options, payload))
 }
 
-/// The type by the first byte of a message of version 1.
+/// Returns the type from the first byte of a message of version 1.
 fn type_of(first: u8) -> Option<MessageType>
     ensures { result ≡ spec.type_of first }
 {
@@ -96,7 +100,7 @@ fn type_of(first: u8) -> Option<MessageType>
     }
 }
 
-/// The token's length by the first byte.
+/// Returns the token's length from the first byte.
 fn token_length(first: u8) -> Option<usize>
     ensures { result ≡ spec.token_length first }
 {
@@ -104,7 +108,9 @@ fn token_length(first: u8) -> Option<usize>
     if length <= TOKEN { Some(length) } else { None }
 }
 
-/// What stands after the options: nothing, or the marker and a payload that isn't empty.
+/// Returns the payload from the bytes after the options.
+///
+/// These are empty, or the marker and a payload that isn't empty.
 fn payload_of(bytes: &[u8]) -> Option<&[u8]>
     ensures { MatchOption result (payload_at bytes.now ≡ None)
         (λ payload. payload_at bytes.now ≡ Some payload.now) }

@@ -1,4 +1,4 @@
-//! The options of one number.
+//! The values of the options with one number.
 ghost use Rattle.std.specs.Prelude.{◌≡◌};
 ghost use Rattle.std.specs.Iterator.{YieldsFirstBy, item_count};
 ghost use Rattle.coap_msg.specs.Values.{values_in};
@@ -6,7 +6,9 @@ ghost use Rattle.coap_msg.specs.Values.{values_in};
 use crate::options::Options;
 use std::marker::Model;
 
-/// The values of a message's options of one number that are still to come, in order. A clause sees that list.
+/// An iterator over the values of a message's options with one number.
+///
+/// In contracts it is the list of the values that are left, in order.
 #[derive(Drop)]
 pub struct Values<'a> {
     number: u16,
@@ -23,7 +25,7 @@ impl<'a> Model for Values<'a> {
 }
 
 impl<'a> Values<'a> {
-    /// The values of the options of this number.
+    /// Iterates over the values of the options with this number.
     pub(crate) fn new(number: u16, options: Options<'a>) -> Self
         ensures { result ≡ values_in number options.entry }
     {

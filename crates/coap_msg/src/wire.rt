@@ -1,9 +1,13 @@
-//! The numbers of the message format (RFC 7252, 3 and 3.1), and integers of two bytes in network order.
+//! Constants of the message format, and two-byte integers in network order.
+//!
+//! The format is that of RFC 7252, sections 3 and 3.1.
 ghost use Rattle.std.specs.Prelude.{[], ◌%◌, ◌*◌, ◌+◌, ◌/◌, ◌∷◌, ◌≡◌};
 
 use byteorder::{BigEndian, ByteOrder};
 
-/// Version and type of a confirmable message, the first byte's upper nibble: 1 and 0.
+/// Version and type of a confirmable message: 1 and 0.
+///
+/// They are the first byte's upper nibble.
 pub(crate) const CONFIRMABLE: u8 = 0b0100;
 
 /// Version and type of a non-confirmable message: 1 and 1.
@@ -33,14 +37,14 @@ pub(crate) const PAYLOAD_MARKER: u8 = 0xff;
 /// Length of the fixed header, in bytes; the token follows.
 pub(crate) const HEADER: usize = 4;
 
-/// The number of two bytes, in network order.
+/// Returns the number that two bytes in network order represent.
 pub(crate) fn number_of(high: u8, low: u8) -> u16
     ensures { result ≡ 256 * high + low }
 {
     BigEndian::read_u16(&[high, low])
 }
 
-/// The two bytes of a number, in network order.
+/// Returns the two bytes of a number, in network order.
 pub(crate) fn two_bytes(number: u16) -> [u8; 2]
     ensures { result ≡ (number / 256) ∷ (number % 256) ∷ [] }
 {

@@ -1,4 +1,6 @@
-//! From a message to a datagram: [`write`], and the steps that write a message's parts one after another.
+//! Writing: from a message to a datagram.
+//!
+//! [`write`] writes a message; the other functions write its parts one after another.
 ghost use Rattle.std.specs.Prelude.{◌≡◌, ◌+◌, ◌<◌, ◌≤◌, ◌++◌, length};
 ghost use Rattle.arrayvec.specs.ArrayVec.{array_vec_len};
 ghost use Rattle.coap_msg.specs.Wire.{IsMessage, AreOptions, message_bytes, extension, nibble, header, option_bytes, options_bytes, payload_bytes, type_number};
@@ -12,24 +14,24 @@ use crate::wire::{
 };
 use arrayvec::ArrayVec;
 
-/// A message that is to be sent.
+/// A message to send.
 #[derive(Clone, Copy)]
 pub struct Outgoing<'a> {
     /// The type.
     pub kind: MessageType,
     /// The code.
     pub code: Code,
-    /// The message id.
+    /// The message ID.
     pub id: u16,
     /// The token, 0 to 8 bytes.
     pub token: &'a [u8],
-    /// The options, each with its number and its value, in rising order.
+    /// The options in order of their numbers, each with its number and its value.
     pub options: &'a [(u16, &'a [u8])],
-    /// The payload; none where it is empty.
+    /// The payload; no payload if it is empty.
     pub payload: &'a [u8],
 }
 
-/// Writes a message in its one encoding, in place of what the datagram held.
+/// Replaces `datagram` with the one encoding of `message`.
 pub fn write(message: &Outgoing<'_>, datagram: &mut Datagram)
     requires { IsMessage (message_stated message.now) }
     ensures { datagram.new.items ≡ message_bytes (message_stated message.now) }
@@ -58,7 +60,7 @@ pub fn write_head(kind: MessageType, code: Code, id: u16, token: &[u8], datagram
     append(token, datagram);
 }
 
-/// The first byte's upper nibble: version and type.
+/// Returns the first byte's upper nibble: version and type.
 fn version_and_type(kind: MessageType) -> u8
     ensures nibble { result ≡ 4 + type_number kind }
     ensures below { result < 8 }
@@ -71,7 +73,7 @@ fn version_and_type(kind: MessageType) -> u8
     }
 }
 
-/// Appends options, each by its delta from the number of the one before.
+/// Appends options, each with its delta from the number of the option before.
 fn write_options(options: &[(u16, &[u8])], datagram: &mut Datagram)
     requires options { AreOptions 0 (options_in options.now) }
     requires room { array_vec_len datagram.old + length (options_bytes 0 (options_in options.now)) ≤ DATAGRAM }
@@ -84,7 +86,7 @@ fn write_options(options: &[(u16, &[u8])], datagram: &mut Datagram)
     }
 }
 
-/// Appends an option by the delta of its number.
+/// Appends an option with the delta of its number.
 fn write_option<const N: usize>(delta: u16, value: &[u8], datagram: &mut ArrayVec<u8, N>)
     requires value { length value.now < 65805 }
     requires room { array_vec_len datagram.old + length (option_bytes delta value.now) ≤ N }
@@ -98,8 +100,9 @@ fn write_option<const N: usize>(delta: u16, value: &[u8], datagram: &mut ArrayVe
     append(value, datagram);
 }
 
-/// Appends the option of this number, where there is a value, after one of the number `before`. Gives the number that the
-/// next option's delta counts from.
+/// Appends the option `number` if it has a value, after an option `before`.
+///
+/// Returns the number from which the next option's delta counts.
 #[tactic(auto, using(crate::proofs::Sizes::option_size))]
 pub fn write_optional(
     before: u16,
@@ -124,7 +127,7 @@ pub fn write_optional(
     }
 }
 
-/// The nibble of a delta or a length.
+/// Returns the nibble of a delta or a length.
 fn nibble_of(number: u32) -> u8
     ensures nibble { result ≡ nibble number }
     ensures below { result < 15 }
@@ -151,7 +154,7 @@ fn write_extension<const N: usize>(number: u32, datagram: &mut ArrayVec<u8, N>)
     }
 }
 
-/// Appends a payload after its marker; nothing where it is empty.
+/// Appends a marker and the payload, or nothing if the payload is empty.
 pub fn write_payload(payload: &[u8], datagram: &mut Datagram)
     requires { array_vec_len datagram.old + length (payload_bytes payload.now) ≤ DATAGRAM }
     ensures { datagram.new.items ≡ datagram.old.items ++ payload_bytes payload.now }

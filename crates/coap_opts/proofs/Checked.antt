@@ -1,4 +1,4 @@
--- The checks of a request, by what it has.
+-- The checks of a request, from the message's contents.
 use Rattle.std.proofs.Common.{◌≡◌, ◌≢◌, ℕ, ◌<◌, ◌≤◌, ◌==◌, ◌||◌, Bool, true, false, if◌then◌else◌, nat_lt, length, List, [], ◌∷◌, Option, Some, None, refl, ap, ◌∙◌, ◌⊎◌, inl, inr, arith}
 use Rattle.std.proofs.lemmas.Bool.{and_from, and_right, cases_lt, eq-eqb, le-ltb, lt-ltb, ne_eqb}
 use Rattle.std.proofs.lemmas.Bool.Decides.{nat_tests}
@@ -20,7 +20,7 @@ use Rattle.coap_opts.specs.declared.request.Resource.{Resource}
 use Rattle.coap_opts.proofs.Order.{asked_is, method_fails, none_fails, path_fails, payload_fails, proxy_fails, service_fails, unknown_fails, value_fails}
 use Rattle.coap_opts.proofs.Rows.{code_is}
 
--- ---- what there is
+-- ---- present values
 
 has_some : {A : Type 0} (xs : List A) → xs ≢ [] → has (first_of xs) ≡ true
 has_some [] some = absurd (some refl)
@@ -65,7 +65,7 @@ no_method : (c : ℕ) (o : Option Method) → method_of c ≡ o → 4 < c → me
 no_method c None e high = e
 no_method c (Some method) e high = absurd (omega (arith, method_code_few method c e, high))
 
--- the method by whether the code is 1, 2, 3 and 4
+-- the method, from whether the code is 1, 2, 3 or 4
 abbrev method_by : Bool → Bool → Bool → Bool → Option Method
 method_by get post put delete =
     if get then Some Get else (if post then Some Post else (if put then Some Put else (if delete then Some Delete else None)))
@@ -81,7 +81,7 @@ some_by c false false false false a b d e some few = absurd (grind (arith, nat_t
 some_method : (c : ℕ) → 0 < c → c ≤ 4 → (method : Method) × (method_of c ≡ Some method)
 some_method c some few = some_by c (c == 1) (c == 2) (c == 3) (c == 4) refl refl refl refl some few
 
--- what is asked is served by its method at its resource
+-- the action's method is served at its resource
 pub record IsServedBy (m : Message) (a : Action) : Type 0 where
   pub method : Method
   pub at : Resource
@@ -192,7 +192,7 @@ carried m a w passes is good short =
     let none = none_fails m s.0 s.1 a s.2 (good_value m good) (le-ltb 1024 (length m.payload) short) in
     (_, judged_by m w ∙ (ap (verdict_by_check m) none ∙ ap accepted one), refl)
 
--- ---- what is no request
+-- ---- messages that aren't requests
 
 no_request : (c : ℕ) → (c ≡ 0) ⊎ (32 ≤ c) → is_request c ≡ false
 no_request c (inl none) = ap is_request none

@@ -10,7 +10,7 @@ use Rattle.coap_opts.specs.Served.{rows}
 use Rattle.coap_opts.specs.Recognition.{row_of, is_defined_for, fits_row, is_recognised, values_of}
 use Rattle.coap_opts.specs.Verdict.{first_of, values}
 
--- a value of an option of this number that is recognised in a message with this code
+-- a value of an option with this number that is recognised in a message with this code
 record IsValueOf (wanted code : ℕ) (value : List ℕ) : Type 0 where
   before : Option ℕ
   recognised : is_recognised code before wanted (length value) ≡ true
@@ -33,7 +33,7 @@ first_recognised wanted code before ((number, value) ∷ options) v h =
 
 -- ---- lengths
 
--- the row, where there is one, has values of at most so many bytes
+-- the row, if any, allows values of at most that many bytes
 abbrev is_within : Option Row → ℕ → Bool
 is_within None most = true
 is_within (Some r) most = nat_le r.greatest most
@@ -66,7 +66,7 @@ short_block2 m v h = short_first option.BLOCK2 3 m v refl h
 
 -- ---- methods
 
--- the row, where there is one, is for messages with this code alone
+-- the row, if any, is for messages with this code alone
 abbrev is_for : Option Code → ℕ → Bool
 is_for None code = false
 is_for (Some only) code = only.byte == code

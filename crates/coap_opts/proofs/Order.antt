@@ -1,4 +1,4 @@
--- The first check that fails, by the checks before it.
+-- The first check that fails, from the checks before it.
 use Rattle.std.proofs.Common.{◌≡◌, ℕ, ◌||◌, Bool, true, false, nat_lt, length, List, [], Option, Some, None, refl, sym, ◌∙◌}
 use Rattle.std.proofs.lemmas.Bool.{lt-ltb, le-ltb}
 use Rattle.coap_msg.specs.Wire.{Message}
@@ -47,7 +47,7 @@ pub none_fails : (m : Message) (method : Method) (at : Resource) (action : Actio
 unfolding refusal_code
 none_fails m method at action s b p = rw (s.known.no_proxy, s.known.no_unknown, s.method_is, s.resource_is, s.served, b, p) refl
 
--- ---- by what is collected
+-- ---- from the collected options
 
 pub collected_proxy : (m : Message) (g : Collected) → IsCollected m g → names_proxy m ≡ (has (lent g.proxy_uri) || has (lent g.proxy_scheme))
 collected_proxy m g h = rw (h.proxy_uri, h.proxy_scheme) refl

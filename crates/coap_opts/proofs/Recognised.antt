@@ -1,4 +1,4 @@
--- Which options are recognised, by their limits.
+-- Recognition of options, from their limits.
 use Rattle.std.proofs.Common.{◌≡◌, ◌≢◌, ℕ, ◌≤◌, ◌==◌, ◌&&◌, ◌||◌, not, Bool, true, false, cond, nat_le, Option, Some, None, refl, sym, ap, arith}
 use Rattle.std.proofs.lemmas.Bool.{and_from, and_parts, eq-eqb, eqb-true, leb-true, ne_eqb}
 use Rattle.std.proofs.lemmas.Bool.Decides.{nat_tests}
@@ -8,7 +8,7 @@ use Rattle.coap_opts.specs.Checks.{IsUnnamed}
 use Rattle.coap_opts.specs.Recognition.{fits, is_defined_for, is_repeat, row_of}
 use Rattle.coap_opts.specs.Served.{once, rows}
 
--- what an option of a row is recognised by
+-- the conditions under which an option of a row is recognised
 pub record Fits (r : Row) (code count : ℕ) (before : Option ℕ) : Type 0 where
   pub least : r.least ≤ count
   pub greatest : count ≤ r.greatest
@@ -39,7 +39,7 @@ pub is_first : (before : Option ℕ) (n : ℕ) → before ≢ Some n → not (is
 is_first None n ne = refl
 is_first (Some b) n ne = ap not (ne_eqb b n (λ same. ne (ap (λ (x : ℕ). Some x) same)))
 
--- of an option that may occur once, and with any method
+-- an option that may occur once, for any method
 pub once_fits : (n least greatest code count : ℕ) (before : Option ℕ) → (fits (once n least greatest None) code before count ≡ true
     → (least ≤ count) × (count ≤ greatest) × (before ≢ Some n)) × ((least ≤ count) × (count ≤ greatest) × (before ≢ Some n)
     → fits (once n least greatest None) code before count ≡ true)
@@ -48,7 +48,7 @@ once_fits n least greatest code count before = (
   λ w. of_fits (once n least greatest None) code count before (record { least = w.0; greatest = w.1; defined = refl; first = is_first before n w.2 }),
 )
 
--- and with one method alone
+-- an option that may occur once, for one method alone
 pub once_fits_with : (n least greatest code count : ℕ) (only : Code) (before : Option ℕ)
     → (fits (once n least greatest (Some only)) code before count ≡ true → (least ≤ count) × (count ≤ greatest) × (code ≡ only.byte) × (before ≢ Some n)) ×
     ((least ≤ count) × (count ≤ greatest) × (code ≡ only.byte) × (before ≢ Some n) → fits (once n least greatest (Some only)) code before count ≡ true)

@@ -1,4 +1,4 @@
--- The codes of methods, and worked rows of what a message asks.
+-- The codes of methods, and worked examples of requests.
 use Rattle.std.proofs.Common.{◌≡◌, ℕ, ◌==◌, Bool, true, false, if◌then◌else◌, List, [], ◌∷◌, Some, None, codes, refl, ap, ◌∙◌}
 use Rattle.std.proofs.lemmas.Bool.{eqb-true}
 use Rattle.coap_msg.specs.Wire.{Message}
@@ -25,11 +25,12 @@ code_is code method e = code_by code method (code == 1) (code == 2) (code == 3) 
 
 -- ---- whole messages
 
--- a confirmable message of this code, these options and this payload
+-- a confirmable message with this code, these options and this payload
 abbrev message : ℕ → List (ℕ × List ℕ) → List ℕ → Message
 message code options payload = record { kind = Confirmable; code = code; id = 258; token = 9 ∷ []; options = options; payload = payload }
 
--- two ETags, one of them of eight bytes, Observe 0, the path /r/37, Content-Format 50, a query of two parameters, and Block2
+-- two ETags, one of them of eight bytes, Observe 0, the path /r/37, Content-Format 50, a query of
+-- two parameters, and Block2
 abbrev get_options : List (ℕ × List ℕ)
 get_options =
     (4, 0 ∷ 0 ∷ 0 ∷ 0 ∷ 0 ∷ 0 ∷ 1 ∷ 5 ∷ []) ∷ (4, 7 ∷ []) ∷ (6, [])
@@ -89,7 +90,7 @@ row_post : verdict (message 2 ((11, codes "r") ∷ (11, codes "0") ∷ (12, []) 
 unfolding verdict asked refusal_code is_recognised row_of rows
 row_post = refl
 
--- a PUT of /p/63 with its Block1, of which more are to follow
+-- a PUT of /p/63 with its Block1; more blocks follow
 row_put : verdict (message 3 ((11, codes "p") ∷ (11, codes "63") ∷ (27, 1 ∷ 8 ∷ []) ∷ []) []) ≡ IsAsked (record {
   action = actions.Install 63;
   query = [];
@@ -103,7 +104,7 @@ row_put : verdict (message 3 ((11, codes "p") ∷ (11, codes "63") ∷ (27, 1 �
 unfolding verdict asked refusal_code is_recognised row_of rows
 row_put = refl
 
--- a DELETE of /p/5, and the same of /.well-known/core, which is 4.05
+-- a DELETE of /p/5; a DELETE of /.well-known/core gets 4.05
 row_delete : verdict (message 4 ((11, codes "p") ∷ (11, codes "5") ∷ []) []) ≡ IsAsked (record {
   action = actions.Remove 5;
   query = [];

@@ -1,4 +1,4 @@
--- What a request that is carried out is within, and what a refusal is.
+-- The limits of an accepted request, and the code of a refusal.
 use Rattle.std.proofs.Common.{◌≡◌, ◌≢◌, ℕ, ◌<◌, ◌≤◌, ◌==◌, ◌&&◌, ◌||◌, List, [], ◌∷◌, Bool, true, false, if◌then◌else◌, nat_lt, nat_le, length, map, take, Option, Some, None, IfSome, refl, sym, ap, subst, ◌∙◌, arith}
 use Rattle.std.specs.List.{filter}
 use Rattle.std.specs.Option.{option_map}
@@ -25,7 +25,7 @@ use Rattle.coap_opts.specs.Served.{action_of, resource_in}
 use Rattle.coap_opts.proofs.Known.{block1_in_put, block2_in_get, etag_in_get, observe_in_get}
 use Rattle.coap_opts.proofs.Paths.{path_only}
 
--- ---- the request is made of the message
+-- ---- the request's fields come from the message
 
 abbrev fields : Message → Action → Asked
 fields m action = record {
@@ -43,18 +43,18 @@ fields m action = record {
 abbrev row_of : Action → Resource × Method
 row_of found = (resource_in found, method_in found)
 
--- any action's are these
+-- the same, for any action
 abbrev row_at : Resource → Method → Action → Resource × Method
 row_at at method found = (at, method)
 
--- an action is found by its own resource and method alone
+-- an action is found only by its own resource and method
 rows_agree : (at : Resource) (method : Method) → option_map row_of (action_of at method) ≡ option_map (row_at at method) (action_of at method)
 rows_agree (Run n) Get = refl
 rows_agree (Program n) Get = refl
 rows_agree Core Get = refl
 rows_agree at other = refl
 
--- what is asked has its method and its resource
+-- an action has its method and its resource
 pub action_only : (at : Resource) (method : Method) (found : Action) → action_of at method ≡ Some found → (at ≡ resource_in found) × (method ≡ method_in found)
 action_only at method found h =
     let same = subst (λ (o : Option Action). option_map row_of o ≡ option_map (row_at at method) o) h (rows_agree at method) in
@@ -65,7 +65,7 @@ pub action_served : (action : Action) → action_of (resource_in action) (method
 action_served (actions.Get n) = refl
 action_served other = refl
 
--- the parts of which an action is found
+-- the parts from which an action is found
 record IsActionOf (m : Message) (action : Action) : Type 0 where
   method : method_of m.code ≡ Some (method_in action)
   resource : resource m ≡ Some (resource_in action)
@@ -202,9 +202,9 @@ refusal_is_error m answer h =
     let parts = and_parts _ _ (failing_is_error (checks m) answer refl h) in
     record { at_least = leb-true 128 answer parts.0; at_most = leb-true answer 191 parts.1 }
 
--- ---- by what the verdict is
+-- ---- from the verdict
 
--- what holds of a verdict: of a request, its fields and their limits, and of a refusal
+-- the limits of a verdict: of a request, its fields, and of a refusal, its code
 abbrev IsWithin : Message → Verdict → Type 0
 IsWithin m (IsAsked r) = IsMadeOf m r × IsAskedWithin m r
 IsWithin m (IsRefused answer) = IsErrorCode answer

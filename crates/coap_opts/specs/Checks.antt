@@ -1,4 +1,4 @@
--- What the laws of the checks of a request speak of.
+-- Predicates for the laws about the checks of a request.
 use Rattle.std.specs.Prelude.{◌≡◌, ◌≢◌, ◌⊎◌, ℕ, ◌<◌, false, length, None, Some}
 use Rattle.coap_msg.specs.Wire.{Message}
 use Rattle.coap_msg.specs.declared.types.MessageType.TheVariants.{Confirmable, NonConfirmable}
@@ -7,7 +7,7 @@ use Rattle.coap_opts.specs.Values.{Place}
 use Rattle.coap_opts.specs.Verdict.{block_in, query, values}
 use Rattle.std.specs.Prelude.{[]}
 
--- no option that has a name here has this number
+-- no named option has this number.
 pub record IsUnnamed (number : ℕ) : Type 0 where
   pub uri_host : number ≢ 3
   pub etag : number ≢ 4
@@ -21,21 +21,22 @@ pub record IsUnnamed (number : ℕ) : Type 0 where
   pub proxy_uri : number ≢ 35
   pub proxy_scheme : number ≢ 39
 
--- a request: class 0, but not 0.00, confirmable or not (RFC 7252, 4.1)
+-- a request: class 0, but not 0.00, confirmable or not (RFC 7252, section 4.1).
 pub record IsRequest (m : Message) : Type 0 where
   pub kind : (m.kind ≡ Confirmable) ⊎ (m.kind ≡ NonConfirmable)
   pub some : 0 < m.code
   pub class : m.code < 32
 
--- it has a Proxy-Uri or a Proxy-Scheme
+-- it has a Proxy-Uri or a Proxy-Scheme.
 abbrev pub NamesProxy : Message → Type 0
 NamesProxy m = (values 35 m ≢ []) ⊎ (values 39 m ≢ [])
 
--- its options pass: it names no proxy, and each critical one is recognised
+-- the message passes the checks of its options: it names no proxy, and each critical option is
+-- recognised.
 pub record PassesOptions (m : Message) : Type 0 where
   pub no_proxy : NamesProxy m → ⊥
   pub known : has_unknown_critical m.code None m.options ≡ false
 
--- Block1 or Block2 has the reserved size, 7, or the query is longer than 64 bytes
+-- Block1 or Block2 has the reserved size, 7, or the query is longer than 64 bytes.
 abbrev pub HasBadValue : Message → Type 0
 HasBadValue m = ((b : Place) × (block_in 27 m ≡ Some b) × (b.szx ≡ 7)) ⊎ (((b : Place) × (block_in 23 m ≡ Some b) × (b.szx ≡ 7)) ⊎ (64 < length (query m)))

@@ -1,4 +1,4 @@
--- What `classify` answers, as a verdict, and what a message that passed its checks is.
+-- The result of `classify` as a verdict, and the facts about a message that passed its checks.
 use Rattle.std.specs.Prelude.{◌≡◌, ℕ, false, Some, None, Result, Ok, Err, ◌≤◌}
 use Rattle.coap_msg.specs.declared.code.Code.{Code}
 use Rattle.coap_msg.specs.Wire.{Message}
@@ -16,19 +16,19 @@ use Rattle.coap_opts.specs.Path.{method_of}
 use Rattle.coap_opts.specs.Served.{action_of}
 use Rattle.coap_opts.specs.Verdict.{resource, Asked, asked, names_proxy, refusal_code, Verdict, IsAsked, IsRefused, IsSilent, IsReset, IsSignal, IsIgnored}
 
--- the checks on the options are passed
+-- the message passed the checks of its options.
 pub record IsKnown (m : Message) : Type 0 where
   pub no_proxy : names_proxy m ≡ false
   pub no_unknown : has_unknown_critical m.code None m.options ≡ false
 
--- and those on method and path
+-- the message passed also the checks of its method and its path.
 pub record IsServedAt (m : Message) (method : Method) (at : Resource) (action : Action) : Type 0 where
   pub known : IsKnown m
   pub method_is : method_of m.code ≡ Some method
   pub resource_is : resource m ≡ Some at
   pub served : action_of at method ≡ Some action
 
--- a request without where its payload lies
+-- the request by value, without the borrow of its payload.
 abbrev pub asked_by : Request → Asked
 asked_by r = record {
   action = r.action;
@@ -41,16 +41,16 @@ asked_by r = record {
   payload = r.payload.now;
 }
 
--- the request that was written where no check fails, or the code of the first that does
+-- the written request if no check fails, or the code of the first check that fails.
 abbrev pub IsRequestOf : Message → Result (Unit {0}) Code → Request → Type 0
 IsRequestOf m (Ok done) r = (refusal_code m ≡ None) × (asked m ≡ Some (asked_by r))
 IsRequestOf m (Err answer) r = refusal_code m ≡ Some answer.byte
 
--- where a request was written over another, nothing more is told of it
+-- the request that was written in place.
 abbrev pub written_over : Request → Unit {0} → Asked
 written_over r done = asked_by r
 
--- what is done about a request, as a verdict, by what is told of one that is carried out
+-- the action for a request, as a verdict; `request` gives the fields of an accepted request.
 abbrev pub asking_verdict : {R : Type 0} → (R → Asked) → Asking R → Verdict
 asking_verdict request (asking.Serve told) = IsAsked (request told)
 asking_verdict request (asking.Refuse answer) = IsRefused answer.byte
@@ -62,7 +62,7 @@ verdict_of request classified.Reset = IsReset
 verdict_of request (classified.Signal reset) = IsSignal reset
 verdict_of request classified.Ignored = IsIgnored
 
--- a refusal is the reply of a client error or a server error, 4.00 to 5.31
+-- a refusal has the code of a client error or a server error, 4.00 to 5.31.
 pub record IsErrorCode (answer : ℕ) : Type 0 where
   pub at_least : code 4 0 ≤ answer
   pub at_most : answer ≤ code 5 31

@@ -1,4 +1,5 @@
--- The recognised options of a message, collected in one pass: each part by what it makes of the values that are still to come.
+-- The recognised options of a message, collected in one pass. Each part is defined by its result
+-- for the values that are left.
 use Rattle.std.specs.Prelude.{◌≡◌, ℕ, ◌-◌, ◌<◌, ◌≤◌, ◌==◌, Bool, true, false, List, [], ◌∷◌, ◌++◌, length, take, map, Option, Some, None, IfSome, codes}
 use Rattle.std.specs.List.{filter, flat_map, join_by}
 use Rattle.std.specs.Option.{option_map}
@@ -15,33 +16,34 @@ use Rattle.coap_opts.specs.Path.{resource_of}
 use Rattle.coap_opts.specs.Recognition.{values_of}
 use Rattle.coap_opts.specs.Verdict.{first_of, values, query, etags}
 
--- a value without where it lies
+-- a value without its borrow.
 abbrev pub lent : Option (Bor (List ℕ)) → Option (List ℕ)
 lent value = option_map (λ v. v.now) value
 
--- ---- each part, with the values of its number that are still to come
+-- ---- each part, with the values of its number that are left
 
--- the first value
+-- the first value.
 abbrev pub first_with : Option (List ℕ) → List (List ℕ) → Option (List ℕ)
 first_with None left = first_of left
 first_with (Some first) left = Some first
 
--- what the path names
+-- the resource that the path names.
 abbrev pub resource_with : Segments → List (List ℕ) → Option Resource
 resource_with Empty left = resource_of left
 resource_with (One first) left = resource_of (first.now ∷ left)
 resource_with (Two first second) left = resource_of (first.now ∷ second.now ∷ left)
 resource_with More left = None
 
--- the numbers of the values of eight bytes
+-- the values of eight bytes, as integers.
 abbrev pub eights : List (List ℕ) → List ℕ
 eights values = map uint_value (filter (λ v. length v == 8) values)
 
--- the first four ETags
+-- the first four ETags.
 abbrev pub tags_with : List ℕ → List (List ℕ) → List ℕ
 tags_with tags left = tags ++ take (4 - length tags) (eights left)
 
--- the query is this one: whether it is too long, whether a value has come, what there is of it
+-- the joined query is `all`; the tests say whether it is too long, and whether a value was
+-- appended.
 abbrev pub IsJoinedBy : Bool → Bool → List ℕ → List (List ℕ) → List ℕ → Type 0
 IsJoinedBy true begun items left all = 64 < length all
 IsJoinedBy false false items left all = (items ≡ []) × (join_by (λ v. v) (codes "&") left ≡ all)
@@ -50,14 +52,15 @@ IsJoinedBy false true items left all = (items ++ flat_map (λ (v : List ℕ). co
 abbrev pub IsJoined : JoinedQuery → List (List ℕ) → List ℕ → Type 0
 IsJoined q left all = IsJoinedBy q.is_long q.is_begun q.items.items left all
 
--- ---- one option more
+-- ---- one more option
 
--- a value in front where the test holds
+-- `value` prepended if the test holds.
 abbrev pub cons_if : Bool → List ℕ → List (List ℕ) → List (List ℕ)
 cons_if false value left = left
 cons_if true value left = value ∷ left
 
--- a recognised option was taken: each part, with any values still to come, is what it was with this one in front
+-- a recognised option was stored: for all values left, each part gives the same result as before
+-- with this one prepended.
 pub record IsTaken (old new : Collected) (number : ℕ) (value : List ℕ) : Type 0 where
   pub etags : (left : List (List ℕ)) → tags_with old.etags.items (cons_if (number == option.ETAG) value left) ≡ tags_with new.etags.items left
   pub observe : (left : List (List ℕ)) → first_with (lent old.observe) (cons_if (number == option.OBSERVE) value left) ≡ first_with (lent new.observe) left
@@ -69,7 +72,8 @@ pub record IsTaken (old new : Collected) (number : ℕ) (value : List ℕ) : Typ
   pub proxy_uri : (left : List (List ℕ)) → first_with (lent old.proxy_uri) (cons_if (number == option.PROXY_URI) value left) ≡ first_with (lent new.proxy_uri) left
   pub proxy_scheme : (left : List (List ℕ)) → first_with (lent old.proxy_scheme) (cons_if (number == option.PROXY_SCHEME) value left) ≡ first_with (lent new.proxy_scheme) left
 
--- with the options still to come, after one of the number before, each part is the message's
+-- with the options that are left, each part is that of the message; `before` is the number of the
+-- option before them.
 pub record IsUncollected (m : Message) (g : Collected) (before : Option ℕ) (left : List (ℕ × List ℕ)) : Type 0 where
   pub etags : tags_with g.etags.items (values_of option.ETAG m.code before left) ≡ etags m
   pub observe : first_with (lent g.observe) (values_of option.OBSERVE m.code before left) ≡ first_of (values option.OBSERVE m)
@@ -81,7 +85,7 @@ pub record IsUncollected (m : Message) (g : Collected) (before : Option ℕ) (le
   pub proxy_uri : first_with (lent g.proxy_uri) (values_of option.PROXY_URI m.code before left) ≡ first_of (values option.PROXY_URI m)
   pub proxy_scheme : first_with (lent g.proxy_scheme) (values_of option.PROXY_SCHEME m.code before left) ≡ first_of (values option.PROXY_SCHEME m)
 
--- the query is this one, where it isn't too long
+-- the query is `all`, if it isn't too long.
 abbrev pub IsQueryBy : Bool → List ℕ → List ℕ → Type 0
 IsQueryBy true items all = 64 < length all
 IsQueryBy false items all = (items ≡ all) × (length items ≤ 64)
@@ -89,18 +93,18 @@ IsQueryBy false items all = (items ≡ all) × (length items ≤ 64)
 abbrev pub IsQuery : JoinedQuery → List ℕ → Type 0
 IsQuery q all = IsQueryBy q.is_long q.items.items all
 
--- a value, where there is one, has at most so many bytes
+-- a value, if present, has at most `most` bytes.
 abbrev pub IsShort : ℕ → Option (Bor (List ℕ)) → Type 0
 IsShort most value = IfSome value (λ v. length v.now ≤ most)
 
--- the values that mean numbers are as short as the table says
+-- the values that represent integers are as short as the table requires.
 pub record AreShort (g : Collected) : Type 0 where
   pub observe : IsShort 3 g.observe
   pub content_format : IsShort 2 g.content_format
   pub block2 : IsShort 3 g.block2
   pub block1 : IsShort 3 g.block1
 
--- each part is the message's
+-- each part is that of the message.
 pub record IsCollected (m : Message) (g : Collected) : Type 0 where
   pub etags : g.etags.items ≡ etags m
   pub observe : lent g.observe ≡ first_of (values option.OBSERVE m)

@@ -1,4 +1,5 @@
--- What the fields of a request are, said of its message, and what they are within (RFC 7252, 5.10; RFC 7641, 2; RFC 7959, 2.1).
+-- The fields of a request, derived from its message, and their limits (RFC 7252, section 5.10; RFC
+-- 7641, section 2; RFC 7959, section 2.1).
 use Rattle.std.specs.Prelude.{◌≡◌, ℕ, Some, ◌<◌, List, [], ◌∷◌, codes, ◌≢◌, Bool, true, false, length, Option, IfSome, ◌≤◌}
 use Rattle.coap_msg.specs.Wire.{Message}
 use Rattle.coap_opts.specs.declared.number.TheConstants as option
@@ -14,7 +15,7 @@ use Rattle.coap_opts.specs.declared.request.Action.{Action}
 use Rattle.coap_opts.specs.declared.request.Action.TheVariants as actions
 use Rattle.coap_opts.specs.Values.{Place}
 
--- the method by which it is asked
+-- the method of an action.
 abbrev pub method_in : Action → Method
 method_in (actions.Get n) = Get
 method_in (actions.Post n) = Post
@@ -23,27 +24,27 @@ method_in (actions.Remove n) = Delete
 method_in (actions.Describe n) = Get
 method_in actions.Discover = Get
 
--- a slot is below 64
+-- the slot of a resource is below 64.
 abbrev pub IsResource : Resource → Type 0
 IsResource (Run n) = n < 64
 IsResource (Program n) = n < 64
 IsResource Core = Unit {0}
 
--- the one path of a resource; a slot in decimal digits, with no zero in front
+-- the one path of a resource; a slot in decimal digits, without leading zeros.
 abbrev pub path_of : Resource → List (List ℕ)
 path_of (Run n) = codes "r" ∷ decimal n ∷ []
 path_of (Program n) = codes "p" ∷ decimal n ∷ []
 path_of Core = codes ".well-known" ∷ codes "core" ∷ []
 
--- the code of a method (RFC 7252, 12.1.1)
+-- the code of a method (RFC 7252, section 12.1.1).
 abbrev pub method_code : Method → ℕ
 method_code Get = 1
 method_code Post = 2
 method_code Put = 3
 method_code Delete = 4
 
--- the method is that of the message's code, the resource that of its Uri-Path, the payload its own, and each other field is what the
--- options of one number mean
+-- the method is that of the message's code, the resource that of its Uri-Path, and the payload its
+-- own; each other field is the value of the options with one number.
 pub record IsMadeOf (m : Message) (r : Asked) : Type 0 where
   pub method_is : method_of m.code ≡ Some (method_in r.action)
   pub resource_is : resource m ≡ Some (resource_in r.action)
@@ -56,16 +57,17 @@ pub record IsMadeOf (m : Message) (r : Asked) : Type 0 where
   pub block2_is : r.block2 ≡ block_in option.BLOCK2 m
   pub payload_is : r.payload ≡ m.payload
 
--- a GET of what a program answers
+-- a GET of a resource that a program serves.
 abbrev pub is_get : Action → Bool
 is_get (actions.Get n) = true
 is_get _ = false
 
--- a block, where there is one, comes with this method, and its size isn't the reserved one
+-- a block, if present, comes with this method, and its size isn't the reserved one.
 abbrev pub IsBlockFor : Method → Method → Option Place → Type 0
 IsBlockFor wanted method block = IfSome block (λ b. (method ≡ wanted) × (b.szx < 7))
 
--- a request that is carried out: its method is served at its resource, one of the server's, its payload is the message's, and each field is within its limits
+-- an accepted request: its resource exists and serves its method, its payload is the message's, and
+-- each field is within its limits.
 pub record IsAskedWithin (m : Message) (r : Asked) : Type 0 where
   pub method : method_of m.code ≡ Some (method_in r.action)
   pub resource : IsResource (resource_in r.action)

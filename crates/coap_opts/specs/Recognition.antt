@@ -1,48 +1,50 @@
--- Which options of a message are recognised (RFC 7252, 5.4.1, 5.4.3 and 5.4.5).
+-- Recognition of a message's options (RFC 7252, sections 5.4.1, 5.4.3 and 5.4.5).
 use Rattle.std.specs.Prelude.{ℕ, ◌%◌, ◌==◌, ◌&&◌, ◌||◌, not, Bool, true, false, nat_le, if◌then◌else◌, List, [], ◌∷◌, length, Option, Some, None}
 use Rattle.std.specs.List.{find}
 use Rattle.coap_msg.specs.declared.code.Code.{Code}
 use Rattle.coap_opts.specs.declared.served.Row.{Row}
 use Rattle.coap_opts.specs.Served.{rows}
 
--- what is known of the option of this number
+-- the table's row for the option with this number.
 unfoldable pub row_of : ℕ → Option Row
 row_of number = find (λ r. r.number == number) rows
 
--- the option before has this number too; options come in the order of their numbers, so that a repeat directly follows
+-- the option before has this number too; as options come in the order of their numbers, a
+-- repetition directly follows.
 abbrev pub is_repeat : Option ℕ → ℕ → Bool
 is_repeat None number = false
 is_repeat (Some before) number = before == number
 
--- the code is the one method, where there is one
+-- the code is the only method, if the row has one.
 abbrev pub is_defined_for : Option Code → ℕ → Bool
 is_defined_for None code = true
 is_defined_for (Some only) code = only.byte == code
 
--- an option of legal length, defined for the method, and not a repeat of a non-repeatable one
+-- an option of legal length, defined for the method, and not a repeat of a non-repeatable one.
 abbrev pub fits : Row → ℕ → Option ℕ → ℕ → Bool
 fits r code before count = (nat_le r.least count && nat_le count r.greatest) && (is_defined_for r.only code && (r.repeatable || not (is_repeat before r.number)))
 
--- an option that isn't known doesn't fit
+-- an unknown option doesn't fit.
 abbrev pub fits_row : Option Row → ℕ → Option ℕ → ℕ → Bool
 fits_row None code before count = false
 fits_row (Some r) code before count = fits r code before count
 
--- by the code of the message, the number of the option before, its own number and the length of its value
+-- from the message's code, the number of the option before, the option's own number and the length
+-- of its value.
 unfoldable pub is_recognised : ℕ → Option ℕ → ℕ → ℕ → Bool
 is_recognised code before number count = fits_row (row_of number) code before count
 
--- an unrecognised option of the critical class: its number is odd (RFC 7252, 5.4.6)
+-- an unrecognised critical option: its number is odd (RFC 7252, section 5.4.6).
 abbrev pub is_unknown_critical : ℕ → Option ℕ → ℕ → ℕ → Bool
 is_unknown_critical code before number count = (number % 2 == 1) && not (is_recognised code before number count)
 
--- one of the options is
+-- one of the options is an unrecognised critical one.
 abbrev pub has_unknown_critical : ℕ → Option ℕ → List (ℕ × List ℕ) → Bool
 has_unknown_critical code before [] = false
 has_unknown_critical code before ((number, value) ∷ options) =
     is_unknown_critical code before number (length value) || has_unknown_critical code (Some number) options
 
--- the values of the recognised options of one number
+-- the values of the recognised options with one number.
 abbrev pub values_of : ℕ → ℕ → Option ℕ → List (ℕ × List ℕ) → List (List ℕ)
 values_of wanted code before [] = []
 values_of wanted code before ((number, value) ∷ options) =

@@ -1,4 +1,4 @@
--- A reply, as the message that it is.
+-- A response as a message.
 use Rattle.std.specs.Prelude.{ℕ, List, ◌++◌}
 use Rattle.std.specs.Int.{w64, to_be_bytes}
 use Rattle.std.specs.Option.{option_map}
@@ -9,7 +9,7 @@ use Rattle.coap_opts.specs.declared.reply.ReplyOptions.{ReplyOptions}
 use Rattle.coap_opts.specs.declared.reply.Reply.{Reply}
 use Rattle.coap_opts.specs.Values.{block_bytes, uint_bytes}
 
--- the options of a reply in the order of their numbers, each where it has a value
+-- the options of a response in the order of their numbers, each present if it has a value.
 abbrev pub reply_options : ReplyOptions → List (ℕ × List ℕ)
 reply_options r =
     (((optional option.ETAG (option_map (to_be_bytes w64) r.etag)
@@ -18,6 +18,6 @@ reply_options r =
     ++ optional option.BLOCK2 (option_map block_bytes r.block2))
     ++ optional option.BLOCK1 (option_map block_bytes r.block1)
 
--- the message that a reply is
+-- the message that a response is.
 abbrev pub reply_message : Reply → Message
 reply_message r = record { kind = r.kind; code = r.code.byte; id = r.id; token = r.token.now; options = reply_options r.options; payload = r.payload.now }

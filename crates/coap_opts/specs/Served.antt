@@ -1,4 +1,5 @@
--- What is served: a row for each option that is recognised, and one for each resource and each method there, with what is asked by it.
+-- The served options and methods: a row for each recognised option, and an action for each method
+-- of each resource.
 use Rattle.std.specs.Prelude.{ℕ, true, false, List, [], ◌∷◌, Option, Some, None}
 use Rattle.coap_msg.specs.declared.code.Code.{Code}
 use Rattle.coap_msg.specs.declared.code.TheConstants.Code.{GET, PUT}
@@ -11,15 +12,16 @@ use Rattle.coap_opts.specs.declared.request.Resource.TheVariants.{Run, Program, 
 use Rattle.coap_opts.specs.declared.request.Action.{Action}
 use Rattle.coap_opts.specs.declared.request.Action.TheVariants as actions
 
--- an option that may occur once
+-- an option that may occur once.
 abbrev pub once : ℕ → ℕ → ℕ → Option Code → Row
 once number least greatest only = record { number = number; least = least; greatest = greatest; repeatable = false; only = only }
 
--- an option that may occur more than once
+-- an option that may occur more than once.
 abbrev pub repeatable : ℕ → ℕ → ℕ → Option Code → Row
 repeatable number least greatest only = record { number = number; least = least; greatest = greatest; repeatable = true; only = only }
 
--- each option by its number, the least and the greatest length of its value, and the one method with which it is recognised, or any
+-- each option with its number, the minimum and maximum length of its value, and the only method
+-- with which it is recognised, or any.
 unfoldable pub rows : List Row
 rows =
     once option.URI_HOST 1 255 None
@@ -35,7 +37,8 @@ rows =
     ∷ once option.PROXY_SCHEME 1 255 None
     ∷ []
 
--- a GET and a POST run a program; a PUT installs one, a GET tells what it is, and a DELETE removes it; a GET lists what is there
+-- GET and POST of `/r/N` run a program; PUT of `/p/N` installs a program, DELETE removes it, and
+-- GET describes it; GET of `/.well-known/core` lists the resources.
 abbrev pub action_of : Resource → Method → Option Action
 action_of (Run n) Get = Some (actions.Get n)
 action_of (Run n) Post = Some (actions.Post n)
@@ -45,9 +48,9 @@ action_of (Program n) Get = Some (actions.Describe n)
 action_of Core Get = Some actions.Discover
 action_of _ _ = None
 
--- ---- the same the other way
+-- ---- the inverse
 
--- the resource of which it is asked
+-- the resource of an action.
 abbrev pub resource_in : Action → Resource
 resource_in (actions.Get n) = Run n
 resource_in (actions.Post n) = Run n

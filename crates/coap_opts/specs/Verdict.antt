@@ -18,51 +18,51 @@ use Rattle.coap_opts.specs.Served.{action_of}
 
 -- ---- the fields of a request
 
--- the values of a message's recognised options of one number
+-- the values of a message's recognised options with one number.
 abbrev pub values : ℕ → Message → List (List ℕ)
 values number m = values_of number m.code None m.options
 
--- the first, where there is one
+-- the first element, if there is one.
 abbrev pub first_of : {A : Type 0} → List A → Option A
 first_of [] = None
 first_of (x ∷ xs) = Some x
 
--- there is one
+-- there is a value.
 abbrev pub has : {A : Type 0} → Option A → Bool
 has None = false
 has (Some x) = true
 
--- the number that the first of them means
+-- the integer that the first of these values represents.
 abbrev pub number_in : ℕ → Message → Option ℕ
 number_in number m = option_map uint_value (first_of (values number m))
 
--- the block that the option with this number names, where it is there
+-- the block that the option with this number represents, if it is present.
 abbrev pub block_in : ℕ → Message → Option Place
 block_in number m = option_map place_in (first_of (values number m))
 
--- the values of Uri-Query, joined by `&`
+-- the values of Uri-Query, joined by `&`.
 abbrev pub query : Message → List ℕ
 query m = join_by (λ v. v) (codes "&") (values option.URI_QUERY m)
 
--- the first four ETags of 8 bytes
+-- the first four ETags of 8 bytes.
 abbrev pub etags : Message → List ℕ
 etags m = take 4 (map uint_value (filter (λ v. length v == 8) (values option.ETAG m)))
 
--- what the segments of Uri-Path name
+-- the resource that the segments of Uri-Path name.
 abbrev pub resource : Message → Option Resource
 resource m = resource_of (values option.URI_PATH m)
 
--- what is asked, where the method is one that is served at the resource
+-- the action, if the resource serves the method.
 abbrev pub action : Message → Option Action
 action m = method_of m.code >>= λ method. resource m >>= λ at. action_of at method
 
--- Observe is for what a program answers
+-- Observe counts only for an action that runs a program.
 abbrev pub observe_at : Action → Option ℕ → Option ℕ
 observe_at (actions.Get n) value = value
 observe_at (actions.Post n) value = value
 observe_at _ value = None
 
--- a request that is carried out
+-- an accepted request.
 pub record Asked : Type 0 where
   pub action : Action
   pub query : List ℕ
@@ -73,7 +73,7 @@ pub record Asked : Type 0 where
   pub block2 : Option Place
   pub payload : List ℕ
 
--- the fields of a request that is served
+-- the fields of an accepted request.
 unfoldable pub asked : Message → Option Asked
 asked m =
     action m >>= λ action.
@@ -90,24 +90,24 @@ asked m =
 
 -- ---- the checks
 
--- Proxy-Uri or Proxy-Scheme is there (RFC 7252, 5.10.2)
+-- Proxy-Uri or Proxy-Scheme is present (RFC 7252, section 5.10.2).
 abbrev pub names_proxy : Message → Bool
 names_proxy m = has (first_of (values option.PROXY_URI m)) || has (first_of (values option.PROXY_SCHEME m))
 
--- size 7 is reserved (RFC 7959, 2.2)
+-- the block has the reserved size, 7 (RFC 7959, section 2.2).
 abbrev pub is_reserved : Option Place → Bool
 is_reserved None = false
 is_reserved (Some block) = block.szx == 7
 
--- a block of the reserved size, or a query that is too long
+-- a block has the reserved size, or the query is too long.
 abbrev pub is_bad : Option Place → Option Place → Bool → Bool
 is_bad block1 block2 is_long = (is_reserved block1 || is_reserved block2) || is_long
 
--- the blocks, and a query of at most 64 bytes
+-- a block has the reserved size, or the query has more than 64 bytes.
 abbrev pub has_bad_value : Message → Bool
 has_bad_value m = is_bad (block_in option.BLOCK1 m) (block_in option.BLOCK2 m) (nat_lt 64 (length (query m)))
 
--- the checks in their order: whether each fails, and the code that then answers
+-- the checks in their order: whether each fails, and the response code for its failure.
 abbrev pub checks : Message → List (Bool × ℕ)
 checks m =
     (names_proxy m, registered.PROXYING_NOT_SUPPORTED.byte)
@@ -119,18 +119,19 @@ checks m =
     ∷ (nat_lt 1024 (length m.payload), registered.REQUEST_ENTITY_TOO_LARGE.byte)
     ∷ []
 
--- the code of the first that fails
+-- the code of the first check that fails.
 abbrev pub first_failing : List (Bool × ℕ) → Option ℕ
 first_failing [] = None
 first_failing ((fails, answer) ∷ more) = if fails then Some answer else first_failing more
 
--- the code by which a request is refused
+-- the code that refuses a request.
 unfoldable pub refusal_code : Message → Option ℕ
 refusal_code m = first_failing (checks m)
 
 -- ---- the verdict
 
--- a request; a refusal by its code; silence; a reset; a signal, by whether it is a reset; nothing
+-- an accepted request; a refusal with its code; silence; a Reset; a signal, with whether it is a
+-- Reset; nothing.
 pub data Verdict : Type 0 where
   IsAsked : Asked → Verdict
   IsRefused : ℕ → Verdict
@@ -139,38 +140,39 @@ pub data Verdict : Type 0 where
   IsSignal : Bool → Verdict
   IsIgnored : Verdict
 
--- class 0, and not 0.00
+-- class 0, and not 0.00.
 abbrev pub is_request : ℕ → Bool
 is_request c = nat_lt 0 c && nat_lt c 32
 
--- a non-confirmable request with an unrecognised critical option gets no answer (RFC 7252, 5.4.1)
+-- a non-confirmable request with an unrecognised critical option gets no response (RFC 7252,
+-- section 5.4.1).
 abbrev pub refusal_verdict : MessageType → ℕ → Verdict
 refusal_verdict kind.NonConfirmable answer = if answer == registered.BAD_OPTION.byte then IsSilent else IsRefused answer
 refusal_verdict _ answer = IsRefused answer
 
--- a request that passed each check
+-- a request that passed all checks.
 abbrev pub accepted : Option Asked → Verdict
 accepted (Some r) = IsAsked r
 accepted None = IsIgnored
 
--- by the code of the first check that fails
+-- from the code of the first check that fails.
 abbrev pub verdict_by_check : Message → Option ℕ → Verdict
 verdict_by_check m (Some answer) = refusal_verdict m.kind answer
 verdict_by_check m None = accepted (asked m)
 
--- what a request is to the server
+-- the verdict for a request.
 abbrev pub request_verdict : Message → Verdict
 request_verdict m = verdict_by_check m (refusal_code m)
 
--- by type and code (RFC 7252, 4.2 and 4.3)
+-- from the type and the code (RFC 7252, sections 4.2 and 4.3).
 abbrev pub verdict_by : MessageType → Message → Verdict
 verdict_by kind.Confirmable m = if is_request m.code then request_verdict m else IsReset
 verdict_by kind.NonConfirmable m = if is_request m.code then request_verdict m else IsIgnored
 verdict_by kind.Acknowledgement m = if m.code == 0 then IsSignal false else IsIgnored
 verdict_by kind.Reset m = if m.code == 0 then IsSignal true else IsIgnored
 
--- what a message is to the server
+-- the verdict for a message.
 unfoldable pub verdict : Message → Verdict
 verdict m = verdict_by m.kind m
 
--- ---- what a verdict is within
+-- ---- limits of a verdict

@@ -1,10 +1,12 @@
-//! Blocks of a body, as Block1 and Block2 name them (RFC 7959, 2.2).
+//! Block options of a body: Block1 and Block2 (RFC 7959, section 2.2).
 ghost use Rattle.std.specs.Prelude.{◌<◌, ◌^◌};
 
 use crate::uint::{UintBytes, decode_uint, encode_uint};
 use std::marker::Model;
 
-/// Which block of a body: its number, its size, and whether more follow. A clause sees these three.
+/// A block of a body: its number, its size, and whether more blocks follow.
+///
+/// In contracts it is these three fields.
 #[derive(Clone, Copy, PartialEq, Eq)]
 pub struct Block {
     number: u32,
@@ -29,7 +31,10 @@ impl Block {
     ghost use Rattle.std.specs.Prelude.{◌≡◌, ◌≤◌, length};
     ghost use Rattle.coap_opts.specs.Values.{block_size, block_value, place_in, uint_bytes, uint_value};
 
-    /// Makes the block option's value of this number, of which more follow or don't, and whose size has this exponent less 4 (RFC 7959, 2.2).
+    /// Makes the block with these three fields (RFC 7959, section 2.2).
+    ///
+    /// `number` is the block number, `more` says whether more blocks follow, and `szx` is the
+    /// exponent of the block size less 4.
     pub fn new(number: u32, more: bool, szx: u8) -> Block
         requires number { number < 2 ^ 20 }
         requires szx { szx < 8 }
@@ -38,7 +43,7 @@ impl Block {
         Block { number, more, szx }
     }
 
-    /// Decodes a value of at most 3 bytes. Leading zeros are legal.
+    /// Decodes a value of at most 3 bytes, which may have leading zeros.
     pub fn read(bytes: &[u8]) -> Block
         requires { length bytes.now ≤ 3 }
         ensures block { result ≡ place_in bytes.now }
@@ -60,7 +65,7 @@ impl Block {
         encode_uint(u64::from(16 * self.number + more + u32::from(self.szx)))
     }
 
-    /// Returns its block number, from 0 on; it has 20 bits.
+    /// Returns the 20-bit block number, which counts from 0.
     pub fn number(self) -> u32
         ensures number { result ≡ self.number }
         ensures limit { result < 2 ^ 20 }
@@ -68,14 +73,16 @@ impl Block {
         self.number
     }
 
-    /// Returns the M bit: whether more blocks follow.
+    /// Returns the M bit: `true` if more blocks follow.
     pub fn more(self) -> bool
         ensures { result ≡ self.more }
     {
         self.more
     }
 
-    /// Returns the SZX field: the exponent of its size less 4, 0 to 7; 7 is reserved.
+    /// Returns the SZX field, 0 to 7: the exponent of the block size less 4.
+    ///
+    /// The value 7 is reserved.
     pub fn szx(self) -> u8
         ensures szx { result ≡ self.szx }
         ensures limit { result < 8 }
@@ -83,7 +90,9 @@ impl Block {
         self.szx
     }
 
-    /// Returns how many bytes a block has: 16 to 1,024, and 2,048 where the size is the reserved one.
+    /// Returns the block size in bytes: 16 to 1,024.
+    ///
+    /// For the reserved SZX 7 it returns 2,048.
     pub fn size(self) -> usize
         ensures { result ≡ block_size self.szx }
     {

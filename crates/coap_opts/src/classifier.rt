@@ -1,4 +1,6 @@
-//! Request classification: message type, options, method, path, in the order of the checks.
+//! Request classification: message type, options, method, path.
+//!
+//! The checks are in this order.
 ghost use Rattle.std.specs.Prelude.{◌≡◌, ◌||◌, None, Some};
 ghost use Rattle.coap_opts.specs.Verdict.{refusal_verdict, request_verdict, verdict};
 ghost use Rattle.coap_opts.specs.Classified.{IsRequestOf, asked_by, asking_verdict, verdict_of, written_over};
@@ -12,8 +14,10 @@ use crate::request::{Action, Asking, Classified, PAYLOAD, Request};
 use crate::served::action_of;
 use coap_msg::{Code, Message, MessageType};
 
-/// Classifies a message: a request with its fields, the code of the first check that fails, or what else is done about it.
-/// Its options are walked once.
+/// Classifies a message in one pass over its options.
+///
+/// Returns the request with its fields, or the code of the first check that fails. For a message
+/// that is no request, it returns the required reaction.
 pub fn classify<'a>(message: &Message<'a>) -> Classified<Request<'a>>
     ensures { verdict_of asked_by result ≡ verdict message.now }
 {
@@ -26,7 +30,7 @@ pub fn classify<'a>(message: &Message<'a>) -> Classified<Request<'a>>
     }
 }
 
-/// What is done about a request, which was written.
+/// Adds `request`, which was written, to the action for it.
 fn served<'a>(asking: Asking<()>, request: Request<'a>) -> Asking<Request<'a>>
     ensures { asking_verdict asked_by result ≡ asking_verdict (written_over request.entry) asking }
 {
@@ -37,7 +41,9 @@ fn served<'a>(asking: Asking<()>, request: Request<'a>) -> Asking<Request<'a>>
     }
 }
 
-/// Classifies a message as `classify` does, and writes the request that is carried out over another: none is moved.
+/// Classifies a message, and writes an accepted request to `request`.
+///
+/// The result is that of [`classify`]. No request is moved.
 #[tactic(auto, unfolding(crate::specs::Verdict::verdict))]
 pub fn classify_over<'a>(message: &Message<'a>, request: &mut Request<'a>) -> Classified<()>
     ensures { verdict_of (written_over request.new) result ≡ verdict message.now }
@@ -57,7 +63,7 @@ pub fn classify_over<'a>(message: &Message<'a>, request: &mut Request<'a>) -> Cl
     }
 }
 
-/// Class 0, and not 0.00.
+/// Returns whether the code's class is 0, and the code isn't 0.00.
 fn is_request(code: Code) -> bool
     ensures { result ≡ spec.is_request code.byte }
 {
@@ -73,7 +79,9 @@ fn judge<'a>(message: &Message<'a>, request: &mut Request<'a>) -> Asking<()>
     }
 }
 
-/// A non-confirmable request with an unrecognised critical option gets no answer.
+/// Returns the action for a request that is refused with `code`.
+///
+/// A non-confirmable request with an unrecognised critical option gets no response.
 fn refused(kind: MessageType, code: Code) -> Asking<()>
     ensures { (r : Request) → asking_verdict (written_over r) result ≡ refusal_verdict kind code.byte }
 {
@@ -84,7 +92,7 @@ fn refused(kind: MessageType, code: Code) -> Asking<()>
     }
 }
 
-/// Writes the request over another, or gives the code of the first check that fails.
+/// Writes the request, or returns the code of the first check that fails.
 fn write_request<'a>(message: &Message<'a>, request: &mut Request<'a>) -> Result<(), Code>
     ensures { IsRequestOf message.now result request.new }
 {
@@ -126,14 +134,14 @@ fn write_request<'a>(message: &Message<'a>, request: &mut Request<'a>) -> Result
     Ok(())
 }
 
-/// A block of the reserved size, or a query that is too long.
+/// Returns whether a block has the reserved size, or the query is too long.
 fn is_bad(block1: Option<Block>, block2: Option<Block>, query: &JoinedQuery) -> bool
     ensures { result ≡ spec.is_bad block1 block2 query.now.is_long }
 {
     is_reserved(block1) || is_reserved(block2) || query.is_long
 }
 
-/// Observe is for what a program answers.
+/// Returns the Observe value if the action runs a program.
 fn observe_at(action: Action, observe: Option<u32>) -> Option<u32>
     ensures { result ≡ spec.observe_at action observe }
 {
@@ -143,7 +151,7 @@ fn observe_at(action: Action, observe: Option<u32>) -> Option<u32>
     }
 }
 
-/// Whether a block has the reserved size.
+/// Returns whether a block has the reserved size.
 fn is_reserved(block: Option<Block>) -> bool
     ensures { result ≡ spec.is_reserved block }
 {

@@ -14,10 +14,10 @@ use crate::uint::decode_uint;
 use arrayvec::ArrayVec;
 use coap_msg::Message;
 
-/// The length of the ETags that count: those of a serial.
+/// Length in bytes of the ETags that are compared, those of a revision counter.
 const SERIAL: usize = 8;
 
-/// The segments of a path: no resource has more than two.
+/// The segments of a path, at most two: no resource has more.
 #[derive(Clone, Copy)]
 pub(crate) enum Segments<'a> {
     Empty,
@@ -41,18 +41,18 @@ impl<'a> Segments<'a> {
     }
 }
 
-/// The values of a query joined by `&`, as long as there is room for them.
+/// The values of a query joined by `&`, up to the room for them.
 #[derive(Drop)]
 pub(crate) struct JoinedQuery {
     pub items: Query,
-    /// Whether a value has come.
+    /// Whether a value was appended.
     pub is_begun: bool,
-    /// Whether they have more than 64 bytes.
+    /// Whether the joined values have more than 64 bytes.
     pub is_long: bool,
 }
 
 impl JoinedQuery {
-    /// Appends a value, after a `&` where it isn't the first.
+    /// Appends a value, with a `&` before it if it isn't the first.
     fn push(&mut self, value: &[u8])
         ensures { (left : List (List ℕ)) (all : List ℕ) →
             IsJoined self.old (value.now ∷ left) all → IsJoined self.new left all }
@@ -83,12 +83,12 @@ pub(crate) struct Collected<'a> {
     pub block1: Option<&'a [u8]>,
     pub proxy_uri: Option<&'a [u8]>,
     pub proxy_scheme: Option<&'a [u8]>,
-    /// Whether an option isn't recognised and may not be passed over.
+    /// Whether a critical option isn't recognised.
     pub has_unknown: bool,
 }
 
 impl<'a> Collected<'a> {
-    /// Nothing, as before the first option.
+    /// Returns the empty collection, for the state before the first option.
     fn new() -> Self
         ensures parts { (m : Stated) → IsUncollected m result None m.options }
         ensures unknown { result.has_unknown ≡ false }
@@ -111,7 +111,7 @@ impl<'a> Collected<'a> {
         }
     }
 
-    /// Keeps a recognised option.
+    /// Stores a recognised option.
     fn take(&mut self, number: u16, value: &'a [u8])
         ensures taken { IsTaken self.old self.new number value.now }
         ensures unknown { self.new.has_unknown ≡ self.old.has_unknown }
@@ -132,7 +132,7 @@ impl<'a> Collected<'a> {
 }
 
 impl Collected<'_> {
-    /// Whether a proxy is asked for.
+    /// Returns whether the request names a proxy.
     pub(crate) fn names_proxy(&self) -> bool
         ensures { result ≡ (has (lent self.now.proxy_uri) || has (lent self.now.proxy_scheme)) }
     {
@@ -140,7 +140,7 @@ impl Collected<'_> {
     }
 }
 
-/// Keeps the first value.
+/// Stores the first value, and ignores later ones.
 fn keep_first<'a>(kept: &mut Option<&'a [u8]>, value: &'a [u8])
     ensures { (left : List (List ℕ)) →
         first_with (lent kept.old) (value.now ∷ left) ≡ first_with (lent kept.new) left }
@@ -150,7 +150,7 @@ fn keep_first<'a>(kept: &mut Option<&'a [u8]>, value: &'a [u8])
     }
 }
 
-/// Keeps the first four ETags of 8 bytes.
+/// Stores the first four ETags of 8 bytes.
 fn take_tag(tags: &mut ArrayVec<u64, ETAGS>, value: &[u8])
     ensures { (left : List (List ℕ)) →
         tags_with tags.old.items (value.now ∷ left) ≡ tags_with tags.new.items left }

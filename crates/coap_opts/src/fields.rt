@@ -25,7 +25,7 @@ fn decode_u16(bytes: &[u8]) -> u16
     decode_uint(bytes) as u16
 }
 
-/// Decodes a value of Observe.
+/// Decodes an Observe value.
 pub(crate) fn observe_of(value: Option<&[u8]>) -> Option<u32>
     requires { IsShort 3 value }
     ensures { result ≡ option_map uint_value (lent value.entry) }
@@ -40,7 +40,7 @@ fn decode_u24(bytes: &[u8]) -> u32
     decode_uint(bytes) as u32
 }
 
-/// Decodes a Block1 or a Block2.
+/// Decodes a Block1 or Block2 value.
 pub(crate) fn block_of(value: Option<&[u8]>) -> Option<Block>
     requires { IsShort 3 value }
     ensures { result ≡ option_map place_in (lent value.entry) }
@@ -48,7 +48,7 @@ pub(crate) fn block_of(value: Option<&[u8]>) -> Option<Block>
     Some(Block::read(value?))
 }
 
-/// The resource that a path names.
+/// Returns the resource that a path names.
 pub(crate) fn resource_of(path: Segments<'_>) -> Option<Resource>
     ensures { result ≡ resource_with path.entry [] }
 {

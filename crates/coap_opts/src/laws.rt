@@ -1,4 +1,6 @@
-//! Laws of what the definitions say, for the crates above: each function is a law, and its contract says it.
+//! Laws about the definitions, for the crates above.
+//!
+//! Each law is the contract of an empty function.
 ghost use Rattle.std.specs.Prelude.{◌≡◌, ◌≢◌, ◌↔◌, ◌⊎◌, ◌+◌, ◌*◌, ◌<◌, ◌≤◌, ◌^◌, ℕ, List, None, Option, Some, false, length, slice_index, true};
 ghost use Rattle.coap_opts.specs.Checks.{HasBadValue, IsRequest, IsUnnamed, NamesProxy, PassesOptions};
 ghost use Rattle.coap_opts.specs.Classified.{IsErrorCode};
@@ -21,7 +23,9 @@ use crate::number::{
     URI_PORT, URI_QUERY,
 };
 
-/// A number is read again from its spelling, which has no byte to spare.
+/// Encoding and then decoding an integer gives that integer.
+///
+/// The encoding has at most 8 bytes and no leading zero.
 pub fn uints_are_read_again()
     ensures again { (n : ℕ) → n < 2 ^ 64 → uint_value (uint_bytes n) ≡ n }
     ensures shortest { (n : ℕ) → 0 < length (uint_bytes n) → slice_index (uint_bytes n) 0 ≢ 0 }
@@ -35,26 +39,28 @@ pub fn resources_have_one_path()
         (segments ≡ path_of r) × IsResource r }
 {}
 
-/// Each action is asked by one method at one resource, and by no other pair.
+/// Each action belongs to one method of one resource, and to no other pair.
 pub fn actions_have_their_methods()
     ensures served { (action : Action) → action_of (resource_in action) (method_in action) ≡ Some action }
     ensures only { (at : Resource) (method : Method) (action : Action) → action_of at method ≡ Some action →
         (at ≡ resource_in action) × (method ≡ method_in action) }
 {}
 
-/// What the fields of a request that is carried out are within, and that a refusal is the reply of an error.
+/// Limits of an accepted request's fields; a refusal has the code of an error.
 pub fn requests_are_within()
     ensures accepted { (m : Message) (r : Asked) → verdict m ≡ IsAsked r → IsAskedWithin m r }
     ensures refused { (m : Message) (code : ℕ) → verdict m ≡ IsRefused code → IsErrorCode code }
 {}
 
-/// Each field of a request that is carried out is what its message says: the method by the code, the resource by the values of Uri-Path,
-/// the query by those of Uri-Query, and each other field by the options of its number.
+/// Each field of an accepted request comes from its message.
+///
+/// The method is that of the code, the resource that of the Uri-Path values, and the query that of
+/// the Uri-Query values. Each other field comes from the options with its number.
 pub fn fields_are_the_options()
     ensures { (m : Message) (r : Asked) → verdict m ≡ IsAsked r → IsMadeOf m r }
 {}
 
-/// The codes of the methods (RFC 7252, 12.1.1); no other code is one.
+/// The codes of the methods (RFC 7252, section 12.1.1); no other code is a method.
 pub fn methods_have_their_codes()
     ensures get { method_of 1 ≡ Some Get }
     ensures post { method_of 2 ≡ Some Post }
@@ -63,7 +69,9 @@ pub fn methods_have_their_codes()
     ensures only { (code : ℕ) (method : Method) → method_of code ≡ Some method → code ≡ method_code method }
 {}
 
-/// The numbers of the options that have names (RFC 7252, 12.2; RFC 7641, 6; RFC 7959, 6).
+/// The numbers of the named options.
+///
+/// See RFC 7252, section 12.2; RFC 7641, section 6; and RFC 7959, section 6.
 pub fn options_are_registered()
     ensures uri_host { URI_HOST ≡ 3 }
     ensures etag { ETAG ≡ 4 }
@@ -78,9 +86,11 @@ pub fn options_are_registered()
     ensures proxy_scheme { PROXY_SCHEME ≡ 39 }
 {}
 
-/// The options that are recognised, by their numbers, with the lengths of their values, and with the methods for which they are defined
-/// (RFC 7252, 5.10; RFC 7641, 2; RFC 7959, 2.1). One that isn't repeatable is recognised once: a repeat, which directly follows, isn't
-/// (RFC 7252, 5.4.5). No other number is recognised.
+/// The recognised options: their lengths, and the methods they are defined for.
+///
+/// The lengths are those of the values (RFC 7252, section 5.10; RFC 7641, section 2; RFC 7959,
+/// section 2.1). An option that isn't repeatable is recognised once. Its repetition, which directly
+/// follows it, isn't recognised (RFC 7252, section 5.4.5). No other option number is recognised.
 pub fn options_are_recognised()
     ensures uri_host { (code count : ℕ) (before : Option ℕ) →
         ((is_recognised code before 3 count ≡ true) ↔ ((1 ≤ count) × (count ≤ 255) × (before ≢ Some 3))) }
@@ -105,10 +115,18 @@ pub fn options_are_recognised()
     ensures others { (code count number : ℕ) (before : Option ℕ) → IsUnnamed number → is_recognised code before number count ≡ false }
 {}
 
-/// The checks of a request come in this order, and the first that fails decides: a proxy is named, 5.05, whose byte is 165; a critical
-/// option isn't recognised, 4.02, 130, and of a non-confirmable request then nothing; the code is no method, 4.05, 133; the path names no
-/// resource, 4.04, 132; the method isn't served there, 4.05; a block has the reserved size or the query more than 64 bytes, 4.00, 128;
-/// and the payload has more than 1,024 bytes, 4.13, 141 (RFC 7252, 5.4.1, 5.8, 5.9 and 5.10.2; RFC 7959, 2.2).
+/// The checks of a request, in their order; the first that fails decides.
+///
+/// 1. The request names a proxy: 5.05, whose byte is 165.
+/// 2. A critical option isn't recognised: 4.02, whose byte is 130. A non-confirmable request then
+///   gets no response.
+/// 3. The code isn't a method: 4.05, whose byte is 133.
+/// 4. The path names no resource: 4.04, whose byte is 132.
+/// 5. The method isn't served at the resource: 4.05.
+/// 6. A block has the reserved size, or the query has more than 64 bytes: 4.00, whose byte is 128.
+/// 7. The payload has more than 1,024 bytes: 4.13, whose byte is 141.
+///
+/// See RFC 7252, sections 5.4.1, 5.8, 5.9 and 5.10.2, and RFC 7959, section 2.2.
 pub fn checks_come_in_order()
     ensures proxy { (m : Message) → IsRequest m → NamesProxy m → verdict m ≡ IsRefused 165 }
     ensures option { (m : Message) → IsRequest m → (NamesProxy m → ⊥) → m.kind ≡ Confirmable
@@ -127,8 +145,11 @@ pub fn checks_come_in_order()
         → length m.payload ≤ 1024 → (r : Asked) × (verdict m ≡ IsAsked r) × (r.action ≡ a) }
 {}
 
-/// What is no request: a confirmable message of another class or 0.00 is rejected, and a non-confirmable one ignored; an empty
-/// Acknowledgement and an empty Reset are signals of what they answer, and any other is ignored (RFC 7252, 4.2 and 4.3).
+/// The verdicts for messages that aren't requests (RFC 7252, sections 4.2 and 4.3).
+///
+/// A confirmable message with another class or with code 0.00 is rejected by a Reset, and a
+/// non-confirmable one is ignored. An empty Acknowledgement or Reset is a signal for the message
+/// that it matches. All other Acknowledgements and Resets are ignored.
 pub fn other_messages_have_their_verdicts()
     ensures rejected { (m : Message) → m.kind ≡ Confirmable → (m.code ≡ 0) ⊎ (32 ≤ m.code) → verdict m ≡ IsReset }
     ensures ignored { (m : Message) → m.kind ≡ NonConfirmable → (m.code ≡ 0) ⊎ (32 ≤ m.code) → verdict m ≡ IsIgnored }
@@ -138,8 +159,11 @@ pub fn other_messages_have_their_verdicts()
     ensures resets_nothing { (m : Message) → m.kind ≡ Reset → m.code ≢ 0 → verdict m ≡ IsIgnored }
 {}
 
-/// A block's value is 16 times its number, 8 more where blocks follow, and the exponent of its size less 4, by no more bytes than it needs
-/// (RFC 7959, 2.2); it is read again from there. Sizes are 16 to 1,024 bytes.
+/// The value of a block option (RFC 7959, section 2.2).
+///
+/// It is 16 times the block number, plus 8 if more blocks follow, plus the exponent of the block
+/// size less 4. It is encoded in the least number of bytes, and decoding gives the block again.
+/// Block sizes are 16 to 1,024 bytes.
 pub fn blocks_have_their_values()
     ensures last { (number szx : ℕ)
         → block_bytes (record { number = number; more = false; szx = szx }) ≡ uint_bytes (16 * number + szx) }

@@ -1,15 +1,16 @@
-//! What a CoAP message asks, or what else is done about it; values of options; replies with their options (RFC 7252, 5.4 and 5.10; RFC
-//! 7641; RFC 7959).
+//! Classification of CoAP messages; option values; responses with their options.
 //!
-//! [`classify`] says of a message whether it is a request that the server carries out, and with which fields, or what is
-//! answered to it: the first check that fails decides. What is served is one table, [`served`]. A [`Reply`] carries any set of
-//! the options that the server sends.
+//! The sources are RFC 7252, sections 5.4 and 5.10; RFC 7641; and RFC 7959.
+//!
+//! [`classify`] returns the request that a message carries, with its fields, or the required
+//! reaction to the message; the first check that fails decides. The served options and methods are
+//! in one table, [`served`]. A [`Reply`] carries any set of the options that the server sends.
 //!
 //! ```rust
 //! use coap_msg::read;
 //! use coap_opts::{Action, Asking, Classified, classify};
 //!
-//! /// The slot whose program a datagram asks by a GET of `/r/N`.
+//! /// Returns the slot whose program the datagram requests by a GET of `/r/N`.
 //! fn asked_slot(bytes: &[u8]) -> Option<u8> {
 //!     let message = read(bytes).ok()?;
 //!     match classify(&message) {
@@ -24,15 +25,18 @@
 //!
 //! # What is proved
 //!
-//! - Each message is classified by the first check that fails, in order, or as the request with its fields. The checks and their codes are
-//!   said by literals.
-//! - What each field of an accepted request is, said of its message's options, and what it is within; that a refusal is an error's code;
-//!   what is done with a message that is no request.
-//! - A reply with any set of options is a message and is written in its one spelling.
-//! - Integers and blocks are read and written exactly, a block's value by its number, M and size. Each resource has one path.
-//! - Each named option is its number, with the lengths of its value and the methods that it is of.
+//! - Each message is classified by the first check that fails, in order, or as the request with its
+//!   fields. A law states the checks and their codes in literals.
+//! - Each field of an accepted request is derived from its message's options, within stated limits.
+//!   A refusal has the code of an error. Each message that isn't a request has a stated verdict.
+//! - A response with any set of options is a message, and is written in its one encoding.
+//! - Integers and blocks are decoded and encoded exactly; a block's value is that of its number, M
+//!   and SZX. Each resource has one path.
+//! - Each named option has its registered number, the lengths of its value, and the methods that it
+//!   is defined for.
 //!
-//! By the contracts of `classify`, `classify_over`, `Reply::write`, `decode_uint`, `encode_uint`, `Block`, `laws`.
+//! By the contracts of `classify`, `classify_over`, `Reply::write`, `decode_uint`, `encode_uint`,
+//! `Block`, `laws`.
 #![tactic(auto)]
 
 pub mod block;

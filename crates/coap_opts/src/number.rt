@@ -1,24 +1,26 @@
-//! The numbers of the options (RFC 7252, 5.10; RFC 7641, 2; RFC 7959, 2.1).
+//! Option numbers.
+//!
+//! See RFC 7252, section 5.10; RFC 7641, section 2; and RFC 7959, section 2.1.
 
-/// The host that the request is for; it is ignored (RFC 7252, 5.10.1).
+/// Uri-Host, the target host; the server ignores it (RFC 7252, section 5.10.1).
 pub const URI_HOST: u16 = 3;
-/// A version of the resource (RFC 7252, 5.10.6).
+/// ETag, a version of the resource (RFC 7252, section 5.10.6).
 pub const ETAG: u16 = 4;
-/// Whether to observe the resource (RFC 7641, 2).
+/// Observe: register or cancel an observation (RFC 7641, section 2).
 pub const OBSERVE: u16 = 6;
-/// The port that the request is for; it is ignored (RFC 7252, 5.10.1).
+/// Uri-Port, the target port; the server ignores it (RFC 7252, section 5.10.1).
 pub const URI_PORT: u16 = 7;
-/// A segment of the path (RFC 7252, 5.10.1).
+/// Uri-Path, a segment of the path (RFC 7252, section 5.10.1).
 pub const URI_PATH: u16 = 11;
-/// The format of the payload (RFC 7252, 5.10.3).
+/// Content-Format, the format of the payload (RFC 7252, section 5.10.3).
 pub const CONTENT_FORMAT: u16 = 12;
-/// A parameter of the resource (RFC 7252, 5.10.1).
+/// Uri-Query, a parameter of the resource (RFC 7252, section 5.10.1).
 pub const URI_QUERY: u16 = 15;
-/// A block of the response (RFC 7959, 2.1).
+/// Block2, a block of the response (RFC 7959, section 2.1).
 pub const BLOCK2: u16 = 23;
-/// A block of the request (RFC 7959, 2.1).
+/// Block1, a block of the request (RFC 7959, section 2.1).
 pub const BLOCK1: u16 = 27;
-/// What a proxy is asked for (RFC 7252, 5.10.2).
+/// Proxy-Uri, the URI for a forward proxy (RFC 7252, section 5.10.2).
 pub const PROXY_URI: u16 = 35;
-/// The scheme by which a proxy is to ask for it (RFC 7252, 5.10.2).
+/// Proxy-Scheme, the scheme for a forward proxy (RFC 7252, section 5.10.2).
 pub const PROXY_SCHEME: u16 = 39;

@@ -1,4 +1,4 @@
-//! The resources, by path.
+//! Methods and resources, by code and path.
 ghost use Rattle.std.specs.Prelude.{◌≡◌, ◌+◌, ◌*◌, ◌<◌, ◌&&◌, nat_lt, IfSome};
 ghost use Rattle.coap_msg.specs.Reading.{guard};
 ghost use Rattle.coap_opts.specs.Path as spec;
@@ -6,10 +6,10 @@ ghost use Rattle.coap_opts.specs.Path as spec;
 use crate::request::{Method, Resource};
 use coap_msg::Code;
 
-/// How many slots there are.
+/// Number of slots.
 const SLOTS: u8 = 64;
 
-/// The method by the code.
+/// Returns the method with this code.
 pub(crate) fn method_of(code: Code) -> Option<Method>
     ensures { result ≡ spec.method_of code.byte }
 {
@@ -22,7 +22,7 @@ pub(crate) fn method_of(code: Code) -> Option<Method>
     }
 }
 
-/// What a path of two segments names.
+/// Returns the resource that a path of two segments names.
 pub(crate) fn resource_named(first: &[u8], second: &[u8]) -> Option<Resource>
     ensures { result ≡ spec.resource_named first.now second.now }
 {
@@ -37,7 +37,9 @@ pub(crate) fn resource_named(first: &[u8], second: &[u8]) -> Option<Resource>
     }
 }
 
-/// The slot by its segment: one digit, or two of which the first isn't 0, below 64.
+/// Returns the slot that a segment names.
+///
+/// The segment is one digit, or two with the first not 0, and the slot is below 64.
 fn slot_named(segment: &[u8]) -> Option<u8>
     ensures { result ≡ spec.slot_named segment.now }
 {

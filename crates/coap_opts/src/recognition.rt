@@ -1,11 +1,11 @@
-//! Which options of a message are recognised (RFC 7252, 5.4).
+//! Recognition of a message's options (RFC 7252, section 5.4).
 ghost use Rattle.std.specs.Prelude.{◌≡◌};
 ghost use Rattle.coap_opts.specs.Recognition as spec;
 
 use crate::served::{OPTIONS, Row};
 use coap_msg::Code;
 
-/// What is known of the option of this number.
+/// Returns the table's row for this option number.
 #[tactic(auto, unfolding(crate::specs::Recognition::row_of, crate::specs::Served::rows))]
 fn row_of(number: u16) -> Option<Row>
     ensures { result ≡ spec.row_of number }
@@ -13,8 +13,11 @@ fn row_of(number: u16) -> Option<Row>
     OPTIONS.iter().find(|row| row.number == number).copied()
 }
 
-/// Whether an option is recognised in a message with this code: known, of legal length, defined for this method, and not a
-/// repeat of a non-repeatable one (RFC 7252, 5.4.1, 5.4.3 and 5.4.5). `before` is the number of the option before it.
+/// Returns whether an option is recognised in a message with this code.
+///
+/// A recognised option is known, has a legal length and is defined for the method. It doesn't
+/// repeat a non-repeatable option (RFC 7252, sections 5.4.1, 5.4.3 and 5.4.5). `before` is the
+/// number of the option before it.
 #[tactic(auto, unfolding(crate::specs::Recognition::is_recognised))]
 pub(crate) fn is_recognised(code: Code, before: Option<u16>, number: u16, length: usize) -> bool
     ensures { result ≡ spec.is_recognised code.byte before number length }

@@ -1,4 +1,4 @@
-//! Replies, with any set of the options that the server sends.
+//! Responses, with any set of the options that the server sends.
 ghost use Rattle.std.specs.Prelude.{◌≡◌, ◌+◌, ◌++◌, ◌≤◌, ◌<◌, length};
 ghost use Rattle.std.specs.Int.{w64, to_be_bytes};
 ghost use Rattle.std.specs.Option.{option_map};
@@ -15,28 +15,30 @@ use coap_msg::types::{DATAGRAM, SHORT_OPTION, TOKEN};
 use coap_msg::writer::{write_head, write_optional, write_payload};
 use coap_msg::{Code, Datagram, MessageType};
 
-/// The options of a reply, each where it has a value.
+/// The options of a response, each present if it has a value.
 #[derive(Clone, Copy, Default)]
 pub struct ReplyOptions {
-    /// The version of what is sent, as an ETag of eight bytes.
+    /// The ETag: the version of the payload, in eight bytes.
     pub etag: Option<u64>,
-    /// The sequence number of a notification; its lowest 24 bits are what a client expects (RFC 7641, 3.4).
+    /// The sequence number of a notification.
+    ///
+    /// A client expects its lowest 24 bits (RFC 7641, section 3.4).
     pub observe: Option<u32>,
     /// The format of the payload.
     pub content_format: Option<u16>,
-    /// The block that the payload is.
+    /// The block of the response body that the payload contains.
     pub block2: Option<Block>,
-    /// The block of the request that is acknowledged.
+    /// The block of the request that the response acknowledges.
     pub block1: Option<Block>,
 }
 
-/// The most bytes of a reply's options.
+/// Maximum length of a response's options, in bytes.
 pub const REPLY_OPTIONS: usize = 5 * SHORT_OPTION;
 
 impl ReplyOptions {
     ghost use Rattle.coap_opts.specs.Replies.{reply_options};
 
-    /// Appends the options to a header and a token.
+    /// Appends the options after a header and a token.
     fn write(&self, datagram: &mut Datagram)
         requires { array_vec_len datagram.old + REPLY_OPTIONS ≤ DATAGRAM }
         ensures bytes { datagram.new.items ≡ datagram.old.items ++ options_bytes 0 (reply_options self.now) }
@@ -52,27 +54,27 @@ impl ReplyOptions {
     }
 }
 
-/// A reply: a message whose options are any set of those that the server sends (RFC 7252, 5.2).
+/// A response with any set of the server's options (RFC 7252, section 5.2).
 #[derive(Clone, Copy)]
 pub struct Reply<'a> {
     /// The type.
     pub kind: MessageType,
     /// The code.
     pub code: Code,
-    /// The message id.
+    /// The message ID.
     pub id: u16,
-    /// The token of the request, 0 to 8 bytes.
+    /// The request's token, 0 to 8 bytes.
     pub token: &'a [u8],
     /// The options.
     pub options: ReplyOptions,
-    /// The payload, at most 1,024 bytes; none where it is empty.
+    /// The payload, at most 1,024 bytes; no payload if it is empty.
     pub payload: &'a [u8],
 }
 
 impl Reply<'_> {
     ghost use Rattle.coap_opts.specs.Replies.{reply_message};
 
-    /// Writes the reply in its one encoding, in place of what the datagram held.
+    /// Replaces `datagram` with the one encoding of the response.
     pub fn write(&self, datagram: &mut Datagram)
         requires code { 0 < self.now.code.byte }
         requires token { length self.now.token.now ≤ TOKEN }
@@ -88,7 +90,7 @@ impl Reply<'_> {
     }
 }
 
-// What the types of a code and a message id say.
+// The limits of a code and of a message ID that follow from their types.
 fn fit_head(code: Code, id: u16)
     ensures code { code.byte < 256 }
     ensures id { id < 65536 }

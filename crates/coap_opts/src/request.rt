@@ -1,9 +1,9 @@
-//! Requests, and what else a message may be to the server.
+//! Requests, and the classes of messages that the server receives.
 use crate::block::Block;
 use arrayvec::ArrayVec;
 use coap_msg::Code;
 
-/// The methods (RFC 7252, 5.8).
+/// A request method (RFC 7252, section 5.8).
 #[derive(Clone, Copy, PartialEq, Eq)]
 pub enum Method {
     Get,
@@ -12,68 +12,68 @@ pub enum Method {
     Delete,
 }
 
-/// What a path names.
+/// A resource, named by its path.
 #[derive(Clone, Copy, PartialEq, Eq)]
 pub enum Resource {
-    /// `/r/N`, whose answer slot N's program gives; N is 0 to 63.
+    /// `/r/N`, the resource that slot N's program serves; N is 0 to 63.
     Run(u8),
-    /// `/p/N`, slot N's program.
+    /// `/p/N`, slot N's program; N is 0 to 63.
     Program(u8),
-    /// `/.well-known/core`, the list of what is there (RFC 6690, 4).
+    /// `/.well-known/core`, the list of resources (RFC 6690, section 4).
     Core,
 }
 
-/// What is asked of the server: a method at a resource where it is served.
+/// An action of the server: a method on a resource that serves it.
 #[derive(Clone, Copy, PartialEq, Eq)]
 pub enum Action {
-    /// A GET of `/r/N`, which slot N's program answers.
+    /// GET of `/r/N`: run slot N's program.
     Get(u8),
-    /// A POST of `/r/N`, which slot N's program answers.
+    /// POST of `/r/N`: run slot N's program.
     Post(u8),
-    /// A PUT of `/p/N`, which installs a program in slot N.
+    /// PUT of `/p/N`: install a program in slot N.
     Install(u8),
-    /// A DELETE of `/p/N`, which removes slot N's program.
+    /// DELETE of `/p/N`: remove slot N's program.
     Remove(u8),
-    /// A GET of `/p/N`, which tells what slot N's program is.
+    /// GET of `/p/N`: describe slot N's program.
     Describe(u8),
-    /// A GET of `/.well-known/core`, which lists what is there.
+    /// GET of `/.well-known/core`: list the resources.
     Discover,
 }
 
-/// The most bytes of a query.
+/// Maximum length of a query, in bytes.
 pub const QUERY: usize = 64;
 
 /// The values of the Uri-Query options, joined by `&`.
 pub type Query = ArrayVec<u8, QUERY>;
 
-/// How many ETags of a request count.
+/// Maximum number of ETags of a request that are compared.
 pub const ETAGS: usize = 4;
 
-/// The most bytes of a payload.
+/// Maximum length of a payload, in bytes.
 pub const PAYLOAD: usize = 1024;
 
-/// A request that the server carries out. The payload is lent from the datagram.
+/// An accepted request; its payload is borrowed from the datagram.
 #[derive(Drop)]
 pub struct Request<'a> {
     pub action: Action,
     /// The query, at most 64 bytes.
     pub query: Query,
-    /// The format of the payload, where there is one.
+    /// The format of the payload, if the request states one.
     pub content_format: Option<u16>,
-    /// The first four ETags of 8 bytes, each as a number, in a GET.
+    /// In a GET, the first four ETags of 8 bytes, each as an integer.
     pub etags: ArrayVec<u64, ETAGS>,
-    /// The value of Observe in a GET of `/r/N`: 0 registers, 1 cancels (RFC 7641, 2).
+    /// Observe in a GET of `/r/N`: 0 registers, 1 cancels (RFC 7641, section 2).
     pub observe: Option<u32>,
-    /// The block that a PUT brings.
+    /// The block that a PUT carries.
     pub block1: Option<Block>,
-    /// The block that a GET asks.
+    /// The block that a GET requests.
     pub block2: Option<Block>,
     /// The payload, at most 1,024 bytes.
     pub payload: &'a [u8],
 }
 
 impl<'a> Request<'a> {
-    /// Makes a request that says nothing, to be written over.
+    /// Makes an empty request, to be overwritten.
     pub fn blank() -> Request<'a> {
         Request {
             action: Action::Discover,
@@ -88,27 +88,35 @@ impl<'a> Request<'a> {
     }
 }
 
-/// What is done about a request.
+/// The action for a request.
 #[derive(Drop)]
 pub enum Asking<R> {
-    /// It is carried out.
+    /// Serve the request.
     Serve(R),
-    /// It is answered by this code; type, id and token of the reply follow from the message's own.
+    /// Refuse it with this code.
+    ///
+    /// The response's type, message ID and token follow from the request.
     Refuse(Code),
-    /// Non-confirmable, with an unrecognised critical option, it is rejected without an answer (RFC 7252, 5.4.1).
+    /// Send no response.
+    ///
+    /// The request is non-confirmable and has an unrecognised critical option (RFC 7252, section
+    /// 5.4.1).
     Silent,
 }
 
-/// The class of a message: a request, or what else is done about it.
+/// The class of a message: a request, or another reaction.
 #[derive(Drop)]
 pub enum Classified<R> {
-    /// A request, and what is done about it.
+    /// A request, and the action for it.
     Request(Asking<R>),
-    /// A confirmable message that is neither empty nor a request is rejected, and so is an empty one, by a Reset message
-    /// with its id (RFC 7252, 4.2 and 4.3).
+    /// A confirmable message to reject with a Reset that has its message ID.
+    ///
+    /// It is empty, or it isn't a request (RFC 7252, sections 4.2 and 4.3).
     Reset,
-    /// An empty acknowledgement, or a reset where `reset` says so, of a message that was sent with its id.
+    /// An empty Acknowledgement, or an empty Reset if `reset` is true.
+    ///
+    /// It belongs to a message that was sent with its message ID.
     Signal { reset: bool },
-    /// What is ignored in silence.
+    /// A message to ignore silently.
     Ignored,
 }

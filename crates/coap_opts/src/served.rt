@@ -1,4 +1,6 @@
-//! What is served: the options that are recognised, and the methods at each resource. A later service adds its rows here.
+//! The served options and methods: one row for each.
+//!
+//! A later service adds its rows here.
 ghost use Rattle.std.specs.Prelude.{◌≡◌};
 ghost use Rattle.coap_opts.specs.Served as spec;
 
@@ -9,22 +11,22 @@ use crate::number::{
 use crate::request::{Action, Method, Resource};
 use coap_msg::Code;
 
-/// What is known of an option.
+/// The properties of a recognised option.
 #[derive(Clone, Copy)]
 pub struct Row {
-    /// Its number; odd numbers are critical (RFC 7252, 5.4.6).
+    /// Its number; options with odd numbers are critical (RFC 7252, section 5.4.6).
     pub number: u16,
-    /// The least length of its value, in bytes.
+    /// The minimum length of its value, in bytes.
     pub least: usize,
-    /// The greatest length of its value, in bytes.
+    /// The maximum length of its value, in bytes.
     pub greatest: usize,
-    /// Whether it may occur more than once (RFC 7252, 5.4.5).
+    /// Whether it may occur more than once (RFC 7252, section 5.4.5).
     pub repeatable: bool,
-    /// The one method with which it is recognised; `None`: any method.
+    /// The only method with which it is recognised; `None` for any method.
     pub only: Option<Code>,
 }
 
-/// The options that are known, in the order of their numbers.
+/// The recognised options, in the order of their numbers.
 pub const OPTIONS: [Row; 11] = [
     Row {
         number: URI_HOST,
@@ -105,7 +107,9 @@ pub const OPTIONS: [Row; 11] = [
     },
 ];
 
-/// What a method asks of a resource, where it is served there: a row for each that is.
+/// Returns the action for a method on a resource.
+///
+/// Returns `None` if the resource doesn't serve the method.
 pub(crate) fn action_of(resource: Resource, method: Method) -> Option<Action>
     ensures { result ≡ spec.action_of resource method }
 {

@@ -1,4 +1,4 @@
-//! Unsigned integers in the values of options (RFC 7252, 3.2).
+//! Unsigned integers in the values of options (RFC 7252, section 3.2).
 ghost use Rattle.std.specs.Prelude.{◌≡◌, ◌<◌, ◌≤◌, ◌*◌, ◌^◌, length};
 ghost use Rattle.coap_opts.specs.Values.{uint_bytes, uint_value, without_zeros};
 
@@ -7,7 +7,7 @@ use coap_msg::ShortValue;
 /// The encoding of an unsigned integer: 0 to 8 bytes in network order.
 pub type UintBytes = ShortValue;
 
-/// Decodes at most 8 bytes in network order. Leading zeros are legal.
+/// Decodes at most 8 bytes in network order, with or without leading zeros.
 pub fn decode_uint(bytes: &[u8]) -> u64
     requires { length bytes.now ≤ 8 }
     ensures number { result ≡ uint_value bytes.now }
@@ -20,7 +20,7 @@ pub fn decode_uint(bytes: &[u8]) -> u64
     number
 }
 
-/// Encodes a number without leading zeros; 0 has no byte.
+/// Encodes a number without leading zeros; 0 has no bytes.
 #[tactic(auto, unfolding(crate::specs::Values::uint_bytes))]
 pub fn encode_uint(number: u64) -> UintBytes
     ensures { result.items ≡ uint_bytes number }

@@ -1,4 +1,4 @@
--- A block that is cut has at most 1,024 bytes.
+-- A block of a body has at most 1,024 bytes.
 use Rattle.std.proofs.Common.{◌≡◌, ℕ, ◌+◌, ◌*◌, ◌≤◌, min, nat_lt, Bool, true, false, List, length, take, Option, Some, None, subst, refl, arith, if◌then◌else◌}
 use Rattle.std.specs.Option.{option_map}
 use Rattle.std.specs.Prelude.{drop}

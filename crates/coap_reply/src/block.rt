@@ -1,4 +1,4 @@
-//! Blocks of answers (RFC 7959, 2).
+//! Blocks of response bodies (RFC 7959, section 2).
 ghost use Rattle.std.specs.Prelude.{◌≡◌, min};
 ghost use Rattle.std.specs.Option.{option_map};
 ghost use Rattle.coap_reply.specs.Blocks.{asked_place, cut_for};
@@ -7,18 +7,18 @@ use coap_block::slice;
 use coap_opts::Block;
 use std::marker::Model;
 
-/// The most bytes of a block (RFC 7959, 2.2).
+/// Maximum length of a block, in bytes (RFC 7959, section 2.2).
 pub const BLOCK: usize = 1024;
 
-/// The greatest size of a block, as options write it: its exponent less 4.
+/// The SZX value of the greatest block size: its exponent less 4.
 const GREATEST: u8 = 6;
 
-/// A block of an answer: what one message carries of it. Its bytes lie in the answer.
+/// The part of a response body that one message carries, borrowed from the body.
 #[derive(Drop)]
 pub struct BodyBlock<'a> {
     /// Its bytes, at most 1,024.
     pub bytes: &'a [u8],
-    /// Which block it is, unless it is the whole and none was asked.
+    /// Its place, unless it is the whole body and no block was requested.
     pub block: Option<Block>,
 }
 
@@ -34,8 +34,11 @@ impl<'a> Model for BodyBlock<'a> {
 }
 
 impl<'a> BodyBlock<'a> {
-    /// Cuts the block of an answer that is asked; where none is asked, the answer, or of one above 1,024 bytes the first block. `None`
-    /// where a block that isn't the first begins at or past the end. The reserved size counts as the greatest.
+    /// Returns the requested block of a body.
+    ///
+    /// If none is requested, it is the body, or the first block of a body above 1,024 bytes.
+    /// Returns `None` if the block isn't the first and begins at or past the end. The reserved size
+    /// counts as the greatest.
     pub fn cut(body: &'a [u8], asked: Option<Block>) -> Option<BodyBlock<'a>>
         ensures { result ≡ cut_for asked body.now }
     {
@@ -49,7 +52,7 @@ impl<'a> BodyBlock<'a> {
     }
 }
 
-// The block that is asked, of one of the sizes that there are.
+// Returns the requested block, with a size that isn't reserved.
 fn asked_block(asked: Option<Block>) -> Option<Block>
     ensures { result ≡ option_map asked_place asked }
 {

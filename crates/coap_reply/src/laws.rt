@@ -1,4 +1,6 @@
-//! Laws of what the definitions say, for the crates above: each function is a law, and its contract says it.
+//! Laws about the definitions, for the crates above.
+//!
+//! Each law is the contract of an empty function.
 ghost use Rattle.std.specs.Prelude.{◌≡◌, ◌≢◌, ◌<◌, ◌≤◌, ◌^◌, ◌%◌, ◌∷◌, ◌++◌, [], ℕ, Bool, false, true, List, None, Ok, Option, Some, length};
 ghost use Rattle.std.specs.Int.{to_be_bytes, w64};
 ghost use Rattle.coap_msg.specs.Reading.{reading_of};
@@ -10,8 +12,10 @@ ghost use Rattle.coap_reply.specs.Responses.{Envelope, Response, content, etag, 
 
 use coap_msg::laws::written_is_read;
 
-/// A reply goes to the endpoint of its envelope, and is read as a message of the envelope's type, message id and token with the
-/// response's code, options and payload (RFC 7252, 3).
+/// A response goes to its envelope's endpoint, and is parsed as written.
+///
+/// The parsed message has the envelope's type, message ID and token, and the response's code,
+/// options and payload (RFC 7252, section 3).
 pub fn replies_are_read_as_their_responses()
     ensures to { (e : Envelope) (r : Response) → (sent_in e r).to ≡ e.to }
     ensures message { (e : Envelope) (r : Response) (m : Message) → IsMessage m
@@ -21,8 +25,11 @@ pub fn replies_are_read_as_their_responses()
     written_is_read();
 }
 
-/// The ETag of a serial is option 4 with its eight bytes, the greatest first (RFC 7252, 5.10.6). The sequence number of a notification is
-/// option 6 with the lowest 24 bits of the serial, by no more bytes than they need (RFC 7641, 2 and 4.4).
+/// The ETag and the Observe value of a revision counter.
+///
+/// The ETag is option 4 with the counter's eight bytes, the most significant first (RFC 7252,
+/// section 5.10.6). The sequence number of a notification is option 6 with the counter's lowest 24
+/// bits, in the least number of bytes (RFC 7641, sections 2 and 4.4).
 pub fn versions_are_serials()
     ensures etag { (serial : ℕ) → serial < 2 ^ 64
         → (value : List ℕ) × (etag serial ≡ (4, value) ∷ []) × (length value ≡ 8) × (uint_value value ≡ serial) }
@@ -30,7 +37,9 @@ pub fn versions_are_serials()
     ensures none { (serial : ℕ) → observe_option false serial ≡ [] }
 {}
 
-/// A block of an answer is named by option 23, Block2, and one of a request's body by option 27, Block1 (RFC 7959, 2.1).
+/// A block of a response is named by Block2, option 23.
+///
+/// A block of a request's body is named by Block1, option 27 (RFC 7959, section 2.1).
 pub fn blocks_have_their_options()
     ensures block2 { (p : Place) → block2 (Some p) ≡ (23, block_bytes p) ∷ [] }
     ensures block1 { (p : Place) → block1 (Some p) ≡ (27, block_bytes p) ∷ [] }
@@ -38,9 +47,14 @@ pub fn blocks_have_their_options()
     ensures no_block1 { block1 None ≡ [] }
 {}
 
-/// A run's 2.05 (Content), 69, has the serial that was found as its ETag, as its sequence number where the client observes the slot, and the
-/// block that is asked of the reply with its Block2, and where that begins past the end it is a 4.00 (Bad Request), 128, alone. Its
-/// 2.04 (Changed), 68, is the bytes without options, and any other code goes alone (RFC 7252, 5.9).
+/// The response to a run, by its code (RFC 7252, section 5.9).
+///
+/// - 2.05 (Content), 69: the ETag is the revision counter that the run found. If the client
+///   observes the slot, the counter's lowest 24 bits are the sequence number. The payload is the
+///   requested block, with its Block2. If there is no such block, the response is 4.00 (Bad
+///   Request), 128, without options and payload.
+/// - 2.04 (Changed), 68: the bytes without options.
+/// - Any other code: no options and no payload.
 pub fn runs_have_their_responses()
     ensures content { (part : Part) (serial : ℕ) → ran_response 69 (Some part) serial false
         ≡ record { code = 69; options = (4, to_be_bytes w64 serial) ∷ block2 part.place; payload = part.bytes } }
@@ -54,8 +68,11 @@ pub fn runs_have_their_responses()
         → ran_response answer cut serial observed ≡ record { code = answer; options = []; payload = [] } }
 {}
 
-/// What isn't of a run: a 2.05 (Content), 69, has the options that are given, in front of the Block2 of the block that is asked; a text has no
-/// option; and a block of a request's body is answered at once by a code with that block's Block1, and without payload (RFC 7959, 2.3).
+/// The responses to jobs other than runs, and to blocks of a request's body.
+///
+/// A 2.05 (Content), 69, has the given options, followed by the Block2 of the requested block. A
+/// text has no options. A block that is answered immediately gets a code with that block's Block1,
+/// and no payload (RFC 7959, section 2.3).
 pub fn others_have_their_responses()
     ensures content { (part : Part) (options : List (ℕ × List ℕ)) → part.place ≡ None → content options (Some part)
         ≡ record { code = 69; options = options; payload = part.bytes } }

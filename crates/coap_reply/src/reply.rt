@@ -1,4 +1,4 @@
-//! From answers to datagrams.
+//! Writing: from responses to datagrams.
 ghost use Rattle.std.specs.Prelude.{◌≡◌, ◌≤◌, ◌++◌, length};
 ghost use Rattle.coap_opts.specs.Replies.{reply_options};
 ghost use Rattle.coap_block.specs.Cuts.{part_bytes};
@@ -12,16 +12,18 @@ use coap_opts::request::PAYLOAD;
 use coap_opts::{Reply, ReplyOptions};
 use std::marker::Model;
 
-/// Whom a reply is for (RFC 7252, 5.2 and 5.3).
+/// The header fields of a response and its receiver.
+///
+/// See RFC 7252, sections 5.2 and 5.3.
 #[derive(Drop)]
 pub struct Envelope<'a> {
     /// The endpoint of the request.
     pub to: Endpoint,
     /// The type of the message.
     pub kind: MessageType,
-    /// The message id.
+    /// The message ID.
     pub id: u16,
-    /// The token of the request, 0 to 8 bytes.
+    /// The request's token, 0 to 8 bytes.
     pub token: &'a [u8],
 }
 
@@ -36,8 +38,10 @@ impl<'a> Model for Envelope<'a> {
     ghost invariant = { λ e. length e.token.now ≤ 8 };
 }
 
-/// Returns the type of a reply: a confirmable request is answered in its acknowledgement (RFC 7252, 5.2.1), another by a non-confirmable
-/// message (RFC 7252, 5.2.3).
+/// Returns the type of a response's message.
+///
+/// The response to a confirmable request is piggybacked in its acknowledgement (RFC 7252, section
+/// 5.2.1). Any other goes in a non-confirmable message (RFC 7252, section 5.2.3).
 pub fn reply_kind(confirmable: bool) -> MessageType
     ensures { result ≡ spec.reply_kind confirmable }
 {
@@ -48,7 +52,9 @@ pub fn reply_kind(confirmable: bool) -> MessageType
     }
 }
 
-/// Writes a response of this code, these options and this payload, in place of what the datagram held (RFC 7252, 5.2).
+/// Replaces `bytes` with a response of this code, options and payload.
+///
+/// See RFC 7252, section 5.2.
 #[tactic(auto, unfolding(crate::specs::Responses::sent_in))]
 pub fn respond(
     envelope: &Envelope<'_>,
@@ -73,7 +79,7 @@ pub fn respond(
     reply.write(bytes);
 }
 
-/// Writes a response of a code and a payload, without options, in place of what the datagram held.
+/// Replaces `bytes` with a response of a code and a payload, without options.
 pub fn text(envelope: &Envelope<'_>, code: Code, payload: &[u8], bytes: &mut Datagram)
     requires code { 64 ≤ code.byte }
     requires payload { length payload.now ≤ PAYLOAD }
@@ -83,8 +89,10 @@ pub fn text(envelope: &Envelope<'_>, code: Code, payload: &[u8], bytes: &mut Dat
     respond(envelope, code, ReplyOptions::default(), payload, bytes);
 }
 
-/// Writes a 2.05 Content in place of what the datagram held: these options, which name no block yet, and the block that is asked
-/// with its Block2 option (RFC 7959, 2.4); 4.00 where there is no such block.
+/// Replaces `bytes` with a 2.05 (Content) with the requested block.
+///
+/// It has `options`, which name no block, and the Block2 option of the block (RFC 7959, section
+/// 2.4). If there is no such block, it is a 4.00.
 pub fn content(
     envelope: &Envelope<'_>,
     options: ReplyOptions,
@@ -105,9 +113,12 @@ pub fn content(
     respond(envelope, Code::CONTENT, options, block.bytes, bytes);
 }
 
-/// Writes what a run is answered, by its code, the block of its reply that is asked and the serial that it found, in place of what
-/// the datagram held. A 2.05 Content has the serial as its ETag (RFC 7252, 5.10.6), and where the client observes the slot its
-/// lowest 24 bits as the sequence number (RFC 7641, 4.4); a 2.04 Changed carries the bytes alone, and an error carries nothing.
+/// Replaces `bytes` with the response to a run.
+///
+/// `code` is the run's code, `block` the requested block of its response, and `serial` the revision
+/// counter that it found. A 2.05 (Content) has the counter as its ETag (RFC 7252, section 5.10.6).
+/// If the client observes the slot, it has the counter's lowest 24 bits as the sequence number (RFC
+/// 7641, section 4.4). A 2.04 (Changed) carries the bytes alone, and an error carries nothing.
 pub fn ran(
     envelope: &Envelope<'_>,
     code: Code,
@@ -127,7 +138,9 @@ pub fn ran(
     }
 }
 
-/// Writes the Reset message with this id over another emission (RFC 7252, 4.2).
+/// Replaces `emission` with the Reset message for this message ID.
+///
+/// See RFC 7252, section 4.2.
 #[tactic(auto, unfolding(crate::specs::Responses::sent_in))]
 pub fn reset(to: Endpoint, id: u16, emission: &mut Emission)
     ensures { emission.new ≡ reset_of to id }
@@ -144,10 +157,10 @@ pub fn reset(to: Endpoint, id: u16, emission: &mut Emission)
     write(&message, &mut emission.bytes);
 }
 
-// How many sequence numbers there are (RFC 7641, 4.4).
+// Number of sequence numbers (RFC 7641, section 4.4).
 const SEQUENCE_NUMBERS: u64 = 0x0100_0000;
 
-// The serial that was found as an ETag, and as a sequence number where the client observes the slot.
+// Returns the ETag of a revision counter, and its sequence number if the client observes the slot.
 fn version(serial: u64, observed: bool) -> ReplyOptions
     ensures options { reply_options result ≡ etag serial ++ observe_option observed serial }
     ensures blocks { HasNoBlock result }
@@ -164,7 +177,7 @@ fn version(serial: u64, observed: bool) -> ReplyOptions
     }
 }
 
-// The bytes of a block, if there is one.
+// Returns the bytes of a block, or none if there is no block.
 fn block_bytes<'a>(block: &Option<BodyBlock<'a>>) -> &'a [u8]
     ensures bytes { result.now ≡ part_bytes block.now }
     ensures short { length result.now ≤ 1024 }

@@ -1,4 +1,4 @@
--- What an arithmetic instruction computes.
+-- The result of an arithmetic instruction.
 use Rattle.std.specs.Prelude.{ℕ, Bool, true, false}
 use Rattle.fc_isa.specs.declared.insn.Insn.{Insn}
 use Rattle.fc_isa.specs.declared.insn.Insn.TheVariants.{Alu, Neg, SignExtend, End}
@@ -11,7 +11,8 @@ is_computation (SignExtend extension dst src) = true
 is_computation (End order width dst) = true
 is_computation other = false
 
--- what an arithmetic instruction leaves in its destination, where that held the number a and the operand, or source, is b
+-- the value of the destination after an arithmetic instruction, from its value a and the operand or
+-- source b.
 unfoldable pub alu : Insn → ℕ → ℕ → ℕ
 alu (Alu op width dst operand) a b = computed_at op width a b
 alu (Neg width dst) a b = negated width a

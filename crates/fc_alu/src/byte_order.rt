@@ -1,12 +1,14 @@
-//! Changes of the byte order.
+//! Byte-order changes.
 ghost use Rattle.std.specs.Prelude.{◌≡◌};
 ghost use Rattle.fc_alu.specs.Arithmetic.{ordered};
 
 use crate::operation::low_half;
 use fc_isa::{ByteOrder, SwapWidth};
 
-/// Puts the low 16, 32 or 64 bits into the byte order; the rest is zero (RFC 9669, 4.2, END). The registers' order is
-/// little, so that to little keeps the bits.
+/// Returns the low 16, 32 or 64 bits in the byte order.
+///
+/// The higher bits are zero (RFC 9669, section 4.2, END). Registers are little-endian, so a change
+/// to little-endian keeps the bits.
 #[tactic(auto, unfolding(crate::specs::Arithmetic::ordered))]
 #[inline(always)]
 pub fn reorder(order: ByteOrder, width: SwapWidth, dst: u64) -> u64

@@ -5,15 +5,17 @@ ghost use Rattle.fc_alu.specs.Comparison.{compared, holds, truth};
 use crate::operation::low_half;
 use fc_isa::{Jump, Relation, Width};
 
-/// Decides whether a conditional jump is taken (RFC 9669, 4.3): `left` is its register, `right` its other register, or its immediate
-/// extended by its sign to 64 bits.
+/// Returns whether a conditional jump is taken (RFC 9669, section 4.3).
+///
+/// `left` is its register. `right` is its other register, or its immediate sign-extended to 64
+/// bits.
 pub fn truth(jump: Jump, left: u64, right: u64) -> bool
     ensures { result ≡ truth jump left right }
 {
     compare(jump.relation, jump.width, left, right)
 }
 
-/// Compares two registers, or their low halves: whether they are in the relation.
+/// Returns whether two registers, or their low halves, are in the relation.
 #[tactic(auto, unfolding(crate::specs::Comparison::compared))]
 #[inline(always)]
 pub fn compare(relation: Relation, width: Width, left: u64, right: u64) -> bool

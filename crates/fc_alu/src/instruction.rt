@@ -7,8 +7,10 @@ use crate::operation::{arithmetic, neg};
 use crate::sign_extension::sign_extend;
 use fc_isa::Insn;
 
-/// Computes an arithmetic instruction (RFC 9669, 4.1 and 4.2): the number that it leaves in its destination register, which
-/// held `dst`. `operand` is its source register, or its immediate extended by its sign to 64 bits; NEG and END take none.
+/// Computes an arithmetic instruction (RFC 9669, sections 4.1 and 4.2).
+///
+/// Returns the new value of its destination register, which had the value `dst`. `operand` is its
+/// source register, or its immediate sign-extended to 64 bits. NEG and END use no operand.
 #[tactic(auto, unfolding(crate::specs::Instructions::alu))]
 pub fn alu(insn: Insn, dst: u64, operand: u64) -> u64
     requires { is_computation insn ≡ true }

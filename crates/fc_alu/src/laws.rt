@@ -1,7 +1,10 @@
-//! RFC 9669's arithmetic in literals: each function is a law, and its contract says it.
+//! RFC 9669's arithmetic in literals.
 //!
-//! The values were worked out from the sentences of the standard, and not from the definitions. A negative number
-//! is written in two's complement: -7 is `2 ^ 64 - 7`, and `2 ^ 32 - 7` in a low half.
+//! Each law is the contract of an empty function.
+//!
+//! The values were worked out from the sentences of the standard, and not from the definitions. A
+//! negative number is written in two's complement: -7 is `2 ^ 64 - 7`, and `2 ^ 32 - 7` in a low
+//! half.
 ghost use Rattle.std.specs.Prelude.{[], ◌+◌, ◌-◌, ◌^◌, ◌∷◌, ◌≡◌, ℕ};
 ghost use Rattle.fc_alu.specs.Arithmetic.{computed_at, negated, ordered, sign_extended};
 ghost use Rattle.fc_alu.specs.Comparison.{compared, truth};
@@ -24,6 +27,7 @@ ghost use Rattle.fc_isa.specs.declared.insn.Width.TheVariants.{W32, W64};
 
 #[tactic(auto, unfolding(crate::specs::Arithmetic::computed_at, crate::specs::Arithmetic::computed))]
 /// ADD, SUB and MUL wrap at the width of the operation.
+///
 /// "Underflow and overflow are allowed during arithmetic operations, meaning the 64-bit or 32-bit
 /// value will wrap." At 32 bits only the low halves of the operands count, and the upper half of
 /// the result is zero (RFC 9669, section 4.1).
@@ -48,6 +52,7 @@ pub fn sums_differences_and_products_wrap()
 
 #[tactic(auto, unfolding(crate::specs::Arithmetic::computed_at, crate::specs::Arithmetic::computed))]
 /// OR, AND and XOR combine the operands bit by bit.
+///
 /// `dst |= src`, `dst &= src` and `dst ^= src`: 1100 and 1010 give 1110, 1000 and 0110 (RFC 9669,
 /// section 4.1).
 pub fn bits_are_combined_one_by_one()
@@ -65,8 +70,9 @@ pub fn bits_are_combined_one_by_one()
 
 #[tactic(auto, unfolding(crate::specs::Arithmetic::computed_at, crate::specs::Arithmetic::computed, crate::specs::Arithmetic::negated))]
 /// MOV copies the source, and NEG negates the destination.
-/// `dst = src` and `dst = -dst`: at 32 bits of the low half, with an upper half of zeros (RFC
-/// 9669, section 4.1).
+///
+/// They compute `dst = src` and `dst = -dst`. At 32 bits they use the low half, and the upper half
+/// of the result is zero (RFC 9669, section 4.1).
 pub fn moves_copy_and_negations_change_the_sign()
     ensures mov { computed_at Mov W64 1 (2 ^ 64 - 2) ≡ 2 ^ 64 - 2 }
     ensures mov_halves { computed_at Mov W32 0x5_0000_0001 0x6_0000_0007 ≡ 7 }
@@ -82,8 +88,9 @@ pub fn moves_copy_and_negations_change_the_sign()
 
 #[tactic(auto, unfolding(crate::specs::Arithmetic::computed_at, crate::specs::Arithmetic::computed))]
 /// DIV and MOD read their operands as unsigned numbers.
-/// `dst / src`, rounded down, and `dst % src`: at 32 bits of the low halves (RFC 9669, section
-/// 4.1).
+///
+/// They compute `dst / src`, rounded down, and `dst % src`. At 32 bits they use the low halves (RFC
+/// 9669, section 4.1).
 pub fn unsigned_divisions_round_down()
     ensures div { computed_at Div W64 0x7_0000_0000 0x2_0000_0000 ≡ 3 }
     ensures div_of_a_great_number { computed_at Div W64 (2 ^ 64 - 7) 2 ≡ 2 ^ 63 - 4 }
@@ -103,8 +110,9 @@ pub fn unsigned_divisions_round_down()
 
 #[tactic(auto, unfolding(crate::specs::Arithmetic::computed_at, crate::specs::Arithmetic::computed))]
 /// SDIV and SMOD read their operands as signed numbers and truncate toward zero.
-/// -13 divided by 3 is -4, and "-13 % 3 == -1": at 32 bits of the low halves (RFC 9669, section
-/// 4.1).
+///
+/// -13 divided by 3 is -4, and "-13 % 3 == -1". At 32 bits they use the low halves (RFC 9669,
+/// section 4.1).
 pub fn signed_divisions_truncate()
     ensures sdiv { computed_at Sdiv W64 13 3 ≡ 4 }
     ensures sdiv_of_a_negative { computed_at Sdiv W64 (2 ^ 64 - 13) 3 ≡ 2 ^ 64 - 4 }
@@ -125,9 +133,10 @@ pub fn signed_divisions_truncate()
 {}
 
 #[tactic(auto, unfolding(crate::specs::Arithmetic::computed_at, crate::specs::Arithmetic::computed))]
-/// A division by zero gives 0, and a modulo by zero leaves the destination.
+/// A division by zero gives 0, and a modulo by zero keeps the destination.
+///
 /// After a modulo "the upper 32 bits of the destination register are zeroed" at 32 bits (RFC 9669,
-/// section 4.1). There the divisor is zero if its low half is.
+/// section 4.1). At that width the divisor is zero if its low half is.
 pub fn divisions_by_zero_have_values()
     ensures div { computed_at Div W64 0x5_0000_0007 0 ≡ 0 }
     ensures div_halves { computed_at Div W32 0x5_0000_0007 0x6_0000_0000 ≡ 0 }
@@ -145,6 +154,7 @@ pub fn divisions_by_zero_have_values()
 
 #[tactic(auto, unfolding(crate::specs::Arithmetic::computed_at, crate::specs::Arithmetic::computed))]
 /// The least signed number divided by -1 is itself, and the remainder is 0.
+///
 /// The quotient wraps, as every result does (RFC 9669, section 4.1).
 pub fn the_least_number_by_minus_one_is_itself()
     ensures sdiv { computed_at Sdiv W64 (2 ^ 63) (2 ^ 64 - 1) ≡ 2 ^ 63 }
@@ -155,10 +165,11 @@ pub fn the_least_number_by_minus_one_is_itself()
 {}
 
 #[tactic(auto, unfolding(crate::specs::Arithmetic::computed_at, crate::specs::Arithmetic::computed))]
-/// A shift takes its count modulo the width of the operation.
+/// A shift's count is taken modulo the width of the operation.
+///
 /// "Shift operations use a mask of 0x3F (63) for 64-bit operations and 0x1F (31) for 32-bit
-/// operations" (RFC 9669, section 4.1): a shift by the width changes nothing. LSH and RSH move
-/// zeros in, and the bits that leave the width are lost.
+/// operations" (RFC 9669, section 4.1): a shift by the width changes nothing. LSH and RSH shift
+/// zeros in, and the bits shifted out of the width are lost.
 pub fn shift_counts_are_masked()
     ensures lsh { computed_at Lsh W64 0x8000_0001 4 ≡ 0x8_0000_0010 }
     ensures lsh_loses { computed_at Lsh W64 (2 ^ 63 + 1) 1 ≡ 2 }
@@ -183,8 +194,9 @@ pub fn shift_counts_are_masked()
 
 #[tactic(auto, unfolding(crate::specs::Arithmetic::computed_at, crate::specs::Arithmetic::computed))]
 /// ARSH shifts to the right and keeps the sign.
-/// Copies of the highest bit move in: of bit 63, or of bit 31 at 32 bits. -7 shifted by one bit is
-/// -4. The count is masked as in RSH (RFC 9669, section 4.1).
+///
+/// Copies of the highest bit are shifted in: of bit 63, or of bit 31 at 32 bits. -7 shifted by one
+/// bit is -4. The count is masked as in RSH (RFC 9669, section 4.1).
 pub fn arithmetic_shifts_keep_the_sign()
     ensures arsh { computed_at Arsh W64 0x8_0000_001f 4 ≡ 0x8000_0001 }
     ensures arsh_of_a_negative { computed_at Arsh W64 (2 ^ 64 - 7) 1 ≡ 2 ^ 64 - 4 }
@@ -204,6 +216,7 @@ pub fn arithmetic_shifts_keep_the_sign()
 
 #[tactic(auto, unfolding(crate::specs::Arithmetic::sign_extended))]
 /// MOVSX copies the highest of 8, 16 or 32 bits to all bits above it.
+///
 /// 1000_0110 becomes 1111_1111_1000_0110, up to bit 31 or bit 63 (RFC 9669, sections 2.3 and 4.1).
 /// At 32 bits the upper half of the result is zero.
 pub fn sign_extensions_copy_the_highest_bit()
@@ -227,6 +240,7 @@ pub fn sign_extensions_copy_the_highest_bit()
 
 #[tactic(auto, unfolding(crate::specs::Arithmetic::ordered))]
 /// `le` keeps the order of the low bytes, and `be` and `bswap` reverse it.
+///
 /// The host is little endian. The low 16, 32 or 64 bits count, and all higher bits of the result
 /// are zero (RFC 9669, sections 2.2 and 4.2).
 pub fn byte_swaps_reverse_the_low_bytes()
@@ -243,10 +257,10 @@ pub fn byte_swaps_reverse_the_low_bytes()
 
 #[tactic(auto, unfolding(crate::specs::Comparison::compared, crate::specs::Comparison::holds))]
 /// Conditional jumps of class JMP compare all 64 bits of two registers.
-/// Each clause lists the relations that two numbers are in: a jump is taken at these, and at no
-/// others. JEQ and JNE compare for equality, and JSET asks for a common bit, `dst & src`. JGT,
-/// JGE, JLT and JLE read unsigned numbers, and JSGT, JSGE, JSLT and JSLE signed ones (RFC 9669,
-/// section 4.3).
+///
+/// Each clause lists the relations of two numbers: exactly these jumps are taken. JEQ and JNE
+/// compare for equality, and JSET tests for a common bit, `dst & src`. JGT, JGE, JLT and JLE read
+/// unsigned numbers, and JSGT, JSGE, JSLT and JSLE signed ones (RFC 9669, section 4.3).
 pub fn comparisons_hold_at_these_numbers()
     ensures above { relations_of W64 7 5 ≡ Gt ∷ Ge ∷ Set ∷ Ne ∷ Sgt ∷ Sge ∷ [] }
     ensures below { relations_of W64 2 5 ≡ Ne ∷ Lt ∷ Le ∷ Slt ∷ Sle ∷ [] }
@@ -266,6 +280,7 @@ pub fn comparisons_hold_at_these_numbers()
 
 #[tactic(auto, unfolding(crate::specs::Comparison::compared, crate::specs::Comparison::holds))]
 /// Conditional jumps of class JMP32 compare the low halves of two registers.
+///
 /// The upper halves don't count, and bit 31 is the sign (RFC 9669, section 4.3).
 pub fn comparisons_of_halves_hold_at_these_numbers()
     ensures above { relations_of W32 0x1_0000_0007 0x2_0000_0005 ≡ Gt ∷ Ge ∷ Set ∷ Ne ∷ Sgt ∷ Sge ∷ [] }
@@ -284,8 +299,9 @@ pub fn comparisons_of_halves_hold_at_these_numbers()
 
 #[tactic(auto, unfolding(crate::specs::Instructions::alu))]
 /// The destination is the left operand, and the source is the right one.
-/// As in `dst -= src`, and in `dst > src` of a jump. NEG and the byte swaps read the destination
-/// alone, and MOVSX reads the source alone (RFC 9669, sections 4.1 to 4.3).
+///
+/// This is so in `dst -= src`, and in `dst > src` of a jump. NEG and the byte swaps read only the
+/// destination, and MOVSX reads only the source (RFC 9669, sections 4.1 to 4.3).
 pub fn operands_have_their_places()
     ensures operation { (op : AluOp) (width : Width) (r dst src : ℕ) (operand : Operand)
         → alu (Alu op width r operand) dst src ≡ computed_at op width dst src }

@@ -1,13 +1,14 @@
-//! Arithmetic and comparisons of programs on 64-bit registers (RFC 9669, 4.1 to 4.3).
+//! Arithmetic and comparisons on 64-bit registers (RFC 9669, sections 4.1 to 4.3).
 //!
-//! `alu` computes an arithmetic instruction and `truth` a conditional jump's comparison. The interpreter's loop calls the
-//! functions behind them, which take an operation and a width that are constants at each call.
+//! `alu` computes an arithmetic instruction, and `truth` the comparison of a conditional jump. The
+//! interpreter's loop calls the functions that they use, whose operation and width are constants at
+//! each call.
 //!
 //! ```rust
 //! use fc_alu::arithmetic;
 //! use fc_isa::{AluOp, Width};
 //!
-//! /// The remainder of two registers: the dividend itself where the divisor is 0.
+//! /// Returns the remainder of two registers: the dividend itself if the divisor is 0.
 //! fn remainder(dividend: u64, divisor: u64) -> u64 {
 //!     arithmetic(AluOp::Mod, Width::W64, dividend, divisor)
 //! }
@@ -15,10 +16,11 @@
 //!
 //! # What is proved
 //!
-//! - Each arithmetic operation and each comparison, at 32 and at 64 bits, gives the value that whole numbers, powers of two and remainders
-//!   define.
-//! - For every operation and comparison, at both widths and at the ends of its range, `laws` has values in literals. They were worked out
-//!   from the standard's sentences, and not from the definitions.
+//! - Each arithmetic operation and each comparison, at 32 and at 64 bits, gives the value that
+//!   whole numbers, powers of two and remainders define.
+//! - For every operation and comparison, at both widths and at the ends of its range, `laws` has
+//!   values in literals. They were worked out from the standard's sentences, and not from the
+//!   definitions.
 //!
 //! By the contracts of `alu`, `truth`, `laws`.
 #![tactic(auto)]

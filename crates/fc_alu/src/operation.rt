@@ -1,10 +1,12 @@
-//! Operations on two operands, and negation.
+//! Operations with two operands, and negation.
 ghost use Rattle.std.specs.Prelude.{◌≡◌, ◌%◌, ◌^◌};
 ghost use Rattle.fc_alu.specs.Arithmetic.{computed, computed_at, negated};
 
 use fc_isa::{AluOp, Width};
 
-/// Computes an operation on whole registers, or on their low halves with a zero upper half (RFC 9669, 4.1).
+/// Computes an operation on whole registers or their low halves.
+///
+/// An operation on low halves sets the upper half to zero (RFC 9669, section 4.1).
 #[tactic(auto, unfolding(crate::specs::Arithmetic::computed_at))]
 #[inline(always)]
 pub fn arithmetic(op: AluOp, width: Width, dst: u64, operand: u64) -> u64
@@ -16,7 +18,7 @@ pub fn arithmetic(op: AluOp, width: Width, dst: u64, operand: u64) -> u64
     }
 }
 
-/// The low 32 bits.
+/// Returns the low 32 bits.
 #[inline(always)]
 pub(crate) fn low_half(n: u64) -> u32
     ensures { result ≡ n % 2 ^ 32 }
@@ -70,7 +72,9 @@ fn compute64(op: AluOp, a: u64, b: u64) -> u64
     }
 }
 
-/// The signed quotient, truncated toward zero: the least number by -1 is itself.
+/// Returns the signed quotient, truncated toward zero.
+///
+/// The least number divided by -1 is itself.
 #[tactic(auto, unfolding(crate::specs::Arithmetic::computed))]
 fn sdiv32(a: u32, b: u32) -> u32
     ensures { result ≡ computed 32 AluOp.Sdiv a b }
@@ -83,7 +87,7 @@ fn sdiv32(a: u32, b: u32) -> u32
         .cast_unsigned()
 }
 
-/// The remainder of the signed quotient, with the dividend's sign.
+/// Returns the remainder of the signed quotient, with the dividend's sign.
 #[tactic(auto, unfolding(crate::specs::Arithmetic::computed))]
 fn smod32(a: u32, b: u32) -> u32
     ensures { result ≡ computed 32 AluOp.Smod a b }
@@ -96,7 +100,9 @@ fn smod32(a: u32, b: u32) -> u32
         .cast_unsigned()
 }
 
-/// The signed quotient, truncated toward zero: the least number by -1 is itself.
+/// Returns the signed quotient, truncated toward zero.
+///
+/// The least number divided by -1 is itself.
 #[tactic(auto, unfolding(crate::specs::Arithmetic::computed))]
 fn sdiv64(a: u64, b: u64) -> u64
     ensures { result ≡ computed 64 AluOp.Sdiv a b }
@@ -109,7 +115,7 @@ fn sdiv64(a: u64, b: u64) -> u64
         .cast_unsigned()
 }
 
-/// The remainder of the signed quotient, with the dividend's sign.
+/// Returns the remainder of the signed quotient, with the dividend's sign.
 #[tactic(auto, unfolding(crate::specs::Arithmetic::computed))]
 fn smod64(a: u64, b: u64) -> u64
     ensures { result ≡ computed 64 AluOp.Smod a b }
@@ -122,7 +128,9 @@ fn smod64(a: u64, b: u64) -> u64
         .cast_unsigned()
 }
 
-/// Negates a whole register, or its low half with a zero upper half (RFC 9669, 4.1).
+/// Negates a whole register, or its low half with a zero upper half.
+///
+/// See RFC 9669, section 4.1.
 #[tactic(auto, unfolding(crate::specs::Arithmetic::negated))]
 #[inline(always)]
 pub fn neg(width: Width, dst: u64) -> u64

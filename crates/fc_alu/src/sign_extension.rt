@@ -5,7 +5,9 @@ ghost use Rattle.fc_alu.specs.Arithmetic.{sign_extended};
 use crate::operation::low_half;
 use fc_isa::{SignExtension, Width};
 
-/// Extends the low 8, 16 or 32 bits by their sign to 32 or 64 bits; the rest is zero (RFC 9669, 4.1, MOVSX).
+/// Sign-extends the low 8, 16 or 32 bits to 32 or 64 bits.
+///
+/// The rest is zero (RFC 9669, section 4.1, MOVSX).
 #[tactic(auto, unfolding(crate::specs::Arithmetic::sign_extended))]
 #[inline(always)]
 pub fn sign_extend(extension: SignExtension, src: u64) -> u64

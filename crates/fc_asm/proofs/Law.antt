@@ -1,4 +1,4 @@
--- What is listed is assembled again.
+-- Assembling a program's disassembly gives the program.
 use Rattle.std.proofs.Common.{◌≡◌, ℕ, zero, suc, ◌+◌, ◌<◌, Bool, true, false, not, Some, None, Ok, List, [], ◌∷◌, ◌++◌, length, lit<, refl, sym, ap, subst, ◌∙◌, arith, append_assoc}
 use Rattle.std.specs.Prelude.{All, ◌==◌, pos, codes}
 use Rattle.std.specs.Fmt.{signed_decimal}
@@ -22,7 +22,7 @@ use Rattle.fc_asm.proofs.Listed.{is_plain, is_word, are_words, joined, word_lack
 use Rattle.fc_asm.proofs.Named.{named_name}
 use Rattle.fc_asm.proofs.Operands.{register_means, target_means, imm_means, offset_means, wide_means, operand_means}
 
--- ---- the operands of an instruction mean it
+-- ---- an instruction's printed operands mean that instruction
 
 one_means : {A : Type 0} (make : A → Insn) (r : Reading A) (a : A) → r ≡ Ok a → map_ok make r ≡ Ok (make a)
 one_means make r a e = ap (map_ok make) e
@@ -148,7 +148,7 @@ unfolding body
 line_body m [] = refl
 line_body m (a ∷ more) = ap (λ t. name_of m ++ 32 ∷ t) (rest_joined a more) ∙ sym (append_assoc (name_of m) (32 ∷ joined (a ∷ more)) (10 ∷ []))
 
--- a byte that no word holds, and that is no space or comma, stands in no line
+-- a byte that is in no word, and is neither a space nor a comma, is in no line
 module _ (c : ℕ) (space : (32 == c) ≡ false) (comma : (44 == c) ≡ false) (lacks : (w : Text) → is_word w ≡ true → list_all (λ b. not (b == c)) w ≡ true) where
   joined_lacks : (ws : List Text) → are_words ws ≡ true → list_all (λ b. not (b == c)) (joined ws) ≡ true
   unfolding joined are_words

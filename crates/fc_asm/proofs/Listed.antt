@@ -1,4 +1,5 @@
--- A line of the listing, assembled: its words are the name and the operands, and these mean the instruction.
+-- A line of the disassembly, assembled: its words are the name and the operands, and these mean the
+-- instruction.
 use Rattle.std.proofs.Common.{◌≡◌, ℕ, ◌<◌, Bool, true, false, not, ◌&&◌, List, [], ◌∷◌, ◌++◌, filter, length, refl, sym, ap, ◌∙◌, arith, append_assoc, append-nil}
 use Rattle.std.specs.Prelude.{◌==◌, nat_lt, codes}
 use Rattle.std.specs.List.{slice_split, flat_map, list_all, onto_first}
@@ -6,15 +7,15 @@ use Rattle.std.proofs.lemmas.Bool.{and_parts, and_from, eqb-true, both_ways, not
 use Rattle.fc_asm.specs.Names.{Text}
 use Rattle.fc_asm.specs.Syntax.{split_commas, split_words}
 
--- a byte that may stand in a word: no line feed, space, comma or `;`
+-- a byte that a word may have: not a line feed, a space, a comma or a `;`
 unfoldable pub is_plain : ℕ → Bool
 is_plain b = not (b == 10) && (not (b == 32) && (not (b == 44) && not (b == 59)))
 
--- a word: not empty, and of such bytes alone
+-- a word: not empty, and only such bytes
 unfoldable pub is_word : Text → Bool
 is_word w = nat_lt 0 (length w) && list_all is_plain w
 
--- cut at a byte that the first part doesn't hold
+-- a list split at a byte that its first part doesn't have
 pub split_at : (p : ℕ → Bool) (w : Text) (y : ℕ) (rest : Text) → list_all (λ b. not (p b)) w ≡ true → p y ≡ true → slice_split p (w ++ y ∷ rest) ≡ w ∷ slice_split p rest
 split_at p [] y rest h e = cond-true (p y) ([] ∷ slice_split p rest) _ e
 split_at p (b ∷ w) y rest h e =
@@ -27,7 +28,7 @@ split_whole p (b ∷ w) h =
     let t = and_parts _ _ h in
     cond-false (p b) _ (onto_first b (slice_split p w)) (not-true _ t.0) ∙ ap (onto_first b) (split_whole p w t.1)
 
--- a word holds no byte that isn't plain
+-- a word has no byte that isn't plain
 lacks_at : (c b : ℕ) (r : Bool) → (b == c) ≡ r → is_plain c ≡ false → is_plain b ≡ true → not r ≡ true
 lacks_at c b true e n p = absurd (both_ways (is_plain c) n (ap is_plain (sym (eqb-true b c e)) ∙ p))
 lacks_at c b false e n p = refl
@@ -54,7 +55,7 @@ list_all-append p (x ∷ xs) ys h g = let t = and_parts _ _ h in and_from _ _ t.
 
 -- ---- the words of a line
 
--- one word between spaces, and one with a comma behind it
+-- one word between spaces, without and with a comma after it
 comma_word : (w : Text) → is_word w ≡ true → split_commas w ≡ w ∷ []
 unfolding is_word
 comma_word w h =

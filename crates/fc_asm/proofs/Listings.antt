@@ -1,4 +1,4 @@
--- A listing, instruction by instruction.
+-- A disassembly, instruction by instruction.
 use Rattle.std.proofs.Common.{◌≡◌, Some, None, ℕ, ◌+◌, ◌<◌, List, [], ◌∷◌, ◌++◌, length, take, get_or, refl, sym, ap, ◌∙◌}
 use Rattle.std.proofs.lemmas.List.{take_more, flat_map_more}
 use Rattle.fc_isa.specs.declared.insn.Insn.{Insn}

@@ -1,4 +1,4 @@
--- The mnemonics by their names: what is put in last is found, and no two names are the same.
+-- Mnemonics by their names: the row inserted last is found, and no two names are the same.
 use Rattle.std.proofs.Common.{◌≡◌, ℕ, ◌+◌, ◌<◌, ◌≤◌, length, take, get_or, Bool, true, false, cond, not, ◌&&◌, Option, Some, None, List, [], ◌∷◌, ◌++◌, Bor, find, refl, sym, ap, ◌∙◌, subst}
 use Rattle.std.specs.List.{list_all}
 use Rattle.std.proofs.lemmas.List.{take_more, take_all}
@@ -9,7 +9,7 @@ use Rattle.std.proofs.lemmas.Slice.Eq.{bytes_eq-Decides}
 use Rattle.fc_asm.specs.declared.mnemonic.Mnemonic.{Mnemonic}
 use Rattle.fc_asm.specs.Names.{name_of, mnemonics, mnemonic_named}
 
--- the last row of this name, or else what was found before
+-- the last row with this name, or else the one found before
 unfoldable pub latest : List ℕ → Option Mnemonic → List (Bor (List ℕ) × Mnemonic) → Option Mnemonic
 latest word found [] = found
 latest word found (r ∷ rows) = latest word (cond (bytes_eq r.0.now word) (Some r.1) found) rows
@@ -68,7 +68,7 @@ option_or_none : {A : Type 0} (o : Option A) → option_or o None ≡ o
 option_or_none None = refl
 option_or_none (Some x) = refl
 
--- the last of a name is its mnemonic
+-- the last mnemonic with a name is that name's mnemonic
 pub last_named : (word : List ℕ) → last_of word None mnemonics ≡ mnemonic_named word
 unfolding mnemonic_named
 last_named word = last_find word None mnemonics all_distinct ∙ option_or_none _

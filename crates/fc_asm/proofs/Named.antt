@@ -1,4 +1,4 @@
--- Each name names its mnemonic, and is a word.
+-- Each mnemonic is found by its name, and the name is a word.
 use Rattle.std.proofs.Common.{◌≡◌, true, Some, refl}
 use Rattle.fc_isa.specs.declared.insn.AluOp.TheVariants.{Add, Sub, Mul, Div, Or, And, Lsh, Rsh, Mod, Xor, Mov, Arsh, Sdiv, Smod}
 use Rattle.fc_isa.specs.declared.insn.ByteOrder.TheVariants.{Little, Big, Swapped}

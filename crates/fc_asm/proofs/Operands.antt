@@ -1,4 +1,4 @@
--- What an operand prints means that operand, and is a word.
+-- The printed form of an operand means that operand, and is a word.
 use Rattle.std.proofs.Common.{◌≡◌, ℕ, zero, suc, ◌<◌, ◌≤◌, ◌^◌, true, false, cond, Ok, Err, [], ◌∷◌, ◌++◌, length, drop, get_or, lit<, lit≤, refl, ap, ◌∙◌, arith}
 use Rattle.std.specs.Prelude.{ℤ, pos, negsuc, ◌==◌, FitsSigned}
 use Rattle.std.specs.Fmt.{decimal, signed_decimal}
@@ -98,7 +98,7 @@ pub signed_word : (z : ℤ) → mag z < 2 ^ 63 → is_word (signed_decimal z) �
 signed_word (pos n) h = decimal_word n (omega arith)
 signed_word (negsuc n) h = minus_word (decimal (suc n)) (decimal_digits (suc n) (omega arith))
 
--- digits begin with no `-`
+-- digits don't begin with `-`
 digits_no_minus : (ds : Text) → is_digits ds ≡ true → (get_or ds 0 0 == 45) ≡ false
 digits_no_minus [] h = refl
 digits_no_minus (c ∷ cs) h =
@@ -112,7 +112,7 @@ plain_value : (ds : Text) → is_digits ds ≡ true → signed_digits_value 10 d
 plain_value ds h =
     rw (digits_no_minus ds h) (ap (λ t. pos (digits_value 10 t)) (without_leading_plus_none ds (first_no_plus ds h)))
 
--- what a number prints is read as that number
+-- parsing a printed number gives that number
 number_means : {A : Type 0} (f : ℤ → Reading A) (z : ℤ) → mag z < 2 ^ 63 → if_ok (number_from (signed_decimal z)) f ≡ f z
 number_means f (pos n) h =
     let d = decimal_digits n (omega arith) in

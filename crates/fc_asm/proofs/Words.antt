@@ -16,7 +16,7 @@ words_whole line r e h = words_before line line r (sym (take_all (position_or_le
 
 -- ---- the loops: one more piece
 
--- a piece that is filled is pushed
+-- a piece that isn't empty is appended
 pub pushed : (old words pushed_words yielded : List (Bor (List ℕ))) (pieces : List (List ℕ)) (word : Bor (List ℕ))
     → (length yielded < length pieces) × (word.now ≡ get_or pieces (length yielded) word.now)
     → map (λ word. word.now) words ≡ map (λ word. word.now) old ++ filter (λ word. nat_lt 0 (length word)) (take (length yielded) pieces)
@@ -30,7 +30,7 @@ pushed old words pushed_words yielded pieces word turn so_far push full =
     ∙ sym (filter_more (λ w. nat_lt 0 (length w)) pieces (length yielded) word.now turn.0)
     ∙ ap (λ n. filter (λ w. nat_lt 0 (length w)) (take n pieces)) (sym (length_push yielded word)))
 
--- and one that isn't is passed over
+-- an empty piece is skipped
 pub passed : (old words yielded : List (Bor (List ℕ))) (pieces : List (List ℕ)) (word : Bor (List ℕ))
     → (length yielded < length pieces) × (word.now ≡ get_or pieces (length yielded) word.now)
     → map (λ word. word.now) words ≡ map (λ word. word.now) old ++ filter (λ word. nat_lt 0 (length word)) (take (length yielded) pieces)
@@ -44,11 +44,11 @@ passed old words yielded pieces word turn so_far empty =
     ∙ sym (filter_more (λ w. nat_lt 0 (length w)) pieces (length yielded) word.now turn.0)
     ∙ ap (λ n. filter (λ w. nat_lt 0 (length w)) (take n pieces)) (sym (length_push yielded word)))
 
--- a list that is done
+-- a list whose end is reached
 pub all_taken : {A : Type 0} (f : List (List ℕ) → A) (n : ℕ) (pieces : List (List ℕ)) → n ≡ length pieces → f (take n pieces) ≡ f pieces
 all_taken f n pieces e = ap f (take_all n pieces (omega arith))
 
--- the words of one part more
+-- the words of one more part
 pub part_more : (f : List ℕ → List (List ℕ)) (words more yielded : List (Bor (List ℕ))) (pieces : List (List ℕ)) (part : Bor (List ℕ))
     → (length yielded < length pieces) × (part.now ≡ get_or pieces (length yielded) part.now)
     → map (λ word. word.now) words ≡ flat_map f (take (length yielded) pieces)

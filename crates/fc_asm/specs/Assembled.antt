@@ -1,4 +1,4 @@
--- The program that lines mean, and the fault of lines that mean none.
+-- The program of a text's lines, or the fault of lines that have none.
 use Rattle.std.specs.Option.{option_to_list}
 use Rattle.std.specs.Prelude.{ℕ, ◌+◌, length, ◌≡◌, IsTrue, List, [], ◌∷◌, ◌++◌, All, Option, Some, None, Ok, Err}
 use Rattle.std.specs.List.{flat_map}
@@ -13,7 +13,7 @@ use Rattle.fc_asm.specs.Operands.{Reading}
 use Rattle.fc_asm.specs.Listing.{listing}
 use Rattle.fc_asm.specs.Syntax.{line_meaning}
 
--- a wide load has two slots
+-- a wide load has two slots.
 abbrev pub second_slot : Insn → Option Insn
 second_slot (LoadWide dst value) = Some WideSecond
 second_slot other = None
@@ -21,7 +21,7 @@ second_slot other = None
 abbrev pub as_slots : Insn → List Insn
 as_slots i = i ∷ option_to_list (second_slot i)
 
--- the slots of what a line means
+-- the slots of a line's meaning.
 abbrev pub slots_in : Reading (Option Insn) → List Insn
 slots_in (Ok (Some i)) = as_slots i
 slots_in other = []
@@ -33,12 +33,12 @@ abbrev pub mistake_in : Reading (Option Insn) → Option Mistake
 mistake_in (Ok i) = None
 mistake_in (Err mistake) = Some mistake
 
--- no line has a mistake, and the program is what the lines mean, one after another
+-- no line has a mistake, and the program has the slots of the lines in order.
 pub record IsAssembled (lines : List Text) (program : List Insn) : Type 0 where
   pub faultless : All (λ line. mistake_in (line_meaning line) ≡ None) lines
   pub slots : program ≡ flat_map line_slots lines
 
--- the line of this number, counted from 1, has the mistake, and none before it has one
+-- the line with this number, counted from 1, has the mistake, and no line before it has one.
 pub record IsFirstMistake (lines : List Text) (mistake : Mistake) (number : ℕ) : Type 0 where
   pub before : List Text
   pub faulty : Text
@@ -52,11 +52,11 @@ abbrev pub IsAsmError : List Text → AsmError → Type 0
 IsAsmError lines (Faulty mistake line) = IsFirstMistake lines mistake line
 IsAsmError lines NoMemory = Unit {0}
 
--- what is wrong with the line of this number
+-- the error of the line with this number.
 abbrev pub IsLineError : Text → ℕ → AsmError → Type 0
 IsLineError line number (Faulty mistake at) = (line_meaning line ≡ Err mistake) × (at ≡ number)
 IsLineError line number NoMemory = Unit {0}
 
--- what is so of each program that this text lists
+-- a property of each program with this disassembly.
 abbrev pub ForListed : Text → (List Insn → Type 0) → Type 0
 ForListed text P = (program : List Insn) → IsTrue (is_program program) → All IsInsn program → text ≡ listing program → P program

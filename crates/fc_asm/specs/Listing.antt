@@ -1,4 +1,5 @@
--- The listing of a program: a line for each instruction, the mnemonic, a space, and the operands parted by `, `.
+-- The disassembly of a program: a line for each instruction, with the mnemonic, a space, and the
+-- operands separated by `, `.
 use Rattle.std.specs.Prelude.{ℕ, pos, List, [], ◌∷◌, ◌++◌, Option, Some, None, codes}
 use Rattle.std.specs.Fmt.{decimal, signed_decimal}
 use Rattle.std.specs.List.{flat_map}
@@ -11,7 +12,7 @@ use Rattle.fc_asm.specs.declared.mnemonic.Mnemonic.{Mnemonic}
 use Rattle.fc_asm.specs.declared.mnemonic.Mnemonic.TheVariants as mnemonic
 use Rattle.fc_asm.specs.Names.{Text, name_of}
 
--- `r0` to `r10`
+-- `r0` to `r10`.
 abbrev pub register : ℕ → Text
 register r = codes "r" ++ decimal r
 
@@ -19,7 +20,7 @@ abbrev pub operand_text : Operand → Text
 operand_text (Imm k) = signed_decimal k
 operand_text (Reg r) = register r
 
--- the second half of a wide load has no line
+-- the second half of a wide load has no line.
 abbrev pub mnemonic_of : Insn → Option Mnemonic
 mnemonic_of (Alu op width dst operand) = Some (mnemonic.Alu op width)
 mnemonic_of (Neg width dst) = Some (mnemonic.Neg width)
@@ -37,7 +38,7 @@ mnemonic_of (CallHelper number) = Some mnemonic.CallHelper
 mnemonic_of (CallLocal offset) = Some mnemonic.CallLocal
 mnemonic_of Exit = Some mnemonic.Exit
 
--- an instruction's operands, in the order of the line
+-- an instruction's operands, in the order of the line.
 abbrev pub operands_of : Insn → List Text
 operands_of (Alu op width dst operand) = register dst ∷ operand_text operand ∷ []
 operands_of (Neg width dst) = register dst ∷ []
@@ -55,12 +56,12 @@ operands_of (CallHelper number) = signed_decimal number ∷ []
 operands_of (CallLocal offset) = signed_decimal offset ∷ []
 operands_of Exit = []
 
--- the rest of a line behind an operand
+-- the rest of a line after an operand.
 abbrev pub rest_of_line : List Text → Text
 rest_of_line [] = codes "\n"
 rest_of_line (operand ∷ more) = codes ", " ++ (operand ++ rest_of_line more)
 
--- a line of a mnemonic and operands, its line feed included
+-- a line with a mnemonic and operands, including its line feed.
 abbrev pub line : Mnemonic → List Text → Text
 line mnemonic [] = name_of mnemonic ++ codes "\n"
 line mnemonic (operand ∷ more) = name_of mnemonic ++ (codes " " ++ (operand ++ rest_of_line more))

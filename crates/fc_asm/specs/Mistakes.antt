@@ -1,4 +1,4 @@
--- What a mistake prints.
+-- The printed form of a mistake.
 use Rattle.std.specs.Prelude.{ℕ, ◌++◌, List, codes}
 use Rattle.std.specs.Fmt.{decimal}
 use Rattle.fc_asm.specs.declared.error.Mistake.{Mistake}

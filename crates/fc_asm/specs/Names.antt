@@ -77,7 +77,7 @@ relation_name Le = codes "jle"
 relation_name Slt = codes "jslt"
 relation_name Sle = codes "jsle"
 
--- the word that an instruction's line begins with
+-- the first word of an instruction's line.
 abbrev pub name_of : Mnemonic → Text
 name_of (mnemonic.Alu op width) = alu_name op ++ width_digits width
 name_of (mnemonic.Neg width) = codes "neg" ++ width_digits width
@@ -95,7 +95,7 @@ name_of mnemonic.CallHelper = codes "call"
 name_of mnemonic.CallLocal = codes "callf"
 name_of mnemonic.Exit = codes "exit"
 
--- the names of all mnemonics
+-- the names of all mnemonics.
 abbrev pub alu_ops : List AluOp
 alu_ops = Add ∷ Sub ∷ Mul ∷ Div ∷ Or ∷ And ∷ Lsh ∷ Rsh ∷ Mod ∷ Xor ∷ Mov ∷ Arsh ∷ Sdiv ∷ Smod ∷ []
 
@@ -110,6 +110,6 @@ mnemonics =
     ++ (map mnemonic.StoreImm sizes ++ (map mnemonic.Store sizes ++ (mnemonic.JumpAlways ∷ mnemonic.JumpAlwaysLong ∷ [] ++ (map (λ relation. mnemonic.JumpIf relation W64) relations
     ++ (map (λ relation. mnemonic.JumpIf relation W32) relations ++ (mnemonic.CallHelper ∷ mnemonic.CallLocal ∷ mnemonic.Exit ∷ []))))))))))))))
 
--- the mnemonic of this name
+-- the mnemonic with this name.
 unfoldable pub mnemonic_named : Text → Option Mnemonic
 mnemonic_named word = find (λ mnemonic. bytes_eq (name_of mnemonic) word) mnemonics

@@ -1,4 +1,4 @@
--- What a word means as an operand.
+-- The meaning of a word as an operand.
 use Rattle.std.specs.Prelude.{ℕ, ℤ, pos, negsuc, ◌^◌, ◌==◌, ◌&&◌, Bool, nat_lt, if◌then◌else◌, List, [], ◌∷◌, length, drop, slice_index, Result, Ok, Err, codes}
 use Rattle.std.specs.List.{position}
 use Rattle.std.specs.Option.{ok_or}
@@ -15,7 +15,7 @@ use Rattle.fc_asm.specs.declared.error.Mistake.TheVariants.{OutOfRange}
 use Rattle.fc_asm.specs.declared.error.Mistake.TheVariants as mistake
 use Rattle.fc_asm.specs.Names.{Text}
 
--- what a word is read as
+-- the result of parsing a word.
 abbrev pub Reading : Type 0 → Type 0
 Reading A = Result A Mistake
 
@@ -27,41 +27,41 @@ abbrev pub if_ok : {A B : Type 0} → Reading A → (A → Reading B) → Readin
 if_ok (Ok a) f = f a
 if_ok (Err e) f = Err e
 
--- the mistake that is named first; an unknown word is no operand's
+-- the mistake that is reported first; an operand's mistake is never `UnknownWord`.
 abbrev pub graver : Mistake → Mistake → Mistake
 graver OutOfRange other = other
 graver first other = first
 
--- both, or the graver mistake
+-- both values, or the mistake that is reported first.
 abbrev pub both_of : {A B : Type 0} → Reading A → Reading B → Reading (A × B)
 both_of (Ok a) (Ok b) = Ok (a, b)
 both_of (Ok a) (Err f) = Err f
 both_of (Err e) (Ok b) = Err e
 both_of (Err e) (Err f) = Err (graver e f)
 
--- the words of the registers, each at its number
+-- the register names, each at its number.
 abbrev pub registers : List Text
 registers = codes "r0" ∷ codes "r1" ∷ codes "r2" ∷ codes "r3" ∷ codes "r4" ∷ codes "r5" ∷ codes "r6" ∷ codes "r7" ∷ codes "r8" ∷ codes "r9" ∷ codes "r10" ∷ []
 
 unfoldable pub register_from : Text → Reading ℕ
 register_from word = ok_or (position (λ name. bytes_eq name word) registers) mistake.Operand
 
--- R10 is not written
+-- R10 isn't writable.
 abbrev pub written : ℕ → Reading ℕ
 written r = if nat_lt r 10 then Ok r else Err mistake.Operand
 
 abbrev pub target_from : Text → Reading ℕ
 target_from word = if_ok (register_from word) written
 
--- one or more decimal digits
+-- one or more decimal digits.
 abbrev pub is_digits : Text → Bool
 is_digits digits = nat_lt 0 (length digits) && all_ascii_digits digits
 
--- a `-` may stand before them
+-- digits, with or without a leading `-`.
 abbrev pub writes_number : Text → Bool
 writes_number word = is_digits (if slice_index word 0 == 45 then drop 1 word else word)
 
--- -2^k to 2^k - 1
+-- -2^k to 2^k - 1.
 abbrev pub within : ℕ → ℤ → Bool
 within k (pos n) = nat_lt n (2 ^ k)
 within k (negsuc n) = nat_lt n (2 ^ k)
@@ -69,12 +69,12 @@ within k (negsuc n) = nat_lt n (2 ^ k)
 abbrev pub in_range : ℕ → ℤ → Reading ℤ
 in_range k z = if within k z then Ok z else Err OutOfRange
 
--- 0 to 2^64 - 1
+-- 0 to 2^64 - 1.
 abbrev pub natural : ℤ → Reading ℕ
 natural (pos n) = if nat_lt n (2 ^ 64) then Ok n else Err OutOfRange
 natural (negsuc n) = Err OutOfRange
 
--- the number that a word writes, whatever its length
+-- the number that a word represents, of any length.
 abbrev pub number_from : Text → Reading ℤ
 number_from word = if writes_number word then Ok (signed_digits_value 10 word) else Err mistake.Operand
 
@@ -87,7 +87,7 @@ offset_from word = if_ok (number_from word) (in_range 15)
 unfoldable pub wide_from : Text → Reading ℕ
 wide_from word = if_ok (number_from word) natural
 
--- a register, or else an immediate
+-- a register, or else an immediate.
 abbrev pub register_or : Reading ℕ → Reading ℤ → Reading Operand
 register_or (Ok r) number = Ok (Reg r)
 register_or (Err e) number = map_ok Imm number
@@ -95,7 +95,7 @@ register_or (Err e) number = map_ok Imm number
 abbrev pub operand_from : Text → Reading Operand
 operand_from word = register_or (register_from word) (imm_from word)
 
--- 8 and 16 bits are extended to both widths, 32 to 64 alone
+-- 8 and 16 bits are extended to both widths, and 32 bits to 64 only.
 abbrev pub word_to : Width → Reading SignExtension
 word_to W64 = Ok Word
 word_to W32 = Err OutOfRange

@@ -1,4 +1,4 @@
--- What the operands of a line print.
+-- The printed form of a line's operands.
 use Rattle.std.specs.Prelude.{List, [], ◌∷◌}
 use Rattle.std.specs.Fmt.{decimal, signed_decimal}
 use Rattle.fc_isa.specs.declared.insn.Operand.{Operand}

@@ -1,4 +1,4 @@
--- What a text of one instruction a line means.
+-- The meaning of a source text with one instruction on each line.
 use Rattle.std.specs.Prelude.{◌==◌, nat_lt, List, [], ◌∷◌, length, filter, Option, Some, None, Ok, Err}
 use Rattle.std.specs.List.{slice_split, before_first, flat_map}
 use Rattle.fc_isa.specs.declared.insn.Insn.{Insn}
@@ -9,27 +9,27 @@ use Rattle.fc_asm.specs.declared.mnemonic.Mnemonic.TheVariants as mnemonic
 use Rattle.fc_asm.specs.Names.{Text, mnemonic_named}
 use Rattle.fc_asm.specs.Operands.{Reading, map_ok, if_ok, both_of, target_from, register_from, imm_from, offset_from, wide_from, operand_from, extension_from}
 
--- lines end with a line feed
+-- lines end with a line feed.
 unfoldable pub lines_of : Text → List Text
 lines_of text = slice_split (λ b. b == 10) text
 
--- what stands before a `;`
+-- the part before a `;`.
 abbrev pub before_comment : Text → Text
 before_comment line = before_first (λ b. b == 59) line
 
--- words are parted by commas
+-- commas separate words.
 abbrev pub split_commas : Text → List Text
 split_commas part = filter (λ word. nat_lt 0 (length word)) (slice_split (λ b. b == 44) part)
 
--- and by spaces
+-- and so do spaces.
 abbrev pub split_words : Text → List Text
 split_words code = flat_map split_commas (slice_split (λ b. b == 32) code)
 
--- the words of a line
+-- the words of a line.
 unfoldable pub words_of : Text → List Text
 words_of line = split_words (before_comment line)
 
--- just one operand, two, or three
+-- exactly one operand, two, or three.
 abbrev pub one_of : List Text → Reading Text
 one_of (a ∷ []) = Ok a
 one_of other = Err Operand
@@ -42,7 +42,7 @@ abbrev pub three_of : List Text → Reading (Text × Text × Text)
 three_of (a ∷ b ∷ c ∷ []) = Ok (a, b, c)
 three_of other = Err Operand
 
--- an instruction of one operand, of two, or of three
+-- an instruction with one operand, with two, or with three.
 abbrev pub of_one : {A : Type 0} → (A → Insn) → (Text → Reading A) → List Text → Reading Insn
 of_one make a operands = if_ok (one_of operands) (λ word. map_ok make (a word))
 
@@ -52,12 +52,12 @@ of_two make a b operands = if_ok (two_of operands) (λ words. map_ok (λ p. make
 abbrev pub of_three : {A B C : Type 0} → (A → B → C → Insn) → (Text → Reading A) → (Text → Reading B) → (Text → Reading C) → List Text → Reading Insn
 of_three make a b c operands = if_ok (three_of operands) (λ words. map_ok (λ p. make p.0.0 p.0.1 p.1) (both_of (both_of (a words.0) (b words.1)) (c words.2)))
 
--- the instruction without operands
+-- an instruction without operands.
 abbrev pub of_none : Insn → List Text → Reading Insn
 of_none insn [] = Ok insn
 of_none insn other = Err Operand
 
--- the instruction of a mnemonic and its operands
+-- the instruction with a mnemonic and its operands.
 abbrev pub insn_from : Mnemonic → List Text → Reading Insn
 insn_from (mnemonic.Alu op width) = of_two (λ dst operand. Alu op width dst operand) target_from operand_from
 insn_from (mnemonic.Neg width) = of_one (λ dst. Neg width dst) target_from
@@ -78,7 +78,7 @@ abbrev pub named : Option Mnemonic → List Text → Reading (Option Insn)
 named None operands = Err UnknownWord
 named (Some mnemonic) operands = map_ok (λ i. Some i) (insn_from mnemonic operands)
 
--- the instruction that the words of a line name; a blank line names none
+-- the instruction in the words of a line; a blank line has none.
 abbrev pub meaning : List Text → Reading (Option Insn)
 meaning [] = Ok None
 meaning (name ∷ operands) = named (mnemonic_named name) operands

@@ -1,4 +1,4 @@
-//! From text to instructions.
+//! The assembler: from source text to instructions.
 ghost use Rattle.std.specs.Prelude.{IfErr, IfOk, IsTrue, MatchResult, None, OnOk, ◌++◌, ◌≡◌};
 ghost use Rattle.fc_isa.specs.Program.{is_program};
 ghost use Rattle.fc_asm.specs.Assembled.{ForListed, IsAsmError, IsAssembled, IsLineError, line_slots, mistake_in, second_slot};
@@ -10,11 +10,12 @@ use crate::names::Names;
 use fc_isa::Insn;
 use std::alloc::{AllocError, Global};
 
-/// Assembles a text of one instruction a line: what it means, line by line.
+/// Assembles a source text with one instruction on each line.
 ///
 /// # Errors
-/// The first line that has a mistake, with the first of these that it has: an unknown first word (A1), a bad operand (A2), a
-/// value out of range (A3); or memory was refused, where that comes first.
+/// Returns the first line with a mistake, and the first of these that it has: an unknown first word
+/// (A1), a bad operand (A2), a value out of range (A3). Returns `NoMemory` if memory can't be
+/// allocated before such a line is found.
 pub fn assemble(alloc: Global, text: &str) -> Result<Vec<Insn>, AsmError>
     ensures program { IfOk result (λ v. IsAssembled (lines_of text.now) v.items) }
     ensures slots { IfOk result (λ v. IsTrue (is_program v.items)) }
@@ -25,7 +26,7 @@ pub fn assemble(alloc: Global, text: &str) -> Result<Vec<Insn>, AsmError>
     assemble_lines(alloc, &names, text)
 }
 
-/// Assembles the lines of a text, one after another.
+/// Assembles the lines of a source text, one after another.
 fn assemble_lines(alloc: Global, names: &Names, text: &str) -> Result<Vec<Insn>, AsmError>
     ensures program { IfOk result (λ v. IsAssembled (lines_of text.now) v.items) }
     ensures slots { IfOk result (λ v. IsTrue (is_program v.items)) }
@@ -41,7 +42,7 @@ fn assemble_lines(alloc: Global, names: &Names, text: &str) -> Result<Vec<Insn>,
     Ok(program)
 }
 
-/// Adds the slots of what the line of this number means.
+/// Appends the slots of the line with this number.
 fn assemble_line(
     alloc: Global,
     names: &Names,
@@ -68,7 +69,7 @@ fn assemble_line(
     }
 }
 
-/// An instruction's slots: a wide load has two.
+/// Returns an instruction's slots; a wide load has two.
 fn slots(insn: Insn) -> (Insn, Option<Insn>)
     ensures first { result.0 ≡ insn }
     ensures second { result.1 ≡ second_slot insn }

@@ -1,4 +1,4 @@
-//! From instructions to text.
+//! The disassembler: from instructions to source text.
 ghost use Rattle.std.specs.Prelude.{IfOk, IsTrue, ◌≡◌, string_bytes, Some, pos};
 ghost use Rattle.fc_isa.specs.Program.{is_program};
 ghost use Rattle.fc_isa.specs.Encoding.{extended_bits};
@@ -10,10 +10,12 @@ use fc_isa::{Insn, Operand, Reg, SignExtension, Target, Width};
 use std::alloc::{AllocError, Global};
 use std::fmt;
 
-/// Disassembles a program: one instruction a line, as the assembler reads it.
+/// Disassembles a program to one instruction on each line.
+///
+/// The assembler accepts this text.
 ///
 /// # Errors
-/// Memory was refused.
+/// Returns `AllocError` if memory can't be allocated.
 pub fn disassemble(alloc: Global, program: &[Insn]) -> Result<String, AllocError>
     requires { IsTrue (is_program program.now) }
     ensures { IfOk result (λ s. string_bytes s ≡ listing program.now) }
@@ -31,7 +33,7 @@ pub fn disassemble(alloc: Global, program: &[Insn]) -> Result<String, AllocError
     Ok(text)
 }
 
-/// An operand as it is listed.
+/// An operand as the disassembler writes it.
 #[derive(Clone, Copy)]
 enum ShownOperand {
     Register(usize),
@@ -121,7 +123,7 @@ enum Operands {
     Three(ShownOperand, ShownOperand, ShownOperand),
 }
 
-/// A line of a listing, which prints with its line feed.
+/// A line of a disassembly, which prints with its line feed.
 #[derive(Clone, Copy)]
 struct ListingLine {
     mnemonic: Mnemonic,
@@ -146,7 +148,7 @@ impl fmt::Display for ListingLine {
     }
 }
 
-/// The mnemonic of a line; the second half of a wide load has no line.
+/// Returns the mnemonic of a line, or `None` for the second half of a wide load.
 fn mnemonic(insn: Insn) -> Option<Mnemonic>
     ensures { result ≡ mnemonic_of insn }
 {
@@ -178,7 +180,7 @@ fn extend(extension: SignExtension) -> Mnemonic
     }
 }
 
-/// How many bits are extended.
+/// Returns the number of bits that are extended.
 fn bits(extension: SignExtension) -> i32
     ensures { result ≡ pos (extended_bits extension) }
 {
@@ -189,7 +191,7 @@ fn bits(extension: SignExtension) -> i32
     }
 }
 
-/// An instruction's operands, in the order of the line.
+/// Returns an instruction's operands, in the order of the line.
 fn shown_operands(insn: Insn) -> Operands
     ensures { shown_texts result ≡ operands_of insn }
 {

@@ -1,4 +1,4 @@
-//! What is wrong with a text, and where.
+//! Mistakes in a source text, and their lines.
 ghost use Rattle.std.specs.Prelude.{◌≡◌};
 ghost use Rattle.fc_asm.specs.Mistakes.{mistake_text};
 
@@ -6,23 +6,25 @@ use std::alloc::{AllocError, AllocFailed};
 use std::error::Error;
 use std::fmt;
 
-/// What is wrong with a line. The first of these that a line has is the one that is named.
+/// A mistake in a line. If a line has several, the first of these is reported.
 #[derive(Clone, Copy, Debug, PartialEq, Eq)]
 pub enum Mistake {
-    /// The first word names no instruction.
+    /// The first word isn't the name of an instruction.
     UnknownWord,
-    /// Too few operands or too many, or one of another sort than the instruction takes.
+    /// Too few or too many operands, or an operand of the wrong sort.
     Operand,
-    /// A number outside the range of its operand.
+    /// A number outside its operand's range.
     OutOfRange,
 }
 
-/// Why a text was not assembled. A mistake prints as `A1 line 7`.
+/// The reason why a text wasn't assembled.
+///
+/// A mistake prints as `A1 line 7`.
 #[derive(Clone, Copy, Debug, PartialEq, Eq)]
 pub enum AsmError {
     /// The first line with a mistake, counted from 1.
     Faulty { mistake: Mistake, line: usize },
-    /// There was no memory for the program.
+    /// Memory for the program can't be allocated.
     NoMemory,
 }
 
@@ -40,7 +42,7 @@ impl fmt::Display for AsmError {
     }
 }
 
-/// What a mistake prints.
+/// Returns the code that a mistake prints.
 fn code(mistake: Mistake) -> &'static str
     ensures { result.now ≡ mistake_text mistake }
 {

@@ -1,10 +1,10 @@
-//! The assembler and the disassembler: instructions as text, one a line, and back.
+//! The assembler and the disassembler: instructions as text, one on each line.
 //!
 //! ```rust
 //! use fc_asm::{AsmError, assemble, disassemble};
 //! use std::alloc::Global;
 //!
-//! /// A text without its comments and blank lines, and with one space between words.
+//! /// Returns a text without comments and blank lines, with single spaces between words.
 //! fn lay_out(alloc: Global, text: &str) -> Result<String, AsmError> {
 //!     let program = assemble(alloc, text)?;
 //!     Ok(disassemble(alloc, &program)?)
@@ -13,9 +13,11 @@
 //!
 //! # What is proved
 //!
-//! - A text means its program, or has a fault: the first faulty line, and in it A1 (the first word names no instruction) before A2
-//!   (operands too few, too many or of another sort) before A3 (a number out of its range).
-//! - A program is listed as the definitions say, and its listing is assembled to that program, for every program.
+//! - A text gives its program, or has a fault: the first faulty line, with its first mistake. Their
+//!   order is A1 (the first word isn't the name of an instruction), A2 (operands too few, too many
+//!   or of the wrong sort), A3 (a number out of range).
+//! - A program is disassembled as the definitions say, and assembling the result gives that
+//!   program, for every program.
 //!
 //! By the contracts of `assemble`, `disassemble`.
 #![tactic(auto)]

@@ -1,4 +1,4 @@
-//! From a line to the instruction that it names.
+//! Parsing of a line: from its words to the instruction.
 ghost use Rattle.std.specs.Prelude.{IfOk, OnOk, map, ◌++◌, ◌≡◌};
 ghost use Rattle.fc_asm.specs.Operands.{if_ok, imm_from, map_ok, offset_from, target_from};
 ghost use Rattle.fc_asm.specs.Syntax.{split_commas, insn_from, meaning, one_of, split_words, three_of, two_of, words_of};
@@ -10,7 +10,9 @@ use crate::operand::{both, extension, imm, offset, operand, register, target, wi
 use fc_isa::{AluOp, Insn, Jump, LoadType, Relation, Size, Target, Width};
 use std::alloc::{AllocError, Global};
 
-/// Splits a line into its words: what stands between spaces and commas, before a comment.
+/// Splits a line into its words.
+///
+/// Spaces and commas separate words, and a comment ends them.
 pub fn words<'a>(alloc: Global, line: &'a str) -> Result<Vec<&'a str>, AllocError>
     ensures { IfOk result (λ v. map (λ word. word.now) v.items ≡ words_of line.now) }
 {
@@ -20,7 +22,7 @@ pub fn words<'a>(alloc: Global, line: &'a str) -> Result<Vec<&'a str>, AllocErro
     }
 }
 
-/// What stands between spaces and commas.
+/// Splits a text at spaces and commas.
 fn parts<'a>(alloc: Global, code: &'a str) -> Result<Vec<&'a str>, AllocError>
     ensures { IfOk result (λ v. map (λ word. word.now) v.items ≡ split_words code.now) }
 {
@@ -31,7 +33,7 @@ fn parts<'a>(alloc: Global, code: &'a str) -> Result<Vec<&'a str>, AllocError>
     Ok(words)
 }
 
-/// Adds what stands between commas.
+/// Appends the parts between commas.
 fn push_words<'a>(words: &mut Vec<&'a str>, part: &'a str) -> Result<(), AllocError>
     ensures { OnOk result (map (λ word. word.now) words.new.items ≡ map (λ word. word.now) words.old.items ++ split_commas part.now) }
 {
@@ -43,7 +45,7 @@ fn push_words<'a>(words: &mut Vec<&'a str>, part: &'a str) -> Result<(), AllocEr
     Ok(())
 }
 
-/// Parses the instruction that the words of a line name; a blank line names none.
+/// Parses the instruction in the words of a line; a blank line has none.
 pub fn read(names: &Names, words: &[&str]) -> Result<Option<Insn>, Mistake>
     ensures { result ≡ meaning (map (λ word. word.now) words.now) }
 {
@@ -56,7 +58,7 @@ pub fn read(names: &Names, words: &[&str]) -> Result<Option<Insn>, Mistake>
     }
 }
 
-/// The instruction of a mnemonic and its operands.
+/// Returns the instruction with a mnemonic and its operands.
 fn insn(mnemonic: Mnemonic, operands: &[&str]) -> Result<Insn, Mistake>
     ensures { result ≡ insn_from mnemonic (map (λ word. word.now) operands.now) }
 {
@@ -182,7 +184,7 @@ fn jump_if(relation: Relation, width: Width, operands: &[&str]) -> Result<Insn, 
     }))
 }
 
-/// The only operand, as a register that a program may write.
+/// Parses the only operand as a writable register.
 fn only_target(operands: &[&str]) -> Result<Target, Mistake>
     ensures { result ≡ if_ok (one_of (map (λ word. word.now) operands.now)) target_from }
 {
@@ -192,7 +194,7 @@ fn only_target(operands: &[&str]) -> Result<Target, Mistake>
     }
 }
 
-/// The only operand, as a number of 32 bits.
+/// Parses the only operand as a 32-bit number.
 fn only_imm(operands: &[&str]) -> Result<i32, Mistake>
     ensures { result ≡ if_ok (one_of (map (λ word. word.now) operands.now)) imm_from }
 {
@@ -202,7 +204,7 @@ fn only_imm(operands: &[&str]) -> Result<i32, Mistake>
     }
 }
 
-/// The only operand, as a number of 16 bits.
+/// Parses the only operand as a 16-bit number.
 fn only_offset(operands: &[&str]) -> Result<i16, Mistake>
     ensures { result ≡ if_ok (one_of (map (λ word. word.now) operands.now)) offset_from }
 {
@@ -212,7 +214,7 @@ fn only_offset(operands: &[&str]) -> Result<i16, Mistake>
     }
 }
 
-/// The operands, if there are just two.
+/// Returns the operands, if there are exactly two.
 fn two<'a>(operands: &[&'a str]) -> Result<(&'a str, &'a str), Mistake>
     ensures { map_ok (λ p. (p.0.now, p.1.now)) result ≡ two_of (map (λ word. word.now) operands.now) }
 {
@@ -222,7 +224,7 @@ fn two<'a>(operands: &[&'a str]) -> Result<(&'a str, &'a str), Mistake>
     }
 }
 
-/// The operands, if there are just three.
+/// Returns the operands, if there are exactly three.
 fn three<'a>(operands: &[&'a str]) -> Result<(&'a str, &'a str, &'a str), Mistake>
     ensures { map_ok (λ p. (p.0.now, p.1.now, p.2.now)) result ≡ three_of (map (λ word. word.now) operands.now) }
 {

@@ -5,30 +5,32 @@ ghost use Rattle.fc_asm.specs.Names.{alu_name, load_name, name_of, order_name, r
 use fc_isa::{AluOp, ByteOrder, LoadType, Relation, Size, SwapWidth, Width};
 use std::fmt;
 
-/// What the first word of a line stands for: an instruction without its operands. It prints as that word.
+/// A mnemonic, the first word of a line: an instruction without its operands.
+///
+/// It prints as that word.
 #[derive(Clone, Copy)]
 pub enum Mnemonic {
-    /// `add64` and its like.
+    /// `add64` and similar mnemonics.
     Alu(AluOp, Width),
     /// `neg64`, `neg32`.
     Neg(Width),
     /// `movsx64`, `movsx32`.
     SignExtend(Width),
-    /// `le16`, `be32`, `swap64` and their like.
+    /// `le16`, `be32`, `swap64` and similar mnemonics.
     End(ByteOrder, SwapWidth),
     /// `lddw`.
     LoadWide,
-    /// `ldxw`, `ldsxw` and their like.
+    /// `ldxw`, `ldsxw` and similar mnemonics.
     Load(LoadType),
-    /// `stw` and its like.
+    /// `stw` and similar mnemonics.
     StoreImm(Size),
-    /// `stxw` and its like.
+    /// `stxw` and similar mnemonics.
     Store(Size),
     /// `ja`.
     JumpAlways,
     /// `ja32`.
     JumpAlwaysLong,
-    /// `jgt`, `jgt32` and their like.
+    /// `jgt`, `jgt32` and similar mnemonics.
     JumpIf(Relation, Width),
     /// `call`.
     CallHelper,
@@ -50,7 +52,7 @@ impl fmt::Display for Mnemonic {
     }
 }
 
-/// The word of a mnemonic, in two parts.
+/// Returns the word of a mnemonic, in two parts.
 fn parts(mnemonic: Mnemonic) -> (&'static str, &'static str)
     ensures { result.0.now ++ result.1.now ≡ name_of mnemonic }
 {

@@ -9,7 +9,7 @@ use fc_isa::{AluOp, ByteOrder, LoadType, Relation, Size, SwapWidth, Width};
 use indexmap::IndexMap;
 use std::alloc::{AllocError, Global};
 
-/// The mnemonics, each under the word that a line begins with.
+/// The table of mnemonics, by the first word of a line.
 #[derive(Drop)]
 pub struct Names {
     by_name: IndexMap<&'static str, Mnemonic>,
@@ -20,7 +20,7 @@ impl Names {
     /// Makes the table of all mnemonics.
     ///
     /// # Errors
-    /// Memory was refused.
+    /// Returns `AllocError` if memory can't be allocated.
     pub fn new(alloc: Global) -> Result<Names, AllocError> {
         let mut by_name = IndexMap::new(alloc);
         for (name, mnemonic) in &NAMES {
@@ -29,7 +29,7 @@ impl Names {
         Ok(Names { by_name })
     }
 
-    /// Looks up the mnemonic of this name.
+    /// Returns the mnemonic with this name.
     pub fn find(&self, word: &str) -> Option<Mnemonic>
         ensures { result ≡ mnemonic_named word.now }
     {

@@ -1,4 +1,4 @@
-//! From words to operands.
+//! Parsing of operands.
 ghost use Rattle.std.specs.Prelude.{◌≡◌};
 ghost use Rattle.fc_asm.specs.Operands.{both_of, graver, imm_from, is_digits, writes_number, offset_from, operand_from, register_from, target_from, wide_from, extension_from};
 
@@ -19,7 +19,7 @@ const REGISTERS: [&'static str; 11] = [
     "r0", "r1", "r2", "r3", "r4", "r5", "r6", "r7", "r8", "r9", "r10",
 ];
 
-/// Parses a destination register, `r0` to `r9`, which a program may write.
+/// Parses a destination register, `r0` to `r9`, which programs may write.
 pub fn target(word: &str) -> Result<Target, Mistake>
     ensures { result ≡ target_from word.now }
 {
@@ -31,7 +31,7 @@ pub fn target(word: &str) -> Result<Target, Mistake>
     }
 }
 
-/// Parses a number of 32 bits with a sign.
+/// Parses a signed 32-bit number.
 pub fn imm(word: &str) -> Result<i32, Mistake>
     ensures { result ≡ imm_from word.now }
 {
@@ -44,7 +44,7 @@ pub fn imm(word: &str) -> Result<i32, Mistake>
     }
 }
 
-/// Parses a number of 16 bits with a sign.
+/// Parses a signed 16-bit number.
 pub fn offset(word: &str) -> Result<i16, Mistake>
     ensures { result ≡ offset_from word.now }
 {
@@ -57,7 +57,7 @@ pub fn offset(word: &str) -> Result<i16, Mistake>
     }
 }
 
-/// Parses a number of 64 bits without a sign; `-0` is zero.
+/// Parses an unsigned 64-bit number; `-0` is zero.
 pub fn wide(word: &str) -> Result<u64, Mistake>
     ensures { result ≡ wide_from word.now }
 {
@@ -90,7 +90,7 @@ pub fn operand(word: &str) -> Result<Operand, Mistake>
     }
 }
 
-/// Parses how many bits are extended to this width.
+/// Parses the number of bits to extend to this width.
 pub fn extension(width: Width, word: &str) -> Result<SignExtension, Mistake>
     ensures { result ≡ extension_from width word.now }
 {
@@ -102,7 +102,7 @@ pub fn extension(width: Width, word: &str) -> Result<SignExtension, Mistake>
     }
 }
 
-/// Joins two results: both, or the graver mistake.
+/// Joins two results: returns both values, or the mistake with higher precedence.
 pub fn both<A: Drop, B: Drop>(
     a: Result<A, Mistake>,
     b: Result<B, Mistake>,
@@ -117,7 +117,7 @@ pub fn both<A: Drop, B: Drop>(
     }
 }
 
-/// The one that is named first.
+/// Returns the mistake that is reported first.
 fn graver(a: Mistake, b: Mistake) -> Mistake
     ensures { result ≡ graver a b }
 {
@@ -127,7 +127,7 @@ fn graver(a: Mistake, b: Mistake) -> Mistake
     }
 }
 
-/// Whether it is digits, after a `-` or none.
+/// Returns whether the word is digits, with or without a leading `-`.
 fn writes_number(word: &str) -> bool
     ensures { result ≡ writes_number word.now }
 {

@@ -1,4 +1,4 @@
-//! Words that mean something to the assembler.
+//! The words that the assembler knows.
 ghost use Rattle.std.specs.Prelude.{IfOk, is_some, is_ok, ◌≡◌};
 ghost use Rattle.fc_asm.specs.Names.{mnemonic_named};
 ghost use Rattle.fc_asm.specs.Operands.{register_from};
@@ -8,11 +8,13 @@ use crate::names::Names;
 use crate::operand::register;
 use std::alloc::{AllocError, Global};
 
-/// Returns the operands that an instruction of this name takes, in their order; a word that names no instruction has none. `DST` is a register that
-/// may be written, `SRC` and `BASE` are registers, `TARGET` and `OFFSET` are numbers, and so are the other words.
+/// Returns the operands of the instruction with this name, in order.
+///
+/// Returns `None` if no instruction has this name. `DST` is a writable register, and `SRC` and
+/// `BASE` are registers. `TARGET`, `OFFSET` and the other words are numbers.
 ///
 /// # Errors
-/// Memory was refused.
+/// Returns `AllocError` if memory can't be allocated.
 pub fn operands_of(alloc: Global, word: &str) -> Result<Option<&'static str>, AllocError>
     ensures { IfOk result (λ operands. is_some operands ≡ is_some (mnemonic_named word.now)) }
 {

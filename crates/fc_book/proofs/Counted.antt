@@ -32,7 +32,7 @@ odd n uneven = let low : n % 2 < 2 = mod-lt n (omega arith) in grind (uneven, lo
 at : (calls n : ℕ) → n ≡ calls → calls ≡ 0 + n
 at calls n is = omega (arith, is)
 
--- the next call of a thread is of the counter whose turn it is
+-- the next call of a thread goes to the counter that is next by its index.
 pub caller_more : (who part n calls : ℕ) (v w : BookView CallEntry) (answers : List ℕ) → IsCaller who calls v answers → part ≡ calls % 2 → w ≡ with_call (call_of part who n) v → IsCaller who (calls + 1) w (answers ++ n ∷ [])
 caller_more who part n calls v w answers c due is = record {
   entries = c.entries ++ call_of part who n ∷ [];

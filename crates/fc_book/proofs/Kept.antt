@@ -15,7 +15,7 @@ module _ {E : Type 0} (keys : E → EntryKeys) where
   not_own k (inl h) = h
   not_own k (inr m) = absurd (cc m.0)
 
-  -- ---- the first seat
+  -- ---- the first handle
 
   pub opens : AreViewsOf keys [] (first_view ∷ [])
   opens = record { each = each; apart = apart }
@@ -68,7 +68,7 @@ module _ {E : Type 0} (keys : E → EntryKeys) where
     files log views id other h at apart there = joins keys views id other v w (filed_with keys e v w) log (log ++ e ∷ []) h at apart there
         (λ u n x. others_stay keys log (e ∷ []) u (λ k o. files_miss k (n k o).0 (n k o).1) x) files_keep (files_mine log)
 
-  -- ---- a part's track is given back
+  -- ---- a part's track is returned
 
   pub returns : (log : List E) (views : List (BookView E)) (id : ℕ) (v : BookView E) → AreViewsOf keys log views → get_elem? views id ≡ some v → AreViewsOf keys log (set views id (without_locked v) ++ locked_of v ∷ [])
   returns log views id v h at = splits keys views id v (without_locked v) (locked_of v) log h at keep (two log) (is log)
@@ -90,7 +90,7 @@ module _ {E : Type 0} (keys : E → EntryKeys) where
         record { locked = a.locked; own = tt; unbegun = λ m k le. absurd (cc m); fresh = λ m k x. absurd x; unlike = λ k x o. not_own k o; single = tt },
       )
 
-  -- ---- a seat with no track
+  -- ---- a handle with no track
 
   pub sits : (log : List E) (views : List (BookView E)) (id : ℕ) (v : BookView E) → AreViewsOf keys log views → get_elem? views id ≡ some v → AreViewsOf keys log (set views id v ++ no_tracks ∷ [])
   sits log views id v h at = splits keys views id v v no_tracks log h at keep (λ a k x y. owns_nothing keys k y) (λ a. (a, nothing_is keys log))
@@ -116,7 +116,7 @@ module _ {E : Type 0} (keys : E → EntryKeys) where
       single = a.single;
     }
 
-    -- the next track is none of those that are left
+    -- the next track isn't one of the remaining ones.
     next_apart : (log : List E) → IsViewOf keys log v → (k : ℕ) → HasTrack k (with_next v) → v.next ≡ k → ⊥
     next_apart log a k (inl s) p = a.unlike k s (inr (may_begin, omega (arith, p)))
     next_apart log a k (inr (inl h)) p = let lt : k < v.next = a.fresh may_begin k h in absurd (omega (arith, p))
@@ -191,7 +191,7 @@ module _ {E : Type 0} (keys : E → EntryKeys) where
           single = (λ x. let lt : v.next < v.next = a.fresh may_begin v.next x in absurd (omega arith), a.single);
         }
 
-  -- ---- a track changes hands
+  -- ---- a track changes its owner
 
   has-head : (k : ℕ) (ts : List (Track E)) → HasKey k (first_track ts) → HasKey k ts
   has-head k [] x = x
@@ -339,7 +339,7 @@ module _ {E : Type 0} (keys : E → EntryKeys) where
     files_alone log views id h at = changes keys views id v (with_filed keys e v) log (log ++ e ∷ []) h at
         (λ u n x. others_stay keys log (e ∷ []) u (λ k o. on-before keys k e (off_others k (λ w. n k o (inr w)))) x) alone_keep (alone_is log)
 
-  -- ---- a look
+  -- ---- a read
 
   pub looks : (log : List E) (views : List (BookView E)) (id : ℕ) (v : BookView E) → AreViewsOf keys log views → get_elem? views id ≡ some v → AreViewsOf keys log (set views id v)
   looks log views id v h at = subst (λ (us : List (BookView E)). AreViewsOf keys log us) (sym (set_again views id v at)) h

@@ -33,7 +33,7 @@ module _ {E : Type 0} (keys : E → EntryKeys) where
   has-with k e (t ∷ ts) (inl p) = inl p
   has-with k e (t ∷ ts) (inr h) = inr (has-with k e ts h)
 
-  -- an entry that is on none of them leaves them as they are
+  -- an entry that is on none of them leaves them unchanged.
   pub stays : (log more : List E) (ts : List (Track E)) → ((k : ℕ) → HasKey k ts → on keys k more ≡ []) → AreOn keys log ts → AreOn keys (log ++ more) ts
   stays log more [] none a = tt
   stays log more (t ∷ ts) none a = (
@@ -45,7 +45,7 @@ module _ {E : Type 0} (keys : E → EntryKeys) where
   entries_on k true log xs e is at = rw is (ap (λ (l : List E). l ++ e ∷ []) at)
   entries_on k false log xs e is at = rw is (at ∙ sym (append-nil (on keys k log)))
 
-  -- and one that is on some of them stands last there
+  -- and one that is on some of them is the last entry there.
   pub with_is : (log : List E) (e : E) (ts : List (Track E)) → AreOn keys log ts → AreOn keys (log ++ e ∷ []) (with_entry keys e ts)
   with_is log e [] a = tt
   with_is log e (t ∷ ts) a = (entries_on t.key (is_on keys t.key e) log t.entries e refl a.0 ∙ sym (on-append t.key log (e ∷ [])), with_is log e ts a.1)

@@ -9,7 +9,7 @@ use Rattle.fc_book.specs.Counters.{AreCounted, AreTheirs, HasMadeCalls, HasOneHi
 use Rattle.fc_book.specs.Calls.{keys_of}
 use Rattle.fc_book.specs.Tracks.{HasHistory, is_on, on, track}
 
--- what an entry on the track of a key is
+-- form of an entry on the track of a key.
 abbrev Fits : ℕ → CallEntry → Type 0
 Fits k e = (k < 4) × (k < 2 → 2 ≤ e.who) × (2 ≤ k → e.part < 2)
 
@@ -52,7 +52,7 @@ are_theirs (e ∷ es) fit =
     let p = part_fits e (first_fits e.part e es (on_part e) (fit e.part)) (first_fits e.who e es (on_who e) (fit e.who)) in
     (p.0, p.1, p.2, are_theirs es (λ k. rest_fits k e es (is_on keys_of k e) refl (fit k)))
 
--- the view of who has the tracks of both counters and both threads
+-- view of an owner that has the tracks of both counters and both threads.
 abbrev pub all_tracks : List CallEntry → List CallEntry → List CallEntry → List CallEntry → BookView CallEntry
 all_tracks left right first second = record {
   locked = [];

@@ -6,38 +6,38 @@ use Rattle.fc_book.specs.declared.callers.CallerResults.{CallerResults}
 use Rattle.fc_book.specs.Calls.{keys_of}
 use Rattle.fc_book.specs.Tracks.{HasKey, on, own_view, with_filed}
 
--- a thread calls a counter, for a job with its own key, and is answered this number
+-- a thread calls a counter, for a job with its own key, with this number as the result.
 abbrev pub call_of : ℕ → ℕ → ℕ → CallEntry
 call_of part who n = record { part = part; who = who; job = who; answer = n }
 
 -- ---- a counter
 
--- each is a call of the counter by a thread, and they are answered by the numbers from n on, in order
+-- each is a call of the counter by a thread, and their results are the numbers from n on, in order.
 abbrev pub AreCounted : ℕ → ℕ → List CallEntry → Type 0
 AreCounted part n [] = Unit {0}
 AreCounted part n (e ∷ es) = (e ≡ call_of part e.who n) × (2 ≤ e.who) × AreCounted part (n + 1) es
 
 -- ---- a thread
 
--- the thread's own track is among those of the view
+-- the thread's own track is among those of the view.
 abbrev pub IsThread : ℕ → BookView CallEntry → Type 0
 IsThread who v = HasKey who v.own
 
--- the view after a call is filed
+-- the view after a call is filed.
 abbrev pub with_call : CallEntry → BookView CallEntry → BookView CallEntry
 with_call e v = with_filed keys_of e v
 
--- the calls of a thread from its i-th on, which is of counter i % 2: they were answered so
+-- the calls of a thread from its i-th on, which is of counter i % 2, with these results.
 abbrev pub calls_in_turn : ℕ → ℕ → List ℕ → List CallEntry
 calls_in_turn who i [] = []
 calls_in_turn who i (a ∷ answers) = call_of (i % 2) who a ∷ calls_in_turn who (i + 1) answers
 
--- a thread has made so many calls, of counters 0 and 1 in turn, and was answered so
+-- a thread has made this many calls, of counters 0 and 1 alternately, with these results.
 pub record HasMadeCalls (who calls : ℕ) (entries : List CallEntry) (answers : List ℕ) : Type 0 where
   pub entries_are : entries ≡ calls_in_turn who 0 answers
   pub count : length answers ≡ calls
 
--- its track alone is in the view, with these calls
+-- its track alone is in the view, with these calls.
 pub record IsCaller (who calls : ℕ) (v : BookView CallEntry) (answers : List ℕ) : Type 0 where
   pub entries : List CallEntry
   pub view : v ≡ own_view who entries
@@ -45,13 +45,14 @@ pub record IsCaller (who calls : ℕ) (v : BookView CallEntry) (answers : List �
 
 -- ---- both
 
--- each is a call of counter 0 or 1 by thread 2 or 3
+-- each is a call of counter 0 or 1 by thread 2 or 3.
 abbrev pub AreTheirs : List CallEntry → Type 0
 AreTheirs [] = Unit {0}
 AreTheirs (e ∷ es) = (e.part < 2) × (2 ≤ e.who) × (e.who < 4) × AreTheirs es
 
--- there is one history, of calls of these counters by these threads alone. The calls of each counter are numbered from 0 on, as many as it
--- counted; and the calls of each thread are so many, of the counters in turn, answered as it was answered
+-- there is one history, of calls of these counters by these threads alone. The calls of each
+-- counter are numbered from 0 on, as many as it counted; and the calls of each thread are as many
+-- as it made, of the counters alternately, with its results.
 pub record HasOneHistory (calls : ℕ) (r : CallerResults) : Type 0 where
   pub log : List CallEntry
   pub theirs : AreTheirs log

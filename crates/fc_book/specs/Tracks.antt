@@ -1,4 +1,5 @@
--- Tracks of one history, and their owners, whatever its entries are: a function gives the keys of each.
+-- Tracks of one history, and their owners, for entries of any form: a function gives the keys of
+-- each.
 use Rattle.std.specs.Prelude.{◌≡◌, ◌⊎◌, ℕ, ◌+◌, ◌<◌, ◌≤◌, ◌==◌, ◌||◌, Bool, true, false, List, [], ◌∷◌, ◌++◌, map}
 use Rattle.std.specs.List.{filter}
 use lib.ListN.{get_elem?}
@@ -7,7 +8,7 @@ use Rattle.atomic_table.specs.Seated.{TableId}
 use Rattle.fc_book.specs.declared.view.Track.{Track}
 use Rattle.fc_book.specs.declared.view.BookView.{BookView}
 
--- the keys of an entry: of its part, of the thread that made the call, and of its job
+-- the keys of an entry: of its part, of the thread that made the call, and of its job.
 pub record EntryKeys : Type 0 where
   pub part : ℕ
   pub who : ℕ
@@ -19,12 +20,12 @@ module _ {E : Type 0} where
   abbrev pub track : ℕ → List E → Track E
   track k entries = record { key = k; entries = entries }
 
-  -- one of the tracks has this key
+  -- one of the tracks has this key.
   abbrev pub HasKey : ℕ → List (Track E) → Type 0
   HasKey k [] = ⊥
   HasKey k (t ∷ ts) = (t.key ≡ k) ⊎ HasKey k ts
 
-  -- no two have the same key
+  -- no two have the same key.
   abbrev pub AreSingle : List (Track E) → Type 0
   AreSingle [] = Unit {0}
   AreSingle (t ∷ ts) = (HasKey t.key ts → ⊥) × AreSingle ts
@@ -33,7 +34,7 @@ module _ {E : Type 0} where
   entries_with true entries e = entries ++ e ∷ []
   entries_with false entries e = entries
 
-  -- the entries on the first track
+  -- the entries on the first track.
   abbrev pub entries_of : List (Track E) → List E
   entries_of [] = []
   entries_of (t ∷ ts) = t.entries
@@ -46,57 +47,58 @@ module _ {E : Type 0} where
   other_tracks [] = []
   other_tracks (t ∷ ts) = ts
 
-  -- the view of an owner of no track, that begins none
+  -- the view of an owner of no track, that begins none.
   abbrev pub no_tracks : BookView E
   no_tracks = record { locked = []; own = []; may_begin = false; next = 0 }
 
-  -- the first owner's view: no track has begun, and it may begin each
+  -- the first owner's view: no track has begun, and it may begin each.
   abbrev pub first_view : BookView E
   first_view = record { locked = []; own = []; may_begin = true; next = 0 }
 
-  -- the view of a part's lock
+  -- the view of a part's lock.
   abbrev pub part_view : ℕ → List E → BookView E
   part_view k entries = record { locked = track k entries ∷ []; own = []; may_begin = false; next = 0 }
 
-  -- the view of a thread, or a message, that owns one track
+  -- the view of a thread, or a message, that owns one track.
   abbrev pub own_view : ℕ → List E → BookView E
   own_view k entries = record { locked = []; own = track k entries ∷ []; may_begin = false; next = 0 }
 
-  -- the track is one of its own, or one that it may begin
+  -- the track is one of its own, or one that it may begin.
   abbrev pub OwnsTrack : ℕ → BookView E → Type 0
   OwnsTrack k v = HasKey k v.own ⊎ ((v.may_begin ≡ true) × (v.next ≤ k))
 
-  -- or of a part
+  -- or of a part.
   abbrev pub HasTrack : ℕ → BookView E → Type 0
   HasTrack k v = HasKey k v.locked ⊎ OwnsTrack k v
 
 -- ---- the entries on a track
 
 module _ {E : Type 0} (keys : E → EntryKeys) where
-  -- an entry is on the tracks of its part, its thread and its job
+  -- an entry is on the tracks of its part, its thread and its job.
   abbrev pub is_on : ℕ → E → Bool
   is_on k e = ((keys e).part == k) || (((keys e).who == k) || ((keys e).job == k))
 
-  -- the subhistory of a key: the entries on its track, oldest first
+  -- the subhistory of a key: the entries on its track, oldest first.
   abbrev pub on : ℕ → List E → List E
   on k log = filter (is_on k) log
 
-  -- each has just the entries of the history with its key
+  -- each has exactly the entries of the history with its key.
   abbrev pub AreOn : List E → List (Track E) → Type 0
   AreOn log [] = Unit {0}
   AreOn log (t ∷ ts) = (t.entries ≡ on t.key log) × AreOn log ts
 
-  -- the track after the entry is filed: with the entry last, if it is on it
+  -- the track after the entry is filed: with the entry last, if it is on it.
   abbrev pub track_with : E → Track E → Track E
   track_with e t = track t.key (entries_with (is_on t.key e) t.entries e)
 
-  -- these tracks after the entry is filed
+  -- these tracks after the entry is filed.
   abbrev pub with_entry : E → List (Track E) → List (Track E)
   with_entry e ts = map (track_with e) ts
 
 -- ---- the rule
 
--- the view's tracks are just the entries of the history with their keys, no two have the same key, and those that it may begin have no entry
+-- the view's tracks are exactly the entries of the history with their keys. No two have the same
+-- key, and those that it may begin have no entry.
 pub record IsViewOf {E : Type 0} (keys : E → EntryKeys) (log : List E) (v : BookView E) : Type 0 where
   pub locked : AreOn keys log v.locked
   pub own : AreOn keys log v.own
@@ -105,17 +107,17 @@ pub record IsViewOf {E : Type 0} (keys : E → EntryKeys) (log : List E) (v : Bo
   pub unlike : (k : ℕ) → HasKey k v.locked → OwnsTrack k v → ⊥
   pub single : AreSingle v.own
 
--- each view is one of the history, and no two have the same track
+-- each view is one of the history, and no two have the same track.
 pub record AreViewsOf {E : Type 0} (keys : E → EntryKeys) (log : List E) (views : List (BookView E)) : Type 0 where
   pub each : (i : ℕ) (v : BookView E) → get_elem? views i ≡ some v → IsViewOf keys log v
   pub apart : (i j : ℕ) (v w : BookView E) (k : ℕ) → get_elem? views i ≡ some v → get_elem? views j ≡ some w → HasTrack k v → HasTrack k w → i ≡ j
 
--- there is one history, each view is one of it, and no two have the same track
+-- there is one history, each view is one of it, and no two have the same track.
 pub record HaveOneHistory {E : Type 0} (keys : E → EntryKeys) (views : List (BookView E)) : Type 0 where
   pub log : List E
   pub views_of : AreViewsOf keys log views
 
--- the view is one of a history
+-- the view is one of a history.
 pub record HasHistory {E : Type 0} (keys : E → EntryKeys) (v : BookView E) : Type 0 where
   pub log : List E
   pub is : IsViewOf keys log v
@@ -123,48 +125,48 @@ pub record HasHistory {E : Type 0} (keys : E → EntryKeys) (v : BookView E) : T
 -- ---- moves
 
 module _ {E : Type 0} (keys : E → EntryKeys) where
-  -- an owner that has a part's track for the time of a call, which is filed
+  -- an owner that has a part's track during a call, which is filed.
   abbrev pub filed_with : E → BookView E → BookView E → BookView E
   filed_with e v w = record { locked = with_entry keys e w.locked; own = with_entry keys e v.own; may_begin = v.may_begin; next = v.next }
 
-  -- an owner after an entry is filed, without a part's track
+  -- an owner after an entry is filed, without a part's track.
   abbrev pub with_filed : E → BookView E → BookView E
   with_filed e v = record v { own = with_entry keys e v.own }
 
 module _ {E : Type 0} where
-  -- it without the part's track
+  -- it without the part's track.
   abbrev pub without_locked : BookView E → BookView E
   without_locked v = record v { locked = [] }
 
-  -- and the part's track alone
+  -- and the part's track alone.
   abbrev pub locked_of : BookView E → BookView E
   locked_of v = record { locked = v.locked; own = []; may_begin = false; next = 0 }
 
-  -- the next track is begun, for another
+  -- the next track is begun, for another.
   abbrev pub with_next : BookView E → BookView E
   with_next v = record v { next = v.next + 1 }
 
-  -- and for itself: it is the first of its own
+  -- and for itself: it is the first of its own.
   abbrev pub with_begun : BookView E → BookView E
   with_begun v = record v { own = track v.next [] ∷ v.own; next = v.next + 1 }
 
-  -- the first of its own tracks alone
+  -- the first of its own tracks alone.
   abbrev pub first_own : BookView E → BookView E
   first_own v = record { locked = []; own = first_track v.own; may_begin = false; next = 0 }
 
-  -- it without that
+  -- it without that.
   abbrev pub without_first : BookView E → BookView E
   without_first v = record v { own = other_tracks v.own }
 
-  -- with another's tracks, first among its own
+  -- with another's tracks, first among its own.
   abbrev pub merged_with : BookView E → BookView E → BookView E
   merged_with v w = record v { own = w.own ++ v.own }
 
-  -- with a part's track, first among its own
+  -- with a part's track, first among its own.
   abbrev pub with_part : BookView E → BookView E → BookView E
   with_part v w = record v { own = w.locked ++ v.own }
 
--- ---- what a name stands for, if nothing chooses it
+-- ---- the meaning of a name that no caller chose
 
 abbrev pub no_table : TableId
 no_table = record { words = 0; slots = 0; views_name = 0; atom = 0; block = 0; offset = 0; slot_names = [] }

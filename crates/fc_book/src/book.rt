@@ -53,7 +53,9 @@ pub struct NewBook {
     pub ghost empty: { seat.me ≡ (first_view, []) },
 }
 
-/// The book: a table of words that are never written. Each step loads its first word.
+/// The book: a table of words that are never written.
+///
+/// Each step loads its first word.
 #[derive(Drop)]
 pub struct Book<J: BookName> {
     words: Words,
@@ -62,7 +64,9 @@ pub struct Book<J: BookName> {
     ghost some: { 0 < words.shared.table_id.words },
 }
 
-/// The tracks that a thread or a message owns. It has no bytes; a clause sees its view.
+/// The tracks that a thread or a message owns.
+///
+/// It has no bytes; a clause sees its view.
 #[derive(Drop)]
 pub struct Tracks<J: BookName> {
     seat: CallSeat,
@@ -81,7 +85,9 @@ impl<J: BookName> Model for Tracks<J> {
     ghost invariant = { λ t. (t.seat.table_id ≡ J.table) × (t.seat.me.1 ≡ []) × (t.seat.me.0.locked ≡ []) };
 }
 
-/// The track of a part, kept under the part's lock. It has no bytes; a clause sees the calls on it, oldest first.
+/// The track of a part, stored under the part's lock.
+///
+/// It has no bytes; a clause sees the calls on it, oldest first.
 #[derive(Drop)]
 pub struct PartTrack<P: Part> {
     seat: CallSeat,
@@ -111,7 +117,9 @@ impl NewBook {
         Ok(NewBook { words, seat })
     }
 
-    /// Names the book, and returns it with the owner of no track yet, which may begin each.
+    /// Names the book, and returns it with the owner of no track yet.
+    ///
+    /// The owner may begin each track.
     pub fn with_name<J: BookName>(self) -> (Book<J>, Tracks<J>)
         requires { self.words.shared.table_id ≡ J.table }
         ensures { result.1 ≡ first_view }
@@ -194,7 +202,7 @@ impl<J: BookName> Tracks<J> {
         steps::close(&book.words, &mut self.seat, seat);
     }
 
-    /// Attests that there is one history, of which its tracks are just the entries with their keys.
+    /// Attests one history, whose entries with their keys are exactly its tracks.
     pub fn attest(&mut self, book: &Book<J>)
         ensures one { HasHistory keys_of self.old }
         ensures kept { self.new ≡ self.old }
@@ -202,8 +210,9 @@ impl<J: BookName> Tracks<J> {
         steps::attest(&book.words, &mut self.seat);
     }
 
-    /// Files a call of a part, whose lock the caller holds: the call becomes the last entry on the tracks of its part, its thread
-    /// and its job.
+    /// Files a call of a part, whose lock the caller holds.
+    ///
+    /// The call becomes the last entry on the tracks of its part, its thread and its job.
     pub fn file<P: Part>(&mut self, book: &Book<J>, part: &mut PartTrack<P>, entry: &CallEntry)
         requires same { P.table ≡ J.table }
         requires part { entry.now.part ≡ P.key }

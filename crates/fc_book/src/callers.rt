@@ -10,7 +10,7 @@ use std::marker::Brand;
 use std::sync::{Mutex, Wait};
 use std::thread::{Threads, join};
 
-/// What each of two threads was answered, and the counts of two counters at the end.
+/// The results of two threads' calls, and the counts of two counters at the end.
 #[derive(Drop)]
 pub struct CallerResults {
     pub first: Vec<u64>,
@@ -19,8 +19,9 @@ pub struct CallerResults {
     pub right: u64,
 }
 
-/// Calls two counters in turn, and returns what they answer. Returns `None` if memory can't be allocated, or if a counter is at its
-/// maximum.
+/// Calls two counters alternately, and returns the results.
+///
+/// Returns `None` if memory can't be allocated, or if a counter is at its maximum.
 fn call_in_turn<J: BookName, R: Wait>(
     rt: &R,
     alloc: Global,
@@ -48,7 +49,9 @@ fn call_in_turn<J: BookName, R: Wait>(
     Some((tracks, answers))
 }
 
-/// Runs two threads that call two counters, as [`run_callers`], in a book that `J` names.
+/// Runs two threads that call two counters in a book that `J` names.
+///
+/// See [`run_callers`].
 fn run_callers_in<J: BookName + Send + Sync, R: Threads + Wait + Sync>(
     rt: &R,
     alloc: Global,
@@ -89,8 +92,10 @@ fn run_callers_in<J: BookName + Send + Sync, R: Threads + Wait + Sync>(
     })
 }
 
-/// Runs two threads, each of which makes `calls` calls of two counters in turn. Each counter lies behind a lock of its own. Returns
-/// `None` if memory can't be allocated, or if a counter is at its maximum.
+/// Runs two threads, each of which makes `calls` calls of two counters alternately.
+///
+/// Each counter has a lock of its own. Returns `None` if memory can't be allocated, or if a counter
+/// is at its maximum.
 pub fn run_callers<R: Threads + Wait + Sync>(
     rt: &R,
     alloc: Global,

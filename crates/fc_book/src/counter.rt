@@ -8,7 +8,9 @@ use crate::entry::CallEntry;
 use std::marker::Model;
 use std::sync::{Mutex, Wait};
 
-/// The contents of a counter's lock: the count, and the track of the calls that it counts. A clause sees those calls.
+/// The contents of a counter's lock: the count, and the track of the counted calls.
+///
+/// A clause sees those calls.
 #[derive(Drop)]
 pub struct CallCounter<J: BookName, const KEY: u64> {
     count: u64,
@@ -37,7 +39,9 @@ impl<J: BookName, const KEY: u64> CallCounter<J, KEY> {
         CallCounter { count: 0, track }
     }
 
-    /// Counts and files a call by thread `who`. Returns its number, or `None` if the count is at its maximum.
+    /// Counts and files a call by thread `who`, and returns its number.
+    ///
+    /// Returns `None` if the count is at its maximum.
     pub fn count(&mut self, book: &Book<J>, tracks: &mut Tracks<J>, who: u64) -> Option<u64>
         requires thread { IsThread who tracks.old }
         requires key { 2 ≤ who }
@@ -60,7 +64,9 @@ impl<J: BookName, const KEY: u64> CallCounter<J, KEY> {
         Some(n)
     }
 
-    /// Closes the counter: `tracks` takes its track over. Returns its count.
+    /// Closes the counter, and returns its count.
+    ///
+    /// `tracks` takes its track over.
     pub fn close(self, book: &Book<J>, tracks: &mut Tracks<J>) -> u64
         ensures count { result ≡ length self }
         ensures counted { AreCounted KEY 0 self }

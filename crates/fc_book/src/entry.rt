@@ -1,6 +1,8 @@
 //! Calls, as the history lists them.
 
-/// A call: the keys of its part, of the thread that made it and of its job, and what was returned.
+/// A call.
+///
+/// It has the keys of its part, of the thread that made it and of its job, and its result.
 #[derive(Clone, Copy)]
 pub struct CallEntry {
     pub part: u64,

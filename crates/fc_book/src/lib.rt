@@ -1,12 +1,14 @@
-//! One history of the calls that threads make under locks, kept by no bytes.
+//! One history of the calls that threads make under locks, as ghost state.
 //!
-//! A *track* is the subhistory of one part, one thread or one job: the entries of the history with its key, oldest first. The track of
-//! a part lies under the part's lock ([`PartTrack`]); a thread, or a message, has tracks of its own ([`Tracks`]). The rule of the
-//! [`Book`] holds under every schedule (`specs/Tracks.antt`, `HaveOneHistory`): there is one history, each track that somebody has is
-//! just the entries on it, and no two have the same track.
+//! A *track* is the subhistory of one part, one thread or one job: the entries of the history with
+//! its key, oldest first. The track of a part is stored under the part's lock ([`PartTrack`]); a
+//! thread, or a message, has tracks of its own ([`Tracks`]). The rule of the [`Book`] holds under
+//! every schedule (`specs/Tracks.antt`, `HaveOneHistory`): there is one history, each owned track
+//! consists of exactly the entries on it, and no track has two owners.
 //!
-//! A call is filed while its part's lock is held: it is then the last entry on the tracks of its part, its thread and its job
-//! ([`Tracks::file`]). Each step is a plain load of a word that nobody writes, so it can't fail, and takes no lock.
+//! A call is filed while its part's lock is held: it is then the last entry on the tracks of its
+//! part, its thread and its job ([`Tracks::file`]). Each step is a plain load of a word that no
+//! thread writes, so it can't fail, and takes no lock.
 //!
 //! ```rust
 //! ghost use Rattle.std.specs.Prelude.{IfSome};
@@ -17,7 +19,7 @@
 //! use std::sync::Wait;
 //! use std::thread::Threads;
 //!
-//! /// Two threads make a thousand calls each of two counters, each behind a lock.
+//! /// Two threads make a thousand calls each of two counters, each of which has a lock.
 //! fn run_a_thousand<R: Threads + Wait + Sync>(rt: &R, alloc: Global) -> Option<CallerResults>
 //!     ensures { IfSome result (λ r. HasOneHistory 1000 r) }
 //! {
@@ -27,16 +29,20 @@
 //!
 //! # What is proved
 //!
-//! - A filed call is the last entry on the tracks of its part, its thread and its job, and on no other.
-//! - Under every schedule there is one history, of which each track is just the entries with its key. A track changes its owner
-//!   whole, and no track has two.
-//! - Two threads that call two counters have one history: the calls of each counter are numbered in it from 0 on, as many as it
-//!   counted; and the calls of each thread are those that it made, in its order, with what it was answered.
+//! - A filed call is the last entry on the tracks of its part, its thread and its job, and on no
+//!   other.
+//! - Under every schedule there is one history, of which each track is exactly the entries with its
+//!   key. A track changes its owner as a whole, and no track has two.
+//! - Two threads that call two counters have one history. The calls of each counter are numbered in
+//!   it from 0 on, as many as it counted. The calls of each thread are those that it made, in its
+//!   order, with their results.
 //!
-//! The counters stand for the parts of a server. The tracks, views and moves don't depend on what an entry is, so another book uses them too,
-//! with entries of its own and a longer rule (`specs/Tracks.antt`, `proofs/Kept.antt`).
+//! The counters stand in for the parts of a server. The tracks, views and moves don't depend on the
+//! form of an entry. So another book uses them too, with entries of its own and a longer rule
+//! (`specs/Tracks.antt`, `proofs/Kept.antt`).
 //!
-//! By the contracts of `Tracks::file`, `attest`, `begin`, `begin_part`, `begin_tracks`, `split_first`, `merge`, `close`, `run_callers`.
+//! By the contracts of `Tracks::file`, `attest`, `begin`, `begin_part`, `begin_tracks`,
+//! `split_first`, `merge`, `close`, `run_callers`.
 #![tactic(auto)]
 
 pub mod book;

@@ -1,4 +1,6 @@
-//! The steps of seats at the book. Each is a load of its first word, which nobody writes.
+//! The steps of handles at the book.
+//!
+//! Each is a load of its first word, which no thread writes.
 ghost use Rattle.std.specs.Prelude.{◌≡◌, ◌<◌, ◌+◌, [], ◌∷◌, ◌++◌, true, false};
 ghost use Rattle.fc_book.specs.Calls.{keys_of};
 ghost use Rattle.fc_book.specs.Tracks.{AreSingle, HasHistory, HasKey, with_begun, filed_with, first_own, locked_of, merged_with, no_tracks, own_view, part_view, with_next, with_part, without_first, without_locked};
@@ -15,7 +17,7 @@ pub(crate) type CallSeat = Seat<u8, BookView<CallEntry>>;
 
 pub(crate) type Words = Table<u8, BookView<CallEntry>, (), BookRule, Global>;
 
-/// Makes a seat with no track.
+/// Makes a handle with no track.
 pub(crate) fn empty_seat(words: &Words, seat: &mut CallSeat) -> CallSeat
     requires size { 0 < words.now.shared.table_id.words }
     requires table { seat.old.table_id ≡ words.now.shared.table_id }
@@ -25,7 +27,7 @@ pub(crate) fn empty_seat(words: &Words, seat: &mut CallSeat) -> CallSeat
     words.shared.split_seat::<MakesEmpty>(seat)
 }
 
-/// Takes a part's track in, and files an entry.
+/// Takes over a part's track, and files an entry.
 pub(crate) fn file<X: EntryName>(words: &Words, seat: &mut CallSeat, part: CallSeat)
     requires size { 0 < words.now.shared.table_id.words }
     requires table { seat.old.table_id ≡ words.now.shared.table_id }

@@ -6,14 +6,18 @@ use atomic_table::{Join, Play, Split, TableRule};
 use std::collections::LinkedList;
 use std::marker::{Brand, PhantomData};
 
-/// A track: the entries of the history with its key, oldest first. It is seen by clauses alone; no value of it is made.
+/// A track: the entries of the history with its key, oldest first.
+///
+/// It is seen by clauses alone; no value of it is made.
 pub struct Track<E> {
     pub key: u64,
     pub entries: LinkedList<E>,
 }
 
-/// The tracks that an owner has: a part's, while its lock is held, and its own. If it may begin tracks, `next` is the key of the next.
-/// It is seen by clauses alone; no value of it is made.
+/// The tracks that an owner has: a part's, while its lock is held, and its own.
+///
+/// If it may begin tracks, `next` is the key of the next one. It is seen by clauses alone; no value
+/// of it is made.
 pub struct BookView<E> {
     pub locked: LinkedList<Track<E>>,
     pub own: LinkedList<Track<E>>,
@@ -21,7 +25,9 @@ pub struct BookView<E> {
     pub next: u64,
 }
 
-/// The rule of a book: there is one history, each view is one of it, and no track is in two views.
+/// The rule of a book.
+///
+/// There is one history, each view is one of it, and no track is in two views.
 pub struct BookRule;
 
 impl TableRule<u8, BookView<CallEntry>, ()> for BookRule {
@@ -33,7 +39,7 @@ impl TableRule<u8, BookView<CallEntry>, ()> for BookRule {
     ghost first = { λ _. first_view };
 }
 
-/// The name of an entry that is filed. Each call of [`crate::Tracks::file`] chooses it.
+/// The name of a filed entry. Each call of [`crate::Tracks::file`] chooses it.
 pub trait EntryName {
     ghost use Rattle.fc_book.specs.declared.entry.CallEntry.{CallEntry};
 
@@ -46,7 +52,7 @@ impl EntryName for Brand {
     ghost entry = { no_entry };
 }
 
-/// Takes a part's track in, and files an entry.
+/// Takes over a part's track, and files an entry.
 pub(crate) struct Files<X: EntryName> {
     of: PhantomData<X>,
 }
@@ -71,7 +77,7 @@ impl<E> Split<BookView<E>> for ReturnsPart {
     ghost right = { locked_of };
 }
 
-/// Makes a seat with no track.
+/// Makes a handle with no track.
 pub struct MakesEmpty;
 
 impl<E> Split<BookView<E>> for MakesEmpty {

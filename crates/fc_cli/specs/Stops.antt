@@ -1,10 +1,10 @@
--- How a program ends that stops before the end of its lines.
+-- The status of a program that stops before the end of its lines.
 use Rattle.fc_cli.specs.declared.status.Status.{Status}
 use Rattle.fc_cli.specs.declared.status.Status.TheVariants.{Bad, Failed}
 use Rattle.fc_cli.specs.declared.stop.Stop.{Stop}
 use Rattle.fc_cli.specs.declared.stop.Stop.TheVariants.{BadLine, Input, Output, Memory}
 
--- a bad line is its writer's fault
+-- a bad line is the fault of its writer.
 abbrev pub status_of : Stop → Status
 status_of (BadLine line) = Bad
 status_of (Input error) = Failed

@@ -1,4 +1,4 @@
-//! What the programs do alike with their command lines.
+//! Command lines, for all programs.
 ghost use Rattle.std.specs.Prelude.{◌≡◌, IfErr, IfOk};
 ghost use Rattle.clap.specs.Values.{kind_of};
 ghost use Rattle.std.specs.Process.{exit_status};
@@ -12,13 +12,17 @@ use std::io::Write;
 use std::process::ExitCode;
 use std::rt::Runtime;
 
-/// The version that `--version` tells, and the kit that proves its sources, whatever built the program.
+/// The output of `--version`, which names the kit that proves these sources.
+///
+/// The kit that built the program may be another one.
 pub const VERSION: &str = "0.1.0, of sources that rattle-kit-13f logic dac8208d650f15bf proves";
 
-/// Reads the words of the command line. `None` where one of them isn't UTF-8, which `err` is told.
+/// Returns the words of the command line, or `None` if one of them isn't UTF-8.
+///
+/// In that case a message is written to `err`.
 ///
 /// # Errors
-/// The words can't be had, there was no memory for them, or `err` failed.
+/// Returns an error if the words can't be read, if memory can't be allocated, or if `err` fails.
 pub fn words<R: Runtime + AllocGlobal, E: Write>(
     rt: &R,
     err: &mut E,
@@ -33,10 +37,12 @@ pub fn words<R: Runtime + AllocGlobal, E: Write>(
     }
 }
 
-/// Prints why the words are no command, with the status: help or the version that was asked for is no mistake.
+/// Prints why the words aren't a command, and returns the status.
+///
+/// A request for help or for the version isn't a mistake.
 ///
 /// # Errors
-/// It can't be printed.
+/// Returns an error if printing fails.
 pub fn explain<R: Runtime>(rt: &R, error: &Error) -> anyhow::Result<Status>
     ensures { IfOk result (λ status. status ≡ explained (kind_of error.now)) }
 {
@@ -48,11 +54,12 @@ pub fn explain<R: Runtime>(rt: &R, error: &Error) -> anyhow::Result<Status>
     })
 }
 
-/// Parses the words of the command line by a command. Where they are none of it, why is printed, and in place of what was parsed
-/// it is given how the program ends.
+/// Parses the words of the command line by a command.
+///
+/// If they don't match, prints why, and returns the program's status.
 ///
 /// # Errors
-/// It can't be printed.
+/// Returns an error if printing fails.
 pub fn parse<'a, R: Runtime>(
     rt: &R,
     command: Command<'a>,
@@ -66,7 +73,7 @@ pub fn parse<'a, R: Runtime>(
     }
 }
 
-/// Returns the exit code of a program that ended so; `err` is told why where it failed.
+/// Returns the exit code for a program's end; a failure is written to `err`.
 pub fn exit_code<E: Write>(err: &mut E, ended: anyhow::Result<Status>) -> ExitCode
     ensures ended { IfOk ended (λ status. exit_status result ≡ status_number status) }
     ensures failed { IfErr ended (λ _. exit_status result ≡ 3) }

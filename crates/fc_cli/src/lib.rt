@@ -1,9 +1,9 @@
-//! What the programs share: their command lines, how they end, and the message id that they begin with.
+//! Shared parts of the programs: command lines, exit statuses, first message ID.
 //!
 //! # What is proved
 //!
-//! - Each way in which a program ends has its exit status. Words that are no command end it by 2, but for help and the version, which end
-//!   it by 0, and refused memory, by 3.
+//! - Each outcome of a program has its exit status. Words that aren't a command give 2. Help
+//!   and the version give 0, and a failed allocation gives 3.
 //!
 //! By the contracts of `Status`, `Stop::status`, `exit_code`, `explain`.
 #![tactic(auto)]

@@ -1,11 +1,13 @@
-//! The random bytes of the system: a message id to begin with.
+//! Random bytes of the system, for the first message ID.
 use std::io;
 use std::random::RandomSource;
 
-/// Draws a message id to begin with, by two random bytes of the system: none that is sent before tells it (RFC 7252, 4.4).
+/// Returns a random first message ID, from two random bytes of the system.
+///
+/// Messages that were sent before don't reveal it (RFC 7252, section 4.4).
 ///
 /// # Errors
-/// The system gives no random bytes.
+/// Returns an error if the system returns no random bytes.
 pub fn random_id<R: RandomSource>(rt: &R) -> io::Result<u16> {
     let mut bytes = [0; 2];
     rt.fill_bytes(&mut bytes)?;

@@ -1,11 +1,11 @@
-//! How the programs end.
+//! Exit statuses of the programs.
 ghost use Rattle.fc_cli.specs.Ending.{IsEnding};
 
 use std::fmt::Display;
 use std::io::Write;
 use std::process::ExitCode;
 
-/// How a program ends.
+/// The outcome of a program.
 #[derive(Clone, Copy, Debug, PartialEq, Eq)]
 pub enum Status {
     /// The work is done: exit status 0.
@@ -14,7 +14,7 @@ pub enum Status {
     Refused,
     /// A line or the command line is bad: exit status 2.
     Bad,
-    /// Reading or writing failed, or memory was refused: exit status 3.
+    /// Reading, writing or an allocation failed: exit status 3.
     Failed,
 }
 
@@ -35,7 +35,9 @@ impl From<Status> for ExitCode {
     }
 }
 
-/// Tells `err`, in a line, why a program ends so. What can't be told is a failure of its own.
+/// Writes to `err`, in a line, why a program ends with `status`.
+///
+/// Returns `status`, or `Failed` if writing fails.
 pub fn tell<E: Write, D: Display>(err: &mut E, why: &D, status: Status) -> Status
     ensures { IsEnding status result }
 {

@@ -1,4 +1,4 @@
-//! Why a program that reads lines stops.
+//! The reasons why a program that reads lines stops.
 ghost use Rattle.std.specs.Prelude.{◌≡◌, ◌≢◌, ℕ};
 ghost use Rattle.std.specs.IoError.{error_kind};
 ghost use Rattle.fc_cli.specs.Stops.{status_of};
@@ -9,25 +9,28 @@ use std::io;
 use std::io::ErrorKind;
 use thiserror::Error;
 
-/// Why lines aren't carried out to their end, or what they send isn't printed.
+/// The reason why a program stops before the end of its lines or its output.
 #[derive(Debug, Drop, Error)]
 pub enum Stop {
-    /// The line of this number, counted from 1, has no form that is read.
+    /// The line with this number, counted from 1, has no valid form.
     #[error("line {0}: bad")]
     BadLine(u64),
     /// Reading failed.
     #[error("standard input: {0}")]
     Input(io::Error),
-    /// Writing failed: some may be printed.
+    /// Writing failed; part of the output may be printed.
     #[error("standard output: {0}")]
     Output(#[from] io::Error),
-    /// There was no memory.
+    /// Memory can't be allocated.
     #[error("{0}")]
     Memory(#[from] AllocError),
 }
 
 impl Stop {
-    /// Explains why reading the line of this number failed: it is bad where the reader says that its bytes are no line's, by `InvalidData`, as where it is too long.
+    /// Returns why reading the line with this number failed.
+    ///
+    /// It is `BadLine` if the reader reports `InvalidData`, for example for a line that is too
+    /// long. Any other error is one of the input.
     pub fn at_line(error: io::Error, number: u64) -> Stop
         ensures bad { error_kind error ≡ ErrorKind.InvalidData → result ≡ Stop.BadLine number }
         ensures failed { error_kind error ≢ ErrorKind.InvalidData → result ≡ Stop.Input error }
@@ -39,7 +42,7 @@ impl Stop {
         }
     }
 
-    /// Returns how the program ends.
+    /// Returns the program's status.
     pub fn status(&self) -> Status
         ensures { result ≡ status_of self.now }
     {

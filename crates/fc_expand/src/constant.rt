@@ -1,4 +1,4 @@
-//! The constants of a text: lines `.const NAME NUMBER`.
+//! The constants of a source: lines `.const NAME NUMBER`.
 use crate::expander::{Label, is_constant};
 use crate::form::Form;
 use crate::helper::number_of_helper;
@@ -8,7 +8,7 @@ use crate::words::{from_word, is_blank, is_name, split_word};
 use fc_asm::vocabulary::{is_register, operands_of};
 use std::alloc::{AllocError, Global};
 
-/// A constant, the line that has it, counted from 1, and its number as that line writes it.
+/// A constant, its line, counted from 1, and its number as that line writes it.
 #[derive(Clone, Copy)]
 pub(crate) struct Constant<'a> {
     name: &'a [u8],
@@ -16,7 +16,7 @@ pub(crate) struct Constant<'a> {
     value: &'a [u8],
 }
 
-/// What a constant's line says.
+/// The content of a constant's line.
 #[derive(Clone, Copy)]
 struct Definition<'a> {
     name: &'a [u8],
@@ -24,7 +24,7 @@ struct Definition<'a> {
     after: &'a [u8],
 }
 
-/// The constants of a text whose lines are well formed.
+/// Returns the constants of a source whose lines are well formed.
 pub(crate) fn constants_of<'a>(
     alloc: Global,
     text: &'a [u8],
@@ -45,7 +45,7 @@ pub(crate) fn constants_of<'a>(
     Ok(constants)
 }
 
-/// The number of the constant of this name, as its line writes it.
+/// Returns the number of the constant with this name, as its line writes it.
 pub(crate) fn value_of<'a>(constants: &[Constant<'a>], name: &[u8]) -> Option<&'a [u8]> {
     match constants.iter().find(|constant| constant.name == name) {
         Some(constant) => Some(constant.value),
@@ -53,7 +53,7 @@ pub(crate) fn value_of<'a>(constants: &[Constant<'a>], name: &[u8]) -> Option<&'
     }
 }
 
-/// Adds what stands behind a constant's number, and nothing for the rest of its line.
+/// Appends the text after a constant's number, and nothing of its line before that.
 pub(crate) fn expand_constant(
     out: &mut Vec<u8>,
     body: &[u8],
@@ -73,7 +73,7 @@ pub(crate) fn expand_constant(
     Ok(())
 }
 
-/// Whether a line before this one has the constant.
+/// Returns whether an earlier line has the constant.
 fn is_defined(constants: &[Constant<'_>], name: &[u8], line: usize) -> bool {
     match constants.iter().find(|constant| constant.name == name) {
         Some(constant) => constant.line < line,
@@ -81,7 +81,7 @@ fn is_defined(constants: &[Constant<'_>], name: &[u8], line: usize) -> bool {
     }
 }
 
-/// Whether it is the name of a register, an instruction or a helper.
+/// Returns whether it is the name of a register, an instruction or a helper.
 fn is_meant(name: &[u8], alloc: Global) -> Result<bool, AllocError> {
     match str::from_utf8(name) {
         Ok(word) => Ok(
@@ -93,7 +93,7 @@ fn is_meant(name: &[u8], alloc: Global) -> Result<bool, AllocError> {
     }
 }
 
-/// The name of a constant's line and its number, and what is behind that.
+/// Returns the name in a constant's line, its number, and the text after that.
 fn definition_of<'a>(body: &'a [u8], alloc: Global) -> Result<Definition<'a>, PieceError> {
     let (_, more) = split_word(body);
     let (name, more) = split_word(more);

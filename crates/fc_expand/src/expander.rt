@@ -1,4 +1,4 @@
-//! The pass over a text: each line with its labels, constants and names replaced.
+//! The preprocessor: replaces labels, constants and names in each line of a source.
 ghost use Rattle.std.specs.Prelude.{IfOk, length, map, true, ◌≡◌, ◌≤◌};
 ghost use Rattle.fc_expand.specs.Expanded.{as_space, is_plain, is_plain_but_for_tabs};
 
@@ -10,12 +10,12 @@ use crate::plain::{is_plain_but_for_tabs, push_spaced};
 use crate::words::{first_word, is_blank, is_name, is_space, split_label, split_word, word_size};
 use std::alloc::{AllocError, AllocFailed, Global};
 
-/// Why a text isn't expanded.
+/// The reason why a source isn't expanded.
 #[derive(Clone, Copy, Debug, PartialEq, Eq)]
 pub enum ExpandError {
-    /// The first line that has a mistake.
+    /// The first line with a mistake.
     Faulty(BadForm),
-    /// There was no memory.
+    /// Memory couldn't be allocated.
     NoMemory,
 }
 
@@ -31,7 +31,7 @@ impl<T: Drop> From<AllocFailed<T>> for ExpandError {
     }
 }
 
-/// A label, the line that has it, counted from 1, and the slot that it names.
+/// A label, its line, counted from 1, and the slot that it names.
 #[derive(Clone, Copy)]
 pub(crate) struct Label<'a> {
     pub(crate) name: &'a [u8],
@@ -39,7 +39,7 @@ pub(crate) struct Label<'a> {
     pub(crate) slot: u32,
 }
 
-/// What the names of a text mean.
+/// The meanings of the names in a source.
 #[derive(Clone, Copy)]
 struct LabelNames<'a> {
     alloc: Global,
@@ -47,7 +47,7 @@ struct LabelNames<'a> {
     constants: &'a [Constant<'a>],
 }
 
-/// What a line's words mean besides themselves.
+/// The meanings that words of a line have in addition to the built-in ones.
 #[derive(Clone, Copy)]
 struct Place<'a> {
     names: LabelNames<'a>,
@@ -55,25 +55,33 @@ struct Place<'a> {
     wanted: Wanted,
 }
 
-/// What an instruction takes by its name, if that is no constant's.
+/// The kind of name that an instruction accepts, apart from a constant's.
 #[derive(Clone, Copy)]
 enum Wanted {
-    /// A jump or `callf`: the label that it leads to, as its last operand.
+    /// A jump or `callf`: the label of its target, as its last operand.
     Label,
     /// `call`: a helper, as its first operand.
     Helper,
-    /// Others: nothing.
+    /// Any other instruction: none.
     Nothing,
 }
 
-/// Expands a text, line by line: `NAME:` in front of a line names its slot, and as the target of a jump or `callf` stands for the
-/// offset to there; the name of a helper behind `call` stands for its number, and that of a constant, as an operand, for the number that its line
-/// `.const NAME NUMBER` gives it; `0x1f` stands for the number, `'k'` for the character's, and `.text "on"` for that whose bytes the characters
-/// are, the first the lowest; tabs and carriage returns stand for spaces. A text without these stays as it is, and one with tabs and carriage returns
-/// alone has spaces for them.
+/// Expands a source, line by line.
+///
+/// - `NAME:` at the start of a line names the line's slot. As the target of a jump or `callf`, the
+///   name is replaced by the offset to that slot.
+/// - The name of a helper after `call` is replaced by its number.
+/// - The name of a constant, as an operand, is replaced by the number in its line `.const NAME
+///   NUMBER`.
+/// - `0x1f` is replaced by the number, and `'k'` by the number of the character.
+/// - `.text "on"` is replaced by the number whose bytes, in little-endian order, are the
+///   characters.
+/// - Tabs and carriage returns are replaced by spaces.
+///
+/// A source without any of these is unchanged.
 ///
 /// # Errors
-/// The first line that has a mistake in one of these; or memory was refused.
+/// Returns the first line with a mistake in one of these, or that memory couldn't be allocated.
 #[tactic(auto, using(crate::proofs::Spacing::plain_is_spaced))]
 pub fn expand(alloc: Global, text: &[u8]) -> Result<Vec<u8>, ExpandError>
     ensures plain { is_plain text.now ≡ true → IfOk result (λ v. v.items ≡ text.now) }
@@ -94,7 +102,7 @@ pub fn expand(alloc: Global, text: &[u8]) -> Result<Vec<u8>, ExpandError>
     expand_lines(text, names)
 }
 
-/// The labels of a text, each line's slot being counted from the lines before it.
+/// Returns the labels of a source, with slots counted from the lines before them.
 fn labels_of<'a>(alloc: Global, text: &'a [u8]) -> Result<Vec<Label<'a>>, AllocError> {
     let mut labels = Vec::new(alloc);
     let mut slot: u32 = 0;
@@ -128,7 +136,7 @@ fn expand_lines(text: &[u8], names: LabelNames<'_>) -> Result<Vec<u8>, ExpandErr
     Ok(out)
 }
 
-/// Adds the line that this one stands for, and tells how many slots it has.
+/// Appends the line that replaces this one, and returns its number of slots.
 fn expand_line(
     out: &mut Vec<u8>,
     code: &[u8],
@@ -162,7 +170,7 @@ fn expand_line(
     Ok(slots_of(body))
 }
 
-/// Whether a line before this one has the label.
+/// Returns whether an earlier line has the label.
 fn is_taken(labels: &[Label<'_>], name: &[u8], line: usize) -> bool {
     match labels.iter().find(|label| label.name == name) {
         Some(label) => label.line < line,
@@ -170,7 +178,9 @@ fn is_taken(labels: &[Label<'_>], name: &[u8], line: usize) -> bool {
     }
 }
 
-/// Adds what the words of a line stand for, and all between them, with spaces for tabs and carriage returns.
+/// Appends the replacements of a line's words, and all text between them.
+///
+/// Tabs and carriage returns are replaced by spaces.
 fn expand_words(out: &mut Vec<u8>, body: &[u8], place: &Place<'_>) -> Result<(), PieceError> {
     let mut at = 0;
     for _piece in 0..body.len() {
@@ -180,7 +190,9 @@ fn expand_words(out: &mut Vec<u8>, body: &[u8], place: &Place<'_>) -> Result<(),
     Ok(())
 }
 
-/// Adds what the first piece of the rest of a line stands for, and tells how many bytes that has.
+/// Appends the replacement of the first piece of `rest`, and returns its size.
+///
+/// The size is in bytes.
 fn expand_piece(
     out: &mut Vec<u8>,
     before: &[u8],
@@ -205,7 +217,9 @@ fn spaced(out: &mut Vec<u8>, bytes: &[u8]) -> Result<usize, PieceError>
     Ok(bytes.len())
 }
 
-/// Adds what a word stands for: a hexadecimal number; a name, as an operand; or itself.
+/// Appends the replacement of a word.
+///
+/// It is that of a hexadecimal number, of a name as an operand, or the word itself.
 fn word(
     out: &mut Vec<u8>,
     before: &[u8],
@@ -227,7 +241,7 @@ fn word(
     Ok(size)
 }
 
-/// Adds what a name stands for that is an operand, and no constant.
+/// Appends the replacement of a name that is an operand and no constant.
 fn push_name(
     out: &mut Vec<u8>,
     name: &[u8],
@@ -242,7 +256,7 @@ fn push_name(
     }
 }
 
-/// Adds the offset to a label: slots are counted from the one behind the jump.
+/// Appends the offset to a label, counted in slots from the one after the jump.
 fn push_offset(out: &mut Vec<u8>, name: &[u8], place: &Place<'_>) -> Result<(), PieceError> {
     match place.names.labels.iter().find(|label| label.name == name) {
         Some(label) => {
@@ -254,7 +268,7 @@ fn push_offset(out: &mut Vec<u8>, name: &[u8], place: &Place<'_>) -> Result<(), 
     }
 }
 
-/// Adds the number of a helper.
+/// Appends the number of a helper.
 fn push_helper(out: &mut Vec<u8>, name: &[u8], alloc: Global) -> Result<(), PieceError> {
     match number_of_helper(name) {
         Some(number) => push_number(out, alloc, number),
@@ -262,7 +276,7 @@ fn push_helper(out: &mut Vec<u8>, name: &[u8], alloc: Global) -> Result<(), Piec
     }
 }
 
-/// How many slots a line has that has no label.
+/// Returns the number of slots of a line without a label.
 fn slots_of(body: &[u8]) -> u32 {
     match first_word(body) {
         [] | b".const" => 0,
@@ -271,7 +285,7 @@ fn slots_of(body: &[u8]) -> u32 {
     }
 }
 
-/// Whether a line defines a constant.
+/// Returns whether a line defines a constant.
 pub(crate) fn is_constant(body: &[u8]) -> bool {
     match first_word(body) {
         b".const" => true,
@@ -279,7 +293,7 @@ pub(crate) fn is_constant(body: &[u8]) -> bool {
     }
 }
 
-/// What the instruction of this name takes by its name.
+/// Returns the kind of name that an instruction accepts.
 fn wanted_by(word: &[u8]) -> Wanted {
     match word {
         b"call" => Wanted::Helper,

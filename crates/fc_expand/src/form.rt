@@ -1,17 +1,19 @@
-//! What is wrong with a label, a constant, a helper's name, a number or a text of the assembler's text.
+//! Mistakes that the preprocessor finds.
+//!
+//! They are in labels, constants, helpers' names, numbers and texts of the assembler's source.
 use fc_asm::{AsmError, Mistake};
 use std::fmt;
 
-/// What is wrong with a line before it is assembled.
+/// A mistake in a line before it is assembled.
 #[derive(Clone, Copy, Debug, PartialEq, Eq)]
 pub enum Form {
     /// A jump or `callf` to a label that no line has.
     UnknownLabel,
-    /// A label that a line before has.
+    /// A label that an earlier line has.
     DoubleLabel,
-    /// A character that isn't one ASCII character between two `'`, or something right behind it.
+    /// A character that isn't ASCII between two `'`, or something directly after it.
     Character,
-    /// A text that isn't ASCII characters between two `"`, or something right behind it.
+    /// A text that isn't ASCII between two `"`, or something directly after it.
     Packed,
     /// A text of more than eight characters.
     LongPacked,
@@ -19,16 +21,16 @@ pub enum Form {
     LongNumber,
     /// A call of a name that no helper has.
     UnknownHelper,
-    /// A line `.const` that isn't a name and a number alone.
+    /// A line `.const` without exactly a name and a number.
     Constant,
-    /// A constant that a line before has.
+    /// A constant that an earlier line has.
     DoubleConstant,
     /// A constant with the name of something else.
     TakenConstant,
 }
 
 impl Form {
-    /// Returns the mistake that the line has.
+    /// Returns the mistake of the line.
     pub fn mistake(self) -> Mistake {
         match self {
             Form::DoubleLabel | Form::DoubleConstant | Form::TakenConstant => Mistake::UnknownWord,
@@ -38,7 +40,7 @@ impl Form {
         }
     }
 
-    /// Returns what is wrong, in words.
+    /// Returns the mistake in words.
     pub fn text(self) -> &'static str {
         match self {
             Form::UnknownLabel => "a jump or `callf` to a label that no line has",
@@ -57,7 +59,7 @@ impl Form {
         }
     }
 
-    /// Returns what to change.
+    /// Returns the change that corrects it.
     pub fn correction(self) -> &'static str {
         match self {
             Form::UnknownLabel => "write `NAME:` in front of the instruction that it is to lead to",
@@ -75,7 +77,7 @@ impl Form {
     }
 }
 
-/// A line that has such a mistake, counted from 1. It prints as `A2 line 7`.
+/// A line with such a mistake, counted from 1. It prints as `A2 line 7`.
 #[derive(Clone, Copy, Debug, PartialEq, Eq)]
 pub struct BadForm {
     pub form: Form,

@@ -1,10 +1,12 @@
-//! From a text with labels, constants, names of helpers, hexadecimal numbers, characters and texts to one that the assembler takes, line
-//! for line.
+//! The assembler's preprocessor, line for line.
+//!
+//! It replaces labels, constants, names of helpers, hexadecimal numbers, characters and texts by
+//! numbers that the assembler accepts.
 //!
 //! # What is proved
 //!
-//! - A text without `:`, `'`, `"`, `0x`, `.c` and what may be a call by name is expanded to itself, with spaces for tabs and carriage
-//!   returns.
+//! - A source without `:`, `'`, `"`, `0x`, `.c` and a possible call by name is expanded to itself,
+//!   with spaces for tabs and carriage returns.
 //!
 //! By the contracts of `expand`.
 #![tactic(auto)]

@@ -1,11 +1,11 @@
-//! Numbers as a program's text writes them: characters, texts, and hexadecimal digits.
+//! Numbers as a source writes them: characters, texts, and hexadecimal digits.
 ghost use Rattle.std.specs.Prelude.{IfOk, length, ◌+◌, ◌≤◌};
 
 use crate::form::Form;
 use crate::words::{is_ended, is_space, word_size};
 use std::alloc::{AllocError, AllocFailed, Global};
 
-/// Why a line isn't expanded.
+/// The reason why a line isn't expanded.
 #[derive(Clone, Copy)]
 pub(crate) enum PieceError {
     Form(Form),
@@ -24,7 +24,9 @@ impl<T: Drop> From<AllocFailed<T>> for PieceError {
     }
 }
 
-/// Adds the number that the first piece of these bytes is, or the word, and tells how many bytes that has.
+/// Appends the number of the first piece of `rest`, or its word; returns its size.
+///
+/// The size is in bytes.
 pub(crate) fn number_piece(
     out: &mut Vec<u8>,
     rest: &[u8],
@@ -43,7 +45,7 @@ pub(crate) fn number_piece(
     }
 }
 
-/// Adds the number of a character, behind its first `'`.
+/// Appends the code of a character, from after its first `'`.
 fn character(out: &mut Vec<u8>, more: &[u8], alloc: Global) -> Result<usize, PieceError>
     ensures { IfOk result (λ n. n ≤ length more.now + 1) }
 {
@@ -60,7 +62,7 @@ fn is_printed(byte: u8) -> bool {
     byte == b' ' || byte.is_ascii_graphic()
 }
 
-/// Adds the number of a text, behind its `.text`.
+/// Appends the number of a text, from after its `.text`.
 fn packed(out: &mut Vec<u8>, more: &[u8], alloc: Global) -> Result<usize, PieceError>
     ensures { IfOk result (λ n. n ≤ length more.now + 5) }
 {
@@ -80,7 +82,7 @@ fn packed(out: &mut Vec<u8>, more: &[u8], alloc: Global) -> Result<usize, PieceE
     Ok(5 + spaces + 1 + size + 1)
 }
 
-/// The number whose bytes the characters are, the first the lowest.
+/// Returns the number whose bytes, in little-endian order, are the characters.
 fn packed_number(text: &[u8]) -> Result<u64, PieceError> {
     if text.len() > 8 {
         return Err(PieceError::Form(Form::LongPacked));
@@ -93,7 +95,7 @@ fn packed_number(text: &[u8]) -> Result<u64, PieceError> {
     Ok(u64::from_le_bytes(bytes))
 }
 
-/// Adds a word, or the number that its hexadecimal digits are.
+/// Appends a word, or the number that its hexadecimal digits represent.
 pub(crate) fn push_word(out: &mut Vec<u8>, word: &[u8], alloc: Global) -> Result<(), PieceError> {
     match word {
         [b'-', b'0', b'x', digits @ ..] if is_hex(digits) => {
@@ -111,7 +113,7 @@ fn is_hex(digits: &[u8]) -> bool {
     !digits.is_empty() && digits.iter().all(|digit| digit.is_ascii_hexdigit())
 }
 
-/// The number of hexadecimal digits.
+/// Returns the number that hexadecimal digits represent.
 fn hexadecimal(digits: &[u8]) -> Result<u64, PieceError> {
     match str::from_utf8(digits) {
         Ok(digits) => match u64::from_str_radix(digits, 16) {
@@ -127,7 +129,7 @@ pub(crate) fn push_number(out: &mut Vec<u8>, alloc: Global, number: u64) -> Resu
     Ok(out.extend_from_slice(text.as_bytes())?)
 }
 
-/// Whether a word is a decimal number.
+/// Returns whether a word is a decimal number.
 pub(crate) fn is_number(word: &[u8]) -> bool {
     match word {
         [b'-', digits @ ..] => is_decimal(digits),

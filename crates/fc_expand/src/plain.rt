@@ -1,11 +1,13 @@
-//! Texts that have nothing to be expanded.
+//! Sources with nothing to expand.
 ghost use Rattle.std.specs.Prelude.{OnOk, map, ◌++◌, ◌≡◌};
 ghost use Rattle.fc_expand.specs.Expanded.{as_space, begins_mark, begins_number, is_mark, is_short_form, is_plain_but_for_tabs};
 
 use crate::words::{is_tab, parts_words};
 use std::alloc::AllocError;
 
-/// Whether a text has nothing to be expanded but for tabs and carriage returns: nowhere in it a mark begins.
+/// Returns whether a source has nothing to expand but tabs and carriage returns.
+///
+/// No mark begins anywhere in it.
 pub(crate) fn is_plain_but_for_tabs(text: &[u8]) -> bool
     ensures { result ≡ is_plain_but_for_tabs text.now }
 {
@@ -17,7 +19,10 @@ pub(crate) fn is_plain_but_for_tabs(text: &[u8]) -> bool
     true
 }
 
-/// Whether one of `:`, `'`, `"`, `0x` and `.c` stands in front, or `call` with what parts words behind it, and then neither a digit nor `-`.
+/// Returns whether the text begins with a mark.
+///
+/// A mark is one of `:`, `'`, `"`, `0x` and `.c`, or `call` followed by a separator and then
+/// neither a digit nor `-`.
 fn begins_mark(rest: &[u8]) -> bool
     ensures { result ≡ begins_mark rest.now }
 {
@@ -48,7 +53,7 @@ fn begins_number(byte: u8) -> bool
     byte == b'-' || byte.is_ascii_digit()
 }
 
-/// Adds bytes, with spaces for tabs and carriage returns.
+/// Appends bytes, with spaces for tabs and carriage returns.
 pub(crate) fn push_spaced(out: &mut Vec<u8>, bytes: &[u8]) -> Result<(), AllocError>
     ensures { OnOk result (out.new.items ≡ out.old.items ++ map as_space bytes.now) }
 {

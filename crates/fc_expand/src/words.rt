@@ -2,21 +2,21 @@
 ghost use Rattle.std.specs.Prelude.{length, ◌≤◌, ◌≡◌};
 ghost use Rattle.fc_expand.specs.Expanded.{is_space, is_tab, parts_words};
 
-/// A tab or a carriage return, which stand for a space.
+/// Returns whether the byte is a tab or a carriage return, which count as a space.
 pub(crate) fn is_tab(byte: u8) -> bool
     ensures { result ≡ is_tab byte }
 {
     byte == b'\t' || byte == b'\r'
 }
 
-/// A space, or what stands for one.
+/// Returns whether the byte is a space or is read as one.
 pub(crate) fn is_space(byte: u8) -> bool
     ensures { result ≡ is_space byte }
 {
     byte == b' ' || is_tab(byte)
 }
 
-/// Returns a line's label, if it has one, and what is behind that.
+/// Returns a line's label, if it has one, and the text after that.
 pub fn split_label(code: &[u8]) -> (Option<&[u8]>, &[u8]) {
     let Some(colon) = code.iter().position(|byte| *byte == b':') else {
         return (None, code);
@@ -30,7 +30,7 @@ pub fn split_label(code: &[u8]) -> (Option<&[u8]>, &[u8]) {
     }
 }
 
-/// Letters, digits and `_`, no digit being first.
+/// Returns whether a word has letters, digits and `_` only, and no digit first.
 pub(crate) fn is_name(word: &[u8]) -> bool {
     match word {
         [] => false,
@@ -42,7 +42,7 @@ fn is_name_byte(byte: u8) -> bool {
     byte == b'_' || byte.is_ascii_alphanumeric()
 }
 
-/// Whether nothing is left, or what is left begins with what ends a word.
+/// Returns whether nothing is left, or the rest begins with the end of a word.
 pub(crate) fn is_ended(rest: &[u8]) -> bool {
     match rest {
         [] => true,
@@ -50,7 +50,7 @@ pub(crate) fn is_ended(rest: &[u8]) -> bool {
     }
 }
 
-/// The bytes up to what parts words, or a comment.
+/// Returns the number of bytes before a separator or a comment.
 pub(crate) fn word_size(rest: &[u8]) -> usize
     ensures { result ≤ length rest.now }
 {
@@ -64,12 +64,12 @@ fn ends_word(byte: u8) -> bool {
     parts_words(byte) || byte == b';'
 }
 
-/// Whether no word is there before a comment.
+/// Returns whether there is no word before a comment.
 pub(crate) fn is_blank(code: &[u8]) -> bool {
     first_word(code).is_empty()
 }
 
-/// Whether it stands between words.
+/// Returns whether the byte separates words.
 pub(crate) fn parts_words(byte: u8) -> bool
     ensures { result ≡ parts_words byte }
 {
@@ -81,13 +81,13 @@ pub fn first_word(body: &[u8]) -> &[u8] {
     split_word(body).0
 }
 
-/// The first word of a line, or nothing, and what is behind it.
+/// Returns the first word of a line, or nothing, and the text after it.
 pub(crate) fn split_word(body: &[u8]) -> (&[u8], &[u8]) {
     let rest = from_word(body);
     rest.split_at(word_size(rest))
 }
 
-/// What follows the spaces and commas in front.
+/// Returns the text after leading spaces and commas.
 pub(crate) fn from_word(body: &[u8]) -> &[u8] {
     match body.iter().position(|byte| !parts_words(*byte)) {
         Some(start) => &body[start..],

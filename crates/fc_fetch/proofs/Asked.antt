@@ -1,4 +1,4 @@
--- What an errand asks.
+-- The errand of a request, and the reasons to stop.
 use Rattle.std.proofs.Common.{◌≡◌, ℕ, List, Option, Some, None, IfNone, Result, Ok, Err, IfErr, IfOk, IfSome, inl, ap, subst, ◌∙◌}
 use Rattle.std.specs.Borrow.{Bor}
 use Rattle.coap_client.specs.declared.errand.Errand.{Errand}
@@ -29,14 +29,14 @@ asks asking target payload plain e h format same = record {
   format_is = format;
 }
 
--- what is there
+-- a property of an option holds for its value
 pub of_some : {A : Type 0} (o : Option A) (x : A) (P : A → Type 0) → o ≡ Some x → IfSome o P → P x
 of_some {A} o x P some h = subst (λ (y : Option A). IfSome y P) some h
 
 pub of_none : {A : Type 0} (o : Option A) (P : Type 0) → o ≡ None → IfNone o P → P
 of_none {A} o P none h = subst (λ (y : Option A). IfNone y P) none h
 
--- what is so is so of another kind too
+-- a property of a result implies another one
 pub ok_of : {A E : Type 0} (r : Result A E) (P Q : A → Type 0) → ((x : A) → P x → Q x) → IfOk r P → IfOk r Q
 ok_of (Ok x) P Q turns h = turns x h
 ok_of (Err e) P Q turns h = tt
@@ -68,7 +68,7 @@ connecting_ping connected drawn is_error called p server id (stop.Input source e
 connecting_ping connected drawn is_error called p server id (stop.Notes error) endpoint own h = absurd h
 connecting_ping connected drawn is_error called p server id (stop.Memory error) endpoint own h = absurd h
 
--- ---- why there is no answer
+-- ---- the reasons for no response
 module _ {S : Type 0} (connected : S → SocketAddrV4 → Type 0) (drawn went came : List ℕ → Type 0) (is_error : PeerError → Type 0) (called : S → List PeerCall → Type 0) (asking : FetchOptions)
     (input : Option (List ℕ)) where
   abbrev Stops : FetchStop → Type 0
@@ -122,7 +122,7 @@ module _ {S : Type 0} (connected : S → SocketAddrV4 → Type 0) (drawn went ca
   no_server (stop.Notes error) body id r b i h = absurd h
   no_server (stop.Memory error) body id r b i h = absurd h
 
--- the address is one, and names no resource
+-- the target has an address that names no resource
 pub nothing_named : (text : List ℕ) (port : Option ℕ) (a : Address) (s : FetchStop) → IsAddress text port a → NamesNoResource a s → IsTargetStop text port s
 nothing_named text port a (stop.Address error) is h = absurd h
 nothing_named text port a (stop.Path error) is h = record { address = a; address_is = is; none = h }
@@ -135,7 +135,7 @@ nothing_named text port a (stop.Fault f) is h = absurd h
 nothing_named text port a (stop.Notes error) is h = absurd h
 nothing_named text port a (stop.Memory error) is h = record { address = a; address_is = is; none = h }
 
--- ---- why an observation stops
+-- ---- the reasons for an observation to stop
 module _ {S : Type 0} (connected : S → SocketAddrV4 → Type 0) (drawn came tried : List ℕ → Type 0) (is_error : PeerError → Type 0) (called : S → List PeerCall → Type 0) (observing : Observing) where
   abbrev Ends : FetchStop → Type 0
   Ends s = IsObserveStop connected drawn came tried is_error called observing s
@@ -191,7 +191,7 @@ module _ {S : Type 0} (connected : S → SocketAddrV4 → Type 0) (drawn came tr
   observed_nobody e server (stop.Notes error) h = absurd h
   observed_nobody e server (stop.Memory error) h = absurd h
 
--- an error of another kind
+-- a property of an error implies another one
 pub err_of : {A E : Type 0} (r : Result A E) (P Q : E → Type 0) → ((e : E) → P e → Q e) → IfErr r P → IfErr r Q
 err_of (Ok x) P Q turns h = tt
 err_of (Err e) P Q turns h = turns e h

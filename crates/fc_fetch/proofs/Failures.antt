@@ -1,4 +1,4 @@
--- Where an observer's program fails.
+-- Failures of an observer.
 use Rattle.std.proofs.Common.{◌≡◌, ◌⊎◌, ℕ, false, true, List, Option, Some, None, Result, Ok, Err, IfErr, OnErr, OnOk, inl, inr, sym, subst, ◌∙◌, if◌then◌else◌}
 use Rattle.coap_client.specs.Faults.{IsLeavingFault, IsNotificationFault, IsOfPeer, IsRegistrationFault, UnfitCame, deregistration_of}
 use Rattle.coap_client.specs.ObserverCalls.{IsDeregistration}
@@ -33,7 +33,7 @@ unanswered came is_error Makes o fault.Part h = absurd h
 unanswered came is_error Makes o (fault.Socket error) h = h
 unanswered came is_error Makes o (fault.Memory error) h = tt
 
--- or what came after it
+-- or the wait after it failed
 pub awaited : (came : List ℕ → Type 0) (is_error : PeerError → Type 0) (Makes : (List PeerCall → Type 0) → Type 0) (o : Observer) (f : FetchFault) → IsAwaitFault came is_error o f
     → IsNotesFault came is_error Makes o (notes_error.Fault f)
 awaited came is_error Makes o fault.Silence h = absurd h
@@ -77,7 +77,7 @@ never_older m h = elim (can_be_shown m) as (λ b. (if b then by_success m else n
   | false ↦ λ x. cc x
 ] h
 
--- the answer to the registration can't be shown
+-- the response to the registration can't be shown
 pub unfit_first : (went came : List ℕ → Type 0) (o : Observer) (bytes : List ℕ) (m : Message) (n : Notice) → IsRegistered went came o bytes → reading_of bytes ≡ Ok m
     → n ≡ notice_of m → (n ≡ notice.Older) ⊎ (n ≡ notice.Misfit) → UnfitCame came o.token o.id
 unfit_first went came o bytes m n registered read is (inl older) = absurd (never_older m (sym is ∙ older))
@@ -105,7 +105,7 @@ unregistered called tried came is_error before after o (notes_error.Fault (fault
 unregistered called tried came is_error before after o (notes_error.Print error) is h = absurd (cc is)
 unregistered called tried came is_error before after o (notes_error.Memory error) is h = absurd (cc is)
 
--- it deregistered, whatever came of that
+-- it deregistered, successfully or not
 pub left_anyhow : {S : Type 0} (called : S → List PeerCall → Type 0) (is_error : PeerError → Type 0) (tried : List ℕ → Type 0) (before from after : S) (o : Observer) (r : Result Unit FetchFault)
     → tried (deregistration_of o) → OnOk r (MakesCalls (called from) (called after) (IsDeregistration o))
     → IfErr r (IsLeavingFault is_error (MakesCalls (called from) (called after)) o) → LeavesAtFault called is_error tried before after o
@@ -118,7 +118,7 @@ ends_unregistered came is_error Makes o seconds (notes_error.Fault f) h = inl h
 ends_unregistered came is_error Makes o seconds (notes_error.Print error) h = tt
 ends_unregistered came is_error Makes o seconds (notes_error.Memory error) h = tt
 
--- what was called since makes no difference to another error
+-- for another error the calls since then make no difference
 pub ends_registered : (came : List ℕ → Type 0) (is_error : PeerError → Type 0) (Makes Other : (List PeerCall → Type 0) → Type 0) (o : Observer) (seconds : Option ℕ) (e : NotesError)
     → may_notify e ≡ true → IsNotesFault came is_error Makes o e → IsEndFault came is_error Other o seconds e
 ends_registered came is_error Makes Other o seconds (notes_error.Fault fault.Silence) is h = absurd (cc is)

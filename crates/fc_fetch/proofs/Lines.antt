@@ -1,4 +1,4 @@
--- What an observer's program has printed, line by line.
+-- The output of an observer, line by line.
 use Rattle.std.proofs.Common.{◌≡◌, Bool, true, false, ℕ, ◌+◌, ◌<◌, ◌≤◌, List, [], ◌∷◌, ◌++◌, Option, Some, None, Ok, refl, sym, ap, subst, ◌∙◌, arith}
 use Rattle.std.specs.Io.KnownBytes.{Appends}
 use Rattle.std.proofs.lemmas.List.{append_assoc}
@@ -22,7 +22,7 @@ appended (Some xs) None c x y v w = absurd v
 appended (Some xs) (Some ys) None x y v w = absurd w
 appended (Some xs) (Some ys) (Some zs) x y v w = w ∙ (ap (λ l. l ++ y) v ∙ append_assoc xs x y)
 
--- the answer is a state
+-- the response is a state
 pub first_shown : (went came : List ℕ → Type 0) (told : ℕ → Type 0) (o : Observer) (shown : Shown) (bytes : List ℕ) (before after : Option (List ℕ)) (m : Message) (at : ℕ) (w : Watch) →
     IsRegistered went came o bytes → reading_of bytes ≡ Ok m → told at → notice_of m ≡ notice.State w.sequence → w.at ≡ at → w.marks.items ≡ first_marks m at →
     Appends before after (note_text shown m.code m.payload) → IsFirstShown went came told o shown before after (State w)
@@ -35,7 +35,7 @@ first_shown went came told o shown bytes before after m at w registered read mom
   count = refl;
 }
 
--- the answer is the last one
+-- the response is the last one
 pub only_shown : (went came : List ℕ → Type 0) (told : ℕ → Type 0) (o : Observer) (shown : Shown) (bytes : List ℕ) (before after : Option (List ℕ)) (m : Message) (at : ℕ) (code : Code) →
     IsRegistered went came o bytes → reading_of bytes ≡ Ok m → told at → notice_of m ≡ notice.Last → code.byte ≡ m.code →
     Appends before after (note_text shown m.code m.payload) → IsFirstShown went came told o shown before after (Only code)
@@ -48,7 +48,7 @@ only_shown went came told o shown bytes before after m at code registered read m
   ends = (some, sym same, last);
 }
 
--- a state behind it
+-- a state after it
 pub next_shown : (went came : List ℕ → Type 0) (told : ℕ → Type 0) (o : Observer) (shown : Shown) (bytes : List ℕ) (moment : ℕ) (before now after : Option (List ℕ)) (m : Message) (lines : ℕ) (old new : Watch) (last : Bool) →
     IsShowing went came told o shown before now lines old → IsNextNote went came told o.token bytes moment old new last → last ≡ false → reading_of bytes ≡ Ok m →
     Appends now after (note_text shown m.code m.payload) → IsShowing went came told o shown before after (lines + 1) new
@@ -65,7 +65,7 @@ next_shown went came told o shown bytes moment before now after m lines old new 
       count = omega (arith, s.count);
     }
 
--- the last one behind it
+-- the last one after it
 pub last_shown : (went came : List ℕ → Type 0) (told : ℕ → Type 0) (o : Observer) (shown : Shown) (bytes : List ℕ) (moment : ℕ) (before now after : Option (List ℕ)) (m : Message) (lines limit : ℕ) (old new : Watch) (last : Bool) (code : Code) →
     IsShowing went came told o shown before now lines old → IsNextNote went came told o.token bytes moment old new last → last ≡ true → reading_of bytes ≡ Ok m → code.byte ≡ m.code →
     Appends now after (note_text shown m.code m.payload) → lines < limit → HasShown went came told o shown limit before after (Last code)
@@ -82,7 +82,7 @@ last_shown went came told o shown bytes moment before now after m lines limit ol
       ends = (omega (arith, s.count, fewer), ap (λ n. n.code) (sym spelled) ∙ sym same, next.none ends);
     }
 
--- as many as are wanted
+-- as many lines as are wanted
 pub all_shown : (went came : List ℕ → Type 0) (told : ℕ → Type 0) (o : Observer) (shown : Shown) (before now : Option (List ℕ)) (lines limit : ℕ) (w : Watch) →
     IsShowing went came told o shown before now lines w → lines ≡ limit → HasShown went came told o shown limit before now Counted
 all_shown went came told o shown before now lines limit w s same = record {
@@ -106,7 +106,7 @@ over_shown went came told o shown before now lines limit w s fewer = record {
   ends = (omega (arith, s.count, fewer), subst IsState (sym s.watching.state) tt);
 }
 
--- one line is wanted at least
+-- at least one line is wanted
 pub some_line : (count : Option ℕ) → 1 ≤ lines_wanted count
 some_line None = omega arith
 some_line (Some count) = omega arith

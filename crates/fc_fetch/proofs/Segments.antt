@@ -1,4 +1,4 @@
--- Paths of one segment more, and texts that are parted.
+-- Paths with one more segment, and texts that are split.
 use Rattle.std.proofs.Common.{◌≡◌, ◌≢◌, ◌⊎◌, inl, inr, ℕ, List, [], ◌∷◌, ◌++◌, refl, sym, ap, ◌∙◌, length, map, take, get_or, ◌<◌, ◌+◌, suc, arith}
 use Rattle.std.specs.Global.{Vec}
 use Rattle.std.specs.Prelude.{◌==◌, ◌||◌, Bool, false, if◌then◌else◌}
@@ -10,13 +10,13 @@ use Rattle.coap_client.specs.Paths.{path_text, slash}
 use Rattle.percent_encoding.specs.Percent.{percent_decode}
 use Rattle.fc_fetch.specs.Addresses.{decoded_pieces, has_slash, plain_pieces, segments_in, texts_in}
 
--- a slash and the segment stand behind the others
+-- a slash and the segment follow the others
 pub path_text_push : (segments : List (List ℕ)) (s : List ℕ) → path_text (segments ++ (s ∷ [])) ≡ path_text segments ++ (slash ∷ s)
 path_text_push [] s = ap (λ text. slash ∷ text) (append-nil s)
 path_text_push (first ∷ segments) s =
     ap (λ text. slash ∷ (first ++ text)) (path_text_push segments s) ∙ ap (λ text. slash ∷ text) (sym (append_assoc first (path_text segments) (slash ∷ s)))
 
--- a path that one segment more was added to
+-- a path after the addition of one segment
 pub path_grown : (segments : List (Vec ℕ)) (i : ℕ) (d : Vec ℕ) (old slashed new : List ℕ) → i < length segments
     → old ≡ path_text (texts_in (take i segments)) → slashed ≡ old ++ (slash ∷ []) → new ≡ slashed ++ (get_or segments i d).items
     → new ≡ path_text (texts_in (take (i + 1) segments))
@@ -30,7 +30,7 @@ path_grown segments i d old slashed new below so_far pushed added =
     ∙ ap (λ list. path_text (texts_in list)) (sym (take-suc segments i d below))
     ∙ ap (λ n. path_text (texts_in (take n segments))) is_next
 
--- what doesn't begin with a slash has no segments
+-- a path that doesn't begin with a slash has no segments
 pub no_segments : (path : List ℕ) → ((rest : List ℕ) → path ≢ slash ∷ rest) → segments_in path ≡ []
 no_segments [] none = refl
 no_segments (first ∷ path) none = by (cases_eq first slash)
@@ -39,7 +39,7 @@ no_segments (first ∷ path) none = by (cases_eq first slash)
     by (inl same) = absurd (none path (ap (λ b. b ∷ path) same))
     by (inr other) = ap (λ is. if is then decoded_pieces slash path else []) (ne_eqb first slash other)
 
--- a text that isn't empty is parted
+-- a text that isn't empty is split
 pub pieces_of : (byte : ℕ) (text : List ℕ) → false ≡ (length text == 0) → map percent_decode (slice_split (λ b. b == byte) text) ≡ decoded_pieces byte text
 pieces_of byte [] filled = cc filled
 pieces_of byte (first ∷ text) filled = refl
@@ -48,7 +48,7 @@ pub plain_pieces_of : (byte : ℕ) (text : List ℕ) → false ≡ (length text 
 plain_pieces_of byte [] filled = cc filled
 plain_pieces_of byte (first ∷ text) filled = refl
 
--- what no segment has in it, no text among these has
+-- the segments contain a slash exactly if their texts do
 pub none_has_slash : (segments : List (Vec ℕ)) → list_any has_slash (texts_in segments) ≡ list_any (λ (segment : Vec ℕ). has_slash segment.items) segments
 none_has_slash [] = refl
 none_has_slash (first ∷ segments) = ap (λ (rest : Bool). has_slash first.items || rest) (none_has_slash segments)

@@ -1,4 +1,4 @@
--- Which bytes are text.
+-- The bytes that are text.
 use Rattle.std.proofs.Common.{◌≡◌, ℕ, Bool, true, false, ◌&&◌, List, refl}
 use Rattle.std.proofs.lemmas.Bool.{and_right}
 use Rattle.std.specs.List.{list_all}

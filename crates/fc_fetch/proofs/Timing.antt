@@ -1,4 +1,4 @@
--- How long an observer waits.
+-- The waits of an observer.
 use Rattle.std.proofs.Common.{◌≡◌, ℕ, zero, suc, ◌+◌, ◌≤◌, ◌^◌, ◌⊎◌, inl, inr, Bool, true, false, List, [], ◌∷◌, ◌++◌, length, Option, Some, None, is_some, refl, sym, ap, subst, ◌∙◌, append_assoc, length-append, arith}
 use Rattle.std.specs.List.{All}
 use Rattle.std.proofs.lemmas.List.Elements.{All-append, All-cons, All-nil, filter-append}
@@ -40,7 +40,7 @@ over_at_last passes newer older o = elim o.is as (λ _. IsOverAtLast (newer ++ o
 
 -- ---- until the next note
 
--- so many days were waited for, where the time doesn't end
+-- n days were waited for, if the time doesn't end
 abbrev pub HasDays : Bool → ℕ → List PeerCall → Type 0
 HasDays true n calls = n ≡ 0
 HasDays false n calls = n ≤ length (schedule calls)
@@ -62,7 +62,7 @@ pub awaits_nothing : (token : List ℕ) (ends : Bool) (now : Calls) → MakesCal
 awaits_nothing token ends now =
     does_nothing now (HasAwaited token ends 0) (record { observing = (0, refl); awaited = none_awaited ends; days = no_days ends })
 
--- what is called for a note is no wait
+-- the calls for a note contain no wait
 quietly : (ends : Bool) (newer older : List PeerCall) → schedule newer ≡ [] → IsAwaitedIn ends older → IsAwaitedIn ends (newer ++ older)
 quietly true newer older quiet awaited = schedule_of newer older ∙ ap (λ (x : List PeerCall). x ++ schedule older) quiet ∙ awaited
 quietly false newer older quiet awaited =
@@ -86,7 +86,7 @@ passes_quietly told token ends w n answer before between after one other =
       days = more_quietly ends n newer older quiet a.days;
     })
 
--- a day more
+-- one more day
 pub one_more_day : (told : ℕ → Type 0) (token : List ℕ) (ends : Bool) (w : Watch) (n : ℕ) (before between after begun : Calls) → ends ≡ false
     → MakesCalls before between (HasAwaited token ends n) → MakesCalls between after (AwaitsNotification token (IsPassedOverWatching told token w) None)
     → Adds after begun (Waits 86400 ∷ []) → MakesCalls before begun (HasAwaited token ends (n + 1))
@@ -124,7 +124,7 @@ awaited_to_the_end token ends n before after full one =
 
 -- ---- from the registration on
 
--- the clock is read behind the answer
+-- the clock is read after the response
 pub dated : (o : Observer) (answer : List ℕ) (moment : ℕ) (before between after : Calls) → MakesCalls before between (IsRegistration o answer) → Adds between after (Reads moment ∷ [])
     → MakesCalls before after (IsDatedRegistration o)
 dated o answer moment before between after one adds =
@@ -202,21 +202,21 @@ ends_over o seconds ends before between after is one other =
       is = ap (λ (x : List PeerCall). newer ++ x) a.is ∙ sym (append_assoc newer a.newer a.older);
     })
 
--- or it ends otherwise
+-- or it ends in another way
 pub ends_in_time : (o : Observer) (seconds : Option ℕ) (end : ObservationEnd) (before after : Calls) → MakesCalls before after (HasObserved o seconds)
     → ((calls : List PeerCall) → EndsInTime seconds end calls) → MakesCalls before after (IsTimedObservation o seconds end)
 ends_in_time o seconds end before after one in_time =
     does_of before after (HasObserved o seconds) (IsTimedObservation o seconds end) one
     (λ calls h. record { older = h.older; registered = h.registered; newer = h.newer; observing = h.observing; waited = inr h.waited; ends = in_time h.newer; is = h.is })
 
--- at the first answer
+-- it ends at the first response
 pub ends_at_first : (o : Observer) (seconds : Option ℕ) (end : ObservationEnd) (before after : Calls) → EndsInTime seconds end [] → MakesCalls before after (IsDatedRegistration o)
     → MakesCalls before after (IsTimedObservation o seconds end)
 ends_at_first o seconds end before after in_time one =
     does_of before after (IsDatedRegistration o) (IsTimedObservation o seconds end) one
     (λ calls a. record { older = calls; registered = a; newer = []; observing = (0, refl); waited = inl refl; ends = in_time; is = refl })
 
--- by the schedule
+-- the waits in the schedule
 pub lasts_seconds : (seconds : ℕ) (calls : List PeerCall) → (calls ≡ []) ⊎ IsWaitedFor (Some seconds) calls → (calls ≡ []) ⊎ (schedule calls ≡ Waits seconds ∷ [])
 lasts_seconds seconds calls (inl none) = inl none
 lasts_seconds seconds calls (inr waited) = inr (

@@ -1,4 +1,5 @@
--- Where a client's request goes: a path at a port of this host, or what a URI of the scheme coap says, as the URL Standard reads it (RFC 7252, 6.1 and 6.4).
+-- The server and the resource of a client's request: a path at a port of this host, or a URI of the
+-- scheme coap, read as the URL Standard says (RFC 7252, sections 6.1 and 6.4).
 use Rattle.std.specs.Global.{Vec}
 use Rattle.std.specs.Prelude.{◌≡◌, ◌==◌, ◌||◌, ◌⊎◌, ℕ, nat_eq, is_some, Bool, true, false, List, [], ◌∷◌, map, Option, Some, None, Ok, codes, option_map, unwrap_or, if◌then◌else◌}
 use Rattle.std.specs.List.{after_first, before_first, list_any, slice_split}
@@ -18,42 +19,43 @@ use Rattle.fc_fetch.specs.declared.address.AddressError.TheVariants as address_e
 abbrev pub ampersand : ℕ
 ampersand = 38
 
--- vectors of bytes by their bytes
+-- vectors of bytes, as lists of bytes.
 abbrev pub texts_in : List (Vec ℕ) → List (List ℕ)
 texts_in texts = map (λ text. text.items) texts
 
--- the pieces of a text that a byte parts, the escapes of each read; an empty text has none
+-- the pieces of a text between separators, with their escapes decoded; an empty text has none.
 abbrev pub decoded_pieces : ℕ → List ℕ → List (List ℕ)
 decoded_pieces byte [] = []
 decoded_pieces byte (first ∷ text) = map percent_decode (slice_split (λ b. b == byte) (first ∷ text))
 
--- the pieces as they are: in a path at a port escapes aren't read
+-- the pieces unchanged: in a path at a port escapes aren't decoded.
 abbrev pub plain_pieces : ℕ → List ℕ → List (List ℕ)
 plain_pieces byte [] = []
 plain_pieces byte (first ∷ text) = slice_split (λ b. b == byte) (first ∷ text)
 
--- such a path ends before the first `?`, and the arguments of its query stand behind that
+-- such a path ends before the first `?`, and the arguments of its query follow it.
 abbrev pub is_question : ℕ → Bool
 is_question b = b == 63
 
--- the segments of a URI's path, which begins with a slash
+-- the segments of a URI's path, which begins with a slash.
 abbrev pub segments_in : List ℕ → List (List ℕ)
 segments_in [] = []
 segments_in (first ∷ path) = if first == slash then decoded_pieces slash path else []
 
--- the name of a host stands for an IPv4 address: it writes it, or is `localhost`
+-- a host's name denotes this IPv4 address: it is the address's text, or `localhost`.
 abbrev pub IsHostOf : List ℕ → Ipv4Addr → Type 0
 IsHostOf name ip = ((name ≡ codes "localhost") × (ipv4_octets ip ≡ 127 ∷ 0 ∷ 0 ∷ 1 ∷ [])) ⊎ IsIpv4Text name ip
 
--- there is a slash among these bytes, which would part a segment in two
+-- the bytes contain a slash, which would split a segment in two.
 abbrev pub has_slash : List ℕ → Bool
 has_slash bytes = list_any (λ b. nat_eq b slash) bytes
 
--- a URI has a user, a password or a fragment, which those of the scheme coap don't have
+-- a URI has a user, a password or a fragment, which URIs of the scheme coap don't have.
 abbrev pub has_other_parts : Parts → Bool
 has_other_parts uri = has_credentials uri || is_some uri.fragment
 
--- the address has the host, the port, the path and the query of a URI, which says nothing else, and no segment of whose path has a slash in it
+-- the address has the URI's host, port, path and query. The URI has no other parts, and no segment
+-- of its path contains a slash.
 pub record HasParts (uri : Parts) (a : Address) : Type 0 where
   pub no_others : has_other_parts uri ≡ false
   pub name : List ℕ
@@ -64,32 +66,33 @@ pub record HasParts (uri : Parts) (a : Address) : Type 0 where
   pub path_is : a.path.items ≡ path_text (segments_in uri.path)
   pub query_is : texts_in a.query.items ≡ decoded_pieces ampersand (unwrap_or uri.query [])
 
--- the address is that of the URI of the scheme coap that a text writes
+-- the text is a URI of the scheme coap with this address.
 pub record IsOfUri (text : List ℕ) (a : Address) : Type 0 where
   pub uri : Parts
   pub parsed : parse_url None text ≡ Ok uri
   pub scheme_is : uri.scheme ≡ codes "coap"
   pub has : HasParts uri a
 
--- the address is that of a path, with its query, at a port of this host
+-- the text is a path with a query, and this is its address at a port of this host.
 pub record IsAtPort (text : List ℕ) (port : ℕ) (a : Address) : Type 0 where
   pub host_is : ipv4_octets (v4_ip a.server) ≡ 127 ∷ 0 ∷ 0 ∷ 1 ∷ []
   pub port_is : v4_port a.server ≡ port
   pub path_is : a.path.items ≡ before_first is_question text
   pub query_is : texts_in a.query.items ≡ plain_pieces ampersand (after_first is_question text)
 
--- a path goes with a port, and a URI without one
+-- a path has a port with it, and a URI has none.
 abbrev pub IsAddress : List ℕ → Option ℕ → Address → Type 0
 IsAddress text (Some port) a = IsAtPort text port a
 IsAddress text None a = IsOfUri text a
 
--- what is wrong with a URI itself, or there was no memory
+-- an error of a URI itself, or of memory.
 abbrev pub IsOfUriAlone : AddressError → Type 0
 IsOfUriAlone address_error.NoPort = ⊥
 IsOfUriAlone address_error.TwoPorts = ⊥
 IsOfUriAlone other = Unit {0}
 
--- a port is missing with a path, or is one too much with a URI; or a URI is read that a request can't go to; or there was no memory
+-- the reason why there is no address: a path without a port, or a URI with one; a URI that can't be
+-- the target of a request; or no memory.
 abbrev pub IsNoAddress : List ℕ → Option ℕ → AddressError → Type 0
 IsNoAddress text port address_error.TwoPorts = is_some port ≡ true
 IsNoAddress text port address_error.NoMemory = Unit {0}

@@ -1,4 +1,4 @@
--- A request by the words of a command line.
+-- A request from the words of a command line.
 use Rattle.std.specs.Borrow.{Bor}
 use Rattle.std.specs.Prelude.{◌≡◌, ◌⊎◌, ℕ, List, [], Option, Some, None}
 use Rattle.std.specs.declared.net.socket_addr.SocketAddrV4.{SocketAddrV4}
@@ -12,12 +12,13 @@ use Rattle.fc_fetch.specs.declared.operation.Asking.{Asking}
 use Rattle.fc_fetch.specs.declared.operation.BodySource.{BodySource}
 use Rattle.fc_fetch.specs.declared.operation.BodySource.TheVariants as source
 
--- the input stays as it was, where it isn't the body
+-- the input doesn't change, unless it is the body.
 abbrev pub IsUnread : {I : Type 0} → BodySource → I → I → Type 0
 IsUnread source.Input before after = Unit {0}
 IsUnread other before after = after ≡ before
 
--- the answer is printed, or its bytes go to a file, of which nothing is known; or there is none, for one of these reasons
+-- the response is printed, or its bytes go to a file, whose contents aren't known; or there is no
+-- response, for one of these reasons.
 abbrev pub IsShownOrKept : (ℕ → List ℕ → Type 0) → (FetchStop → Type 0) → Shown → Option (Bor (List ℕ)) → Option (List ℕ) → Option (List ℕ) → Status → Type 0
 IsShownOrKept Has Stops shown None before after status = IsAnswered Has Stops shown before after status
 IsShownOrKept Has Stops shown (Some name) before after status = IsAnsweredTo Has Stops shown before after None None status
@@ -28,7 +29,8 @@ IsAskedBy connected drawn went came is_error called asking known before after st
     IsShownOrKept (IsAnswerTo connected drawn went came called asking.options known) (IsFetchStop connected drawn went came is_error called asking.options known) asking.options.shown asking.output
     before after status
 
--- by the body that it is asked for with: none, a text, the bytes of a file, of which nothing is known and which may not open, or those of the input as far as they are known
+-- the request's body: none, a text, a file's bytes, or the input's bytes if they are known. A
+-- file's bytes aren't known, and it may not open.
 abbrev pub IsAskedFrom : BodySource → (Option (List ℕ) → Type 0) → Option (List ℕ) → Status → Type 0
 IsAskedFrom source.None Asked input status = Asked (Some [])
 IsAskedFrom (source.Text text) Asked input status = Asked (Some text.now)

@@ -1,4 +1,4 @@
--- What a client prints of an answer, and how it ends.
+-- The output of a client's request, and its status.
 use Rattle.std.specs.Io.KnownBytes.{Appends}
 use Rattle.std.specs.Prelude.{◌≡◌, ◌⊎◌, ℕ, ◌/◌, ◌==◌, if◌then◌else◌, List, [], ◌∷◌, ◌++◌, Option, IfSome}
 use Rattle.std.specs.declared.net.socket_addr.SocketAddrV4.{SocketAddrV4}
@@ -33,32 +33,32 @@ use Rattle.fc_fetch.specs.declared.client.FetchOptions.{FetchOptions}
 use Rattle.fc_fetch.specs.declared.printer.Shown.{Shown}
 use Rattle.fc_fetch.specs.Printing.{shown_bytes}
 
--- a line
+-- a line.
 abbrev pub ended_line : List ℕ → List ℕ
 ended_line text = text ++ (10 ∷ [])
 
--- the code, and the bytes as they are shown on a line of their own, where there are some
+-- the code, and the shown bytes on a line of their own if there are any.
 abbrev pub answer_text : Shown → ℕ → List ℕ → List ℕ
 answer_text shown code [] = ended_line (code_text code)
 answer_text shown code (b ∷ body) = ended_line (code_text code) ++ ended_line (shown_bytes shown (b ∷ body))
 
--- a code of success (RFC 7252, 5.9.1) is what was wanted
+-- the client is done at a code of success (RFC 7252, section 5.9.1).
 abbrev pub ending_of : ℕ → Status
 ending_of code = if code / 32 == 2 then Done else Refused
 
--- an answer of this code and body was printed, and its code says how the client ends
+-- a response with this code and body was printed, and its code determines the client's status.
 pub record IsPrinted (shown : Shown) (code : ℕ) (answer : List ℕ) (before after : Option (List ℕ)) (status : Status) : Type 0 where
   pub text : Appends before after (answer_text shown code answer)
   pub status_is : status ≡ ending_of code
 
--- the bytes of a success are in a file, and its code is printed
+-- the bytes of a success are in a file, and its code is printed.
 pub record IsKept (code : ℕ) (answer : List ℕ) (before after kept_before kept : Option (List ℕ)) (status : Status) : Type 0 where
   pub success : code / 32 ≡ 2
   pub text : Appends before after (ended_line (code_text code))
   pub bytes : Appends kept_before kept answer
   pub status_is : status ≡ Done
 
--- another answer is printed whole, and nothing is written to the file
+-- any other response is printed whole, and nothing is written to the file.
 pub record IsNotKept (shown : Shown) (code : ℕ) (answer : List ℕ) (before after kept_before kept : Option (List ℕ)) (status : Status) : Type 0 where
   pub other : (code / 32 ≡ 2) → ⊥
   pub printed : IsPrinted shown code answer before after status
@@ -68,7 +68,7 @@ abbrev pub IsKeptOrPrinted : Shown → ℕ → List ℕ → Option (List ℕ) �
 IsKeptOrPrinted shown code answer before after kept_before kept status =
     IsKept code answer before after kept_before kept status ⊎ IsNotKept shown code answer before after kept_before kept status
 
--- ---- why nothing is asked, or no answer is had: a command line that is bad, or a failure
+-- ---- statuses of a bad command line or a failure
 
 abbrev pub address_status : AddressError → Status
 address_status address_error.NoMemory = Failed
@@ -86,12 +86,12 @@ stop_status stop.Room = Bad
 stop_status stop.Resource = Bad
 stop_status other = Failed
 
--- the random bytes can't be drawn
+-- the random bytes can't be drawn.
 abbrev pub IsOfRandom : FetchStop → Type 0
 IsOfRandom (stop.Random error) = Unit {0}
 IsOfRandom other = ⊥
 
--- the server can't be connected to
+-- the client can't connect to the server.
 abbrev pub IsUnconnected : FetchFault → Type 0
 IsUnconnected (fault.Socket error) = Unit {0}
 IsUnconnected other = ⊥
@@ -100,15 +100,16 @@ abbrev pub IsOfConnecting : FetchStop → Type 0
 IsOfConnecting (stop.Fault f) = IsUnconnected f
 IsOfConnecting other = ⊥
 
--- a client stops for this reason, and ends as that says, or by a failure where the reason can't be told
+-- a client stops for this reason. Its status is the reason's, or `Failed` if the reason can't be
+-- written.
 pub record HasStopped (Stops : FetchStop → Type 0) (status : Status) : Type 0 where
   pub reason : FetchStop
   pub stops : Stops reason
   pub status_is : IsEnding (stop_status reason) status
 
--- ---- what is asked
+-- ---- the request
 
--- the errand has the method, the type of message and the Content-Format that are asked for, this resource and this body
+-- the errand has the options' method, message type and Content-Format, with this resource and body.
 pub record IsAsking (asking : FetchOptions) (target : RequestTarget) (body : List ℕ) (e : Errand) : Type 0 where
   pub confirmable : e.confirmable ≡ asking.confirmable
   pub method : e.method ≡ asking.method
@@ -116,7 +117,7 @@ pub record IsAsking (asking : FetchOptions) (target : RequestTarget) (body : Lis
   pub body_is : e.payload.now ≡ body
   pub format_is : e.content_format ≡ asking.content_format
 
--- a fetch of such an errand, by requests whose ids begin with this one, ends so
+-- a fetch of such an errand ended with this response; the message IDs begin with `first`.
 pub record IsFetchedBy (went came : List ℕ → Type 0) (before after : List PeerCall → Type 0) (asking : FetchOptions) (target : RequestTarget) (body : List ℕ) (first code : ℕ)
     (answer : List ℕ) : Type 0 where
   pub errand : Errand
@@ -124,20 +125,21 @@ pub record IsFetchedBy (went came : List ℕ → Type 0) (before after : List Pe
   pub fetched : IsFetched went came before after errand first code answer
   pub whole : SendsWhole went errand code
 
--- or fails by this fault
+-- or it failed with this fault.
 pub record IsFaultOf (went came : List ℕ → Type 0) (is_error : PeerError → Type 0) (Makes : (List PeerCall → Type 0) → Type 0) (asking : FetchOptions) (target : RequestTarget)
     (body : List ℕ) (first : ℕ) (fault : FetchFault) : Type 0 where
   pub errand : Errand
   pub asks : IsAsking asking target body errand
   pub stops : IsFetchFault went came is_error Makes errand first fault
 
--- a request of this has no room in a datagram, and nothing is called
+-- the request doesn't fit in a datagram, and nothing is called.
 pub record HasNoRoom (Makes : (List PeerCall → Type 0) → Type 0) (method : Method) (target : RequestTarget) (body : List ℕ) : Type 0 where
   pub unfit : FitsDatagrams method (slices_in target.path.segments.items) (slices_in target.query.items) body → ⊥
   pub called : Makes (λ calls. calls ≡ [])
 
--- a client that asks for this, and whose input is known to have these bytes, has this answer: it connected to the server at the address of its target, and asked it for that resource, by the bytes
--- of its input and by message IDs from one on that it drew
+-- a client with these options has this response. It connected to the server at its target's address
+-- and requested that resource. The body is the input's bytes if they are known. The message IDs
+-- begin with one that was drawn.
 pub record IsAnswerTo {S : Type 0} (connected : S → SocketAddrV4 → Type 0) (drawn went came : List ℕ → Type 0) (called : S → List PeerCall → Type 0) (asking : FetchOptions)
     (input : Option (List ℕ)) (code : ℕ) (answer : List ℕ) : Type 0 where
   pub address : Address
@@ -153,9 +155,9 @@ pub record IsAnswerTo {S : Type 0} (connected : S → SocketAddrV4 → Type 0) (
   pub ended : S
   pub fetched : IsFetchedBy went came (called opened) (called ended) asking target body id code answer
 
--- ---- why there is no answer
+-- ---- the reasons for no response
 
--- the address names no resource
+-- the address names no resource.
 abbrev pub NamesNoResource : Address → FetchStop → Type 0
 NamesNoResource a (stop.Path error) = IsNoResource a (resource_error.Path error)
 NamesNoResource a stop.Argument = IsNoResource a resource_error.Argument
@@ -167,24 +169,24 @@ pub record NamesNothing (text : List ℕ) (port : Option ℕ) (reason : FetchSto
   pub address_is : IsAddress text port address
   pub none : NamesNoResource address reason
 
--- a target is no address, or its address names no resource
+-- a target is no address, or its address names no resource.
 abbrev pub IsTargetStop : List ℕ → Option ℕ → FetchStop → Type 0
 IsTargetStop text port (stop.Address error) = IsNoAddress text port error
 IsTargetStop text port other = NamesNothing text port other
 
--- a target has an address, and that names a resource
+-- a target has an address that names a resource.
 pub record HasResource (text : List ℕ) (port : Option ℕ) : Type 0 where
   pub address : Address
   pub address_is : IsAddress text port address
   pub target : RequestTarget
   pub target_is : IsResourceOf address target
 
--- the body can't be read from where it comes from
+-- the body can't be read from its source.
 abbrev pub IsOfInput : List ℕ → FetchStop → Type 0
 IsOfInput source (stop.Input name error) = name.now ≡ source
 IsOfInput source other = ⊥
 
--- the server at the address was connected to, and the fetch of the resource failed
+-- the client connected to the server at the address, and the fetch of the resource failed.
 pub record HasFailedAt {S : Type 0} (connected : S → SocketAddrV4 → Type 0) (went came : List ℕ → Type 0) (is_error : PeerError → Type 0) (called : S → List PeerCall → Type 0) (asking : FetchOptions)
     (target : RequestTarget) (body : List ℕ) (id : ℕ) (server : SocketAddrV4) (f : FetchFault) : Type 0 where
   pub opened : S
@@ -192,7 +194,7 @@ pub record HasFailedAt {S : Type 0} (connected : S → SocketAddrV4 → Type 0) 
   pub ended : S
   pub fails : IsFaultOf went came is_error (MakesCalls (called opened) (called ended)) asking target body id f
 
--- or it couldn't be connected to
+-- or the client couldn't connect.
 pub record IsAskedInVain {S : Type 0} (connected : S → SocketAddrV4 → Type 0) (drawn went came : List ℕ → Type 0) (is_error : PeerError → Type 0) (called : S → List PeerCall → Type 0)
     (asking : FetchOptions) (input : Option (List ℕ)) (f : FetchFault) : Type 0 where
   pub resource : HasResource asking.target.now asking.port
@@ -202,7 +204,7 @@ pub record IsAskedInVain {S : Type 0} (connected : S → SocketAddrV4 → Type 0
   pub id_is : IsDrawnId drawn id
   pub fails : IsUnconnected f ⊎ HasFailedAt connected went came is_error called asking resource.target body id resource.address.server f
 
--- or the request has no room in a datagram, so that nothing was called on the server
+-- or the request doesn't fit in a datagram, and nothing was called on the server.
 pub record IsWithoutRoom {S : Type 0} (connected : S → SocketAddrV4 → Type 0) (called : S → List PeerCall → Type 0) (asking : FetchOptions) (input : Option (List ℕ)) : Type 0 where
   pub resource : HasResource asking.target.now asking.port
   pub body : List ℕ
@@ -212,7 +214,8 @@ pub record IsWithoutRoom {S : Type 0} (connected : S → SocketAddrV4 → Type 0
   pub ended : S
   pub room : HasNoRoom (MakesCalls (called opened) (called ended)) asking.method resource.target body
 
--- why a client that asks for this has no answer: its target names no resource; or it does, and the input or the random bytes failed, or the request has no room, or asking failed
+-- the reason why a client with these options has no response. Its target names no resource; or the
+-- input or the random bytes failed, the request doesn't fit in a datagram, or the fetch failed.
 abbrev pub IsFetchStop : {S : Type 0} → (S → SocketAddrV4 → Type 0) → (List ℕ → Type 0) → (List ℕ → Type 0) → (List ℕ → Type 0) → (PeerError → Type 0) → (S → List PeerCall → Type 0)
     → FetchOptions → Option (List ℕ) → FetchStop → Type 0
 IsFetchStop connected drawn went came is_error called asking input (stop.Input name error) = (name.now ≡ asking.source.now) × HasResource asking.target.now asking.port
@@ -221,30 +224,30 @@ IsFetchStop connected drawn went came is_error called asking input (stop.Fault f
 IsFetchStop connected drawn went came is_error called asking input stop.Room = IsWithoutRoom connected called asking input
 IsFetchStop connected drawn went came is_error called asking input other = IsTargetStop asking.target.now asking.port other
 
--- ---- how it ends
+-- ---- statuses
 
--- an answer of this kind was had and printed
+-- a response of this kind came and was printed.
 pub record IsAnswerShown (Has : ℕ → List ℕ → Type 0) (shown : Shown) (before after : Option (List ℕ)) (status : Status) : Type 0 where
   pub code : ℕ
   pub answer : List ℕ
   pub has : Has code answer
   pub printed : IsPrinted shown code answer before after status
 
--- or its bytes are kept in a file
+-- or its bytes are stored in a file.
 pub record IsAnswerKept (Has : ℕ → List ℕ → Type 0) (shown : Shown) (before after kept_before kept : Option (List ℕ)) (status : Status) : Type 0 where
   pub code : ℕ
   pub answer : List ℕ
   pub has : Has code answer
   pub is : IsKeptOrPrinted shown code answer before after kept_before kept status
 
--- or it was had, and couldn't be written
+-- or it came, and couldn't be written.
 pub record IsUnprinted (Has : ℕ → List ℕ → Type 0) (status : Status) : Type 0 where
   pub code : ℕ
   pub answer : List ℕ
   pub has : Has code answer
   pub status_is : status ≡ Failed
 
--- or none was had, for one of these reasons
+-- or none came, for one of these reasons.
 abbrev pub IsUnanswered : (ℕ → List ℕ → Type 0) → (FetchStop → Type 0) → Status → Type 0
 IsUnanswered Has Stops status = HasStopped Stops status ⊎ IsUnprinted Has status
 

@@ -1,4 +1,4 @@
--- What an observer's program prints, and how it ends.
+-- The output of an observer, and its status.
 use Rattle.std.specs.Prelude.{◌≡◌, ℕ, ◌+◌, ◌/◌, ◌<◌, ◌≤◌, ◌^◌, ◌⊎◌, ◌++◌, max, Bool, true, false, List, [], ◌∷◌, length, Option, Some, None, is_some, codes}
 use Rattle.std.specs.List.{All}
 use Rattle.std.specs.Io.KnownBytes.{Appends}
@@ -43,17 +43,17 @@ use Rattle.fc_fetch.specs.declared.printer.Shown.{Shown}
 use Rattle.fc_fetch.specs.Fetching.{HasResource, HasStopped, IsTargetStop, IsUnconnected, ended_line}
 use Rattle.fc_fetch.specs.Printing.{line_bytes}
 
--- the code and, where there are bytes, a space and these
+-- the code and, if there are bytes, a space and the bytes.
 abbrev pub note_text : Shown → ℕ → List ℕ → List ℕ
 note_text shown code [] = ended_line (code_text code)
 note_text shown code (b ∷ payload) = ended_line (code_text code ++ (codes " " ++ line_bytes shown (b ∷ payload)))
 
--- a line for each, the oldest first
+-- a line for each, the oldest first.
 abbrev pub notes_text : Shown → List Note → List ℕ
 notes_text shown [] = []
 notes_text shown (n ∷ ns) = notes_text shown ns ++ note_text shown n.message.code n.message.payload
 
--- how many lines are printed at most: as many as are wanted, but one where none is
+-- the maximum number of lines: as many as are wanted, and one if none is.
 abbrev pub lines_wanted : Option ℕ → ℕ
 lines_wanted None = 18446744073709551615
 lines_wanted (Some count) = max count 1
@@ -62,39 +62,42 @@ abbrev pub IsState : Notice → Type 0
 IsState (notice.State sequence) = Unit {0}
 IsState other = ⊥
 
--- why no more is shown: as many were as are wanted, or the time is over before that, and each is a state; or the last one has this code, and none comes behind it
+-- the way in which the observation ends. Either as many lines were printed as are wanted, or the
+-- time is over before that, and the latest is a state; or the latest has this code, and none
+-- follows it.
 abbrev pub IsEnd : ℕ → ObservationEnd → Note → List Note → Type 0
 IsEnd limit Counted latest older = (length (latest ∷ older) ≡ limit) × IsState (notice_of latest.message)
 IsEnd limit Over latest older = (length (latest ∷ older) < limit) × IsState (notice_of latest.message)
 IsEnd limit (Last code) latest older = (length (latest ∷ older) ≤ limit) × (latest.message.code ≡ code.byte) × (notice_of latest.message ≡ notice.Last)
 
--- ---- for how long
+-- ---- waits
 
--- a wait without an end is begun in days of 86,400 s
+-- a wait without an end is begun in days of 86,400 s.
 abbrev pub is_day : PeerCall → Type 0
 is_day call = call ≡ Waits 86400
 
--- how many seconds the first wait lasts
+-- the length of the first wait, in seconds.
 abbrev pub first_wait : Option ℕ → ℕ
 first_wait None = 86400
 first_wait (Some seconds) = seconds
 
--- then none is begun where the time ends, and else a day whenever one is over
+-- if the time ends, no further wait is begun; else each further wait is of a day.
 abbrev pub IsAwaitedIn : Bool → List PeerCall → Type 0
 IsAwaitedIn true calls = schedule calls ≡ []
 IsAwaitedIn false calls = All is_day (schedule calls)
 
--- the first wait is begun, and no other but such a day
+-- the first wait is begun, and no other except such days.
 pub record IsWaitedFor (seconds : Option ℕ) (calls : List PeerCall) : Type 0 where
   pub heard : List PeerCall
   pub awaited : IsAwaitedIn (is_some seconds) heard
   pub is : calls ≡ heard ++ Waits (first_wait seconds) ∷ []
 
--- the wait is over: the last receive says so; or 2^64 - 1 datagrams came, so that no more are listened to
+-- the wait is over: the last receive returned nothing, or 2^64 - 1 datagrams came, after which no
+-- more are received.
 abbrev pub IsOverAtLast : List PeerCall → Type 0
 IsOverAtLast calls = ((older : List PeerCall) × (calls ≡ Receives None ∷ older)) ⊎ (2 ^ 64 ≤ length calls + 1)
 
--- the time is over: the wait is, or without an end 2^64 - 1 days are
+-- the time is over: the wait is over, or 2^64 - 1 days are if it has no end.
 abbrev pub IsTimeOver : Option ℕ → List PeerCall → Type 0
 IsTimeOver (Some seconds) calls = IsOverAtLast calls
 IsTimeOver None calls = 2 ^ 64 ≤ length (schedule calls) + 1
@@ -103,7 +106,8 @@ abbrev pub EndsInTime : Option ℕ → ObservationEnd → List PeerCall → Type
 EndsInTime seconds Over calls = IsTimeOver seconds calls
 EndsInTime seconds other calls = Unit {0}
 
--- it registers, and observes for so long; nothing is called behind a first answer that is the last
+-- it registers, and observes for that time; nothing is called after a first response that is the
+-- last.
 pub record IsTimedObservation (o : Observer) (seconds : Option ℕ) (end : ObservationEnd) (calls : List PeerCall) : Type 0 where
   pub older : List PeerCall
   pub registered : IsDatedRegistration o older
@@ -113,12 +117,12 @@ pub record IsTimedObservation (o : Observer) (seconds : Option ℕ) (end : Obser
   pub ends : EndsInTime seconds end newer
   pub is : calls ≡ newer ++ older
 
--- the deregistration was sent and acknowledged, where the server would notify further
+-- the deregistration was sent and acknowledged, if the server would notify further.
 abbrev pub HasLeft : (List ℕ → Type 0) → (List ℕ → Type 0) → Observer → ObservationEnd → Type 0
 HasLeft went came o (Last code) = Unit {0}
 HasLeft went came o other = HasDeregistered went came o
 
--- what is called for that, and what is called from the registration on
+-- the calls for that, and the calls from the registration on.
 abbrev pub IsLeaving : Observer → ObservationEnd → List PeerCall → Type 0
 IsLeaving o (Last code) calls = calls ≡ []
 IsLeaving o other calls = IsDeregistration o calls
@@ -126,7 +130,8 @@ IsLeaving o other calls = IsDeregistration o calls
 abbrev pub ObservesToEnd : Observer → Option ℕ → ObservationEnd → List PeerCall → Type 0
 ObservesToEnd o seconds end calls = AreBehind (IsTimedObservation o seconds end) (IsLeaving o end) calls
 
--- the registration was sent; its answer and notifications were printed, a line each: each came, is newer than the one before it, and was printed once
+-- the registration was sent. Its response and the notifications were printed, one line each: each
+-- came, is newer than the one before it, and was printed once.
 pub record HasShown (went came : List ℕ → Type 0) (told : ℕ → Type 0) (o : Observer) (shown : Shown) (limit : ℕ) (before after : Option (List ℕ)) (end : ObservationEnd) : Type 0 where
   pub asked : went (message_bytes (observe_request o.errand.now Register o.token o.id))
   pub latest : Note
@@ -135,14 +140,16 @@ pub record HasShown (went came : List ℕ → Type 0) (told : ℕ → Type 0) (o
   pub printed : Appends before after (notes_text shown (latest ∷ older))
   pub ends : IsEnd limit end latest older
 
--- an error, or an answer without notifications, isn't what was wanted; of the latter standard error is told, and where that fails so does the program
+-- an error, or a response without notifications, isn't a success. The latter is reported on
+-- standard error, and if that fails the program fails.
 abbrev pub IsToldEnd : ObservationEnd → Status → Type 0
 IsToldEnd (Last code) status = (status ≡ Refused) ⊎ ((code.byte / 32 ≡ 2) × (status ≡ Failed))
 IsToldEnd other status = status ≡ Done
 
 -- ---- from the target on
 
--- an observer of an errand, by a token and a message ID that were drawn, observed at the server of this address that was connected to, and ended so
+-- an observer of an errand observed at the server of this address, and ended in this way. Its token
+-- and message ID were drawn, and the client connected to that server.
 pub record IsObservedAt {S : Type 0} (connected : S → SocketAddrV4 → Type 0) (drawn went came : List ℕ → Type 0) (told : ℕ → Type 0) (called : S → List PeerCall → Type 0) (observing : Observing)
     (e : Errand) (server : SocketAddrV4) (before after : Option (List ℕ)) (end : ObservationEnd) : Type 0 where
   pub observer : Observer
@@ -156,7 +163,7 @@ pub record IsObservedAt {S : Type 0} (connected : S → SocketAddrV4 → Type 0)
   pub left : HasLeft went came observer end
   pub called_is : MakesCalls (called opened) (called ended) (ObservesToEnd observer observing.extent.seconds end)
 
--- the resource of the target was observed so
+-- the target's resource was observed in this way.
 pub record IsObservedIn {S : Type 0} (connected : S → SocketAddrV4 → Type 0) (drawn went came : List ℕ → Type 0) (told : ℕ → Type 0) (called : S → List PeerCall → Type 0) (observing : Observing)
     (before after : Option (List ℕ)) (end : ObservationEnd) : Type 0 where
   pub address : Address
@@ -165,54 +172,59 @@ pub record IsObservedIn {S : Type 0} (connected : S → SocketAddrV4 → Type 0)
   pub target_is : IsResourceOf address errand.target
   pub observed : IsObservedAt connected drawn went came told called observing errand address.server before after end
 
--- the program has observed to such an end, which says its status
+-- the program observed to such an end, which determines its status.
 pub record HasObservedTo (Ends : ObservationEnd → Type 0) (status : Status) : Type 0 where
   pub end : ObservationEnd
   pub ends : Ends end
   pub status_is : IsToldEnd end status
 
--- or it stops for such a reason
+-- or it stops for such a reason.
 abbrev pub HasEnded : (ObservationEnd → Type 0) → (FetchStop → Type 0) → Status → Type 0
 HasEnded Ends Stops status = HasObservedTo Ends status ⊎ HasStopped Stops status
 
--- ---- where it fails
+-- ---- failures
 
--- the registration was rejected, or not answered: the server doesn't have the observer
+-- the registration was rejected, or got no response: the server doesn't have the observer.
 abbrev pub IsUnregistered : ((List PeerCall → Type 0) → Type 0) → Observer → Type 0
 IsUnregistered Makes o = Makes (IsRejection true (TellsObserver o.token o.id) (registration_of o)) ⊎ Makes (IsSilence true (TellsObserver o.token o.id) (registration_of o))
 
--- from some state of the peer on it deregistered: by requests that are sent until one is acknowledged, or until that fails as a deregistration does
+-- from some state of the peer on it deregistered: its request was sent until one was acknowledged,
+-- or until it failed as a deregistration does.
 pub record DeregistersFrom {S : Type 0} (called : S → List PeerCall → Type 0) (is_error : PeerError → Type 0) (o : Observer) (after : S) : Type 0 where
   pub from : S
   pub ends : MakesCalls (called from) (called after) (IsDeregistration o) ⊎ ((f : FetchFault) × IsLeavingFault is_error (MakesCalls (called from) (called after)) o f)
 
--- the deregistration was handed over, and by its schedule, unless nothing was called, or the server doesn't have the observer
+-- the deregistration was passed to the peer and sent by its schedule, unless nothing was called, or
+-- the server doesn't have the observer.
 abbrev pub LeavesAtFault : {S : Type 0} → (S → List PeerCall → Type 0) → (PeerError → Type 0) → (List ℕ → Type 0) → S → S → Observer → Type 0
 LeavesAtFault called is_error tried before after o =
     (tried (deregistration_of o) × DeregistersFrom called is_error o after)
     ⊎ (MakesCalls (called before) (called after) (λ calls. calls ≡ []) ⊎ IsUnregistered (MakesCalls (called before) (called after)) o)
 
--- a server may have the observer after this error: not if it rejected the registration, or if no answer to it came
+-- a server may have the observer after this error, unless it rejected the registration or no
+-- response to the registration came.
 abbrev pub may_notify : NotesError → Bool
 may_notify (notes_error.Fault fault.Silence) = false
 may_notify (notes_error.Fault fault.Rejected) = false
 may_notify other = true
 
--- what the wait for the next note fails by: a notification came that can't be shown, there was no memory for one, or the peer returned an error
+-- the wait for the next note failed: a notification that came can't be shown, memory for one can't
+-- be allocated, or the peer returned an error.
 abbrev pub IsAwaitFault : (List ℕ → Type 0) → (PeerError → Type 0) → Observer → FetchFault → Type 0
 IsAwaitFault came is_error o fault.Part = UnfitCame came o.token o.id
 IsAwaitFault came is_error o (fault.Socket error) = is_error error
 IsAwaitFault came is_error o (fault.Memory error) = Unit {0}
 IsAwaitFault came is_error o other = ⊥
 
--- what printing notes fails by: the registration does, what came can't be shown or printed, or the peer returned an error
+-- printing notes failed: the registration failed, a message can't be shown or printed, or the peer
+-- returned an error.
 abbrev pub IsNotesFault : (List ℕ → Type 0) → (PeerError → Type 0) → ((List PeerCall → Type 0) → Type 0) → Observer → NotesError → Type 0
 IsNotesFault came is_error Makes o (notes_error.Fault fault.Silence) = Makes (IsSilence true (TellsObserver o.token o.id) (registration_of o))
 IsNotesFault came is_error Makes o (notes_error.Fault fault.Rejected) = Makes (IsRejection true (TellsObserver o.token o.id) (registration_of o))
 IsNotesFault came is_error Makes o (notes_error.Fault other) = IsAwaitFault came is_error o other
 IsNotesFault came is_error Makes o other = Unit {0}
 
--- the observation ended, and its deregistration fails by this
+-- the observation ended, and its deregistration failed with this fault.
 pub record IsLeftInVain (is_error : PeerError → Type 0) (Makes : (List PeerCall → Type 0) → Type 0) (o : Observer) (seconds : Option ℕ) (f : FetchFault) : Type 0 where
   pub end : ObservationEnd
   pub fails : IsLeavingFault is_error (λ Calls. Makes (AreBehind (IsTimedObservation o seconds end) Calls)) o f
@@ -221,9 +233,9 @@ abbrev pub IsEndFault : (List ℕ → Type 0) → (PeerError → Type 0) → ((L
 IsEndFault came is_error Makes o seconds (notes_error.Fault f) = IsNotesFault came is_error Makes o (notes_error.Fault f) ⊎ IsLeftInVain is_error Makes o seconds f
 IsEndFault came is_error Makes o seconds other = Unit {0}
 
--- ---- why it stops
+-- ---- the reasons to stop
 
--- the observer of an errand failed at the server that was connected to, and left
+-- the observer of an errand failed at the server that the client connected to, and deregistered.
 pub record IsObservedInVain {S : Type 0} (connected : S → SocketAddrV4 → Type 0) (drawn came tried : List ℕ → Type 0) (is_error : PeerError → Type 0) (called : S → List PeerCall → Type 0)
     (observing : Observing) (e : Errand) (server : SocketAddrV4) (error : NotesError) : Type 0 where
   pub observer : Observer
@@ -236,7 +248,7 @@ pub record IsObservedInVain {S : Type 0} (connected : S → SocketAddrV4 → Typ
   pub fails : IsEndFault came is_error (MakesCalls (called opened) (called ended)) observer observing.extent.seconds error
   pub leaves : LeavesAtFault called is_error tried opened ended observer
 
--- or there are no random bytes, or the server can't be connected to
+-- or there are no random bytes, or the client can't connect.
 abbrev pub IsErrandStop : {S : Type 0} → (S → SocketAddrV4 → Type 0) → (List ℕ → Type 0) → (List ℕ → Type 0) → (List ℕ → Type 0) → (PeerError → Type 0) → (S → List PeerCall → Type 0) → Observing
     → Errand → SocketAddrV4 → FetchStop → Type 0
 IsErrandStop connected drawn came tried is_error called observing e server (stop.Random error) = Unit {0}
@@ -244,7 +256,7 @@ IsErrandStop connected drawn came tried is_error called observing e server (stop
 IsErrandStop connected drawn came tried is_error called observing e server (stop.Notes error) = IsObservedInVain connected drawn came tried is_error called observing e server error
 IsErrandStop connected drawn came tried is_error called observing e server other = ⊥
 
--- of the errand of the target's resource
+-- the same for the errand of the target's resource.
 pub record HasStoppedObserving {S : Type 0} (connected : S → SocketAddrV4 → Type 0) (drawn came tried : List ℕ → Type 0) (is_error : PeerError → Type 0) (called : S → List PeerCall → Type 0)
     (observing : Observing) (reason : FetchStop) : Type 0 where
   pub address : Address
@@ -253,12 +265,12 @@ pub record HasStoppedObserving {S : Type 0} (connected : S → SocketAddrV4 → 
   pub target_is : IsResourceOf address errand.target
   pub stops : IsErrandStop connected drawn came tried is_error called observing errand address.server reason
 
--- a GET of the resource has no room in a datagram
+-- a GET of the resource doesn't fit in a datagram.
 pub record HasNoRoomFor (observing : Observing) : Type 0 where
   pub resource : HasResource observing.target.now observing.port
   pub unfit : FitsDatagrams Get (slices_in resource.target.path.segments.items) (slices_in resource.target.query.items) [] → ⊥
 
--- or the target names no resource
+-- or the target names no resource.
 abbrev pub IsObserveStop : {S : Type 0} → (S → SocketAddrV4 → Type 0) → (List ℕ → Type 0) → (List ℕ → Type 0) → (List ℕ → Type 0) → (PeerError → Type 0) → (S → List PeerCall → Type 0) → Observing
     → FetchStop → Type 0
 IsObserveStop connected drawn came tried is_error called observing stop.Room = HasNoRoomFor observing
@@ -267,9 +279,9 @@ IsObserveStop connected drawn came tried is_error called observing (stop.Fault f
 IsObserveStop connected drawn came tried is_error called observing (stop.Notes error) = HasStoppedObserving connected drawn came tried is_error called observing (stop.Notes error)
 IsObserveStop connected drawn came tried is_error called observing other = IsTargetStop observing.target.now observing.port other
 
--- ---- step by step
+-- ---- steps
 
--- the notes so far were printed, so many lines, and the watch has them
+-- the notes so far were printed, with this number of lines, and the watch has them.
 pub record IsShowing (went came : List ℕ → Type 0) (told : ℕ → Type 0) (o : Observer) (shown : Shown) (before now : Option (List ℕ)) (lines : ℕ) (w : Watch) : Type 0 where
   pub asked : went (message_bytes (observe_request o.errand.now Register o.token o.id))
   pub latest : Note
@@ -278,12 +290,12 @@ pub record IsShowing (went came : List ℕ → Type 0) (told : ℕ → Type 0) (
   pub printed : Appends before now (notes_text shown (latest ∷ older))
   pub count : length (latest ∷ older) ≡ lines
 
--- the answer to the registration was printed: a state, or the last one
+-- the response to the registration was printed: a state, or the last one.
 abbrev pub IsFirstShown : (List ℕ → Type 0) → (List ℕ → Type 0) → (ℕ → Type 0) → Observer → Shown → Option (List ℕ) → Option (List ℕ) → First → Type 0
 IsFirstShown went came told o shown before after (State w) = IsShowing went came told o shown before after 1 w
 IsFirstShown went came told o shown before after (Only code) = (limit : ℕ) → 1 ≤ limit → HasShown went came told o shown limit before after (Last code)
 
--- the time is over while the next note is awaited
+-- the time is over during the wait for the next note.
 abbrev pub IsOverIn : Bool → List PeerCall → Type 0
 IsOverIn true calls = IsOverAtLast calls
 IsOverIn false calls = 2 ^ 64 ≤ length (schedule calls) + 1

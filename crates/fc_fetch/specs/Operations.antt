@@ -1,4 +1,4 @@
--- What the words of a command line ask for.
+-- The operation that the words of a command line ask for.
 use Rattle.std.specs.Borrow.{Bor}
 use Rattle.std.specs.Prelude.{◌≡◌, ◌≢◌, ◌⊎◌, ℕ, ◌<◌, ◌^◌, not, Bool, true, false, List, Option, Some, None, codes, is_some, option_map, unwrap_or}
 use Rattle.std.specs.Str.Parse.{IsNumeral, digits_value, without_leading_plus}
@@ -20,31 +20,31 @@ use Rattle.fc_fetch.specs.declared.printer.Shown.TheVariants.{Hex, Text}
 
 -- ---- options
 
--- a flag is set, or isn't
+-- a flag is set, or isn't.
 pub record IsFlagOf (text : Option (List ℕ)) (set : Bool) : Type 0 where
   pub none : text ≡ None → set ≡ false
   pub on : text ≡ Some (codes "true") → set ≡ true
   pub off : text ≡ Some (codes "false") → set ≡ false
 
--- the digits of a text, behind a plus or none
+-- the text is decimal digits, with or without a plus before them.
 abbrev pub IsDecimal : List ℕ → Type 0
 IsDecimal text = IsNumeral 10 (without_leading_plus text)
 
 abbrev pub decimal_value : List ℕ → ℕ
 decimal_value text = digits_value 10 (without_leading_plus text)
 
--- the number that an option gives, if it is given: a decimal one of so many bits
+-- the number that an option gives, if it is given: a decimal number of `bits` bits.
 abbrev pub IsNumberOf : ℕ → Option (List ℕ) → Option ℕ → Type 0
 IsNumberOf bits None number = number ≡ None
 IsNumberOf bits (Some text) (Some n) = IsDecimal text × (n ≡ decimal_value text)
 IsNumberOf bits (Some text) None = IsDecimal text → decimal_value text < 2 ^ bits → ⊥
 
--- with `--text` bytes are shown as text, and else in hex
+-- with `--text` bytes are shown as text, and else in hex.
 abbrev pub IsShownIn : Found → Shown → Type 0
 IsShownIn f Text = IsFlagOf (one_text f (codes "text")) true
 IsShownIn f Hex = IsFlagOf (one_text f (codes "text")) false
 
--- the word of a method, in small letters
+-- the word of a method, in small letters.
 abbrev pub IsMethodOf : List ℕ → Option Method → Type 0
 IsMethodOf word (Some Get) = word ≡ codes "get"
 IsMethodOf word (Some Post) = word ≡ codes "post"
@@ -54,7 +54,8 @@ IsMethodOf word None = (word ≢ codes "get") × (word ≢ codes "post") × (wor
 
 -- ---- the body of a request
 
--- with `-n` there is none; with `-e` it is this text, and with `-f` this file; without any of the three it is standard input
+-- with `-n` there is no body; with `-e` it is this text, and with `-f` this file; without any of
+-- the three it is standard input.
 abbrev pub IsBodyIn : Found → BodySource → Type 0
 IsBodyIn f source.None = IsFlagOf (one_text f (codes "no-body")) true × (first_value f (codes "body") ≡ None) × (first_value f (codes "file") ≡ None)
 IsBodyIn f (source.Text text) = IsFlagOf (one_text f (codes "no-body")) false × (first_value f (codes "body") ≡ Some text.now) × (first_value f (codes "file") ≡ None)
@@ -64,12 +65,12 @@ IsBodyIn f source.Input = IsFlagOf (one_text f (codes "no-body")) false × (firs
 abbrev pub HasValue : Found → List ℕ → Type 0
 HasValue f id = is_some (first_value f id) ≡ true
 
--- two of the three say what the body is
+-- two of the three options give a body.
 abbrev pub HasTwoBodies : Found → Type 0
 HasTwoBodies f =
     (IsFlagOf (one_text f (codes "no-body")) true × (HasValue f (codes "body") ⊎ HasValue f (codes "file"))) ⊎ (HasValue f (codes "body") × HasValue f (codes "file"))
 
--- a GET and a DELETE don't read a terminal
+-- a GET and a DELETE don't read a terminal.
 abbrev pub body_of_terminal : Method → BodySource
 body_of_terminal Get = source.None
 body_of_terminal Delete = source.None
@@ -99,7 +100,7 @@ IsNoName text =
     × (text ≢ codes "application/exi")
     × (text ≢ codes "application/json")
 
--- the format of this name, or of this number
+-- the format of this name, or of this number.
 abbrev pub IsFormatOf : List ℕ → Option ℕ → Type 0
 IsFormatOf text (Some n) = IsFormatNamed text n ⊎ (IsNoName text × IsNumberOf 16 (Some text) (Some n))
 IsFormatOf text None = IsNoName text × IsNumberOf 16 (Some text) None
@@ -111,9 +112,9 @@ IsFormatIn f (Some n) = (text : List ℕ) × (first_value f (codes "format") ≡
 abbrev pub HasNoFormat : Found → Type 0
 HasNoFormat f = (text : List ℕ) × (first_value f (codes "format") ≡ Some text) × IsFormatOf text None
 
--- ---- options that don't go with all
+-- ---- options that don't go with all operations
 
--- an option is given that a request alone has
+-- an option is given that only requests have.
 abbrev pub IsForRequest : Found → Type 0
 IsForRequest f =
     IsFlagOf (one_text f (codes "non")) true
@@ -126,11 +127,11 @@ pub record IsForNoRequest (f : Found) : Type 0 where
   pub no_format : first_value f (codes "format") ≡ None
   pub no_output : first_value f (codes "output") ≡ None
 
--- a number is given for this option
+-- a number is given for this option.
 abbrev pub IsGiven : Option (List ℕ) → Type 0
 IsGiven text = (n : ℕ) × IsNumberOf 32 text (Some n)
 
--- a number of lines or of seconds is
+-- a number of lines or of seconds is given.
 abbrev pub IsLimited : Found → Type 0
 IsLimited f = IsGiven (one_text f (codes "count")) ⊎ IsGiven (one_text f (codes "seconds"))
 
@@ -138,9 +139,10 @@ pub record IsUnlimited (f : Found) : Type 0 where
   pub no_count : IsNumberOf 32 (one_text f (codes "count")) None
   pub no_seconds : IsNumberOf 32 (one_text f (codes "seconds")) None
 
--- ---- what is asked for
+-- ---- operations
 
--- a request of this method and target, confirmable without `-N`, with this body, whose answer's bytes go to the file that `-o` names
+-- a request of this method and target, with this body. It is confirmable without `-N`, and its
+-- response's bytes go to the file that `-o` names.
 pub record IsFetchIn (f : Found) (asking : FetchOptions) (body : BodySource) (output : Option (Bor (List ℕ))) : Type 0 where
   pub word : List ℕ
   pub word_is : first_value f (codes "method") ≡ Some word
@@ -155,7 +157,7 @@ pub record IsFetchIn (f : Found) (asking : FetchOptions) (body : BodySource) (ou
   pub output_is : option_map (λ name. name.now) output ≡ first_value f (codes "output")
   pub unlimited : IsUnlimited f
 
--- an observation of this target, for so many lines and seconds
+-- an observation of this target, with a limit of lines and of seconds.
 pub record IsObservationIn (f : Found) (observing : Observing) : Type 0 where
   pub word_is : first_value f (codes "method") ≡ Some (codes "observe")
   pub target_is : first_value f (codes "target") ≡ Some observing.target.now
@@ -165,7 +167,7 @@ pub record IsObservationIn (f : Found) (observing : Observing) : Type 0 where
   pub seconds_is : IsNumberOf 32 (one_text f (codes "seconds")) observing.extent.seconds
   pub no_request : IsForNoRequest f
 
--- a ping of this target, or of this port
+-- a ping of this target, or of this port.
 pub record IsPingIn (f : Found) (pinging : Pinging) : Type 0 where
   pub word_is : first_value f (codes "method") ≡ Some (codes "ping")
   pub target_is : option_map (λ text. text.now) pinging.target ≡ first_value f (codes "target")
@@ -178,23 +180,23 @@ IsOperationIn f (operation.Fetch asking) = IsFetchIn f asking.options asking.bod
 IsOperationIn f (operation.Observe observing) = IsObservationIn f observing
 IsOperationIn f (operation.Ping pinging) = IsPingIn f pinging
 
--- ---- why nothing is
+-- ---- errors
 
--- a word that is no method, and neither `observe` nor `ping`
+-- a word that is no method, and neither `observe` nor `ping`.
 pub record IsUnknown (word : List ℕ) : Type 0 where
   pub no_method : IsMethodOf word None
   pub no_observation : word ≢ codes "observe"
   pub no_ping : word ≢ codes "ping"
 
--- the method is missing or unknown, or the target is missing and the method isn't `ping`
+-- the method is missing or unknown, or the target is missing and the method isn't `ping`.
 abbrev pub IsMissing : Found → Type 0
 IsMissing f =
     (first_value f (codes "method") ≡ None)
     ⊎ (((first_value f (codes "target") ≡ None) × (first_value f (codes "method") ≢ Some (codes "ping")))
     ⊎ ((word : List ℕ) × (first_value f (codes "method") ≡ Some word) × IsUnknown word))
 
--- an observation has an option of requests; a request has a number of lines or seconds; a ping has either; a word is missing or unknown; the body is given twice;
--- or the format is unknown
+-- an observation has an option of requests; a request has a number of lines or seconds; a ping has
+-- either; a word is missing or unknown; the body is given twice; or the format is unknown.
 abbrev pub IsOperationError : Found → OperationError → Type 0
 IsOperationError f operation_error.Request = (first_value f (codes "method") ≡ Some (codes "observe")) × IsForRequest f
 IsOperationError f operation_error.Extent =

@@ -1,4 +1,4 @@
--- As what the bytes of an answer are printed.
+-- The printed form of a response's bytes.
 use Rattle.std.specs.Prelude.{◌≡◌, ℕ, ◌==◌, ◌&&◌, ◌||◌, not, nat_le, Bool, if◌then◌else◌, List, Option, Some, None}
 use Rattle.std.specs.Borrow.{Bor}
 use Rattle.std.specs.List.{list_all, list_any}
@@ -7,24 +7,24 @@ use Rattle.hex.specs.Hex.{encode_lower}
 use Rattle.fc_fetch.specs.declared.printer.Shown.{Shown}
 use Rattle.fc_fetch.specs.declared.printer.Shown.TheVariants.{Hex, Text}
 
--- no control character (Unicode, general category Cc), but a tab or a line feed
+-- a tab, a line feed, or not a control character (Unicode, general category Cc).
 abbrev pub is_shown_char : ℕ → Bool
 is_shown_char c = (c == 9) || ((c == 10) || (nat_le 32 c && not (nat_le 127 c && nat_le c 159)))
 
 abbrev pub is_text : List ℕ → Bool
 is_text bytes = is_utf8 bytes && list_all is_shown_char (chars bytes)
 
--- text as it is, where it is asked for, and all else in hex
+-- text unchanged, if text is wanted, and all else in hex.
 abbrev pub shown_bytes : Shown → List ℕ → List ℕ
 shown_bytes Hex bytes = encode_lower bytes
 shown_bytes Text bytes = if is_text bytes then bytes else encode_lower bytes
 
--- the text that is printed for the bytes, or none where they go in hex
+-- the text that is printed for the bytes, or none if they are printed in hex.
 abbrev pub IsShownText : Shown → List ℕ → Option (Bor (List ℕ)) → Type 0
 IsShownText shown bytes None = shown_bytes shown bytes ≡ encode_lower bytes
 IsShownText shown bytes (Some text) = shown_bytes shown bytes ≡ text.now
 
--- in one line: text goes as it is only where it has no line feed
+-- on one line: text is printed unchanged only if it has no line feed.
 abbrev pub line_bytes : Shown → List ℕ → List ℕ
 line_bytes shown bytes = if list_any (λ b. b == 10) bytes then encode_lower bytes else shown_bytes shown bytes
 

@@ -10,19 +10,21 @@ use Rattle.fc_fetch.specs.declared.address.Address.{Address}
 use Rattle.fc_fetch.specs.declared.resource.ResourceError.{ResourceError}
 use Rattle.fc_fetch.specs.declared.resource.ResourceError.TheVariants as resource_error
 
--- the path is that of the address, whose text has a slash before each segment, and the query has its arguments, of 255 bytes at most (RFC 7252, 5.10)
+-- the path is the address's, whose text has a slash before each segment. The query has its
+-- arguments, of at most 255 bytes each (RFC 7252, section 5.10).
 pub record IsResourceOf (a : Address) (t : RequestTarget) : Type 0 where
   pub path_is : IsSlashed a.path.items (slices_in t.path.segments.items)
   pub query_is : slices_in t.query.items ≡ texts_in a.query.items
   pub short : All (λ argument. length argument ≤ 255) (texts_in a.query.items)
 
--- one of these arguments has more than 255 bytes; or there was no memory
+-- one of these arguments has more than 255 bytes; or memory can't be allocated.
 abbrev pub HasLongArgument : List (Vec ℕ) → ResourceError → Type 0
 HasLongArgument arguments (resource_error.Path error) = ⊥
 HasLongArgument arguments resource_error.Argument = list_any (λ argument. nat_lt 255 (length argument.items)) arguments ≡ true
 HasLongArgument arguments resource_error.NoMemory = Unit {0}
 
--- the path of the address is none, or an argument of its query is too long; or there was no memory
+-- the address has no path of segments, or an argument of its query is too long; or memory can't be
+-- allocated.
 abbrev pub IsNoResource : Address → ResourceError → Type 0
 IsNoResource a (resource_error.Path error) = IsPathFault a.path.items error
 IsNoResource a other = HasLongArgument a.query.items other

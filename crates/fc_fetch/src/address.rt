@@ -1,4 +1,7 @@
-//! Where a request goes, and of which resource: a path at a port of this host, or a URI of the scheme coap (RFC 7252, 6.1 and 6.4).
+//! The server and the resource of a request.
+//!
+//! A target is a path at a port of this host, or a URI of the scheme coap (RFC 7252, sections 6.1
+//! and 6.4).
 ghost use Rattle.std.specs.Prelude.{◌≡◌, ◌<◌, false, [], IfErr, IfOk, IfSome, None, unwrap_or};
 ghost use Rattle.fc_fetch.specs.declared.address.AddressError.TheVariants.{NoMemory};
 ghost use Rattle.std.specs.List.{after_first, before_first, list_any};
@@ -12,10 +15,13 @@ use std::net::{Ipv4Addr, SocketAddrV4};
 use thiserror::Error;
 use url::{ParseError, Url};
 
-/// The port of CoAP (RFC 7252, 6.1).
+/// Default port of CoAP (RFC 7252, section 6.1).
 const COAP_PORT: u16 = 5683;
 
-/// The server's address and port, and the resource: its path, a slash before each segment, and the arguments of its query. No escapes are left in them.
+/// A server's address and port, and a resource on that server.
+///
+/// The path has a slash before each segment. The query is a list of arguments. No escapes are left
+/// in them.
 #[derive(Drop)]
 pub struct Address {
     pub server: SocketAddrV4,
@@ -23,16 +29,16 @@ pub struct Address {
     pub query: Vec<Vec<u8>>,
 }
 
-/// Why a text is no address.
+/// The reason why a text is not an address.
 #[derive(Clone, Copy, Debug, PartialEq, Eq, Error)]
 pub enum AddressError {
     /// A path without a port.
     #[error("`--port P` is missing, which a path needs; or give a URI: coap://127.0.0.1:5683/r/1")]
     NoPort,
-    /// A URI, which says its port, and a port besides.
+    /// A URI, which contains its port, and a port as well.
     #[error("`--port` goes with a path: leave it out, and write the port into the URI, as coap://127.0.0.1:5683/r/1; without one it is 5683")]
     TwoPorts,
-    /// No URI, or one of another scheme.
+    /// Not a URI, or a URI of another scheme.
     #[error("this is no URI of the scheme coap, as coap://127.0.0.1:5683/r/1, with a port below 65536")]
     NoUri,
     /// A user, a password or a fragment, which coap URIs don't have.
@@ -44,7 +50,7 @@ pub enum AddressError {
     /// An escaped slash in a path.
     #[error("%2F in a path can't be sent: a slash parts its segments")]
     Escape,
-    /// There was no memory for it.
+    /// Memory can't be allocated.
     #[error("out of memory")]
     NoMemory,
 }
@@ -61,10 +67,13 @@ impl From<AllocError> for AddressError {
 }
 
 impl Address {
-    /// Parses the address that a text says: a path, with a query behind a `?`, at a port of 127.0.0.1, or a URI of the scheme coap, whose port is 5683 where it says none.
+    /// Parses the address in `text`.
+    ///
+    /// If `port` is given, `text` is a path at that port of 127.0.0.1, with a query after a `?`.
+    /// Otherwise it is a URI of the scheme coap. A URI without a port has port 5683.
     ///
     /// # Errors
-    /// What [`AddressError`] says.
+    /// Returns the reason as an [`AddressError`].
     pub fn parse(alloc: Global, text: &str, port: Option<u16>) -> Result<Address, AddressError>
         ensures address { IfOk result (IsAddress text.now port) }
         ensures none { IfErr result (IsNoAddress text.now port) }
@@ -83,7 +92,7 @@ impl Address {
     }
 }
 
-// A path, with its query, at a port of this host.
+// Parses a path, with its query, at a port of this host.
 fn at_port(alloc: Global, text: &str, port: u16) -> Result<Address, AddressError>
     ensures address { IfOk result (IsAtPort text.now port) }
     ensures memory { IfErr result (λ error. error ≡ NoMemory) }
@@ -96,7 +105,7 @@ fn at_port(alloc: Global, text: &str, port: u16) -> Result<Address, AddressError
     })
 }
 
-// What stands before the first `?` of a text, and behind it: nothing where there is none.
+// Returns the text before the first `?` and the text after it, which is empty without a `?`.
 fn split_query(text: &str) -> (&str, &str)
     ensures path { result.0.now ≡ before_first is_question text.now }
     ensures query { result.1.now ≡ after_first is_question text.now }
@@ -107,7 +116,7 @@ fn split_query(text: &str) -> (&str, &str)
     }
 }
 
-// The arguments of a query as they are, parted by `&`; an empty text has none.
+// Splits a query at each `&`, without reading escapes. An empty text has no arguments.
 fn arguments(alloc: Global, query: &str) -> Result<Vec<Vec<u8>>, AllocError>
     ensures { IfOk result (λ v. texts_in v.items ≡ plain_pieces 38 query.now) }
 {
@@ -121,7 +130,7 @@ fn arguments(alloc: Global, query: &str) -> Result<Vec<Vec<u8>>, AllocError>
     Ok(arguments)
 }
 
-// What the text of a URI says.
+// Parses a URI.
 fn read_uri(alloc: Global, text: &str) -> Result<Address, AddressError>
     ensures address { IfOk result (IsOfUri text.now) }
     ensures none { IfErr result (IsNoAddress text.now None) }
@@ -137,7 +146,7 @@ fn read_uri(alloc: Global, text: &str) -> Result<Address, AddressError>
     }
 }
 
-// The address of a URI.
+// Returns the address of a URI.
 fn address_of(alloc: Global, uri: &Url) -> Result<Address, AddressError>
     ensures address { IfOk result (HasParts uri.now) }
     ensures none { IfErr result IsOfUriAlone }
@@ -159,14 +168,14 @@ fn address_of(alloc: Global, uri: &Url) -> Result<Address, AddressError>
     })
 }
 
-// Whether a URI has a user, a password or a fragment.
+// Returns whether a URI has a user, a password or a fragment.
 fn has_other_parts(uri: &Url) -> bool
     ensures { result ≡ has_other_parts uri.now }
 {
     !uri.username().is_empty() || uri.password().is_some() || uri.fragment().is_some()
 }
 
-// The IPv4 address that the name of a host stands for.
+// Returns the IPv4 address that a host's name denotes.
 fn host_of(name: &str) -> Option<Ipv4Addr>
     ensures { IfSome result (IsHostOf name.now) }
 {
@@ -176,7 +185,7 @@ fn host_of(name: &str) -> Option<Ipv4Addr>
     }
 }
 
-// The segments of a URI's path, none of which has a slash in it.
+// Returns the segments of a URI's path, and refuses a segment that contains a slash.
 fn whole_segments_of(alloc: Global, path: &str) -> Result<Vec<Vec<u8>>, AddressError>
     ensures segments { IfOk result (λ v. texts_in v.items ≡ segments_in path.now) }
     ensures whole { IfOk result (λ v. list_any has_slash (segments_in path.now) ≡ false) }
@@ -189,7 +198,7 @@ fn whole_segments_of(alloc: Global, path: &str) -> Result<Vec<Vec<u8>>, AddressE
     Ok(segments)
 }
 
-// The segments of a URI's path; that of a slash alone has none (RFC 7252, 6.4).
+// Returns the segments of a URI's path. The path `/` has none (RFC 7252, section 6.4).
 fn segments_of(alloc: Global, path: &str) -> Result<Vec<Vec<u8>>, AllocError>
     ensures { IfOk result (λ v. texts_in v.items ≡ segments_in path.now) }
 {
@@ -199,14 +208,14 @@ fn segments_of(alloc: Global, path: &str) -> Result<Vec<Vec<u8>>, AllocError>
     }
 }
 
-// Whether a segment has a slash in it.
+// Returns whether a segment contains a slash.
 fn have_slash(segments: &[Vec<u8>]) -> bool
     ensures { result ≡ list_any (λ segment. has_slash segment.items) segments.now }
 {
     segments.iter().any(|segment| segment.contains(&b'/'))
 }
 
-// The path that has a slash before each of these segments.
+// Returns the path with a slash before each of these segments.
 fn path_of(alloc: Global, segments: &[Vec<u8>]) -> Result<Vec<u8>, AllocError>
     ensures { IfOk result (λ v. v.items ≡ path_text (texts_in segments.now)) }
 {
@@ -218,7 +227,7 @@ fn path_of(alloc: Global, segments: &[Vec<u8>]) -> Result<Vec<u8>, AllocError>
     Ok(path)
 }
 
-// The query of a URI, empty where it has none.
+// Returns the query of a URI, or an empty text if it has none.
 fn query_of(uri: &Url) -> &str
     ensures { result.now ≡ unwrap_or uri.now.query [] }
 {
@@ -228,7 +237,8 @@ fn query_of(uri: &Url) -> &str
     }
 }
 
-// The pieces of a text that an ASCII character parts, the escapes of each read; an empty text has none.
+// Splits a text at an ASCII character and decodes the escapes of each piece. An empty text has no
+// pieces.
 fn pieces(alloc: Global, text: &str, parting: char) -> Result<Vec<Vec<u8>>, AllocError>
     requires { parting < 128 }
     ensures { IfOk result (λ v. texts_in v.items ≡ decoded_pieces parting text.now) }
@@ -243,7 +253,7 @@ fn pieces(alloc: Global, text: &str, parting: char) -> Result<Vec<Vec<u8>>, Allo
     Ok(pieces)
 }
 
-// The bytes of a text with its escapes read.
+// Decodes the escapes of a text.
 fn decode(alloc: Global, text: &str) -> Result<Vec<u8>, AllocError>
     ensures { IfOk result (λ v. v.items ≡ percent_decode text.now) }
 {

@@ -1,4 +1,6 @@
-//! A request by the words of a command line: where its body comes from, and where the answer's bytes go.
+//! A request from the words of a command line.
+//!
+//! It has the source of its body and, if one is named, a file for its response.
 
 ghost use Rattle.fc_fetch.specs.Asking.{IsAskedBy, IsAskedFor, IsUnread};
 
@@ -12,10 +14,14 @@ use std::fs::File;
 use std::io::{Read, Write};
 use std::rt::Files;
 
-/// Asks as [`fetch`](crate::fetch) does, with no body, a text, or the bytes of a file or of `input` to its end; and prints the answer, or writes the bytes of a success to a
-/// file, which is made or emptied then. The input isn't read where it isn't the body.
+/// Sends the request of a command line, and prints or stores its response.
 ///
-/// It ends as [`fetch`](crate::fetch) and [`fetch_to`](crate::fetch_to) do, and `Failed` where the body's file can't be opened.
+/// The body is empty, a text, the bytes of a file, or those of `input` to its end. The response is
+/// printed as [`fetch`](crate::fetch) prints it, or the bytes of a success are written to a file.
+/// That file is created or emptied then. `input` isn't read unless it is the body.
+///
+/// Returns the status of [`fetch`](crate::fetch) or [`fetch_to`](crate::fetch_to). Returns `Failed`
+/// if the body's file can't be opened.
 pub fn ask_by<C: Connector, R: Files, I: Read, W: Write, E: Write>(
     connector: &C,
     files: &R,
@@ -60,7 +66,7 @@ pub fn ask_by<C: Connector, R: Files, I: Read, W: Write, E: Write>(
     }
 }
 
-// Asks with the bytes of a reader: the answer is printed, or goes to a file.
+// Sends the request with the bytes of a reader. Prints the response, or writes it to a file.
 fn answer_to<C: Connector, R: Files, I: Read, W: Write, E: Write>(
     connector: &C,
     files: &R,

@@ -1,4 +1,4 @@
-//! A client's request: what is asked, and the printed answer.
+//! A client's request: its options, and its printed response.
 ghost use Rattle.std.specs.Io.KnownBytes.{Appends};
 ghost use Rattle.std.specs.Prelude.{◌≡◌, ◌⊎◌, IfErr, IfNone, IfOk, IfSome, None, OnOk};
 ghost use Rattle.coap_msg.specs.Codes.{code_text};
@@ -26,27 +26,31 @@ use std::random::RandomSource;
 use std::time::Clock;
 use thiserror::Error;
 
-/// The class of the codes of success (RFC 7252, 5.9.1).
+/// Class of the codes of success (RFC 7252, section 5.9.1).
 const SUCCESS: u8 = 2;
 
-/// What is asked for.
+/// The options of a request.
 #[derive(Clone, Copy)]
 pub struct FetchOptions<'a> {
-    /// Whether the server is to acknowledge the request: it is sent again where nothing comes.
+    /// Whether the request is confirmable.
+    ///
+    /// A confirmable request is retransmitted if nothing comes.
     pub confirmable: bool,
     pub method: Method,
     /// A path, or a URI of the scheme coap.
     pub target: &'a str,
     /// The port of 127.0.0.1, for a path.
     pub port: Option<u16>,
-    /// What the request's body is read from, as a fault of reading names it.
+    /// The name of the body's source, for a read error.
     pub source: &'a str,
-    /// The number of the body's Content-Format (RFC 7252, 12.3), if the request says it.
+    /// The number of the body's Content-Format, if the request has one.
+    ///
+    /// See RFC 7252, section 12.3.
     pub content_format: Option<u16>,
     pub shown: Shown,
 }
 
-// Why nothing is printed, or no more.
+// The reason why a client prints nothing, or nothing more.
 #[derive(Debug, Drop, Error)]
 pub(crate) enum FetchStop<'a> {
     #[error("{0}")]
@@ -72,7 +76,7 @@ pub(crate) enum FetchStop<'a> {
 }
 
 impl<'a> FetchStop<'a> {
-    // Returns how the program ends.
+    // Returns the status that the program ends with.
     pub(crate) fn status(&self) -> Status
         ensures { result ≡ stop_status self.now }
     {
@@ -94,12 +98,20 @@ impl<'a> FetchStop<'a> {
     }
 }
 
-/// Asks a server, with the input as the request's body, and prints the answer's code and, where it has bytes, these on a line of
-/// their own.
+/// Sends a request to a server, with `input` as its body, and prints the response.
 ///
-/// It is done where the code is one of success, and refused at any other. It ends `Bad` where the target is neither a path, a slash before each
-/// of its segments of 1 to 255 bytes, with a port, nor a URI of the scheme coap with an IPv4 address, or where a request has no room in a datagram; and `Failed` where no
-/// answer came, at a fault of the socket, or where reading, writing, memory or the system's random bytes failed. `err` is told why.
+/// It prints the response's code. If the response has bytes, it prints them on a line of their own.
+///
+/// Returns:
+///
+/// - `Done` if the code is one of success, and `Refused` for any other code.
+/// - `Bad` if the target is not an address, or if the request doesn't fit in a datagram. An address
+///   is a path with a port, or a URI of the scheme coap with an IPv4 address. A path has a slash
+///   before each segment, and its segments have 1 to 255 bytes.
+/// - `Failed` if no response came, at a fault of the socket, or if reading, writing, memory or the
+///   system's random bytes failed.
+///
+/// The reason is written to `err`.
 pub fn fetch<R: Net + Clock + RandomSource, I: Read, W: Write, E: Write>(
     rt: &R,
     alloc: Global,
@@ -111,7 +123,7 @@ pub fn fetch<R: Net + Clock + RandomSource, I: Read, W: Write, E: Write>(
     fetch_by(&System { rt }, alloc, input, out, err, asking)
 }
 
-/// Asks as [`fetch`] does, a server that it connects to by `connector`.
+/// Sends a request as [`fetch`] does, to a server that `connector` connects to.
 pub fn fetch_by<C: Connector, I: Read, W: Write, E: Write>(
     connector: &C,
     alloc: Global,
@@ -130,10 +142,13 @@ pub fn fetch_by<C: Connector, I: Read, W: Write, E: Write>(
     }
 }
 
-/// Asks as [`fetch`] does, and writes the bytes of a success to a file in place of printing them: its code alone is printed. Another answer is printed whole, and the file isn't
+/// Sends a request as [`fetch`] does, and writes the bytes of a success to `file`.
+///
+/// Of a success, it prints the code alone. Any other response is printed whole, and `file` isn't
 /// written to.
 ///
-/// It ends as [`fetch`] does, and `Failed` where writing the file fails: `err` is told so by the file's name.
+/// Returns the status of [`fetch`]. Returns `Failed` if writing the file fails: `err` then gets the
+/// file's name.
 pub fn fetch_to<R: Net + Clock + RandomSource, I: Read, W: Write, F: Write, E: Write>(
     rt: &R,
     alloc: Global,
@@ -147,7 +162,7 @@ pub fn fetch_to<R: Net + Clock + RandomSource, I: Read, W: Write, F: Write, E: W
     fetch_to_by(&System { rt }, alloc, input, out, file, name, err, asking)
 }
 
-/// Asks as [`fetch_to`] does, a server that it connects to by `connector`.
+/// Sends a request as [`fetch_to`] does, to a server that `connector` connects to.
 pub fn fetch_to_by<C: Connector, I: Read, W: Write, F: Write, E: Write>(
     connector: &C,
     alloc: Global,
@@ -168,7 +183,7 @@ pub fn fetch_to_by<C: Connector, I: Read, W: Write, F: Write, E: Write>(
     }
 }
 
-// The answer of the server.
+// Returns the server's response.
 fn answer<'a, C: Connector, I: Read>(
     connector: &C,
     alloc: Global,
@@ -192,7 +207,7 @@ fn answer<'a, C: Connector, I: Read>(
     }
 }
 
-// The address of a target.
+// Parses the address of a target.
 pub(crate) fn address_of<'a>(
     alloc: Global,
     target: &str,
@@ -207,7 +222,7 @@ pub(crate) fn address_of<'a>(
     }
 }
 
-// The resource that an address names.
+// Returns the resource that an address names.
 pub(crate) fn resource_at<'a, 'b>(
     alloc: Global,
     address: &'b Address,
@@ -223,7 +238,7 @@ pub(crate) fn resource_at<'a, 'b>(
     }
 }
 
-// The request's body: what is read to the end.
+// Reads the request's body, to the end of the input.
 fn body_of<'a, I: Read>(
     alloc: Global,
     input: &mut I,
@@ -239,11 +254,13 @@ fn body_of<'a, I: Read>(
     }
 }
 
-/// Asks a peer for a resource, by the method, the type of message and the Content-Format that the options say, with this body, and by message ids from this one on. `None` if the
-/// request has no room in a datagram: then nothing is sent.
+/// Fetches a resource from `peer`, with the method, type and format of `asking`.
+///
+/// The type is that of the request's message. The body is `payload`, and the message IDs begin with
+/// `id`. Returns `None` if the request doesn't fit in a datagram: then nothing is sent.
 ///
 /// # Errors
-/// What [`coap_client::fetch`] says.
+/// Returns the error of [`coap_client::fetch`].
 pub fn fetch_from<P: Peer>(
     alloc: Global,
     peer: &mut P,
@@ -266,7 +283,7 @@ pub fn fetch_from<P: Peer>(
     Ok(Some(coap_client::fetch(alloc, peer, &errand, id)?))
 }
 
-// The errand with this Content-Format, if one is given.
+// Sets the errand's Content-Format, if one is given.
 fn with_format(errand: Errand<'_>, format: Option<u16>) -> Errand<'_>
     requires { errand.content_format ≡ None }
     ensures format { result.content_format ≡ format }
@@ -293,7 +310,8 @@ pub(crate) fn connect<'a, C: Connector>(
     }
 }
 
-// A message ID to begin with, by two random bytes: none that is sent before tells it (RFC 7252, 4.4).
+// Draws the first message ID from two random bytes, so that earlier messages don't disclose it
+// (RFC 7252, section 4.4).
 pub(crate) fn first_id<'a, C: Connector>(connector: &C) -> Result<u16, FetchStop<'a>>
     ensures id { IfOk result (IsDrawnId C.drawn) }
     ensures stop { IfErr result IsOfRandom }
@@ -305,7 +323,7 @@ pub(crate) fn first_id<'a, C: Connector>(connector: &C) -> Result<u16, FetchStop
     }
 }
 
-// Why an answer isn't kept.
+// The reason why a response isn't stored.
 #[derive(Debug, Drop, Error)]
 enum KeepError<'a> {
     #[error("{0}: {1}")]
@@ -314,7 +332,8 @@ enum KeepError<'a> {
     Print(#[source] PrintError),
 }
 
-// Writes the bytes of a success to a file, and prints its code, or prints another answer: how the client ends.
+// Writes the bytes of a success to a file and prints its code, or prints another response. Returns
+// the client's status.
 fn keep_answer<W: Write, F: Write, E: Write>(
     alloc: Global,
     out: &mut W,
@@ -336,7 +355,8 @@ fn keep_answer<W: Write, F: Write, E: Write>(
     }
 }
 
-// Prints the code of an answer, and writes its bytes to a file: in this order, since a file that is opened first has the descriptor of a standard output that is closed.
+// Prints a response's code, then writes its bytes to a file. The order matters: a file that is
+// opened first gets the descriptor of a standard output that is closed.
 fn keep<'a, W: Write, F: Write>(
     out: &mut W,
     file: &mut F,
@@ -355,7 +375,7 @@ fn keep<'a, W: Write, F: Write>(
     }
 }
 
-// Prints an answer: how the client ends.
+// Prints a response, and returns the client's status.
 fn print_answer<W: Write, E: Write>(
     alloc: Global,
     out: &mut W,

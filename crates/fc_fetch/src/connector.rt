@@ -1,4 +1,4 @@
-//! How a client reaches servers: by sockets of its own; and its random bytes.
+//! A client's access to servers, through its own sockets, and to random bytes.
 ghost use Rattle.std.specs.Prelude.{⊤, ℕ, List, IfOk, OnOk};
 ghost use Rattle.std.specs.declared.net.socket_addr.SocketAddrV4.{SocketAddrV4 as Place};
 
@@ -8,28 +8,28 @@ use std::net::{Net, SocketAddrV4};
 use std::random::RandomSource;
 use std::time::Clock;
 
-/// What a client connects to servers by, and draws random bytes from.
+/// A source of connections to servers and of random bytes.
 pub trait Connector {
-    /// A server, as a client has it.
+    /// A server that a client is connected to.
     type Server: Peer + Drop;
 
-    // Which servers were connected to, each at its address.
+    // The servers that were connected to, each at its address.
     ghost connected: { Self.Server → Place → Type 0 } = { λ server address. ⊤ };
 
-    // Which random bytes were drawn.
+    // The random bytes that were drawn.
     ghost drawn: { List ℕ → Type 0 } = { λ bytes. ⊤ };
 
     /// Connects to the server at this address and port.
     ///
     /// # Errors
-    /// There is no socket, or the clock can't be read.
+    /// Returns an error if there is no socket, or if the clock can't be read.
     fn connect(&self, address: SocketAddrV4) -> io::Result<Self::Server>
         ensures { IfOk result (λ server. connected server address) };
 
     /// Fills the buffer with random bytes.
     ///
     /// # Errors
-    /// The system gives no random bytes.
+    /// Returns an error if the system provides no random bytes.
     fn draw(&self, bytes: &mut [u8]) -> io::Result<()>
         ensures { OnOk result (drawn bytes.new) };
 }

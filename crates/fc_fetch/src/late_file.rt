@@ -1,10 +1,12 @@
-//! A file for an answer's bytes, which stays as it was where none are had.
+//! A file for a response's bytes, which doesn't change unless there is a response.
 use std::fs::File;
 use std::io;
 use std::io::Write;
 use std::rt::Files;
 
-/// The file of this name, which is made or emptied when it is first written to or flushed, and not before.
+/// A file that is created or emptied when it is first written to or flushed.
+///
+/// It isn't opened before.
 #[derive(Drop)]
 pub struct LateFile<'a, R: Files> {
     files: &'a R,
@@ -13,7 +15,7 @@ pub struct LateFile<'a, R: Files> {
 }
 
 impl<'a, R: Files> LateFile<'a, R> {
-    /// Names a file, and opens none.
+    /// Stores the name of a file, and opens none.
     pub fn new(files: &'a R, name: &'a str) -> LateFile<'a, R> {
         LateFile {
             files,
@@ -22,7 +24,7 @@ impl<'a, R: Files> LateFile<'a, R> {
         }
     }
 
-    // Takes the file out, open.
+    // Takes the open file out, or creates it.
     fn take_open(&mut self) -> io::Result<R::File> {
         match self.file.take() {
             Some(file) => Ok(file),

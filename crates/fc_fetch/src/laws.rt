@@ -1,4 +1,6 @@
-//! Laws of what the definitions say: the function is a law, and its contract says it.
+//! Laws about the definitions.
+//!
+//! Each law is the contract of an empty function.
 ghost use Rattle.std.specs.Prelude.{◌≡◌, ◌⊎◌, ◌+◌, ◌<◌, ◌≤◌, ◌^◌, ℕ, [], ◌∷◌, List, None, Some, codes, false, length, true};
 ghost use Rattle.std.specs.List.{All, after_first, before_first};
 ghost use Rattle.std.specs.Net.Addr.{ipv4_octets};
@@ -24,7 +26,7 @@ ghost use Rattle.fc_fetch.specs.declared.observer.ObservationEnd.{ObservationEnd
 ghost use Rattle.fc_fetch.specs.declared.observer.ObservationEnd.TheVariants.{Counted, Last, Over};
 ghost use Rattle.fc_fetch.specs.declared.address.Address.{Address};
 
-/// A URI that names no port is of port 5683 (RFC 7252, 6.1).
+/// A URI without a port has port 5683 (RFC 7252, section 6.1).
 pub fn a_uri_without_a_port_is_of_port_5683()
     ensures { (uri : Parts) (a : Address) → HasParts uri a → uri.port ≡ None → v4_port a.server ≡ 5683 }
 {}
@@ -35,8 +37,11 @@ pub fn localhost_is_one_address()
         → ipv4_octets (v4_ip a.server) ≡ 127 ∷ 0 ∷ 0 ∷ 1 ∷ [] }
 {}
 
-/// With `--seconds 5` one wait is begun after the registration, of 5 seconds, and no request is sent in it. Without, each wait is of 86,400 seconds, and the time is
-/// over only after 2^64 - 1 of these. Nothing is called where the first answer is the last.
+/// The waits of an observation, with and without `--seconds`.
+///
+/// With `--seconds 5` it begins one wait after the registration, of 5 seconds, and sends no request
+/// during that wait. Without it, each wait is of 86,400 seconds, and the time is over only after
+/// 2^64 - 1 of these waits. Nothing is called if the first response is the last.
 pub fn an_observation_lasts_so_many_seconds()
     ensures seconds { (o : Observer) (end : ObservationEnd) (calls : List PeerCall) (t : IsTimedObservation o (Some 5) end calls)
         → (t.newer ≡ []) ⊎ (schedule t.newer ≡ Waits 5 ∷ []) }
@@ -45,8 +50,11 @@ pub fn an_observation_lasts_so_many_seconds()
     ensures over { (o : Observer) (calls : List PeerCall) (t : IsTimedObservation o None Over calls) → 2 ^ 64 ≤ length (schedule t.newer) + 1 }
 {}
 
-/// With `--count 3` an observation that ends for its count has printed 3 lines, and one that ends for its time fewer; one that ends by an error or without a sequence
-/// number has printed 3 at most. Of `--count 0`, which no command line gives, it is one.
+/// The number of lines that an observation prints.
+///
+/// With `--count 3` an observation that ends by its count has printed 3 lines. One that ends by its
+/// time has printed fewer. One that ends by an error or without a sequence number has printed at
+/// most 3. With `--count 0`, which no command line gives, the number of lines is one.
 pub fn an_observation_prints_so_many_lines()
     ensures counted { (latest : Note) (older : List Note) → IsEnd (lines_wanted (Some 3)) Counted latest older → length (latest ∷ older) ≡ 3 }
     ensures over { (latest : Note) (older : List Note) → IsEnd (lines_wanted (Some 3)) Over latest older → length (latest ∷ older) < 3 }
@@ -54,7 +62,10 @@ pub fn an_observation_prints_so_many_lines()
     ensures none { lines_wanted (Some 0) ≡ 1 }
 {}
 
-/// In a path at a port, the path ends before the first `?`, and `&` parts the arguments of the query behind it: `/r/1?a=1&b?` is the path `/r/1` and the arguments `a=1` and `b?`.
+/// In a path at a port, the path ends before the first `?`.
+///
+/// After the `?`, `&` separates the arguments of the query. `/r/1?a=1&b?` is the path `/r/1` with
+/// the arguments `a=1` and `b?`.
 pub fn a_path_ends_at_its_query()
     ensures path { before_first is_question (codes "/r/1?a=1&b?") ≡ codes "/r/1" }
     ensures query { plain_pieces 38 (after_first is_question (codes "/r/1?a=1&b?")) ≡ codes "a=1" ∷ codes "b?" ∷ [] }
@@ -68,7 +79,7 @@ pub fn ping_needs_no_target()
         → first_value f (codes "target") ≡ Some target → IsOperationError f Missing → ⊥ }
 {}
 
-/// Each name of a Content-Format has its number (RFC 7252, 12.3).
+/// The number of each named Content-Format (RFC 7252, section 12.3).
 ///
 /// `text/plain` has 0, `application/link-format` 40, `application/xml` 41,
 /// `application/octet-stream` 42, `application/exi` 47, and `application/json` 50.
@@ -81,7 +92,9 @@ pub fn formats_have_their_numbers()
     ensures json { (n : ℕ) → IsFormatNamed (codes "application/json") n → n ≡ 50 }
 {}
 
-/// Standard input that is a terminal isn't read for a GET or a DELETE, and is for a POST or a PUT; a pipe or a file is read for each.
+/// Standard input that is a terminal is read for a POST or a PUT only.
+///
+/// For a GET or a DELETE a terminal isn't read. A pipe or a file is read for each method.
 pub fn terminals_are_read_for_bodies_alone()
     ensures get { body_at true Get source.Input ≡ source.None }
     ensures delete { body_at true Delete source.Input ≡ source.None }
@@ -90,7 +103,7 @@ pub fn terminals_are_read_for_bodies_alone()
     ensures pipe { (m : Method) → body_at false m source.Input ≡ source.Input }
 {}
 
-/// An answer of class 2 ends a client by 0, and each other by 1.
+/// A response of class 2 ends a client with 0, and any other response with 1.
 pub fn answers_end_by_their_class()
     ensures done { ending_of 69 ≡ Done }
     ensures refused { (ending_of 132 ≡ Refused) × (ending_of 160 ≡ Refused) }

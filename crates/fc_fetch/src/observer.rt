@@ -1,4 +1,6 @@
-//! An observer's program: it registers, prints what it is notified of, a line each, and deregisters (RFC 7641).
+//! An observer, which registers, prints each notification, and deregisters.
+//!
+//! It prints one line for each (RFC 7641).
 ghost use Rattle.std.specs.Prelude.{◌≡◌, ◌≤◌, ◌⊎◌, [], ◌∷◌, IfErr, IfOk, OnErr, OnOk, is_none};
 ghost use Rattle.coap_client.specs.Faults.{IsLeavingFault, IsOfPeer, deregistration_of};
 ghost use Rattle.coap_client.specs.Notes.{Watches};
@@ -26,13 +28,13 @@ use std::random::RandomSource;
 use std::time::Clock;
 use thiserror::Error;
 
-/// The class of the codes of success (RFC 7252, 5.9.1).
+/// Class of the codes of success (RFC 7252, section 5.9.1).
 const SUCCESS: u8 = 2;
 
-/// How long one wait lasts where there is no end to them, in seconds: a day.
+/// Length of each wait of an observation without a time limit, in seconds: a day.
 const DAY: u64 = 86_400;
 
-/// What is observed, how it is shown, and for how long.
+/// The target of an observation, its printed form, and its extent.
 #[derive(Clone, Copy)]
 pub struct Observing<'a> {
     /// A path, or a URI of the scheme coap.
@@ -43,34 +45,37 @@ pub struct Observing<'a> {
     pub extent: ObservationExtent,
 }
 
-/// After how many lines it ends, 1 and more, and how many seconds after the first answer; where neither is given, never.
+/// The number of lines and of seconds after which an observation ends.
+///
+/// The number of lines is at least 1. The seconds count from the first response. Without either,
+/// the observation doesn't end.
 #[derive(Clone, Copy)]
 pub struct ObservationExtent {
     pub count: Option<u32>,
     pub seconds: Option<u32>,
 }
 
-/// Why no more is shown.
+/// The reason why an observation ends.
 #[derive(Clone, Copy, PartialEq, Eq)]
 pub enum ObservationEnd {
     /// As many lines were printed as are wanted.
     Counted,
     /// The time is over.
     Over,
-    /// An answer of this code, behind which none comes.
+    /// A response of this code was printed, after which no notification comes.
     Last(Code),
 }
 
-/// Why no more is shown, and no end says so.
+/// The error of an observation that fails.
 #[derive(Debug, Drop, Error)]
 pub enum NotesError {
-    /// No answer came, or sending or receiving failed, or what came can't be shown.
+    /// No response came, sending or receiving failed, or a message can't be shown.
     #[error("{0}")]
     Fault(#[source] FetchFault),
     /// A line can't be printed.
     #[error("{0}")]
     Print(#[source] PrintError),
-    /// There was no memory for what was shown.
+    /// Memory can't be allocated.
     #[error("{0}")]
     Memory(#[source] AllocError),
 }
@@ -99,11 +104,21 @@ impl From<AllocError> for NotesError {
     }
 }
 
-/// Observes a resource: registers, prints the answer, and then each notification that is newer than what was printed before it, each in a line, and deregisters.
+/// Observes a resource and prints one line for each state.
 ///
-/// It is done after as many lines or seconds as are wanted; refused where an answer is an error or has no sequence number, which is printed and after which the server
-/// doesn't notify. It ends as [`fetch`](crate::fetch) does where the target is bad or no answer came, to the registration or to the deregistration; and `Failed` where
-/// a notification can't be shown. `err` is told why.
+/// It registers, prints the response, then prints each notification that is newer than the one
+/// printed before it, and deregisters.
+///
+/// Returns:
+///
+/// - `Done` after as many lines or seconds as are wanted.
+/// - `Refused` if a response is an error or has no sequence number. That response is printed, and
+///   the server sends no notification after it.
+/// - The status of [`fetch`](crate::fetch) if the target is bad, or if no response came to the
+///   registration or the deregistration.
+/// - `Failed` if a notification can't be shown.
+///
+/// The reason is written to `err`.
 pub fn observe<R: Net + Clock + RandomSource, W: Write, E: Write>(
     rt: &R,
     alloc: Global,
@@ -114,7 +129,7 @@ pub fn observe<R: Net + Clock + RandomSource, W: Write, E: Write>(
     observe_by(&System { rt }, alloc, out, err, observing)
 }
 
-/// Observes as [`observe`] does, at a server that it connects to by `connector`.
+/// Observes as [`observe`] does, at a server that `connector` connects to.
 pub fn observe_by<C: Connector, W: Write, E: Write>(
     connector: &C,
     alloc: Global,
@@ -132,7 +147,7 @@ pub fn observe_by<C: Connector, W: Write, E: Write>(
     }
 }
 
-// How the program ends; `err` is told where an answer has no sequence number.
+// Returns the program's status. Writes to `err` if a response has no sequence number.
 fn finish<E: Write>(err: &mut E, end: ObservationEnd) -> Status
     ensures { IsToldEnd end result }
 {
@@ -147,7 +162,7 @@ fn finish<E: Write>(err: &mut E, end: ObservationEnd) -> Status
     }
 }
 
-// Observes what a text names.
+// Observes the target.
 fn observe_to_end<'a, C: Connector, W: Write>(
     connector: &C,
     alloc: Global,
@@ -206,11 +221,13 @@ fn observe_errand<'a, C: Connector, W: Write>(
     }
 }
 
-/// Prints as [`print_notes`] does, and deregisters where the server may notify further: it does so, too, where what came can't be shown, or where printing, memory, the
-/// socket or the clock failed.
+/// Prints as [`print_notes`] does, and deregisters if the server may still notify.
+///
+/// It also deregisters if a message that came can't be shown, or if printing, memory, the socket or
+/// the clock failed.
 ///
 /// # Errors
-/// What [`NotesError`] says. Some may be printed.
+/// Returns the reason as a [`NotesError`]. Some lines may have been printed.
 pub fn print_to_end<P: Peer, W: Write>(
     alloc: Global,
     peer: &mut P,
@@ -244,7 +261,7 @@ pub fn print_to_end<P: Peer, W: Write>(
     }
 }
 
-// Deregisters, where the server may notify further.
+// Deregisters, if the server may still notify.
 fn leave<P: Peer>(
     peer: &mut P,
     observer: &Observer<'_>,
@@ -266,7 +283,8 @@ fn leave<P: Peer>(
     }
 }
 
-// Whether a server may have the observer behind this error: not where it rejected the registration, or where no answer to it came.
+// Returns whether a server may have the observer after this error: not if it rejected the
+// registration, or if no response to it came.
 fn may_notify(error: &NotesError) -> bool
     ensures { result ≡ spec.may_notify error.now }
 {
@@ -276,11 +294,14 @@ fn may_notify(error: &NotesError) -> bool
     )
 }
 
-/// Registers, and prints the answer and the notifications behind it, each in a line, until as many lines were printed as are wanted, the time is over, or none comes
-/// any more. Each that is printed came, each state is newer than the one before it (RFC 7641, 3.4), and none is printed twice.
+/// Registers, and prints the response and later notifications, one line each.
+///
+/// It ends when as many lines were printed as are wanted, when the time is over, or when no further
+/// notification comes. Each printed message came, each state is newer than the one before it
+/// (RFC 7641, section 3.4), and none is printed twice.
 ///
 /// # Errors
-/// What [`NotesError`] says. Some may be printed.
+/// Returns the reason as a [`NotesError`]. Some lines may have been printed.
 pub fn print_notes<P: Peer, W: Write>(
     alloc: Global,
     peer: &mut P,
@@ -317,7 +338,7 @@ pub fn print_notes<P: Peer, W: Write>(
     Ok(ObservationEnd::Counted)
 }
 
-// How many lines are printed at most: one and more.
+// Returns the maximum number of lines: at least one.
 fn lines_wanted(count: Option<u32>) -> u64
     ensures wanted { result ≡ lines_wanted count }
     ensures some { 1 ≤ result }
@@ -328,7 +349,7 @@ fn lines_wanted(count: Option<u32>) -> u64
     }
 }
 
-// How many seconds the first wait lasts, or the only one.
+// Returns the length of the first or only wait, in seconds.
 fn first_wait(seconds: Option<u32>) -> u64
     ensures { result ≡ first_wait seconds }
 {
@@ -338,14 +359,15 @@ fn first_wait(seconds: Option<u32>) -> u64
     }
 }
 
-// What the answer to a registration is: a state, behind which notifications come, or the last one, of this code.
+// The response to a registration: a state, which notifications follow, or the last one, of this
+// code.
 #[derive(Drop)]
 enum First {
     State(Watch),
     Only(Code),
 }
 
-// Registers, and prints the answer.
+// Registers, and prints the response.
 fn print_first<P: Peer, W: Write>(
     alloc: Global,
     peer: &mut P,
@@ -387,7 +409,7 @@ fn begin_wait<P: Peer>(peer: &mut P, seconds: u64) -> Result<(), FetchFault>
     Ok(peer.begin_wait(seconds)?)
 }
 
-// Waits for the next notification that is to be shown: until the time is over, where it ends.
+// Waits for the next notification to show, until the time is over if it ends.
 fn await_note<P: Peer>(
     peer: &mut P,
     observer: &Observer<'_>,

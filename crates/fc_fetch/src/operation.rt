@@ -1,4 +1,4 @@
-//! What the command line of the client asks for: a request, an observation, or a ping.
+//! The operation of a client's command line: a request, an observation, or a ping.
 ghost use Rattle.std.specs.Prelude.{◌≡◌, ◌≢◌, IfErr, IfOk, MatchBool, codes};
 ghost use Rattle.clap.specs.Matches.{first_value, found_of, one_text};
 ghost use Rattle.fc_fetch.specs.Operations.{HasNoFormat, HasTwoBodies, IsBodyIn, IsForNoRequest, IsForRequest, IsFormatIn, IsFormatOf, IsLimited, IsMethodOf, IsNumberOf, IsObservationIn, IsOperationError, IsOperationIn, IsPingIn, IsShownIn, IsUnlimited, body_at};
@@ -12,19 +12,19 @@ use clap::ArgMatches;
 use coap_opts::Method;
 use thiserror::Error;
 
-/// The word that observes in place of asking once.
+/// Command word for an observation instead of a single request.
 pub const OBSERVE: &str = "observe";
 
-/// The word that pings in place of asking.
+/// Command word for a ping instead of a request.
 pub const PING: &str = "ping";
 
-/// What the request's body is read from, if no file is named.
+/// Name of the body's source if no file is named.
 const INPUT: &str = "standard input";
 
-/// Where a request's body comes from.
+/// The source of a request's body.
 #[derive(Clone, Copy, PartialEq, Eq)]
 pub enum BodySource<'a> {
-    /// It has none, and nothing is read.
+    /// There is no body, and nothing is read.
     None,
     /// This text.
     Text(&'a str),
@@ -34,7 +34,9 @@ pub enum BodySource<'a> {
     Input,
 }
 
-/// A request: what is asked for, where its body comes from, and the name of the file that the bytes of a success go to, if they aren't printed.
+/// A request, with the source of its body and the file for its response.
+///
+/// `output` names the file that the bytes of a success are written to, if they aren't printed.
 #[derive(Clone, Copy)]
 pub struct Asking<'a> {
     pub options: FetchOptions<'a>,
@@ -43,7 +45,9 @@ pub struct Asking<'a> {
 }
 
 impl<'a> BodySource<'a> {
-    /// Returns where the body of this method comes from if standard input is a terminal, or isn't: a GET or a DELETE reads no terminal.
+    /// Returns the body's source for a method if the input is or isn't a terminal.
+    ///
+    /// A GET or a DELETE reads no terminal.
     pub fn at_terminal(self, method: Method, terminal: bool) -> BodySource<'a>
         ensures { result ≡ body_at terminal method self.entry }
     {
@@ -58,7 +62,9 @@ impl<'a> BodySource<'a> {
 }
 
 impl<'a> Asking<'a> {
-    /// Returns this request where standard input is a terminal, or isn't: a GET or a DELETE whose body would be read from a terminal has none.
+    /// Returns this request, given whether standard input is a terminal.
+    ///
+    /// A GET or a DELETE whose body would be read from a terminal has no body.
     pub fn at_terminal(&self, terminal: bool) -> Asking<'a>
         ensures body { result.body ≡ body_at terminal self.now.options.method self.now.body }
         ensures others { (result.options ≡ self.now.options) × (result.output ≡ self.now.output) }
@@ -71,7 +77,7 @@ impl<'a> Asking<'a> {
     }
 }
 
-/// What a command line asks for.
+/// The operation of a command line.
 #[derive(Clone, Copy)]
 pub enum Operation<'a> {
     /// A request.
@@ -82,7 +88,7 @@ pub enum Operation<'a> {
     Ping(Pinging<'a>),
 }
 
-/// Why the words of a command line ask for nothing.
+/// The reason why the words of a command line are not an operation.
 #[derive(Clone, Copy, Debug, PartialEq, Eq, Error)]
 pub enum OperationError {
     /// An observation with `-N`, `-f`, `-e`, `-t` or `-o`.
@@ -91,13 +97,13 @@ pub enum OperationError {
     /// A request with `--count` or `--seconds`.
     #[error("`--count` and `--seconds` go with `observe`")]
     Extent,
-    /// No method or no target, or a method that isn't known.
+    /// No method, no target, or an unknown method.
     #[error("the target is missing: a path, as /r/1 with `--port P`, or a URI, as coap://127.0.0.1:5683/r/1")]
     Missing,
     /// More than one of `-n`, `-e` and `-f`.
     #[error("one of `-n`, `-e` and `-f` says what the body is: leave the others out")]
     Bodies,
-    /// A Content-Format that is neither a number below 65536 nor a name that is known.
+    /// A Content-Format that is neither a number below 65536 nor a known name.
     #[error("`-t` is a number of 0 to 65535, or text/plain, application/link-format, application/xml, application/octet-stream, application/exi or application/json")]
     Format,
     /// A ping with an option of requests or of observations.
@@ -105,10 +111,10 @@ pub enum OperationError {
     Ping,
 }
 
-/// Returns what the words of a command line ask for.
+/// Returns the operation that the words of a command line ask for.
 ///
 /// # Errors
-/// What [`OperationError`] says.
+/// Returns the reason as an [`OperationError`].
 pub fn operation_of<'a>(matches: &ArgMatches<'a>) -> Result<Operation<'a>, OperationError>
     ensures operation { IfOk result (IsOperationIn (found_of matches.now)) }
     ensures none { IfErr result (IsOperationError (found_of matches.now)) }
@@ -129,7 +135,7 @@ pub fn operation_of<'a>(matches: &ArgMatches<'a>) -> Result<Operation<'a>, Opera
     }
 }
 
-// The ping of this target, or of a port.
+// Returns the ping of this target, or of a port.
 fn ping_of<'a>(matches: &ArgMatches<'a>) -> Result<Pinging<'a>, OperationError>
     requires word { first_value (found_of matches.now) (codes "method") ≡ Some (codes "ping") }
     ensures ping { IfOk result (IsPingIn (found_of matches.now)) }
@@ -144,7 +150,7 @@ fn ping_of<'a>(matches: &ArgMatches<'a>) -> Result<Pinging<'a>, OperationError>
     })
 }
 
-// The observation of this target.
+// Returns the observation of this target.
 fn observation_of<'a>(
     matches: &ArgMatches<'a>,
     target: &'a str,
@@ -168,7 +174,7 @@ fn observation_of<'a>(
     })
 }
 
-// The request of this method and target.
+// Returns the request of this method and target.
 fn request_of<'a>(
     matches: &ArgMatches<'a>,
     word: &str,
@@ -204,7 +210,7 @@ fn request_of<'a>(
     }))
 }
 
-// Whether an option is given that goes with a request alone.
+// Returns whether an option is given that only requests have.
 fn is_for_request(matches: &ArgMatches<'_>) -> bool
     ensures { MatchBool result (IsForRequest (found_of matches.now)) (IsForNoRequest (found_of matches.now)) }
 {
@@ -215,14 +221,14 @@ fn is_for_request(matches: &ArgMatches<'_>) -> bool
         || matches.get_str("output").is_some()
 }
 
-// Whether a number of lines or of seconds is given.
+// Returns whether a number of lines or of seconds is given.
 fn is_limited(matches: &ArgMatches<'_>) -> bool
     ensures { MatchBool result (IsLimited (found_of matches.now)) (IsUnlimited (found_of matches.now)) }
 {
     limit_in(matches, "count").is_some() || limit_in(matches, "seconds").is_some()
 }
 
-// Where the body comes from.
+// Returns the source of the body.
 fn body_in<'a>(matches: &ArgMatches<'a>) -> Result<BodySource<'a>, OperationError>
     ensures body { IfOk result (IsBodyIn (found_of matches.now)) }
     ensures none { IfErr result (λ error. (error ≡ operation_error.Bodies) × HasTwoBodies (found_of matches.now)) }
@@ -237,7 +243,7 @@ fn body_in<'a>(matches: &ArgMatches<'a>) -> Result<BodySource<'a>, OperationErro
     }
 }
 
-// The number of the Content-Format, if one is given.
+// Returns the number of the Content-Format, if one is given.
 fn format_in(matches: &ArgMatches<'_>) -> Result<Option<u16>, OperationError>
     ensures format { IfOk result (IsFormatIn (found_of matches.now)) }
     ensures none { IfErr result (λ error. (error ≡ operation_error.Format) × HasNoFormat (found_of matches.now)) }
@@ -251,7 +257,7 @@ fn format_in(matches: &ArgMatches<'_>) -> Result<Option<u16>, OperationError>
     }
 }
 
-// The number of a Content-Format by its name (RFC 7252, 12.3) or its digits.
+// Returns a Content-Format's number for its name (RFC 7252, section 12.3) or its digits.
 fn format_of(text: &str) -> Option<u16>
     ensures { IsFormatOf text.now result }
 {
@@ -284,7 +290,7 @@ fn port_in(matches: &ArgMatches<'_>) -> Option<u16>
     matches.get_one::<u16>("port")
 }
 
-// The number of lines or of seconds after which an observation ends.
+// Returns the number of lines or of seconds after which an observation ends.
 fn limit_in(matches: &ArgMatches<'_>, name: &str) -> Option<u32>
     ensures { IsNumberOf 32 (one_text (found_of matches.now) name.now) result }
 {

@@ -1,4 +1,4 @@
-//! A ping: whether a server is there (RFC 7252, 4.3).
+//! A ping, which tests whether a server responds (RFC 7252, section 4.3).
 ghost use Rattle.std.specs.Prelude.{◌≡◌, IfErr, IfOk, OnOk};
 ghost use Rattle.fc_fetch.specs.Pinging.{HasEndedPing, IsNoEndpoint, IsPingEndpoint, IsPingStop, IsPingedAt, names_resource};
 
@@ -13,22 +13,28 @@ use std::net::{Ipv4Addr, Net, SocketAddrV4};
 use std::random::RandomSource;
 use std::time::Clock;
 
-/// The port of CoAP (RFC 7252, 6.1).
+/// Default port of CoAP (RFC 7252, section 6.1).
 const COAP_PORT: u16 = 5683;
 
-/// What is pinged.
+/// The target of a ping.
 #[derive(Clone, Copy)]
 pub struct Pinging<'a> {
-    /// A URI of the scheme coap without a path and a query; if there is none, a port of 127.0.0.1 is pinged.
+    /// A URI of the scheme coap without a path and a query.
+    ///
+    /// Without a target, a port of 127.0.0.1 is pinged.
     pub target: Option<&'a str>,
     /// That port, 5683 if it isn't given.
     pub port: Option<u16>,
 }
 
-/// Pings a server, and prints nothing: an empty confirmable message is sent, as often as a confirmable request, until a Reset message comes with its id.
+/// Pings a server, and prints nothing.
 ///
-/// It is done where that came. It ends `Bad` where the target is bad or names a resource, and `Failed` where no such message came, at a fault of the socket, or where
-/// the system's random bytes failed. `err` is told why.
+/// It sends an empty confirmable message, as often as a confirmable request, until a Reset message
+/// with its message ID comes.
+///
+/// Returns `Done` if that message came. Returns `Bad` if the target is bad or names a resource.
+/// Returns `Failed` if no such message came, at a fault of the socket, or if the system's random
+/// bytes failed. The reason is written to `err`.
 pub fn ping<R: Net + Clock + RandomSource, E: Write>(
     rt: &R,
     alloc: Global,
@@ -38,7 +44,7 @@ pub fn ping<R: Net + Clock + RandomSource, E: Write>(
     ping_by(&System { rt }, alloc, err, pinging)
 }
 
-/// Pings as [`ping`] does, a server that it connects to by `connector`.
+/// Pings as [`ping`] does, a server that it connects to through `connector`.
 pub fn ping_by<C: Connector, E: Write>(
     connector: &C,
     alloc: Global,
@@ -53,7 +59,7 @@ pub fn ping_by<C: Connector, E: Write>(
     }
 }
 
-// Pings the server once, by a message id of random bytes.
+// Pings the server once, with a message ID of random bytes.
 fn ping_once<'a, C: Connector>(
     connector: &C,
     alloc: Global,
@@ -71,7 +77,7 @@ fn ping_once<'a, C: Connector>(
     }
 }
 
-// The endpoint that is pinged.
+// Returns the endpoint to ping.
 fn endpoint_of<'a>(alloc: Global, pinging: &Pinging<'a>) -> Result<SocketAddrV4, FetchStop<'a>>
     ensures endpoint { IfOk result (IsPingEndpoint pinging.now) }
     ensures none { IfErr result (IsNoEndpoint pinging.now) }
@@ -86,7 +92,7 @@ fn endpoint_of<'a>(alloc: Global, pinging: &Pinging<'a>) -> Result<SocketAddrV4,
     }
 }
 
-// Whether an address names a resource of its server.
+// Returns whether an address names a resource of its server.
 fn has_resource(address: &Address) -> bool
     ensures { result ≡ names_resource address.now }
 {

@@ -1,4 +1,4 @@
-//! How an answer is printed.
+//! The printed form of a response.
 ghost use Rattle.std.specs.Prelude.{◌≡◌, MatchOption, OnOk, false, true};
 ghost use Rattle.std.specs.List.{list_all};
 ghost use Rattle.std.specs.Str.{chars};
@@ -15,30 +15,32 @@ use std::io;
 use std::io::Write;
 use thiserror::Error;
 
-/// As what the bytes of an answer are printed.
+/// The printed form of a response's bytes.
 #[derive(Clone, Copy, Debug, PartialEq, Eq)]
 pub enum Shown {
     /// In hex.
     Hex,
-    /// As they are, where they are UTF-8 without control characters but tabs and line feeds; else in hex.
+    /// As text if possible, else in hex.
+    ///
+    /// Bytes are text if they are UTF-8 without control characters other than tabs and line feeds.
     Text,
 }
 
-/// Why an answer isn't printed.
+/// The reason why a response isn't printed.
 #[derive(Debug, Drop, Error)]
 pub enum PrintError {
-    /// It can't be written.
+    /// The output can't be written.
     #[error("standard output: {0}")]
     Output(#[from] io::Error),
-    /// There was no memory for its digits.
+    /// Memory for the digits can't be allocated.
     #[error("{0}")]
     Memory(#[from] AllocError),
 }
 
-/// Writes the code and, where the answer has bytes, these on a line of their own.
+/// Writes a response's code, and its bytes on a line of their own if it has any.
 ///
 /// # Errors
-/// It can't be written, or there was no memory for its digits.
+/// Returns an error if the output can't be written, or if memory for the digits can't be allocated.
 pub fn write_answer<W: Write>(
     alloc: Global,
     out: &mut W,
@@ -63,10 +65,10 @@ pub fn write_answer<W: Write>(
     Ok(())
 }
 
-/// Writes the code alone, in a line.
+/// Writes the code alone, on a line.
 ///
 /// # Errors
-/// It can't be written.
+/// Returns an error if the output can't be written.
 pub fn write_code<W: Write>(out: &mut W, code: Code) -> Result<(), PrintError>
     ensures { OnOk result (Appends (W.contents out.old) (W.contents out.new) (ended_line (code_text code.byte))) }
 {
@@ -75,10 +77,10 @@ pub fn write_code<W: Write>(out: &mut W, code: Code) -> Result<(), PrintError>
     Ok(())
 }
 
-/// Writes the bytes as they are.
+/// Writes the bytes unchanged.
 ///
 /// # Errors
-/// They can't be written.
+/// Returns an error if they can't be written.
 pub fn write_bytes<W: Write>(out: &mut W, bytes: &[u8]) -> io::Result<()>
     ensures { OnOk result (Appends (W.contents out.old) (W.contents out.new) bytes.now) }
 {
@@ -86,10 +88,13 @@ pub fn write_bytes<W: Write>(out: &mut W, bytes: &[u8]) -> io::Result<()>
     out.flush()
 }
 
-/// Writes what an observer is told in a line: the code and, where there are bytes, a space and these, as text only where it has no line feed.
+/// Writes a response to an observer on one line.
+///
+/// The line has the code and, if there are bytes, a space and the bytes. They are text only if they
+/// have no line feed.
 ///
 /// # Errors
-/// It can't be written, or there was no memory for its digits.
+/// Returns an error if the output can't be written, or if memory for the digits can't be allocated.
 pub fn write_note<W: Write>(
     alloc: Global,
     out: &mut W,
@@ -116,7 +121,7 @@ pub fn write_note<W: Write>(
     Ok(())
 }
 
-// The bytes as text in one line, where they are to be shown so and can be.
+// Returns the bytes as text on one line, if `shown` asks for text and they allow it.
 fn line_of(shown: Shown, bytes: &[u8]) -> Option<&str>
     ensures { spec.IsShownLine shown bytes.now result }
 {
@@ -127,7 +132,7 @@ fn line_of(shown: Shown, bytes: &[u8]) -> Option<&str>
     }
 }
 
-// The bytes as text, where they are to be shown so and can be.
+// Returns the bytes as text, if `shown` asks for text and they allow it.
 fn text_of(shown: Shown, bytes: &[u8]) -> Option<&str>
     ensures { spec.IsShownText shown bytes.now result }
 {
@@ -137,7 +142,7 @@ fn text_of(shown: Shown, bytes: &[u8]) -> Option<&str>
     }
 }
 
-// The bytes as text without control characters but tabs and line feeds.
+// Returns the bytes as text, if they have no control characters other than tabs and line feeds.
 fn plain_text(bytes: &[u8]) -> Option<&str>
     ensures { MatchOption result (spec.is_text bytes.now ≡ false) (λ text. (spec.is_text bytes.now ≡ true) × (text.now ≡ bytes.now)) }
 {
@@ -153,7 +158,8 @@ fn are_plain(text: &str) -> bool
     text.chars().all(is_shown_char)
 }
 
-// Whether a character is no control character (Unicode, general category Cc), but a tab or a line feed.
+// Returns whether a character is a tab, a line feed, or not a control character (Unicode, general
+// category Cc).
 fn is_shown_char(character: char) -> bool
     ensures { result ≡ spec.is_shown_char character }
 {

@@ -1,4 +1,4 @@
-//! The resource that an address names, as requests name it.
+//! The resource that an address names, in the form that requests use.
 ghost use Rattle.std.specs.Prelude.{◌≡◌, ◌≤◌, IfErr, IfOk, length};
 ghost use Rattle.std.specs.List.{All};
 ghost use Rattle.coap_client.specs.Paths.{slices_in};
@@ -9,17 +9,17 @@ use crate::address::Address;
 use coap_client::{Path, PathError, RequestTarget};
 use std::alloc::{AllocError, Global};
 
-/// The most bytes of an argument of a query (RFC 7252, 5.10).
+/// Maximum number of bytes in an argument of a query (RFC 7252, section 5.10).
 const ARGUMENT: usize = 255;
 
-/// Why an address names no resource.
+/// The reason why an address names no resource.
 #[derive(Clone, Copy, Debug, PartialEq, Eq)]
 pub enum ResourceError {
-    /// Its path is none.
+    /// Its path is not a path of segments.
     Path(PathError),
-    /// An argument of its query has more than 255 bytes (RFC 7252, 5.10).
+    /// An argument of its query has more than 255 bytes (RFC 7252, section 5.10).
     Argument,
-    /// There was no memory for the arguments of its query.
+    /// Memory for the arguments of its query can't be allocated.
     NoMemory,
 }
 
@@ -34,10 +34,13 @@ impl From<PathError> for ResourceError {
     }
 }
 
-/// Returns the resource of an address: its path, a slash before each segment, and each argument of its query.
+/// Returns the resource of an address.
+///
+/// It has the segments of the address's path, which has a slash before each segment, and each
+/// argument of its query.
 ///
 /// # Errors
-/// What [`ResourceError`] says.
+/// Returns the reason as a [`ResourceError`].
 pub fn resource_of(alloc: Global, address: &Address) -> Result<RequestTarget<'_>, ResourceError>
     ensures resource { IfOk result (IsResourceOf address.entry.now) }
     ensures none { IfErr result (IsNoResource address.entry.now) }
@@ -48,7 +51,7 @@ pub fn resource_of(alloc: Global, address: &Address) -> Result<RequestTarget<'_>
     })
 }
 
-// The arguments of a query, each of 255 bytes at most.
+// Returns the arguments of a query, each of at most 255 bytes.
 fn arguments_of(alloc: Global, query: &[Vec<u8>]) -> Result<Vec<&[u8]>, ResourceError>
     ensures arguments { IfOk result (λ v. slices_in v.items ≡ texts_in query.entry.now) }
     ensures short { IfOk result (λ v. All (λ argument. length argument ≤ 255) (texts_in query.entry.now)) }

@@ -10,7 +10,7 @@ use Rattle.atomic_table.proofs.Lists.{at_set, at_snoc, set_again}
 use Rattle.fc_heads.specs.declared.view.View.{View}
 use Rattle.fc_heads.specs.Heads.{zeros, fresh, note, met, higher, peeked, raised_to, greatest_raised, AreGreatest, IsWhole}
 
--- one view's raised words are exchanged for others, of which this one is the greater of it and m
+-- one view's published words are replaced by others, of which this one is the greater of it and m
 pub top_set : (slot m : ℕ) (views : List View) (seat : ℕ) (v w : View) → get_elem? views seat ≡ some v → slice_index w.raised slot ≡ max (slice_index v.raised slot) m → greatest_raised slot (set views seat w) ≡ max (greatest_raised slot views) m
 top_set slot m [] seat v w at e = absurd (some-ne-none v (sym at))
 top_set slot m (x ∷ xs) zero v w at e =
@@ -36,7 +36,7 @@ higher_at (x ∷ xs) [] i = omega arith
 higher_at (x ∷ xs) (y ∷ ys) zero = refl
 higher_at (x ∷ xs) (y ∷ ys) (suc i) = higher_at xs ys i
 
--- what the rule says of the views, at these words
+-- the rule for one view, with these words
 abbrev Below : List ℕ → View → Type 0
 Below words v = (slot : ℕ) → slot < 64 → slice_index v.seen slot ≤ slice_index words slot
 
@@ -63,7 +63,7 @@ begins words is = record {
     one zero v e slot lt = let a : slice_index v.seen slot ≡ slice_index zeros slot = ap (λ (u : View). slice_index u.seen slot) (sym (some-injective _ _ e)) in let b = zeros_at slot lt in omega arith
     one (suc by) v e slot lt = absurd (some-ne-none v (sym e))
 
--- a load: the word stays, and the seat has seen it
+-- a load: the word doesn't change, and the handle has seen it
 pub peeks : (words : List ℕ) (views : List View) (id i : ℕ) (v : View) → AreGreatest words views → get_elem? views id ≡ some v → i < 64 → length v.seen ≡ 64
     → AreGreatest (set words i (slice_index words i)) (set views id (peeked v i (slice_index words i)))
 peeks words views id i v h at lt whole =
@@ -78,7 +78,7 @@ peeks words views id i v h at lt whole =
           (λ slot l. let old = h.seen id v at slot l in let e = same slot in ⊎_elim (λ (x : (slot ≡ i) × (slice_index (set v.seen i n) slot ≡ n)). let y = ap (λ (k : ℕ). slice_index words k) x.0 in let z = x.1 in omega arith) (λ (x : (slot ≢ i) × (slice_index (set v.seen i n) slot ≡ slice_index v.seen slot)). let z = x.1 in omega arith) (index_set v.seen i n slot (omega arith)));
     }
 
--- the greater of the word and k stands in its place
+-- the word is replaced by the greater of it and k
 pub raises : (words : List ℕ) (views : List View) (id i k : ℕ) (v : View) → AreGreatest words views → get_elem? views id ≡ some v → i < 64 → length v.seen ≡ 64 → length v.raised ≡ 64
     → AreGreatest (set words i (max (slice_index words i) k)) (set views id (raised_to v i k (slice_index words i)))
 raises words views id i k v h at lt whole whole' =
@@ -116,7 +116,7 @@ raises words views id i k v h at lt whole whole' =
     tops slot l (inl x) (inr y) = absurd (y.0 x.0)
     tops slot l (inr x) (inl y) = absurd (x.0 y.0)
 
--- a new view, which has raised nothing and has seen no more than this one
+-- a new view, which has published nothing and has seen no more than this one
 pub forks : (words : List ℕ) (views : List View) (id : ℕ) (v w : View) → AreGreatest words views → get_elem? views id ≡ some v → ((slot : ℕ) → slot < 64 → slice_index w.raised slot ≡ 0) → ((slot : ℕ) → slot < 64 → slice_index w.seen slot ≤ slice_index v.seen slot)
     → AreGreatest words (set views id v ++ w ∷ [])
 forks words views id v w h at none less = subst (λ (vs : List View). AreGreatest words (vs ++ w ∷ [])) (sym (set_again views id v at)) record {
@@ -125,7 +125,7 @@ forks words views id v w h at none less = subst (λ (vs : List View). AreGreates
   seen = λ j u e. ⊎_elim (λ was. h.seen j u was) (λ (same : w ≡ u). subst (Below words) same (λ slot l. let a = less slot l in let b = h.seen id v at slot l in omega arith)) (at_snoc views w u j e);
 }
 
--- a fresh view comes
+-- a fresh view is added
 pub arrives : (words : List ℕ) (views : List View) → AreGreatest words views → AreGreatest words (views ++ fresh ∷ [])
 arrives words views h = record {
   size = h.size;
@@ -133,7 +133,7 @@ arrives words views h = record {
   seen = λ j u e. ⊎_elim (λ was. h.seen j u was) (λ (same : fresh ≡ u). subst (Below words) same (λ slot l. let z = zeros_at slot l in omega arith)) (at_snoc views fresh u j e);
 }
 
--- a view takes in what a note has seen, and the note is empty
+-- a view adds the knowledge of a note, and the note is empty
 pub merges : (words : List ℕ) (views : List View) (id other : ℕ) (v w : View) → AreGreatest words views → get_elem? views id ≡ some v → other ≢ id → get_elem? (set views id (met v w)) other ≡ some w → ((slot : ℕ) → slot < 64 → slice_index w.raised slot ≡ 0)
     → AreGreatest words (set (set views id (met v w)) other fresh)
 merges words views id other v w h at apart there none =
@@ -153,11 +153,11 @@ length-higher [] (y ∷ ys) e = absurd (omega arith)
 length-higher (x ∷ xs) [] e = refl
 length-higher (x ∷ xs) (y ∷ ys) e = ap suc (length-higher xs ys (omega arith))
 
--- the same, where what the note and the view are is known by equations
+-- the same, if the note and the view are given by equations
 pub merges_as : (words : List ℕ) (views : List View) (id other : ℕ) (v w : View) (u : View) → w ≡ note u → AreGreatest words views → get_elem? views id ≡ some v → other ≢ id → get_elem? (set views id (met v w)) other ≡ some w
     → AreGreatest words (set (set views id (met v w)) other fresh)
 merges_as words views id other v w u is h at apart there = merges words views id other v w h at apart there (λ slot l. ap (λ (x : View). slice_index x.raised slot) is ∙ zeros_at slot l)
 
--- a whole view is whole after its seat met another
+-- a whole view is whole after its handle exchanged knowledge with another
 pub met_is_whole : (v w : View) → IsWhole v → IsWhole w → IsWhole (met v w)
 met_is_whole v w old other = (length-higher v.seen w.seen (omega arith) ∙ old.0, old.1)

@@ -1,4 +1,4 @@
--- What seats know of the head words.
+-- The knowledge of handles about the published words.
 use Rattle.std.specs.Prelude.{◌≡◌, ℕ, ◌<◌, ◌≤◌, max, List, [], ◌∷◌, length, replicate, slice_index, slice_set}
 use mathlib.Core.Option.{some}
 use lib.ListN.{get_elem?}
@@ -11,56 +11,59 @@ zeros = replicate 64 0
 abbrev pub word_of : List ℕ → ℕ → ℕ
 word_of words slot = slice_index words slot
 
--- nothing seen, nothing raised
+-- nothing seen, nothing published.
 abbrev pub fresh : View
 fresh = record { seen = zeros; raised = zeros }
 
--- a seat: at which words it is, and its view of them
+-- a handle: the table of its words, and its view of them.
 pub record HeadSeat : Type 0 where
   pub table : TableId
   pub view : View
 
--- a view of 64 words
+-- a view of 64 words.
 abbrev pub IsWhole : View → Type 0
 IsWhole v = (length v.seen ≡ 64) × (length v.raised ≡ 64)
 
--- a view that has seen a word of a slot
+-- a view that has seen a word of a slot.
 abbrev pub peeked : View → ℕ → ℕ → View
 peeked v slot word = record v { seen = slice_set v.seen slot word }
 
--- a view that has raised a word of a slot, where it found another one: it has seen the greater of both
+-- a view that has published a word of a slot, and found another one: it has seen the greater of
+-- both.
 abbrev pub raised_to : View → ℕ → ℕ → ℕ → View
 raised_to v slot word found = record {
   seen = slice_set v.seen slot (max found word);
   raised = slice_set v.raised slot (max (word_of v.raised slot) word);
 }
 
--- a seat before and after it raised a word of a slot: what it found is no less than what it had seen
+-- a handle before and after it published a word of a slot: the word that it found is at least the
+-- one that it had seen.
 pub record IsRaised (slot word : ℕ) (before after : HeadSeat) : Type 0 where
   pub found : ℕ
   pub rises : word_of before.view.seen slot ≤ found
   pub after_is : after ≡ record before { view = raised_to before.view slot word found }
 
--- what a view tells of itself: what it has seen
+-- the knowledge that a view passes on: the values that it has seen.
 abbrev pub note : View → View
 note v = record { seen = v.seen; raised = zeros }
 
--- for each place the greater number
+-- the greater number at each place.
 abbrev pub higher : List ℕ → List ℕ → List ℕ
 higher [] ys = ys
 higher (x ∷ xs) [] = x ∷ xs
 higher (x ∷ xs) (y ∷ ys) = max x y ∷ higher xs ys
 
--- a view after its seat met another
+-- a view after its handle exchanged knowledge with another.
 abbrev pub met : View → View → View
 met v w = record v { seen = higher v.seen w.seen }
 
--- the greatest word that any view has raised for a slot, or 0
+-- the greatest word that any view has published for a slot, or 0.
 abbrev pub greatest_raised : ℕ → List View → ℕ
 greatest_raised slot [] = 0
 greatest_raised slot (v ∷ vs) = max (word_of v.raised slot) (greatest_raised slot vs)
 
--- each word is the greatest that was raised in any view, or 0, and no view has seen more than the word
+-- each word is the greatest that was published in any view, or 0, and no view has seen a greater
+-- one.
 pub record AreGreatest (words : List ℕ) (views : List View) : Type 0 where
   pub size : length words ≡ 64
   pub tops : (slot : ℕ) → slot < 64 → word_of words slot ≡ greatest_raised slot views

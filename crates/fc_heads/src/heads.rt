@@ -1,4 +1,4 @@
-//! The words, and seats at them.
+//! The published state words of the slots, and handles to them.
 ghost use Rattle.std.specs.Prelude.{◌≡◌, ◌<◌, ◌≤◌, IfOk};
 ghost use Rattle.fc_heads.specs.Heads.{IsRaised, fresh, peeked, met, word_of};
 
@@ -8,10 +8,12 @@ use atomic_table::{Seat, Table};
 use std::alloc::{AllocError, Global};
 use std::marker::Model;
 
-/// How many slots have a word.
+/// Number of slots that have a word.
 pub const HEAD_WORDS: usize = 64;
 
-/// The head words of 64 slots, each 0 at first. A clause sees which words they are: no others are of this table.
+/// The published words of 64 slots, each initially 0.
+///
+/// In contracts it is the identity of the table: only these words are in it.
 #[derive(Drop)]
 pub struct Heads {
     words: Words,
@@ -28,7 +30,9 @@ impl Model for Heads {
     ghost invariant = { λ h. h.words.shared.table_id.words ≡ 64 };
 }
 
-/// A seat at the words, for one thread. A clause sees which words they are, and what the seat has seen and raised.
+/// A handle to the words, for one thread.
+///
+/// In contracts it is the table of its words, and the values that it has seen and published.
 #[derive(Drop)]
 pub struct HeadSeat {
     seat: Seat<u8, View>,
@@ -48,10 +52,10 @@ impl Model for HeadSeat {
 }
 
 impl Heads {
-    /// Makes words of which none was raised, and a first seat at them.
+    /// Makes a table of unpublished words, and a first handle to it.
     ///
     /// # Errors
-    /// There was no memory for them.
+    /// Returns `AllocError` if memory for the words can't be allocated.
     pub fn new(alloc: Global) -> Result<(Heads, HeadSeat), AllocError>
         ensures { IfOk result (λ r. r.1 ≡ record { table = r.0; view = fresh }) }
     {
@@ -59,10 +63,10 @@ impl Heads {
         Ok((Heads { words }, HeadSeat { seat }))
     }
 
-    /// Makes another seat, which has seen and raised nothing.
+    /// Makes another handle, which has seen and published nothing.
     ///
     /// # Errors
-    /// None today: it asks for no memory.
+    /// Returns no error at present: it allocates no memory.
     pub fn seat(&self, from: &mut HeadSeat) -> Result<HeadSeat, AllocError>
         requires { from.old.table ≡ self.now }
         ensures new { IfOk result (λ s. s ≡ record { table = self.now; view = fresh }) }
@@ -73,7 +77,9 @@ impl Heads {
         })
     }
 
-    /// Makes another seat, which has seen and raised nothing, for a thread that has none to make it from.
+    /// Makes another handle, which has seen and published nothing.
+    ///
+    /// It is for a thread that has no handle from which to make one.
     pub fn new_seat(&self) -> HeadSeat
         ensures { result ≡ record { table = self.now; view = fresh } }
     {
@@ -82,7 +88,10 @@ impl Heads {
         }
     }
 
-    /// Looks at the word of a slot, 0 to 63: it is no less than what the seat has seen of it, and the seat has seen it then.
+    /// Loads the word of a slot, 0 to 63.
+    ///
+    /// It is at least the greatest value that the handle has seen of it. The handle has then seen
+    /// it.
     pub fn peek(&self, slot: u8, seat: &mut HeadSeat) -> u64
         requires seat { seat.old.table ≡ self.now }
         requires slot { slot < 64 }
@@ -92,8 +101,10 @@ impl Heads {
         steps::load(&self.words, usize::from(slot), &mut seat.seat)
     }
 
-    /// Raises the word of a slot, 0 to 63, to the one handed in; a lower one leaves it. The seat has raised that one, and has seen the
-    /// greater of both.
+    /// Publishes a value in the word of a slot, 0 to 63.
+    ///
+    /// A value lower than the word doesn't change it. The handle has then published this value, and
+    /// has seen the greater of both.
     pub fn raise(&self, slot: u8, word: u64, seat: &mut HeadSeat)
         requires seat { seat.old.table ≡ self.now }
         requires slot { slot < 64 }
@@ -102,7 +113,9 @@ impl Heads {
         steps::raise(&self.words, usize::from(slot), word, &mut seat.seat);
     }
 
-    /// Lets two seats tell each other what they have seen.
+    /// Exchanges the knowledge of two handles.
+    ///
+    /// For each slot each has then seen the greater of the values that both had seen.
     pub fn meet(&self, one: &mut HeadSeat, other: &mut HeadSeat)
         requires { (one.old.table ≡ self.now) × (other.old.table ≡ self.now) }
         ensures one { one.new ≡ record one.old { view = met one.old.view other.old.view } }

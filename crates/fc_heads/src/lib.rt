@@ -1,17 +1,22 @@
-//! Head words that only rise, one for each of the 64 slots, read and raised without a lock; a seat at them for each thread.
+//! Published words of the 64 slots, which only increase, without locks.
 //!
-//! A worker looks at the words and raises them through a [`HeadSeat`] of its own. A seat's view is two lists of 64 words: for each slot
-//! the greatest that the seat has seen, and the greatest that it raised itself. Under every schedule a word is the greatest
-//! that was raised in any view, or 0, and nobody has seen more than the word (`specs/Heads.antt`, `AreGreatest`). There are two kinds of
-//! atomic step: a load, and the raise to the greater of two numbers. None takes a lock or waits. When a word rises that another one
-//! raised is not said.
+//! Each slot has one word. Each thread has a handle to the words.
+//!
+//! A worker loads and publishes words through a [`HeadSeat`] of its own. A handle's view is two
+//! lists of 64 words: for each slot the greatest value that the handle has seen, and the greatest
+//! that it published itself. Under every schedule a word is the greatest value published in any
+//! view, or 0, and no view has seen a greater one (`specs/Heads.antt`, `AreGreatest`).
+//!
+//! There are two kinds of atomic step: a load, and a step that sets a word to the greater of two
+//! numbers. Neither takes a lock or waits. The contracts don't say when a thread sees a word that
+//! another published.
 //!
 //! ```rust
 //! ghost use Rattle.std.specs.Prelude.{◌≡◌, ◌≤◌};
 //!
 //! use fc_heads::{HeadSeat, Heads};
 //!
-//! /// Raises the word of slot 5, and looks at it.
+//! /// Publishes a word of slot 5, and loads it.
 //! fn raise_and_peek(heads: &Heads, word: u64, seat: &mut HeadSeat) -> u64
 //!     requires { seat.old.table ≡ heads.now }
 //!     ensures { word ≤ result }
@@ -23,9 +28,11 @@
 //!
 //! # What is proved
 //!
-//! - A look at a head word tells no less than the seat has seen of it, a raise leaves it no less than the word handed in, and two seats
-//!   that meet have seen what either had.
-//! - Under every schedule a word is the greatest that was raised, or 0, and nobody has seen more.
+//! - A load of a word returns at least the greatest value that the handle has seen of it. After a
+//!   publication the handle has seen at least the published value. Two handles that exchange
+//!   knowledge have seen the values that either had seen.
+//! - Under every schedule a word is the greatest value that was published, or 0, and no view has
+//!   seen a greater one.
 //! - None of these calls takes a lock or waits.
 //!
 //! By the contracts of `Heads::peek`, `raise`, `meet`, `seat`, `new_seat`, `new`.

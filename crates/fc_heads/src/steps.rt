@@ -1,4 +1,6 @@
-//! The atomic steps of a seat at the words: a load, or a raise to the greater of two numbers.
+//! The atomic steps on a word.
+//!
+//! They are a load, and a step that sets it to the greater of two numbers.
 ghost use Rattle.std.specs.Prelude.{◌≡◌, ◌<◌, ◌≤◌, []};
 ghost use Rattle.fc_heads.specs.Heads.{IsWhole, fresh, peeked, raised_to, met, word_of};
 
@@ -9,7 +11,7 @@ use std::alloc::Global;
 /// The table of the words.
 pub(crate) type Words = Table<u8, View, (), Greatest, Global>;
 
-/// Looks at a word.
+/// Loads a word.
 pub(crate) fn load(words: &Words, slot: usize, seat: &mut Seat<u8, View>) -> u64
     requires size { words.now.shared.table_id.words ≡ 64 }
     requires table { seat.old.table_id ≡ words.now.shared.table_id }
@@ -22,7 +24,7 @@ pub(crate) fn load(words: &Words, slot: usize, seat: &mut Seat<u8, View>) -> u64
     words.shared.load::<Peeks>(seat, slot)
 }
 
-/// Raises a word to the greater of it and the one handed in, and gives the one that was found.
+/// Sets a word to the greater of it and `word`, and returns the previous value.
 pub(crate) fn raise(words: &Words, slot: usize, word: u64, seat: &mut Seat<u8, View>) -> u64
     requires size { words.now.shared.table_id.words ≡ 64 }
     requires table { seat.old.table_id ≡ words.now.shared.table_id }
@@ -35,7 +37,7 @@ pub(crate) fn raise(words: &Words, slot: usize, word: u64, seat: &mut Seat<u8, V
     words.shared.fetch_max::<Raises>(seat, slot, word)
 }
 
-/// Makes a seat that has seen and raised nothing.
+/// Makes a handle that has seen and published nothing.
 pub(crate) fn another(words: &Words, seat: &mut Seat<u8, View>) -> Seat<u8, View>
     requires size { words.now.shared.table_id.words ≡ 64 }
     requires table { seat.old.table_id ≡ words.now.shared.table_id }
@@ -45,7 +47,7 @@ pub(crate) fn another(words: &Words, seat: &mut Seat<u8, View>) -> Seat<u8, View
     words.shared.split_seat::<Sits>(seat)
 }
 
-/// Makes a seat that has seen and raised nothing, without another one.
+/// Makes a handle that has seen and published nothing, without another one.
 pub(crate) fn arrive(words: &Words) -> Seat<u8, View>
     requires { words.now.shared.table_id.words ≡ 64 }
     ensures { (result.table_id ≡ words.now.shared.table_id) × (result.me ≡ (fresh, [])) }
@@ -54,7 +56,7 @@ pub(crate) fn arrive(words: &Words) -> Seat<u8, View>
     seat
 }
 
-/// Lets two seats tell each other what they have seen.
+/// Exchanges the knowledge of two handles.
 pub(crate) fn meet(words: &Words, one: &mut Seat<u8, View>, other: &mut Seat<u8, View>)
     requires size { words.now.shared.table_id.words ≡ 64 }
     requires one { one.old.table_id ≡ words.now.shared.table_id }

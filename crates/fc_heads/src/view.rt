@@ -1,16 +1,20 @@
-//! What a seat knows of the words, and the moves that change it.
+//! A handle's knowledge of the words, and the steps that change it.
 ghost use Rattle.std.specs.Prelude.{◌≡◌};
 
 use atomic_table::{Join, Play, Split, TableRule};
 use std::collections::LinkedList;
 
-/// What a seat has seen and raised, for each slot. No value of it is made: clauses alone speak of it.
+/// The values that a handle has seen and published, for each slot.
+///
+/// It is never instantiated: only contracts use it.
 pub struct View {
     pub seen: LinkedList<u64>,
     pub raised: LinkedList<u64>,
 }
 
-/// The rule over the words and all views: a word is the greatest raised in any view, or 0, and no view has seen more.
+/// The rule for the words and all views.
+///
+/// A word is the greatest value published in any view, or 0, and no view has seen a greater one.
 pub struct Greatest;
 
 impl TableRule<u8, View, ()> for Greatest {
@@ -21,7 +25,7 @@ impl TableRule<u8, View, ()> for Greatest {
     ghost first = { λ _. fresh };
 }
 
-/// A look at a word: it is seen.
+/// A load of a word, which the handle then has seen.
 pub(crate) struct Peeks;
 
 impl Play<u8, View> for Peeks {
@@ -31,7 +35,7 @@ impl Play<u8, View> for Peeks {
     ghost then = { λ s v found w. (word_of v.0.seen s.word ≤ found) × (w ≡ (peeked v.0 s.word found, v.1)) };
 }
 
-/// A raise of a word: the greater of it and the word handed in is seen.
+/// A publication: the handle has seen the greater of the word and its value.
 pub(crate) struct Raises;
 
 impl Play<u8, View> for Raises {
@@ -42,7 +46,7 @@ impl Play<u8, View> for Raises {
         × (w ≡ (raised_to v.0 s.word s.first found, v.1)) };
 }
 
-/// A seat tells another one what it has seen.
+/// A handle that gives another its knowledge.
 pub(crate) struct Tells;
 
 impl Split<View> for Tells {
@@ -61,7 +65,7 @@ impl Join<View> for Tells {
     ghost spent = { fresh };
 }
 
-/// A new seat, which has seen and raised nothing.
+/// A new handle, which has seen and published nothing.
 pub(crate) struct Sits;
 
 impl Play<u8, View> for Sits {

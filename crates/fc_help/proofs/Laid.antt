@@ -1,4 +1,4 @@
--- A request's region has its size, and query and payload stand in it.
+-- A request's region has its size, and contains the query and the payload.
 use Rattle.std.proofs.Common.{◌≡◌, ℕ, ◌+◌, ◌-◌, ◌≤◌, List, [], ◌++◌, length, take, drop, refl, sym, ap, subst, ◌∙◌, arith, append_assoc}
 use Rattle.std.specs.Prelude.{replicate, Option}
 use Rattle.std.proofs.lemmas.List.{append-nil, drop-drop, drop-replicate, drop_all, drop_at, length-append, length-replicate, length-take-le, replicate-append-replicate, take_all, take_at}
@@ -20,7 +20,7 @@ padded_size size bytes h =
 pub refill_whole : (n : ℕ) (old new : List ℕ) → length new ≡ n → refill n old new ≡ new
 refill_whole n old new size = take_at new (drop (length new) old) n size
 
--- bytes whose first ones were written over, and then the others
+-- bytes of which the first were overwritten, and then the others
 pub written_over : (old first last : List ℕ) (at : ℕ) → length first ≡ at → put_mid at (length (first ++ drop at old) - at) (first ++ drop at old) last ≡ first ++ last
 written_over old first last at size =
     let rest : List ℕ = drop at old in
@@ -28,19 +28,19 @@ written_over old first last at size =
     let none : drop (length (first ++ rest) - at) (drop at (first ++ rest)) ≡ [] = ap (drop (length (first ++ rest) - at)) (drop_at first rest at size) ∙ drop_all (length (first ++ rest) - at) rest (omega (arith, long, size)) in
     (λ i. take_at first rest at size i ++ (last ++ none i)) ∙ ap (λ l. first ++ l) (append-nil last)
 
--- the others are as they were
+-- the others don't change
 pub others_kept : (old first : List ℕ) (at : ℕ) → length first ≡ at → take (length (first ++ drop at old) - at) (drop at (first ++ drop at old)) ≡ drop at old
 others_kept old first at size =
     let rest : List ℕ = drop at old in
     let long = length-append first rest in
     ap (take (length (first ++ rest) - at)) (drop_at first rest at size) ∙ take_all (length (first ++ rest) - at) rest (omega (arith, long, size))
 
--- what is zero from a place on is so from a later one on
+-- if all is zero from a place on, so it is from a later place on
 zero_further : (before at : ℕ) (room : List ℕ) → before ≤ at → IsZeroFrom before room → IsZeroFrom at room
 zero_further before at room le zero =
     ap (λ n. drop n room) {x = at} {y = before + (at - before)} (omega (arith, le)) ∙ (sym (drop-drop (at - before) before room) ∙ (ap (drop (at - before)) zero ∙ (drop-replicate (at - before) (length room - before) 0 ∙ ap (λ n. replicate n 0) {x = length room - before - (at - before)} {y = length room - at} (omega (arith, le)))))
 
--- bytes over the first of others, which are zero behind them, are padded
+-- bytes over the first of others, which are zero after them, are padded
 pub padded_over : (room bytes first : List ℕ) (before at : ℕ) → length room ≡ 1024 → before ≤ at → length bytes ≤ at → at ≤ 1024 → IsZeroFrom before room → first ≡ padded at bytes → first ++ drop at room ≡ padded 1024 bytes
 padded_over room bytes first before at size le fits few zero is =
     ap (λ l. l ++ drop at room) is ∙ (append_assoc bytes (replicate (at - length bytes) 0) (drop at room)
@@ -65,7 +65,7 @@ readings_size bytes =
     let b : length zeros ≡ 64 = refl in
     length-take-le 64 (bytes ++ zeros) (omega (arith, a, b))
 
--- 64 bytes of readings are found as they are
+-- 64 bytes of readings are laid out unchanged
 pub readings_whole : (bytes : List ℕ) → length bytes ≡ 64 → readings_region bytes ≡ bytes
 unfolding readings_region
 readings_whole bytes e =
@@ -97,7 +97,7 @@ payload_back r q =
 pub laid_size : {m : Method} {s : ℕ} {f : Option ℕ} {q p : ℕ} {region : List ℕ} → IsLaidOut m s f q p region → length region ≡ 1104
 laid_size {m} {s} {f} {q} {p} {region} h = ap length h.region_is ∙ region_size (read_from m s f q p region) h.fits
 
--- a region that was laid out for a request is the request's, and its parts are
+-- a region laid out for a request contains the request's parts
 pub laid_out : (r : Request) (region : List ℕ) → FitsRegion r → region ≡ region_of r
     → (part_at region 16 (length r.query) ≡ r.query) × (part_at region 80 (length r.payload) ≡ r.payload)
 laid_out r region fits e =
@@ -121,7 +121,7 @@ zero_after bytes size is few =
     let whole = padded_size 1024 bytes (omega (arith, is, few)) in
     drop_at bytes (replicate (1024 - length bytes) 0) size is ∙ ap (λ n. replicate n 0) {x = 1024 - length bytes} {y = length (padded 1024 bytes) - size} (omega (arith, is, whole))
 
--- behind a payload all is zero
+-- after a payload all bytes are zero
 pub zero_behind : {m : Method} {s : ℕ} {f : Option ℕ} {q p : ℕ} {region : List ℕ} → IsLaidOut m s f q p region → (p ≤ 1024) × IsZeroFrom p (drop 80 region)
 zero_behind {m} {s} {f} {q} {p} {region} h =
     let r = read_from m s f q p region in

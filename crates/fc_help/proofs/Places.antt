@@ -1,4 +1,4 @@
--- Where the parts of a request and the readings stand in memory.
+-- The places of a request's parts and of the readings in memory.
 use Rattle.std.proofs.Common.{◌≡◌, ℕ, ◌+◌, ◌-◌, ◌*◌, ◌<◌, ◌≤◌, List, ◌++◌, length, take, Some, None, refl, ap, ◌∙◌, arith}
 use Rattle.std.specs.Prelude.{replicate, slice_index}
 use Rattle.std.specs.Int.{w16, to_le_bytes}
@@ -10,7 +10,7 @@ use Rattle.fc_help.specs.Layout.{FitsRegion}
 use Rattle.fc_help.specs.Request.{Request}
 use Rattle.fc_help.proofs.Laid.{padded_size}
 
--- two bytes, the least first
+-- two bytes, the least significant first
 two_bytes : (n : ℕ) → n < 65536 → slice_index (to_le_bytes w16 n) 0 + 256 * slice_index (to_le_bytes w16 n) 1 ≡ n
 two_bytes n low = omega (arith, from_le_bytes-to_le_bytes_2 n low)
 
@@ -57,7 +57,7 @@ pub query_length_is : (r : Request) → slice_index (region_of r) 7 ≡ length r
 unfolding region_of
 query_length_is r = refl
 
--- eight zeros behind eight bytes
+-- eight zeros after eight bytes
 zeros_behind : (before after : List ℕ) (k : ℕ) → length before ≡ 8 → 8 ≤ k → k < 16 → slice_index (before ++ (replicate 8 0 ++ after)) k ≡ 0
 zeros_behind before after k eight low high =
     get_or-append_right before (replicate 8 0 ++ after) 8 k 0 eight low

@@ -1,4 +1,4 @@
--- The helpers by their numbers, what they take and answer, and the room of a reply.
+-- The helpers by their numbers, their arguments and results, and the size of a reply.
 use Rattle.std.specs.Prelude.{ℕ, suc, ℤ, pos, List, [], ◌∷◌, Option, None, slice_get}
 use Rattle.fc_help.specs.declared.request.Method.{Method}
 use Rattle.fc_help.specs.declared.request.Method.TheVariants.{Get, Post}
@@ -11,7 +11,7 @@ use Rattle.fc_help.specs.declared.helper.Signature.{Signature}
 abbrev pub helpers : List Helper
 helpers = PayloadLen ∷ PayloadByte ∷ VarGet ∷ VarPut ∷ ReplyPut ∷ ReplyByte ∷ Notify ∷ []
 
--- they are numbered from 1 on
+-- they are numbered from 1 on.
 abbrev pub helper_of : ℤ → Option Helper
 helper_of (pos (suc n)) = slice_get helpers n
 helper_of other = None
@@ -28,7 +28,7 @@ helper_number Notify = pos 7
 abbrev pub signature : Arguments → ℕ → Signature
 signature arguments most = record { arguments = arguments; most = most }
 
--- what each takes, and the greatest number that it answers
+-- the arguments of each helper, and the greatest number that it returns.
 abbrev pub signature_of : Helper → Signature
 signature_of PayloadLen = signature NoArgument 1024
 signature_of PayloadByte = signature OneNumber 18446744073709551615
@@ -38,7 +38,7 @@ signature_of ReplyPut = signature Bytes 1
 signature_of ReplyByte = signature OneNumber 1
 signature_of Notify = signature NoArgument 0
 
--- the most bytes of a reply
+-- the maximum length of a reply, in bytes.
 abbrev pub room_of : Method → ℕ
 room_of Get = 4096
 room_of Post = 1024

@@ -1,4 +1,4 @@
--- The request as a program finds it in memory: 1,104 bytes. And the readings: 64.
+-- The request in a program's memory: 1,104 bytes. And the readings: 64.
 use Rattle.std.specs.Prelude.{ℕ, ◌-◌, List, ◌∷◌, ◌++◌, length, take, replicate, slice_index, Option, Some, None}
 use Rattle.std.specs.Int.{w16, to_le_bytes}
 use Rattle.fc_help.specs.declared.request.Method.{Method}
@@ -9,7 +9,7 @@ abbrev pub method_number : Method → ℕ
 method_number Get = 1
 method_number Post = 2
 
--- a Content-Format that isn't said is zero, and a byte after it tells whether it is said
+-- a missing Content-Format is zero, and the byte after it says whether there is one.
 abbrev pub format_number : Option ℕ → ℕ
 format_number None = 0
 format_number (Some format) = format
@@ -18,12 +18,13 @@ abbrev pub said : Option ℕ → ℕ
 said None = 0
 said (Some format) = 1
 
--- bytes, and zeros after them up to a size
+-- bytes padded with zeros to a size.
 abbrev pub padded : ℕ → List ℕ → List ℕ
 padded size bytes = bytes ++ replicate (size - length bytes) 0
 
--- the first 16 bytes: the method, the slot, the payload's length in two bytes, the Content-Format in two, whether it is said, the
--- query's length, and eight zeros; numbers have their least byte first
+-- the first 16 bytes: the method, the slot, the payload's length in two bytes, the Content-Format
+-- in two, whether there is one, the query's length, and eight zeros; numbers have their least
+-- significant byte first.
 abbrev pub region_head : Request → List ℕ
 region_head r =
     method_number r.method ∷ r.slot
@@ -31,14 +32,14 @@ region_head r =
     ∷ slice_index (to_le_bytes w16 (format_number r.content_format)) 0 ∷ slice_index (to_le_bytes w16 (format_number r.content_format)) 1
     ∷ said r.content_format ∷ length r.query ∷ replicate 8 0
 
--- then 64 bytes for the query, and 1,024 for the payload
+-- then 64 bytes for the query, and 1,024 for the payload.
 unfoldable pub region_of : Request → List ℕ
 region_of r = region_head r ++ (padded 64 r.query ++ padded 1024 r.payload)
 
--- readings of zeros
+-- readings of zeros.
 abbrev pub no_readings : List ℕ
 no_readings = replicate 64 0
 
--- the readings as a program finds them: 64 bytes, whatever was handed in
+-- the readings in a program's memory: 64 bytes, whatever was supplied.
 unfoldable pub readings_region : List ℕ → List ℕ
 readings_region bytes = take 64 (bytes ++ replicate 64 0)

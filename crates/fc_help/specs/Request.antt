@@ -1,10 +1,10 @@
--- The request that a program answers.
+-- The request that a program handles.
 use Rattle.std.specs.Prelude.{ℕ, List, [], Option, None}
 use Rattle.fc_help.specs.declared.request.Method.{Method}
 use Rattle.fc_help.specs.declared.request.Method.TheVariants.{Get}
 
--- its method, the slot that it names, its payload's Content-Format where that is said, the values of its Uri-Query options
--- joined by `&`, and its payload (RFC 7252, 5.10)
+-- its method, its slot, its payload's Content-Format if the request states one, the values of its
+-- Uri-Query options joined by `&`, and its payload (RFC 7252, section 5.10).
 pub record Request : Type 0 where
   pub method : Method
   pub slot : ℕ
@@ -12,6 +12,6 @@ pub record Request : Type 0 where
   pub query : List ℕ
   pub payload : List ℕ
 
--- a GET of slot 0 that brings nothing
+-- an empty GET of slot 0.
 abbrev pub no_request : Request
 no_request = record { method = Get; slot = 0; content_format = None; query = []; payload = [] }

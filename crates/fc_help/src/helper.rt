@@ -1,10 +1,10 @@
-//! The helpers: what a program may call of its host.
+//! The helpers: the host's functions that a program may call.
 ghost use Rattle.std.specs.Prelude.{MatchOption, None, ◌≡◌};
 ghost use Rattle.fc_help.specs.Helpers.{helper_number, helper_of, room_of, signature, signature_of};
 
 use crate::request::Method;
 
-/// A function of the host that a program may call.
+/// A host function that a program may call.
 #[derive(Clone, Copy, PartialEq, Eq)]
 pub enum Helper {
     /// `payload_len()`: the payload's length.
@@ -13,37 +13,43 @@ pub enum Helper {
     PayloadByte,
     /// `var_get(i)`: the 8-byte word `i` of the variables, or 0 past their end.
     VarGet,
-    /// `var_put(i, x)`: makes word `i` of the variables `x` and answers 1; or answers 0 past their end.
+    /// `var_put(i, x)`: sets word `i` of the variables to `x` and returns 1.
+    ///
+    /// Returns 0 if word `i` is past their end.
     VarPut,
-    /// `reply_put(p, n)`: adds the `n` bytes from `p` on to the reply and answers 1; or answers 0 where they have no room.
+    /// `reply_put(p, n)`: appends the `n` bytes at `p` to the reply and returns 1.
+    ///
+    /// Returns 0 if there is no room for them.
     ReplyPut,
-    /// `reply_byte(x)`: adds the low byte of `x` to the reply and answers 1; or answers 0 where it has no room.
+    /// `reply_byte(x)`: appends the low byte of `x` to the reply and returns 1.
+    ///
+    /// Returns 0 if there is no room for it.
     ReplyByte,
-    /// `notify()`: gives the run a notice, and answers 0.
+    /// `notify()`: sets the notify flag of the run, and returns 0.
     Notify,
 }
 
-/// What a helper takes: R1, or R1 and R2.
+/// The arguments of a helper: R1, or R1 and R2.
 #[derive(Clone, Copy, PartialEq, Eq)]
 pub enum Arguments {
-    /// Nothing.
+    /// No argument.
     NoArgument,
-    /// A number.
+    /// One number.
     OneNumber,
     /// Two numbers.
     TwoNumbers,
-    /// A pointer, and the number of bytes from it on.
+    /// A pointer, and the number of bytes at it.
     Bytes,
 }
 
-/// What a helper takes, and the greatest number that it answers; the least is 0.
+/// A helper's arguments and the greatest number that it returns; the least is 0.
 #[derive(Clone, Copy, PartialEq, Eq)]
 pub struct Signature {
     pub arguments: Arguments,
     pub most: u64,
 }
 
-/// Looks up the helper of a number, 1 to 7 (RFC 9669, 4.3.1).
+/// Returns the helper with a number, 1 to 7 (RFC 9669, section 4.3.1).
 pub fn helper_of(number: i32) -> Option<Helper>
     ensures helper { result ≡ helper_of number }
     ensures number { MatchOption result (helper_of number ≡ None) (λ helper. helper_number helper ≡ number) }
@@ -60,7 +66,7 @@ pub fn helper_of(number: i32) -> Option<Helper>
     }
 }
 
-/// Returns the signature of a helper: what it takes and answers.
+/// Returns the signature of a helper: its arguments and results.
 pub fn signature_of(helper: Helper) -> Signature
     ensures { result ≡ signature_of helper }
 {
@@ -81,7 +87,7 @@ fn make_signature(arguments: Arguments, most: u64) -> Signature
     Signature { arguments, most }
 }
 
-/// Returns the most bytes that a reply has: 4,096 to a GET, 1,024 to a POST.
+/// Returns the maximum length of a reply: 4,096 bytes for a GET, 1,024 for a POST.
 pub fn room_of(method: Method) -> usize
     ensures { result ≡ room_of method }
 {

@@ -1,4 +1,6 @@
-//! What helpers are, and what programs find in memory, for the crates above: each function is a law, and its contract says it.
+//! Laws about helpers and the memory of programs, for the crates above.
+//!
+//! Each law is the contract of an empty function.
 ghost use Rattle.std.specs.Prelude.{List, None, Some, length, pos, slice_index, ℕ, ◌*◌, ◌+◌, ◌-◌, ◌<◌, ◌^◌, ◌≡◌, ◌≤◌};
 ghost use Rattle.fc_help.specs.Helpers.{helper_of, room_of, signature_of};
 ghost use Rattle.fc_help.specs.Region.{readings_region, region_of};
@@ -8,7 +10,9 @@ ghost use Rattle.fc_help.specs.declared.helper.Arguments.TheVariants.{Bytes, NoA
 ghost use Rattle.fc_help.specs.declared.helper.Helper.TheVariants.{Notify, PayloadByte, PayloadLen, ReplyByte, ReplyPut, VarGet, VarPut};
 ghost use Rattle.fc_help.specs.declared.request.Method.TheVariants.{Get, Post};
 
-/// The helpers by their numbers, 1 to 7; no other number is one. A reply to a GET has room for 4,096 bytes, and one to a POST for 1,024.
+/// The helpers by their numbers, 1 to 7; no other number is a helper.
+///
+/// A reply to a GET has room for 4,096 bytes, and one to a POST for 1,024.
 pub fn helpers_have_their_numbers()
     ensures payload_len { helper_of (pos 1) ≡ Some PayloadLen }
     ensures payload_byte { helper_of (pos 2) ≡ Some PayloadByte }
@@ -23,7 +27,7 @@ pub fn helpers_have_their_numbers()
     ensures post { room_of Post ≡ 1024 }
 {}
 
-/// What each helper takes, and the greatest number that it answers.
+/// Each helper's arguments, and the greatest number that it returns.
 pub fn helpers_have_their_signatures()
     ensures payload_len { signature_of PayloadLen ≡ record { arguments = NoArgument; most = 1024 } }
     ensures payload_byte { signature_of PayloadByte ≡ record { arguments = OneNumber; most = 2 ^ 64 - 1 } }
@@ -34,9 +38,20 @@ pub fn helpers_have_their_signatures()
     ensures notify { signature_of Notify ≡ record { arguments = NoArgument; most = 0 } }
 {}
 
-/// A program finds its request in 1,104 bytes. Byte 0 is the method, 1 for a GET and 2 for a POST, and byte 1 the slot; bytes 2 and 3 are
-/// the payload's length, the least first, 4 and 5 the Content-Format and 6 whether there is one, and 7 is the query's length. The query
-/// stands from byte 16 on, and the payload from byte 80 on. All other bytes are zeros.
+/// The layout of a request in its 1,104 bytes of memory.
+///
+/// By byte:
+///
+/// - 0: the method, 1 for a GET and 2 for a POST.
+/// - 1: the slot.
+/// - 2 and 3: the payload's length, least significant byte first.
+/// - 4 and 5: the Content-Format, least significant byte first.
+/// - 6: whether there is a Content-Format.
+/// - 7: the query's length.
+/// - from 16 on: the query.
+/// - from 80 on: the payload.
+///
+/// All other bytes are zeros.
 pub fn requests_have_their_places()
     ensures size { (r : Request) → FitsRegion r → length (region_of r) ≡ 1104 }
     ensures get { (r : Request) → r.method ≡ Get → slice_index (region_of r) 0 ≡ 1 }
@@ -58,7 +73,9 @@ pub fn requests_have_their_places()
         → slice_index (region_of r) (80 + k) ≡ 0 }
 {}
 
-/// A program finds its readings in 64 bytes: those that were handed in at its taking, and zeros behind them.
+/// The layout of the readings in 64 bytes.
+///
+/// They are those supplied with the snapshot, followed by zeros.
 pub fn readings_have_their_places()
     ensures size { (bytes : List ℕ) → length (readings_region bytes) ≡ 64 }
     ensures given { (bytes : List ℕ) (k : ℕ) → k < length bytes → k < 64 → slice_index (readings_region bytes) k ≡ slice_index bytes k }

@@ -1,9 +1,11 @@
-//! What a run is given beside its program: the request, the readings, the variables, and the helpers with the room of a reply.
+//! The inputs of a run: request, readings, variables, and the helpers.
+//!
+//! It also defines the maximum length of a reply.
 //!
 //! ```rust
 //! use fc_help::{Method, Request, Vars};
 //!
-//! /// What a program is given for `GET /r/7?on`, with eight bytes of variables.
+//! /// Returns the inputs for `GET /r/7?on`, with eight bytes of variables.
 //! fn given() -> (Request, Vars) {
 //!     (
 //!         Request::new(Method::Get, 7, None, b"on", b""),
@@ -14,12 +16,14 @@
 //!
 //! # What is proved
 //!
-//! - A request is laid out as the region of memory that a program finds it in; requests and variables are compared and copied whole, and
-//!   readings compared.
-//! - What each helper takes and answers, and how much room a reply has.
-//! - Each byte of the region and of the readings is told by its place, and each helper by its number.
+//! - A request is laid out as the region of memory that its program reads. Requests and variables
+//!   are compared and copied whole, and readings are compared.
+//! - Each helper has stated arguments and results, and a reply has a stated maximum length.
+//! - Each byte of the region and of the readings is stated by its place, and each helper by its
+//!   number.
 //!
-//! By the contracts of `Request`, `Request::region`, `Vars`, `helper_of`, `signature_of`, `room_of`, `laws`.
+//! By the contracts of `Request`, `Request::region`, `Vars`, `helper_of`, `signature_of`,
+//! `room_of`, `laws`.
 #![tactic(auto)]
 
 pub mod helper;

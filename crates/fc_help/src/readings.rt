@@ -1,16 +1,16 @@
-//! The readings that a program finds.
+//! The readings: a program's sensor input.
 ghost use Rattle.std.specs.Prelude.{◌≡◌, ◌↔◌, IsTrue};
 
-/// The bytes of the readings.
+/// Length of the readings, in bytes.
 pub const READINGS: usize = 64;
 
-/// What a device hands to its programs at each taking, beside the request: it is theirs to read.
+/// The read-only input of programs from their device, supplied with each snapshot.
 pub type Readings = [u8; READINGS];
 
-/// Zeros, where a device hands in nothing.
+/// Readings of zeros, for a device that supplies none.
 pub const NO_READINGS: Readings = [0; READINGS];
 
-/// Compares readings: whether they are the same.
+/// Returns whether two readings are the same.
 pub fn are_same_readings(readings: &[u8], other: &[u8]) -> bool
     ensures { IsTrue result ↔ (readings.now ≡ other.now) }
 {

@@ -1,4 +1,4 @@
-//! The request that a program answers.
+//! The request that a program handles.
 ghost use Rattle.std.specs.Prelude.{◌≡◌, ◌+◌, ◌++◌, ◌≤◌, ◌↔◌, drop, length, IsTrue};
 ghost use Rattle.fc_help.specs.Layout.{request_with};
 ghost use Rattle.fc_help.specs.Region.{region_head, method_number, padded, region_of};
@@ -7,33 +7,36 @@ ghost use Rattle.fc_help.specs.Layout.{FitsRegion, IsZeroFrom};
 use arrayvec::ArrayVec;
 use std::marker::Model;
 
-/// What a request asks of a resource that a program answers.
+/// The method of a request that a program handles.
 #[derive(Clone, Copy, Default, PartialEq, Eq)]
 pub enum Method {
-    /// GET, which reads the resource (RFC 7252, 5.8.1).
+    /// GET, which reads the resource (RFC 7252, section 5.8.1).
     #[default]
     Get,
-    /// POST, which may change its variables (RFC 7252, 5.8.2).
+    /// POST, which may change its variables (RFC 7252, section 5.8.2).
     Post,
 }
 
-/// The most bytes of a request's payload.
+/// Maximum length of a request's payload, in bytes.
 pub const PAYLOAD: usize = 1024;
 
-/// The most bytes of a request's query.
+/// Maximum length of a request's query, in bytes.
 pub const QUERY: usize = 64;
 
-/// The bytes of the region that a program finds a request in.
+/// Length in bytes of the memory region for a program's request.
 pub const REGION: usize = 1104;
 
-/// The bytes before the query: the method, the slot, lengths and the Content-Format.
+/// Length of the part before the query, in bytes.
+///
+/// It has the method, the slot, lengths and the Content-Format.
 const HEAD: usize = 16;
 
-/// Where the payload begins.
+/// Offset of the payload.
 const BEFORE_PAYLOAD: usize = HEAD + QUERY;
 
-/// A request to a resource that a program answers, laid out once as the region of memory that a program finds it in. Its type
-/// keeps the limits of query and payload.
+/// A request that a program handles, laid out as the memory region that it reads.
+///
+/// Its type guarantees the limits of query and payload.
 #[derive(Drop)]
 pub struct Request {
     method: Method,
@@ -55,10 +58,10 @@ impl Model for Request {
     ghost invariant = { λ r. IsLaidOut r.method r.slot r.content_format r.query_size r.payload_size r.region.items };
 }
 
-/// Zeros to pad with.
+/// Zeros for padding.
 const ZEROS: [u8; PAYLOAD] = [0; PAYLOAD];
 
-/// Appends bytes, and zeros after them up to a size.
+/// Appends bytes, padded with zeros to a size.
 fn put_padded(region: &mut ArrayVec<u8, REGION>, bytes: &[u8], size: usize)
     requires fits { length bytes.now ≤ size }
     requires size { size ≤ 1024 }
@@ -69,7 +72,7 @@ fn put_padded(region: &mut ArrayVec<u8, REGION>, bytes: &[u8], size: usize)
     let _fits = region.try_extend_from_slice(&ZEROS[..size - bytes.len()]);
 }
 
-/// The first bytes of a region.
+/// Returns the first bytes of a region.
 fn head(
     method: Method,
     slot: u8,
@@ -92,7 +95,7 @@ fn head(
     ]
 }
 
-/// Lays the region of a request out.
+/// Appends the region of a request.
 fn lay_out(
     region: &mut ArrayVec<u8, REGION>,
     method: Method,
@@ -111,7 +114,7 @@ fn lay_out(
     put_padded(region, payload, PAYLOAD);
 }
 
-/// Writes bytes over the first of others, and zeros over the rest.
+/// Overwrites `room` with bytes, padded with zeros.
 fn write_padded(room: &mut [u8], bytes: &[u8])
     requires { length bytes.now ≤ length room.old }
     ensures { room.new ≡ padded (length room.old) bytes.now }
@@ -120,7 +123,7 @@ fn write_padded(room: &mut [u8], bytes: &[u8])
     room[bytes.len()..].fill(0);
 }
 
-/// Writes a head and a query over others.
+/// Overwrites `room` with a head and a query.
 fn write_start(room: &mut [u8], head: &[u8; HEAD], query: &[u8])
     requires room { length room.old ≡ 80 }
     requires query { length query.now ≤ 64 }
@@ -130,7 +133,7 @@ fn write_start(room: &mut [u8], head: &[u8; HEAD], query: &[u8])
     write_padded(&mut room[HEAD..], query);
 }
 
-/// Writes a payload over another of this size, behind which all is zero already.
+/// Overwrites a payload of length `before`; all bytes after it are already zero.
 fn write_payload(room: &mut [u8], before: usize, payload: &[u8])
     requires room { length room.old ≡ 1024 }
     requires before { before ≤ 1024 }
@@ -142,7 +145,10 @@ fn write_payload(room: &mut [u8], before: usize, payload: &[u8])
     write_padded(&mut room[..written], payload);
 }
 
-/// Writes the region of a request over another's, whose payload has this size. Behind a payload only what the one before had more is cleared.
+/// Overwrites the region of a request with another's.
+///
+/// `before` is the length of the old payload. Only the bytes by which it was longer are cleared
+/// after the new payload.
 fn lay_over(
     region: &mut ArrayVec<u8, REGION>,
     before: usize,
@@ -165,7 +171,7 @@ fn lay_over(
     write_payload(&mut bytes[BEFORE_PAYLOAD..], before, payload);
 }
 
-/// A method's byte.
+/// Returns a method's byte.
 fn method_byte(method: Method) -> u8
     ensures { result ≡ method_number method }
 {
@@ -176,8 +182,10 @@ fn method_byte(method: Method) -> u8
 }
 
 impl Request {
-    /// Makes a GET or POST of this slot's resource: the Content-Format of its payload, where that is said, the values of its
-    /// Uri-Query options joined by `&`, at most 64 bytes, and its payload, at most 1,024 bytes.
+    /// Makes a GET or POST of this slot's resource.
+    ///
+    /// `content_format` is that of its payload, if the request states one. `query` is the values of
+    /// its Uri-Query options joined by `&`, at most 64 bytes. `payload` has at most 1,024 bytes.
     pub fn new(
         method: Method,
         slot: u8,
@@ -201,7 +209,9 @@ impl Request {
         }
     }
 
-    /// Writes a GET or POST of this slot's resource over this request, as `new` makes one: none is moved.
+    /// Overwrites this request with a GET or POST of this slot's resource.
+    ///
+    /// The result is that of [`Request::new`]. No request is moved.
     pub fn write(
         &mut self,
         method: Method,
@@ -230,7 +240,7 @@ impl Request {
         self.payload_size = payload.len() as u16;
     }
 
-    /// Returns the region of memory that a program finds the request in.
+    /// Returns the memory region that a program reads.
     pub fn region(&self) -> &[u8]
         ensures region { result.now ≡ region_of self.now }
         ensures size { length result.now ≡ 1104 }
@@ -246,21 +256,25 @@ impl Request {
         self.method
     }
 
-    /// Returns the slot whose resource is asked.
+    /// Returns the slot of the requested resource.
     pub fn slot(&self) -> u8
         ensures { result ≡ self.now.slot }
     {
         self.slot
     }
 
-    /// Returns the Content-Format of the payload, where the request says it (RFC 7252, 5.10.3).
+    /// Returns the payload's Content-Format, if the request states one.
+    ///
+    /// See RFC 7252, section 5.10.3.
     pub fn content_format(&self) -> Option<u16>
         ensures { result ≡ self.now.content_format }
     {
         self.content_format
     }
 
-    /// Returns the values of the Uri-Query options, joined by `&` (RFC 7252, 5.10.1).
+    /// Returns the values of the Uri-Query options, joined by `&`.
+    ///
+    /// See RFC 7252, section 5.10.1.
     pub fn query(&self) -> &[u8]
         ensures query { result.now ≡ self.now.query }
         ensures limit { length result.now ≤ QUERY }
@@ -276,7 +290,7 @@ impl Request {
         &self.region.as_slice()[BEFORE_PAYLOAD..BEFORE_PAYLOAD + self.payload_size as usize]
     }
 
-    /// Returns whether it is the same request, compared whole.
+    /// Returns whether the two requests are the same in all fields.
     pub fn is(&self, other: &Request) -> bool
         ensures { IsTrue result ↔ (self.now ≡ other.now) }
     {
@@ -287,7 +301,7 @@ impl Request {
             && self.payload() == other.payload()
     }
 
-    /// Makes another copy.
+    /// Returns a copy.
     pub fn copy(&self) -> Request
         ensures { result ≡ self.now }
     {
@@ -303,7 +317,7 @@ impl Request {
         }
     }
 
-    /// Writes a copy of another request over this one: none is moved.
+    /// Overwrites this request with a copy of another. No request is moved.
     pub fn copy_from(&mut self, other: &Request)
         ensures { self.new ≡ other.now }
     {

@@ -4,10 +4,10 @@ ghost use Rattle.std.specs.Prelude.{◌≡◌, ◌≤◌, ◌↔◌, length, rep
 use arrayvec::ArrayVec;
 use std::marker::Model;
 
-/// The most bytes that a slot's variables have.
+/// Maximum length of a slot's variables, in bytes.
 pub const VARS: usize = 256;
 
-/// A slot's variables: 0 to 256 bytes. A clause sees the bytes.
+/// A slot's variables: 0 to 256 bytes. In contracts they are these bytes.
 #[derive(Drop)]
 pub struct Vars {
     bytes: ArrayVec<u8, VARS>,
@@ -22,7 +22,7 @@ impl Model for Vars {
 }
 
 impl Vars {
-    /// Makes variables of this many zero bytes.
+    /// Makes variables with this number of zero bytes.
     pub fn zeros(size: u16) -> Self
         requires { size ≤ 256 }
         ensures { result ≡ replicate size 0 }
@@ -34,7 +34,7 @@ impl Vars {
         Vars { bytes }
     }
 
-    /// Makes variables of these bytes, at most 256.
+    /// Makes variables with these bytes, at most 256.
     pub fn of(bytes: &[u8]) -> Self
         requires { length bytes.now ≤ VARS }
         ensures { result ≡ bytes.now }
@@ -60,14 +60,14 @@ impl Vars {
         self.bytes.as_slice() == other.bytes.as_slice()
     }
 
-    /// Makes another copy.
+    /// Returns a copy.
     pub fn copy(&self) -> Vars
         ensures { result ≡ self.now }
     {
         Vars::of(self.bytes.as_slice())
     }
 
-    /// Writes a copy of others over these: none are moved.
+    /// Overwrites these variables with a copy of others. None are moved.
     pub fn copy_from(&mut self, other: &Vars)
         ensures { self.new ≡ other.now }
     {

@@ -12,7 +12,7 @@ use Rattle.fc_image.specs.Paths.{turns, Behind, Return, Turns, opened_loop, open
 use Rattle.fc_image.specs.Remaining.{own}
 use Rattle.fc_image.proofs.Costs.{begins_is, ends_is, cost_is, less_one, flow_there, flow_here, paths_no_longer}
 
--- ---- in which body, or in none, a path comes to a slot and stands there
+-- ---- the body, if any, in which a path reaches a slot
 
 record IsIn (code : List Insn) (loops : List Loop) (m : Loop) (t : ℕ) : Type 0 where
   index : ℕ
@@ -93,14 +93,14 @@ goes_in code loops (Some m) slot t f b s e at leads later =
 calls_in : (code : List Insn) (loops : List Loop) (slot t : ℕ) (f : Flow) → AreBodies code loops → flow_at code slot ≡ Some f → Calls f t → IsApart loops t
 calls_in code loops slot t f b at calls = record { apart = λ i l g from upto. b.whole i slot t l f g at calls from upto }
 
--- two loops that begin together are one
+-- two loops that begin at one slot are the same
 pub same_head : (code : List Insn) (loops : List Loop) (i k : ℕ) (l m : Loop) → AreBodies code loops → slice_get loops i ≡ Some l → slice_get loops k ≡ Some m → l.head ≡ m.head → l ≡ m
 same_head code loops i k l m b g h e =
     let a = b.first i l g in
     let c = subst (λ j. begins loops j ≡ Some m) (sym e) (b.first k m h) in
     cc (a, c)
 
--- a loop that has the slot behind another's end in its body has the other in it
+-- if the slot after a loop's end is in another's body, the loop is in that body
 pub around : (code : List Insn) (loops : List Loop) (i k : ℕ) (l m : Loop) → AreBodies code loops → slice_get loops i ≡ Some l → slice_get loops k ≡ Some m → m.head < l.last + 1 → l.last + 1 ≤ m.last → m.head < l.head
 around code loops i k l m b g h from upto = elim (cases_lt m.head l.head) [
   | inl lt ↦ lt
@@ -110,7 +110,7 @@ around code loops i k l m b g h from upto = elim (cases_lt m.head l.head) [
   ]
 ]
 
--- behind a loop a path is where it was when it came to the loop
+-- after a loop a path is in the body in which it reached the loop
 leaves_in : (code : List Insn) (loops : List Loop) (g : Option Loop) (i : ℕ) (l : Loop) → AreBodies code loops → slice_get loops i ≡ Some l → ComesIn code loops g l.head → ComesIn code loops g (l.last + 1)
 leaves_in code loops None i l b g c =
     let o = b.order i l g in
@@ -128,7 +128,7 @@ leaves_in code loops (Some m) i l b g c =
       goes = b.goes c.index l.last (l.last + 1) m (Forks l.head (l.last + 1)) c.among (b.jumps i l g) (inr refl) (omega (arith, begun, o)) (omega (arith, n));
     }
 
--- at a jump back the path stands in its loop
+-- at a back jump the path is in its loop
 ends_in : (code : List Insn) (loops : List Loop) (g : Option Loop) (slot : ℕ) (e : Loop) → AreBodies code loops → ends loops slot ≡ Some e → StandsIn code loops g slot → g ≡ Some e
 ends_in code loops None slot e b at s =
     let r = ends_is loops slot e at in
@@ -145,7 +145,7 @@ ends_in code loops (Some m) slot e b at s =
       | inr d ↦ let n = b.nested r.0 s.index e m r.1 s.among (omega (arith, le, d)) (omega (arith, begun, r.2)) in absurd (omega (arith, n, upto, r.2))
     ]
 
--- ---- what is behind
+-- ---- continuations
 
 -- it ends in the same body, or in none
 abbrev Fits : Option Loop → List Behind → Type 0
@@ -156,7 +156,7 @@ Fits (Some m) [] = ⊥
 Fits (Some m) (Return place ∷ behind) = ⊥
 Fits (Some m) (Turns l k ∷ behind) = m ≡ l
 
--- a path of n steps goes on behind the end of the body, or of the function
+-- a path of n steps continues after the end of the body, or of the function
 abbrev Rest : List Insn → List Loop → ℕ → List Behind → Type 0
 Rest code loops n [] = n ≡ 0
 Rest code loops n (Return place ∷ behind) = IsPath code loops n place (opened_loops loops place behind)
@@ -182,7 +182,7 @@ step_back code loops n m slot behind l e is p = subst (λ x. IsPath code loops x
 own_is : (code : List Insn) (loops : List Loop) (slot : ℕ) (f : Flow) → ends loops slot ≡ None → flow_at code slot ≡ Some f → own code loops slot ≡ own_cost (cost_in code loops) None f
 own_is code loops slot f e at = rw (e, at) refl
 
--- an instruction in its body, or in none, where the later slots are known
+-- an instruction in its body, or in none, if the later slots are known
 stand_attained : (code : List Insn) (loops : List Loop) (g : Option Loop) (slot : ℕ) (f : Flow) → AreBodies code loops → StandsIn code loops g slot → ends loops slot ≡ None → flow_at code slot ≡ Some f → IsForward (length code) slot f
     → ((t : ℕ) → slot < t → t < length code → Attains code loops t) → AttainsAt code loops g slot
 stand_attained code loops None slot Halts b s e at w ih n [] fits rest = let o = own_is code loops slot Halts e at in step_flow code loops n (own code loops slot + n) slot [] Halts e at (omega (arith, o)) rest
@@ -227,7 +227,7 @@ any_attained code loops g slot b lt s ih = go (ends loops slot) refl
     go None e = let i = flow_there code slot lt in stand_attained code loops g slot (flow slot i.0) b s e (flow_here code slot i.0 i.1) (b.onward slot i.0 i.1 e) ih
     go (Some l) e = subst (λ x. AttainsAt code loops x slot) (sym (ends_in code loops g slot l b e s)) (back_attained code loops slot l b e)
 
--- so many turns
+-- a number of iterations
 laps : (code : List Insn) (loops : List Loop) (l : Loop) (n : ℕ) (behind : List Behind) → AttainsAt code loops (Some l) l.head → Rest code loops n (Turns l 0 ∷ behind) → (k : ℕ) → Rest code loops (k * own code loops l.head + n) (Turns l k ∷ behind)
 laps code loops l n behind way rest zero = let e : n ≡ 0 * own code loops l.head + n = omega arith in subst (λ x. Rest code loops x (Turns l 0 ∷ behind)) e rest
 laps code loops l n behind way rest (suc k) =

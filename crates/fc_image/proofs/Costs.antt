@@ -1,4 +1,4 @@
--- The cost of a slot, by those of the slots after it; no run is longer.
+-- The cost of a slot, from those of the slots after it; no run is longer.
 use Rattle.std.proofs.Common.{◌≡◌, ℕ, zero, suc, ◌+◌, ◌-◌, ◌*◌, ◌<◌, ◌≤◌, ◌==◌, nat_lt, Bool, true, false, if◌then◌else◌, Option, Some, None, List, [], ◌∷◌, length, drop, get_or, refl, sym, ap, ◌∙◌, subst, inl, inr, arith}
 use Rattle.std.specs.Prelude.{slice_get, slice_index}
 use Rattle.std.proofs.lemmas.Bool.Decides.{nat_tests}
@@ -72,7 +72,7 @@ pub flow_here : (code : List Insn) (slot : ℕ) (insn : Insn) → slice_get code
 unfolding flow_at
 flow_here code slot insn e = ap (flow_of slot) e
 
--- the cost of coming to a slot, by its own
+-- the cost of reaching a slot, from its own
 pub cost_is : (code : List Insn) (loops : List Loop) (slot : ℕ) → AreBodies code loops → slot < length code → cost_in code loops slot ≡ looped (cost_in code loops) (begins loops slot) (own code loops slot)
 unfolding cost_in
 cost_is code loops slot b lt =
@@ -87,7 +87,7 @@ cost_is code loops slot b lt =
     ∙ ap (looped (slice_index table) (begins loops slot)) (own_same (cost_at (drop (suc slot) table) slot) (slice_index table) (length code) slot (ends loops slot) (flow slot i.0) (λ none. b.onward slot i.0 i.1 none) at)
     ∙ ap (λ o. looped (slice_index table) (begins loops slot) (own_by (slice_index table) (ends loops slot) o)) (sym (flow_here code slot i.0 i.1))
 
--- ---- what is left behind a place
+-- ---- the cost of a continuation
 
 pub less_one : (k a : ℕ) → 1 ≤ k → a + (k - 1) * a ≡ k * a
 less_one zero a h = absurd (omega arith)
@@ -127,7 +127,7 @@ come_left code loops slot behind b = go (begins loops slot) refl
         let h : own code loops l.head ≡ own code loops slot = ap (own code loops) r.2 in
         rw h (omega (arith, c, t))
 
--- ---- no path is longer than what is left
+-- ---- no path is longer than its bound
 
 no_longer : (code : List Insn) (loops : List Loop) → AreBodies code loops → (n slot : ℕ) (behind : List Behind) → IsPath code loops n slot behind → n ≤ own code loops slot + left code loops behind
 unfolding IsPath

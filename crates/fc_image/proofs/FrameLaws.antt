@@ -1,4 +1,5 @@
--- The frames that calls add from a slot on: no fewer than from a later slot of its function, and more than in a function that it calls.
+-- The frames that calls add from a slot on: no fewer than from a later slot of its function, and
+-- more than in a function that it calls.
 use Rattle.std.proofs.Common.{◌≡◌, ℕ, zero, suc, ◌+◌, ◌-◌, ◌<◌, ◌≤◌, ◌==◌, ◌||◌, ◌&&◌, not, nat_lt, min, max, Bool, true, false, ℤ, List, [], ◌∷◌, length, drop, Option, Some, None, get_or, inl, inr, refl, sym, ap, ◌∙◌, subst, arith}
 use Rattle.std.specs.Prelude.{slice_get}
 use Rattle.std.proofs.lemmas.Bool.{cases_lt}
@@ -16,7 +17,7 @@ use Rattle.fc_image.proofs.FunctionTables.{length-depths, depth_is, rest_of}
 use Rattle.fc_image.proofs.PathLaws.{offset_lands, not_true, first_false, second_false, placed}
 use Rattle.fc_image.proofs.Costs.{flow_there}
 
--- ---- the frames of a slot, by those of later ones
+-- ---- the frames of a slot, from those of later ones
 
 pub stay_frames : (code : List Insn) (slot : ℕ) (insn : Insn) → slice_get code slot ≡ Some insn → is_start code (slot + 1) ≡ false → frames_at code (slot + 1) ≤ frames_at code slot
 stay_frames code slot insn g s =
@@ -83,7 +84,7 @@ jump_frames code slot o p l e = go (target slot o) refl (not_true (is_place code
 
 -- ---- no function starts at a second half
 
--- a call of these that calls a place
+-- one of these calls leads to the place
 record Called (slot : ℕ) (code : List Insn) (place : ℕ) : Type 0 where
   at : ℕ
   offset : ℤ
@@ -142,7 +143,7 @@ no_half allowed code place s g = go (is_called 0 code (suc place)) refl
         let bad : is_instruction (Some WideSecond) ≡ true = ap is_instruction (sym g) ∙ ap (is_place code) (sym aims) ∙ is in
         absurd (cc bad)
 
--- behind a wide load stands its second half
+-- a wide load is followed by its second half
 pub second_half : (code : List Insn) (slot dst value : ℕ) → is_program code ≡ true → slice_get code slot ≡ Some (LoadWide dst value) → slice_get code (suc slot) ≡ Some WideSecond
 second_half [] slot dst value p e = absurd (cc e)
 second_half (LoadWide d v ∷ WideSecond ∷ rest) zero dst value p e = refl

@@ -19,7 +19,7 @@ starts_grow code slot (suc n) =
     let e : slot + suc n ≡ suc (slot + n) = omega arith in
     rw e (omega (arith, rest))
 
--- a start is between two slots exactly where more functions start up to the later one
+-- a start is between two slots exactly if more functions start up to the later one
 pub within_counted : (code : List Insn) (slot n : ℕ) → starts_within code slot n ≡ nat_lt (starts_below code (slot + 1)) (starts_below code (slot + n + 1))
 within_counted code slot zero = rw add-zero (grind (arith, nat_tests))
 within_counted code slot (suc n) =
@@ -36,7 +36,7 @@ within_counted code slot (suc n) =
     one_more_start a b true le = grind (arith, nat_tests)
     one_more_start a b false le = grind (arith, nat_tests)
 
--- ---- the calls of one instruction more
+-- ---- the calls of one more instruction
 
 pub called_more : (code : List Insn) (slot place : ℕ) (insn : Insn) → slice_get code slot ≡ Some insn → is_called slot (drop slot code) place ≡ (calls slot insn place || is_called (slot + 1) (drop (slot + 1) code) place)
 called_more code slot place insn e =

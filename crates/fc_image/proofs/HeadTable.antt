@@ -14,7 +14,7 @@ use Rattle.fc_image.proofs.CostTable.{drop_at}
 use Rattle.fc_image.proofs.LoopForm.{bound_is, step_is, loop_by_is, if_at}
 use Rattle.fc_image.proofs.Costs.{flow_there}
 
--- ---- the loop whose jump back an instruction is
+-- ---- the loop of which an instruction is the back jump
 
 record Here (slot : ℕ) (l : Loop) : Type 0 where
   last : l.last ≡ slot
@@ -96,7 +96,7 @@ ends_past allowed code first (insn ∷ rest) slot lt =
     ends_on (loop_if allowed code first insn) (loops_from allowed code (suc first) rest) slot (λ l e same. let last = (here allowed code first insn l e).last in absurd (omega (arith, last, same, lt)))
     ∙ ends_past allowed code (suc first) rest slot (omega (arith, lt))
 
--- the loop that ends at a slot is that of the instruction flow_there
+-- the loop that ends at a slot is that of the slot's instruction
 pub ends_here : (allowed : Bool) (code : List Insn) (slot : ℕ) (insn : Insn) → slice_get code slot ≡ Some insn → ends (loops_of allowed code) slot ≡ loop_if allowed code slot insn
 ends_here allowed code slot insn e = ends_from allowed code slot slot (omega arith) ∙ ap (λ l. ends l slot) (from_here allowed code slot insn e) ∙ go (loop_if allowed code slot insn) refl
   where
@@ -109,7 +109,8 @@ ends_here allowed code slot insn e = ends_from allowed code slot slot (omega ari
 
 -- ---- the table
 
--- a place for each of 1,024 slots: the loop that begins flow_there, of those that end from a slot on
+-- an entry for each of 1,024 slots: the loop that begins at the slot, of those that end at `slot`
+-- or later
 pub record AreHeadsFrom (allowed : Bool) (code : List Insn) (slot : ℕ) (heads : List (Option Loop)) : Type 0 where
   pub count : length heads ≡ 1024
   pub each : (h : ℕ) → h < 1024 → get_or heads h None ≡ begins (From allowed code slot) h
@@ -150,11 +151,11 @@ heads_more allowed code slot insn heads few stands t = go (loop_if allowed code 
           ];
         }
 
--- of all
+-- the same for all loops
 pub heads_are : (allowed : Bool) (code : List Insn) (heads : List (Option Loop)) → AreHeadsFrom allowed code 0 heads → AreHeads (loops_of allowed code) heads
 heads_are allowed code heads t = record { count = t.count; each = λ h lt. t.each h lt ∙ sym (begins_from allowed code 0 h (omega arith)); low = t.low }
 
--- what stands for a table's members past the end doesn't count
+-- the default for entries past a table's end doesn't matter
 pub default_in : (xs : List (Option Loop)) (i : ℕ) (d e : Option Loop) → i < length xs → get_or xs i d ≡ get_or xs i e
 default_in [] i d e lt = absurd (omega (arith, lt))
 default_in (x ∷ xs) zero d e lt = refl

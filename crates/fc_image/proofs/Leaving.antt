@@ -1,4 +1,4 @@
--- What leaves a counted loop as it is.
+-- Instructions that don't disturb a counted loop.
 use Rattle.std.proofs.Common.{◌≡◌, ◌≢◌, ℕ, suc, ◌==◌, ◌||◌, ◌&&◌, not, Bool, true, false, if◌then◌else◌, ℤ, Option, Some, None, refl, ap, ◌∙◌, subst, inl, inr, arith}
 use Rattle.std.proofs.lemmas.Bool.Decides.{nat_tests}
 use Rattle.std.proofs.lemmas.Bool.{cases_lt, ne_eqb}
@@ -49,7 +49,7 @@ by_sides true false d same e = absurd (cc same)
 by_sides false true d same e = absurd (cc same)
 by_sides false false d same e = e
 
--- ---- what is undisturbed is left
+-- ---- an instruction that doesn't disturb a loop keeps the conditions
 
 module _ (l : Loop) (k : ℕ) (insn : Insn) (calm : disturbs l k insn ≡ false) where
   unspoilt : spoils l k insn ≡ false
@@ -98,7 +98,7 @@ module _ (l : Loop) (k : ℕ) (insn : Insn) (calm : disturbs l k insn ≡ false)
       eqb_same : (a b : ℕ) → a ≡ b → (a == b) ≡ true
       eqb_same a b e = grind (arith, nat_tests, e)
 
--- ---- what is left is undisturbed
+-- ---- the converse
 
 module _ (l : Loop) (k : ℕ) (insn : Insn) (w : LeavesLoop l k insn) where
   same_by : (b c : Bool) (t : ℕ) → JumpsTo k insn t → is_in l k ≡ b → is_in l t ≡ c → b ≡ c

@@ -1,4 +1,4 @@
--- What stands in the text where a counted loop is allowed.
+-- The instructions of a program in which a counted loop is allowed.
 use Rattle.std.proofs.Common.{◌≡◌, ◌≢◌, ℕ, zero, suc, ◌+◌, ◌-◌, ◌==◌, ◌||◌, ◌&&◌, ◌<◌, ◌≤◌, not, nat_lt, nat_le, Bool, true, false, if◌then◌else◌, ℤ, pos, Option, Some, None, List, [], ◌∷◌, refl, sym, ap, ◌∙◌, subst, inl, inr, arith}
 use Rattle.std.specs.Prelude.{slice_get, unwrap_or}
 use Rattle.std.proofs.lemmas.Bool.Decides.{nat_tests}
@@ -19,7 +19,7 @@ use Rattle.fc_image.specs.declared.loops.Loop.{Loop}
 use Rattle.fc_image.specs.Loops.{bound_of, step_of, loop_by, loop_at, is_in, crosses, spoils, disturbs, some_slot, is_undisturbed, loop_if, and_loop, loops_from, loops_of, begins, ends}
 use Rattle.fc_image.specs.ShapeRules.{leads_back, breaks_back, IsShapedBy}
 
--- ---- a jump back
+-- ---- a back jump
 
 pub bound_is : (width : Width) (relation : Relation) (operand : Operand) (n : ℕ) → bound_of width relation operand ≡ Some n → (width ≡ W64) × (relation ≡ Lt) × (operand ≡ Imm (pos n)) × (1 ≤ n) × (n ≤ 1024)
 bound_is W64 Lt (Imm (pos m)) n e = go (nat_le 1 m && nat_le m 1024) refl e
@@ -63,7 +63,7 @@ loop_by_is slot j (Some n) (Some c) l e = go (nat_lt (landing slot j.offset) slo
 loop_by_is slot j (Some n) None l e = absurd (cc e)
 loop_by_is slot j None s l e = absurd (cc e)
 
--- what the text says of a loop of the list
+-- the instructions of a loop of the list
 pub record IsJump (allowed : Bool) (code : List Insn) (l : Loop) : Type 0 where
   pub jump : Jump
   pub stands : slice_get code l.last ≡ Some (JumpIf jump)
@@ -79,7 +79,7 @@ pub record IsJump (allowed : Bool) (code : List Insn) (l : Loop) : Type 0 where
   pub step : 1 ≤ l.step
   pub is : loop_if allowed code l.last (JumpIf jump) ≡ Some l
 
--- a loop's last slot is that of its jump back
+-- a loop's last slot is that of its back jump
 pub loop_last : (code : List Insn) (slot : ℕ) (j : Jump) (l : Loop) → loop_at code slot (JumpIf j) ≡ Some l → slot ≡ l.last
 loop_last code slot j l e = (loop_by_is slot j (bound_of j.width j.relation j.right) (step_of (slice_get code (slot - 1)) j.left) l e).last
 
@@ -140,7 +140,7 @@ pub has_jump : (allowed : Bool) (code : List Insn) (i : ℕ) (l : Loop) → slic
 unfolding loops_of
 has_jump allowed code i l e = in_list allowed code 0 code i l (from_first code) e
 
--- and each jump back that is allowed its loop in the list
+-- each allowed back jump has its loop in the list
 among : (allowed : Bool) (code : List Insn) (slot : ℕ) (rest : List Insn) (k : ℕ) (insn : Insn) (l : Loop) → slice_get rest k ≡ Some insn → loop_if allowed code (slot + k) insn ≡ Some l → (i : ℕ) × (slice_get (loops_from allowed code slot rest) i ≡ Some l)
 among allowed code slot [] k insn l e f = absurd (cc e)
 among allowed code slot (x ∷ rest) zero insn l e f =
@@ -161,9 +161,9 @@ pub is_among : (allowed : Bool) (code : List Insn) (slot : ℕ) (insn : Insn) (l
 unfolding loops_of
 is_among allowed code slot insn l e f = let z : slot ≡ 0 + slot = omega arith in among allowed code 0 code slot insn l e (subst (λ n. loop_if allowed code n insn ≡ Some l) z f)
 
--- ---- what the rule of jumps back says of each slot
+-- ---- consequences of the rule of back jumps for each slot
 
--- an offset that lands elsewhere has a target there
+-- an offset with another landing place has a target there
 pub lands_at : (slot : ℕ) (offset : ℤ) (t : ℕ) → landing slot offset ≡ t → t ≢ slot → target slot offset ≡ Some t
 lands_at slot offset t e n = go (target slot offset) refl
   where
@@ -252,7 +252,7 @@ nested allowed code i k l m s g h lt le =
       | inr d ↦ omega (arith, within, d)
     ]
 
--- of two that begin together neither ends before the other
+-- of two loops that begin at one slot, neither ends before the other
 not_before : (allowed : Bool) (code : List Insn) (l m : Loop) → IsShapedBy allowed code → IsJump allowed code l → IsJump allowed code m → l.head ≡ m.head → l.last < m.last → ⊥
 not_before allowed code l m s p q e lt =
     let a = other_jump allowed code l m s p q in
@@ -272,7 +272,7 @@ same_head allowed code l m s p q e =
       ]
     ]
 
--- ---- which loop begins at a slot, or ends there
+-- ---- the loop that begins at a slot, or ends there
 
 begins_some : (loops : List Loop) (i : ℕ) (l : Loop) → slice_get loops i ≡ Some l → (k : ℕ) × (m : Loop) × (slice_get loops k ≡ Some m) × (m.head ≡ l.head) × (begins loops l.head ≡ Some m)
 begins_some [] i l e = absurd (cc e)

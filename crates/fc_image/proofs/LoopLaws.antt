@@ -1,4 +1,5 @@
--- The rules of the control flow say of counted loops what typings, paths and runs rest on.
+-- The rules of the control flow imply the facts about counted loops that typings, paths and runs
+-- need.
 use Rattle.std.proofs.Common.{◌≡◌, ◌≢◌, ◌⊎◌, ℕ, zero, suc, ◌+◌, ◌-◌, ◌==◌, ◌||◌, ◌&&◌, ◌<◌, ◌≤◌, not, nat_lt, min, max, Bool, true, false, ℤ, pos, Option, Some, None, List, [], ◌∷◌, length, take, drop, refl, sym, ap, ◌∙◌, subst, inl, inr, arith}
 use Rattle.std.specs.Prelude.{slice_get}
 use Rattle.std.specs.List.{list_any}
@@ -35,7 +36,7 @@ use Rattle.fc_image.proofs.FrameLaws.{second_half, no_half, stay_frames, call_fr
 use Rattle.fc_image.proofs.LoopForm.{IsJump, has_jump, is_among, loop_last, calm, IsAside, aside, nested, begins_first, ends_last}
 use Rattle.fc_image.proofs.Costs.{flow_here}
 
--- ---- how a flow leads on
+-- ---- the successors of a flow
 
 -- by a jump, to the next slot, or past the second half of a wide load
 data Leads (slot : ℕ) (insn : Insn) (t : ℕ) : Type 0 where
@@ -58,7 +59,7 @@ halting slot Exit e = inl refl
 halting slot WideSecond e = inr refl
 halting slot insn e = absurd (cc e)
 
--- the instruction of a slot that a flow leaves from
+-- the instruction of a slot with a flow
 flow_insn : (code : List Insn) (slot : ℕ) (f : Flow) → flow_at code slot ≡ Some f → (insn : Insn) × (slice_get code slot ≡ Some insn) × (flow slot insn ≡ f)
 unfolding flow_at
 flow_insn code slot f e = go (slice_get code slot) refl e
@@ -69,7 +70,7 @@ flow_insn code slot f e = go (slice_get code slot) refl e
 
 -- ---- wide loads
 
--- before a second half stands its wide load
+-- a wide load precedes its second half
 first_half : (code : List Insn) (slot : ℕ) (insn : Insn) → is_program code ≡ true → slice_get code (suc slot) ≡ Some WideSecond → slice_get code slot ≡ Some insn → is_wide_load insn ≡ true
 first_half [] slot insn p e g = absurd (cc e)
 first_half (LoadWide d v ∷ WideSecond ∷ rest) zero insn p e g = let same : LoadWide d v ≡ insn = cc g in ap is_wide_load (sym same)
@@ -90,9 +91,9 @@ first_half (i ∷ rest) zero insn p e g = absurd (no_first rest p e)
     no_first (i ∷ rest) p e = absurd (cc e)
 first_half (i ∷ rest) (suc slot) insn p e g = first_half rest slot insn p e g
 
--- ---- what the rules say of one loop
+-- ---- consequences of the rules for one loop
 
--- where a jump lands an instruction of the program stands
+-- the landing place of a jump is an instruction of the program
 record LandsOn (code : List Insn) (slot : ℕ) (offset : ℤ) (t : ℕ) : Type 0 where
   at : target slot offset ≡ Some t
   is : is_instruction (slice_get code t) ≡ true
@@ -110,7 +111,7 @@ jump_lands allowed code slot insn offset t s g o lands =
     let e : not (is_place code (target slot offset)) ≡ false = subst (λ x. with_offset x (λ o. not (is_place code (target slot o))) ≡ false) o first in
     place_of code slot offset t (not_true (is_place code (target slot offset)) e) lands
 
--- a jump stays on its side of a body, and doesn't lead to a jump back
+-- a jump stays on its side of a body, and doesn't lead to a back jump
 jump_aside : (allowed : Bool) (code : List Insn) (l : Loop) (slot : ℕ) (insn : Insn) (offset : ℤ) (t : ℕ) → IsShapedBy allowed code → IsJump allowed code l → slice_get code slot ≡ Some insn → jump_offset insn ≡ Some offset → landing slot offset ≡ t → IsAside l slot t
 jump_aside allowed code l slot insn offset t s j g o lands =
     let d = second_false (spoils l slot insn) (with_offset (jump_offset insn) (λ o. crosses l slot (target slot o))) (calm allowed code l s j slot insn g) in
@@ -165,7 +166,7 @@ stays allowed code l k t insn s p j g other h from upto = go (leads k insn t h)
       | inr d ↦ omega (arith, e, before, d)
     ]
 
--- no exit stands in a body
+-- there is no exit in a body
 no_exit : (allowed : Bool) (code : List Insn) (l : Loop) (k : ℕ) → IsShapedBy allowed code → IsJump allowed code l → l.head ≤ k → k ≤ l.last → slice_get code k ≡ Some Exit → ⊥
 no_exit allowed code l k s j from upto g =
     let c = first_false (spoils l k Exit) _ (calm allowed code l s j k Exit g) in
@@ -208,7 +209,7 @@ starts_not allowed code l s j e =
 goes_not : (allowed : Bool) (code : List Insn) (l : Loop) (k t : ℕ) (insn : Insn) → IsShapedBy allowed code → is_program code ≡ true → IsJump allowed code l → slice_get code k ≡ Some insn → FlowsTo (flow k insn) t → l.head < t → t ≤ l.last → flow_at code t ≡ Some Halts → ⊥
 goes_not allowed code l k t insn s p j g h from upto e = halts_not allowed code l t s j (omega (arith, from)) upto (half_not allowed code k t insn s p g h) e
 
--- ---- no function starts in a body but at its head
+-- ---- no function starts in a body except at its head
 
 starts_none : (code : List Insn) (from n m : ℕ) → starts_within code from n ≡ false → m < n → is_start code (from + suc m) ≡ false
 starts_none code from zero m e lt = absurd (omega (arith, lt))
@@ -314,7 +315,7 @@ counter_of allowed code l n s j =
       keeps = λ k insn from upto other g. keeps allowed code l k insn s j from upto other g;
     }
 
--- ---- the text of a body
+-- ---- the code of a body
 
 get_drop : (code : List Insn) (h i : ℕ) → slice_get (drop h code) i ≡ slice_get code (h + i)
 get_drop code zero i = let e : i ≡ 0 + i = omega arith in ap (slice_get code) e
@@ -345,7 +346,7 @@ in_body test code l slot insn a b e t =
     some_in test (body code l) (slot - l.head) insn
     (get_take (drop l.head code) (suc l.last - l.head) (slot - l.head) (omega (arith, a, b)) ∙ get_drop code l.head (slot - l.head) ∙ ap (slice_get code) at ∙ e) t
 
--- what an inner body has the outer has
+-- if an instruction of an inner body passes a test, one of the outer body does
 body_in : (test : Insn → Bool) (code : List Insn) (l m : Loop) → l.head ≤ m.head → m.head ≤ m.last → m.last ≤ l.last → list_any test (body code m) ≡ true → list_any test (body code l) ≡ true
 body_in test code l m from order upto e =
     let r = in_some test (body code m) e in
@@ -353,14 +354,14 @@ body_in test code l m from order upto e =
     let at : slice_get code (m.head + r.0) ≡ Some r.1 = sym (get_drop code m.head r.0) ∙ sym (get_take (drop m.head code) (suc m.last - m.head) r.0 few) ∙ r.2 in
     in_body test code l (m.head + r.0) r.1 (omega (arith, from)) (omega (arith, few, upto, order)) at r.3
 
--- ---- ways on
+-- ---- forward flows
 
 if_other : (allowed : Bool) (code : List Insn) (slot : ℕ) (insn : Insn) → ((j : _) → insn ≡ JumpIf j → ⊥) → loop_if allowed code slot insn ≡ None
 if_other false code slot insn n = refl
 if_other true code slot (JumpIf j) n = absurd (n j refl)
 if_other true code slot insn n = refl
 
--- a jump that is no loop's leads to a later slot
+-- a jump that isn't a loop's leads to a later slot
 not_back : (allowed : Bool) (code : List Insn) (slot : ℕ) (insn : Insn) (offset : ℤ) → IsShapedBy allowed code → slice_get code slot ≡ Some insn → jump_offset insn ≡ Some offset → loop_if allowed code slot insn ≡ None → IsLater (length code) slot (landing slot offset)
 not_back allowed code slot insn offset s g o none =
     let place = first_false (with_offset (jump_offset insn) (λ o. not (is_place code (target slot o)))) _ (s.each JumpTarget slot insn g) in
@@ -401,7 +402,7 @@ onward allowed code slot WideSecond s g = tt
 onward allowed code slot (LoadWide dst value) s g = goes_on code slot (slot + 2) (is_start code (slot + 2)) (omega arith) (s.each Boundary slot (LoadWide dst value) g)
 onward allowed code slot insn s g = goes_on code slot (slot + 1) (is_start code (slot + 1)) (omega arith) (s.each Boundary slot insn g)
 
--- but at a jump back each flow leads on
+-- except at a back jump each flow leads to later slots
 forward_by : (count : ℕ) (loops : List Loop) (slot : ℕ) (f : Flow) → ((i : ℕ) (l : Loop) → slice_get loops i ≡ Some l → slot ≢ l.last) → IsOnward count loops slot f → IsForward count slot f
 forward_by count loops slot Halts n o = tt
 forward_by count loops slot (Goes next) n o = o

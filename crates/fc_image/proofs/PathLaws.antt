@@ -1,4 +1,4 @@
--- Where the offsets of a shaped program lead.
+-- The targets of offsets in a program that passes the control-flow checks.
 use Rattle.std.proofs.Common.{◌≡◌, ℕ, suc, ◌+◌, ◌-◌, ◌<◌, ◌||◌, not, Bool, true, false, if◌then◌else◌, List, length, drop, Option, Some, None, get_or, refl, ap, ◌∙◌, arith, ℤ, pos, negsuc}
 use Rattle.std.specs.Prelude.{slice_get, nat_lt, nat_le, unwrap_or}
 use Rattle.std.proofs.lemmas.Bool.Decides.{nat_tests}
@@ -32,7 +32,7 @@ placed code t e = go (slice_get code t) refl e
 nat_lt_true : (a b : ℕ) → nat_lt a b ≡ true → a < b
 nat_lt_true a b e = grind (arith, nat_tests, e)
 
--- where an offset has a target that is an instruction and later, it lands there
+-- if an offset's target is a later instruction, the jump lands there
 pub lands : (code : List Insn) (slot : ℕ) (o : ℤ) → not (is_place code (target slot o)) ≡ false → not (is_later slot (target slot o)) ≡ false → IsLater (length code) slot (landing slot o)
 lands code slot o p l = go (target slot o) refl (not_true (is_place code (target slot o)) p) (not_true (is_later slot (target slot o)) l)
   where
@@ -50,7 +50,7 @@ goes_on code slot next starts lt e =
     let t = not_true (nat_lt next (length code)) (first_false (not (nat_lt next (length code))) starts e) in
     (lt, grind (arith, nat_tests, t))
 
--- an offset that lands later is read among the later costs
+-- an offset to a later slot is looked up among the later costs
 pub offset_lands : (table : List ℕ) (slot : ℕ) (o : ℤ) → slot < landing slot o → at_offset (drop (suc slot) table) o ≡ get_or table (landing slot o) 0
 offset_lands table slot (pos n) lt = let e : suc slot + n ≡ slot + 1 + n = omega arith in get_or-drop (suc slot) table n 0 ∙ ap (λ k. get_or table k 0) e
 offset_lands table slot (negsuc n) lt = absurd (back (nat_le n slot) lt)

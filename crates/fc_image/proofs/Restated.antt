@@ -1,4 +1,4 @@
--- A header that is read is written again as it stood.
+-- A parsed header is encoded as it was.
 use Rattle.std.proofs.Common.{Fits, ◌≡◌, ℕ, zero, suc, ◌+◌, ◌*◌, ◌<◌, ◌≤◌, ◌==◌, ◌&&◌, ◌||◌, not, Bool, true, false, List, [], ◌∷◌, ◌++◌, None, length, drop, refl, sym, subst, ap, ◌∙◌, arith, nat_le}
 use Rattle.std.specs.Int.{w8, w16, w32, from_le_bytes, to_le_bytes}
 use Rattle.std.specs.Prelude.{get_or}
@@ -40,7 +40,7 @@ word_is_zero false h = absurd (cc h)
 pub record AreBytes (bytes : List ℕ) : Type 0 where
   pub each : (i : ℕ) → get_or bytes i 0 < 256
 
--- what the type of a slice of `u8` says
+-- the bound that the type of a slice of `u8` gives
 pub are_bytes : (bytes : List ℕ) → ((i : ℕ) → Fits w8 (get_or bytes i 0)) → AreBytes bytes
 are_bytes bytes h = record { each = λ i. let f = h i in omega arith }
 
@@ -51,7 +51,7 @@ four_bytes x y z w hx hy hz hw (suc (suc zero)) = hz
 four_bytes x y z w hx hy hz hw (suc (suc (suc zero))) = hw
 four_bytes x y z w hx hy hz hw (suc (suc (suc (suc i)))) = omega arith
 
--- the header around the bytes of its numbers, and what stands behind it
+-- the header made of the bytes of its numbers, and the bytes after it
 joined : (digit : ℕ) (size count budget rest : List ℕ) → List ℕ
 joined digit size count budget rest = (70 ∷ 67 ∷ 66 ∷ digit ∷ (size ++ (count ++ (budget ++ (0 ∷ 0 ∷ 0 ∷ 0 ∷ []))))) ++ rest
 

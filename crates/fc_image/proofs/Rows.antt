@@ -1,4 +1,5 @@
--- Worked programs: what the rules of the control flow say of each; and the bytes that a header begins with.
+-- Worked programs, with the result of the control-flow rules for each; and the bytes of a header's
+-- magic.
 use Rattle.std.proofs.Common.{◌≡◌, List, ℕ, true, false, [], ◌∷◌, Some, None, refl}
 use Rattle.std.specs.Prelude.{pos, negsuc, take}
 use Rattle.fc_isa.specs.declared.insn.Insn.{Insn}
@@ -30,7 +31,7 @@ jgt n = JumpIf (record { width = W64; relation = Gt; left = 3; right = Imm (pos 
 abbrev caller : Insn
 caller = CallLocal (pos 1)
 
--- a way that is taken is shorter than the one that goes on
+-- the path through the jump is shorter than the other
 branch_costs_five : longest One (jgt 4 ∷ mov ∷ mov ∷ mov ∷ Exit ∷ mov ∷ Exit ∷ []) ≡ 5
 unfolding longest cost_in loops_of costs
 branch_costs_five = refl
@@ -77,7 +78,7 @@ no_helper_eight : shape_fault (head One 8) (CallHelper (pos 8) ∷ mov ∷ Exit 
 unfolding shape_fault breaks_shape longest cost_in loops_of costs is_start frames
 no_helper_eight = refl
 
--- the cost is told before the helper
+-- the cost is reported before the helper
 cost_before_helper : shape_fault (head One 2) (CallHelper (pos 8) ∷ mov ∷ Exit ∷ []) ≡ Some (0, Cost)
 unfolding shape_fault breaks_shape longest cost_in loops_of costs is_start frames
 cost_before_helper = refl

@@ -1,4 +1,4 @@
--- The first broken rule with its least slot, as a relation and as a function.
+-- The first broken rule with its first slot, as a relation and as a function.
 use Rattle.std.proofs.Common.{◌≡◌, ◌++◌, ◌==◌, ◌&&◌, ℕ, zero, suc, ◌+◌, ◌<◌, ◌≤◌, Bool, true, false, if◌then◌else◌, List, [], ◌∷◌, Option, Some, None, refl, sym, ap, ◌∙◌, subst, arith}
 use Rattle.std.specs.Prelude.{slice_get, nat_lt, length, get_or, MatchOption}
 use Rattle.std.proofs.lemmas.Option.{get_or_from_slice_get, slice_get-get_or, slice_get_within}
@@ -14,9 +14,9 @@ use Rattle.fc_image.specs.Paths.{longest}
 use Rattle.fc_image.specs.ShapeRules.{breaks_flow, breaks_shape, IsShapeFault, KeepsRule, least, or_next, first_broken, flow_rules, shape_fault}
 use Rattle.fc_image.specs.Laws.{KeepsLimits}
 
--- ---- the least slot
+-- ---- the first slot
 
--- nothing passes the test from a slot on, up to another
+-- none of these slots, the first of which is `from`, passes the test
 record NonePasses (test : ℕ → Insn → Bool) (from : ℕ) (code : List Insn) : Type 0 where
   each : (k : ℕ) (insn : Insn) → slice_get code k ≡ Some insn → test (from + k) insn ≡ false
 
@@ -90,7 +90,7 @@ least_is test from (i ∷ code) (suc index) slot insn e g t b =
     ap (λ (b : Bool). if b then Some from else least test (from + 1) code) f
     ∙ least_is test (from + 1) code index slot insn (omega (arith, e)) g t (λ k j lt h. let m : from + 1 + k ≡ from + suc k = omega arith in ap (λ x. test x j) m ∙ b (suc k) j (omega arith) h)
 
--- what a search of the slots found
+-- the result of a search of the slots
 abbrev pub Tests : (ℕ → Insn → Bool) → Bool → List Insn → ℕ → Type 0
 Tests test b code k = (insn : Insn) × (insn ≡ get_or code k insn) × (test k insn ≡ b)
 
@@ -152,7 +152,7 @@ kept_all : (head : Head) (code : List Insn) (rules : List Rule) → ((rule : Rul
 kept_all head code [] h = refl
 kept_all head code (rule ∷ rules) h = ap (λ o. or_next o rule (first_broken head code rules)) (kept_rule head code rule (h rule)) ∙ kept_all head code rules h
 
--- the first broken of these rules, and those before it
+-- the first broken one of these rules, and the rules before it
 record FirstBreaks (head : Head) (code : List Insn) (rules : List Rule) (slot : ℕ) (rule : Rule) : Type 0 where
   before : List Rule
   after : List Rule
@@ -196,7 +196,7 @@ is_fault head code slot rule f =
     ∙ first_is head code f.before f.after slot rule f.kept
     (least_is test 0 code slot slot f.insn n f.stands f.broken (λ k i lt g. let m : k ≡ 0 + k = omega arith in subst (λ x. breaks_shape head code x i rule ≡ false) m (f.slots_before k i lt g)))
 
--- a rule that isn't of the control flow is broken by no slot
+-- no slot breaks a rule that isn't one of the control flow
 kept_by_all : (head : Head) (code : List Insn) → AllByRecursion (KeepsRule head code) flow_rules → (rule : Rule) → KeepsRule head code rule
 unfolding breaks_shape
 kept_by_all head code h JumpTarget = h.0
@@ -234,7 +234,8 @@ frames_within head code some h =
     let e : nat_lt (frames_allowed head.version) (frames code) ≡ false = h.each 0 i.0 i.1 in
     grind (arith, nat_tests, e)
 
--- a program with no fault is shaped, and its frames and its longest path are within what the header allows
+-- a program without a fault passes the checks of its slots, and its frames and its longest path are
+-- within the limits of the header
 pub faultless : (head : Head) (code : List Insn) → shape_fault head code ≡ None → (0 < length code) → KeepsLimits head code
 unfolding shape_fault
 faultless head code e some =
@@ -267,7 +268,7 @@ pub no_fault : (head : Head) (code : List Insn) → KeepsLimits head code → sh
 unfolding shape_fault
 no_fault head code k = kept_all head code flow_rules (all_kept head code k)
 
--- ---- the rules of a shape have numbers below 20
+-- ---- the rules of the control flow have numbers below 20
 
 low_from : (head : Head) (code : List Insn) (rules : List Rule) (slot : ℕ) (rule : Rule) → AllByRecursion (λ r. number_of r < 20) rules → first_broken head code rules ≡ Some (slot, rule) → number_of rule < 20
 low_from head code [] slot rule h e = absurd (cc e)

@@ -1,4 +1,4 @@
--- Where the jumps come from that lead to a slot, and what that says of a loop's body.
+-- The sources of the jumps to a slot, and the consequences for a loop's body.
 use Rattle.std.proofs.Common.{◌≡◌, ℤ, ℕ, zero, suc, ◌+◌, ◌<◌, ◌≤◌, ◌==◌, ◌||◌, ◌&&◌, not, nat_lt, Bool, true, false, if◌then◌else◌, Option, Some, None, List, [], ◌∷◌, length, get_or, get_or-set_same, get_or-set_other, length-set, replicate, inl, inr, refl, sym, ap, ◌∙◌, subst, arith}
 use Rattle.std.specs.Prelude.{slice_get, slice_set}
 use Rattle.std.proofs.lemmas.Bool.{cases_eq, cases_lt}
@@ -111,7 +111,7 @@ spans_more code slot insn spans stands a = go (jumps_to slot insn) refl
           (still (λ p few t. let same : p ≡ place = cc (same_target code slot p insn stands t, e) in absurd (omega (arith, few, many, same))))
     ]
 
--- ---- what disturbs a loop
+-- ---- disturbances of a loop
 
 either : (b c : Bool) → c ≡ true → (b || c) ≡ true
 either true c e = refl
@@ -149,7 +149,7 @@ some_here code l slot insn stands d = let z : slot ≡ 0 + slot = omega arith in
 by_jump : (code : List Insn) (l : Loop) (slot place : ℕ) → IsJumpTo code slot place → crosses l slot (Some place) ≡ true → some_slot (disturbs l) 0 code ≡ true
 by_jump code l slot place t c = some_here code l slot t.insn t.stands (crossing l slot place t.insn t.leads c)
 
--- what is found at a slot of the body disturbs the loop
+-- a disturbance found at a slot of the body disturbs the loop
 pub found : (code : List Insn) (spans : List (Option Span)) (l : Loop) (slot : ℕ) (insn : Insn) → AreSpans code (length code) spans → slot < 1024 → l.head ≤ slot → slot ≤ l.last → slice_get code slot ≡ Some insn
     → (disturbs l slot insn || is_jumped_into l slot (get_or spans slot None)) ≡ true → some_slot (disturbs l) 0 code ≡ true
 found code spans l slot insn a few from to stands e = go (disturbs l slot insn) refl e
@@ -170,7 +170,7 @@ found code spans l slot insn a few from to stands e = go (disturbs l slot insn) 
     go true d e = some_here code l slot insn stands d
     go false d e = enters (get_or spans slot None) (a.ends slot few) e
 
--- where nothing is found in the body, nothing disturbs the loop
+-- if none is found in the body, nothing disturbs the loop
 pub none_found : (code : List Insn) (spans : List (Option Span)) (l : Loop) → AreSpans code (length code) spans → length code ≤ 1024 → l.head < l.last → l.last < length code
     → ((slot : ℕ) (insn : Insn) → l.head ≤ slot → slot ≤ l.last → slice_get code slot ≡ Some insn → (disturbs l slot insn || is_jumped_into l slot (get_or spans slot None)) ≡ false)
     → some_slot (disturbs l) 0 code ≡ false
@@ -194,7 +194,7 @@ none_found code spans l a few order last quiet = none_at (disturbs l) 0 code eac
     before_end (x ∷ code) zero insn e = omega arith
     before_end (x ∷ code) (suc k) insn e = let h = before_end code k insn e in omega (arith, h)
 
-    -- a slot of the body isn't come to from outside
+    -- no jump from outside leads to the slot of the body
     kept : (k place : ℕ) (o : Option Span) → IsInSpan k o → is_jumped_into l place o ≡ false → (l.head ≤ k) × (k ≤ l.last)
     kept k place None w e = absurd w
     kept k place (Some s) w e =

@@ -1,4 +1,4 @@
--- What is written as a header is read as that header.
+-- The encoding of a header is parsed as that header.
 use Rattle.std.proofs.Common.{◌≡◌, ℕ, ◌+◌, ◌*◌, ◌%◌, ◌≤◌, ◌==◌, ◌&&◌, ◌||◌, not, Bool, true, false, cond, Some, None, List, ◌++◌, length, refl, ap, ◌∙◌, arith, nat_le}
 use Rattle.std.specs.Int.{w16, w32, from_le_bytes, to_le_bytes}
 use Rattle.std.proofs.lemmas.Bool.Decides.{nat_tests}

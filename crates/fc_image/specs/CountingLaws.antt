@@ -1,4 +1,5 @@
--- What a counted loop is by the text: its jump back and the addition before it, and what leaves it as it is.
+-- The form of a counted loop in a program: its back jump and the addition before it, and the
+-- instructions that don't disturb it.
 use Rattle.std.specs.Prelude.{◌≡◌, ◌≢◌, ◌⊎◌, ℕ, suc, ◌-◌, ◌<◌, ◌≤◌, false, ℤ, pos, List, Some, slice_get}
 use Rattle.fc_isa.specs.declared.insn.Width.TheVariants.{W64}
 use Rattle.fc_isa.specs.declared.insn.AluOp.TheVariants.{Add}
@@ -11,8 +12,8 @@ use Rattle.fc_isa.specs.Flow.{jump_offset, landing, target}
 use Rattle.fc_isa.specs.Writes.{writes}
 use Rattle.fc_image.specs.declared.loops.Loop.{Loop}
 
--- the jump at a slot, `jlt counter, bound`, stands right behind `add64 counter, step` and leads back to the head: the bound is 1 to
--- 1,024, and the step at least 1
+-- the jump at a slot, `jlt counter, bound`, directly follows `add64 counter, step` and leads back
+-- to the head; the bound is 1 to 1,024, and the step at least 1.
 pub record CountsUp (code : List Insn) (slot : ℕ) (j : Jump) (l : Loop) : Type 0 where
   pub width : j.width ≡ W64
   pub relation : j.relation ≡ Lt
@@ -26,19 +27,20 @@ pub record CountsUp (code : List Insn) (slot : ℕ) (j : Jump) (l : Loop) : Type
   pub last : l.last ≡ slot
   pub back : l.head < slot
 
--- a slot is in a loop's body: from its head to its jump back
+-- a slot is in a loop's body: from its head to its back jump.
 abbrev pub IsInBody : Loop → ℕ → Type 0
 IsInBody l k = (l.head ≤ k) × (k ≤ l.last)
 
 abbrev pub IsOutside : Loop → ℕ → Type 0
 IsOutside l k = (k < l.head) ⊎ (l.last < k)
 
--- the jump of the instruction at slot k, if it has one, leads to slot t
+-- the jump of the instruction at slot k, if it has one, leads to slot t.
 abbrev pub JumpsTo : ℕ → Insn → ℕ → Type 0
 JumpsTo k insn t = (o : ℤ) × (jump_offset insn ≡ Some o) × (target k o ≡ Some t)
 
--- the instruction at slot k leaves the loop as it is: in the body it is no exit, and only the addition writes the counter; from
--- within it jumps to no slot outside, from outside to none within, and from nowhere to the jump back
+-- the instruction at slot k doesn't disturb the loop: in the body it isn't an exit, and only the
+-- addition writes the counter; it doesn't jump out of the body, into it from outside, or to the
+-- back jump.
 pub record LeavesLoop (l : Loop) (k : ℕ) (insn : Insn) : Type 0 where
   pub no_exit : IsInBody l k → insn ≢ Exit
   pub no_write : IsInBody l k → suc k ≢ l.last → writes insn l.counter ≡ false

@@ -1,4 +1,4 @@
--- The header of an image: sixteen bytes, numbers with the least byte first.
+-- The header of an image: sixteen bytes, numbers with the least significant byte first.
 use Rattle.std.specs.Prelude.{ℕ, ◌+◌, ◌*◌, ◌%◌, ◌==◌, ◌&&◌, ◌||◌, not, Bool, true, false, nat_lt, nat_le, if◌then◌else◌, List, [], ◌∷◌, length, take, drop, find, Option, slice_index}
 use Rattle.std.specs.Int.{w16, w32, from_le_bytes}
 use Rattle.fc_isa.specs.declared.rule.Rule.{Rule}
@@ -6,7 +6,7 @@ use Rattle.fc_isa.specs.declared.rule.Rule.TheVariants.{Format, SlotCount, VarsS
 use Rattle.fc_isa.specs.declared.version.ImageVersion.{ImageVersion}
 use Rattle.fc_isa.specs.declared.version.ImageVersion.TheVariants.{One, Two}
 
--- the most slots that a program may have, and the most stack frames that its calls may nest
+-- the maximum number of slots of a program, and the maximum depth of its stack frames.
 abbrev pub slots_allowed : ImageVersion → ℕ
 slots_allowed One = 512
 slots_allowed Two = 1024
@@ -15,12 +15,13 @@ abbrev pub frames_allowed : ImageVersion → ℕ
 frames_allowed One = 4
 frames_allowed Two = 8
 
--- whether its jumps may go back, as those of counted loops
+-- whether jumps may go back, as those of counted loops.
 abbrev pub loops_allowed : ImageVersion → Bool
 loops_allowed One = false
 loops_allowed Two = true
 
--- the version of the format, the size of the variables in bytes, the count of slots, and the budget of steps
+-- the version of the format, the size of the variables in bytes, the number of slots, and the
+-- budget of steps.
 pub record Head : Type 0 where
   pub version : ImageVersion
   pub vars_size : ℕ
@@ -30,7 +31,8 @@ pub record Head : Type 0 where
 abbrev pub version_of : ℕ → ImageVersion
 version_of digit = if digit == 50 then Two else One
 
--- the version and the numbers that stand in a header: after the magic two bytes each for variables and slots, four for the budget
+-- the version and the numbers in a header: after the magic two bytes each for variables and slots,
+-- four for the budget.
 abbrev pub stated : List ℕ → Head
 stated image = record {
   version = version_of (slice_index image 3);
@@ -39,17 +41,17 @@ stated image = record {
   budget = from_le_bytes w32 (take 4 (drop 8 image));
 }
 
--- the first four of these bytes are a, b, c and d
+-- the first four of these bytes are a, b, c and d.
 abbrev pub is_word : ℕ → ℕ → ℕ → ℕ → List ℕ → Bool
 is_word a b c d bytes =
     ((slice_index bytes 0 == a) && (slice_index bytes 1 == b)) && ((slice_index bytes 2 == c) && (slice_index bytes 3 == d))
 
--- an image begins with the magic bytes `FCB1` or `FCB2`
+-- an image begins with the magic bytes `FCB1` or `FCB2`.
 abbrev pub has_magic : List ℕ → Bool
 has_magic image = is_word 70 67 66 49 image || is_word 70 67 66 50 image
 
--- the count of slots is 1 to what the version allows, the variables are up to 256 bytes in words of eight, the budget is 1 to 65536:
--- what breaks that
+-- violations of the limits: the number of slots is 1 to the version's limit, the variables are up
+-- to 256 bytes in words of eight, the budget is 1 to 65536.
 abbrev pub is_bad_count : ImageVersion → ℕ → Bool
 is_bad_count version count = (count == 0) || nat_lt (slots_allowed version) count
 
@@ -59,7 +61,7 @@ is_bad_size size = nat_lt 256 size || not (size % 8 == 0)
 abbrev pub is_bad_budget : ℕ → Bool
 is_bad_budget budget = (budget == 0) || nat_lt 65536 budget
 
--- an image breaks a rule of the header
+-- an image breaks a rule of the header.
 unfoldable pub head_breaks : List ℕ → Rule → Bool
 head_breaks image Format = not ((nat_le 16 (length image) && has_magic image) && (length image == 16 + 8 * (stated image).count))
 head_breaks image SlotCount = is_bad_count (stated image).version (stated image).count
@@ -68,10 +70,10 @@ head_breaks image Budget = is_bad_budget (stated image).budget
 head_breaks image Reserved = not (is_word 0 0 0 0 (drop 12 image))
 head_breaks image other = false
 
--- the rules of a header, the least number first
+-- the rules of a header, the least number first.
 abbrev pub head_rules : List Rule
 head_rules = Format ∷ SlotCount ∷ VarsSize ∷ Budget ∷ Reserved ∷ []
 
--- the least rule that a header breaks
+-- the least rule that a header breaks.
 abbrev pub head_fault : List ℕ → Option Rule
 head_fault image = find (head_breaks image) head_rules

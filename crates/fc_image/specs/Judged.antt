@@ -1,4 +1,4 @@
--- What the tables of a program say of it.
+-- The contents of a program's tables.
 use Rattle.std.specs.Prelude.{◌≡◌, ◌≤◌, min, length, List, ℕ, Option, Some, None, MatchOption}
 use Rattle.fc_isa.specs.declared.insn.Insn.{Insn}
 use Rattle.fc_isa.specs.declared.version.ImageVersion.{ImageVersion}
@@ -12,7 +12,8 @@ use Rattle.fc_image.specs.Tables.{AreStarts, AreCounts}
 use Rattle.fc_isa.specs.declared.rule.Rule.{Rule}
 use Rattle.fc_isa.specs.declared.rule.Fault.{Fault}
 
--- its function starts; where its jumps come from; its frames up to 9 and its longest path up to 65,537, which are more than are allowed
+-- the function starts; the sources of jumps; the frames, capped at 9, and the longest path, capped
+-- at 65,537; both caps are above the limits.
 pub record AreTables (version : ImageVersion) (code : List Insn) (t : Tables) : Type 0 where
   pub starts : AreStarts code t.starts
   pub counts : AreCounts code t.counts
@@ -20,10 +21,11 @@ pub record AreTables (version : ImageVersion) (code : List Insn) (t : Tables) : 
   pub frames : t.frames ≡ min 9 (frames code)
   pub cost : t.cost ≡ min 65537 (longest version code)
 
--- a fault or none, as a slot and a rule say
+-- a fault or none, from a slot and a rule.
 abbrev pub IsSame : Option (ℕ × Rule) → Option Fault → Type 0
 IsSame found fault = MatchOption fault (found ≡ None) (λ f. found ≡ Some (f.slot, f.rule))
 
--- it keeps the rules of the control flow, with no more frames than its version allows, and this is the greatest number of steps on any path, within the budget
+-- the program keeps the rules of the control flow, with at most the frames of its version; `cost`
+-- is the greatest number of steps on any path, and is within the budget.
 abbrev pub IsCostOf : Head → List Insn → ℕ → Type 0
 IsCostOf head code cost = IsShaped head.version code × (frames code ≤ frames_allowed head.version) × IsLongest head.version code cost × (cost ≤ head.budget)

@@ -1,4 +1,4 @@
--- The laws of a program's shape.
+-- Laws about a program's control flow.
 use Rattle.std.specs.Prelude.{◌≡◌, ℕ, ◌<◌, List, Some, slice_index, ◌≤◌}
 use Rattle.fc_isa.specs.declared.insn.Insn.{Insn}
 use Rattle.fc_isa.specs.declared.rule.Rule.{Rule}
@@ -8,13 +8,15 @@ use Rattle.fc_image.specs.Head.{Head, frames_allowed}
 use Rattle.fc_image.specs.ShapeRules.{IsShapeFault, shape_fault, IsShaped}
 use Rattle.fc_image.specs.Paths.{longest}
 
--- it is shaped, and its frames and its longest path are within what the header allows
+-- the program passes the checks of its slots, and its frames and its longest path are within the
+-- limits of the header.
 pub record KeepsLimits (head : Head) (code : List Insn) : Type 0 where
   pub shaped : IsShaped head.version code
   pub frames : frames code ≤ frames_allowed head.version
   pub within : longest head.version code ≤ head.budget
 
--- the fault that is found is the least slot that breaks the first rule that is broken; it is found; its rule is below 20
+-- the fault that is found has the first broken rule and the first slot that breaks it; such a fault
+-- is found; its rule is below 20.
 abbrev pub ShapeFaultIsFirst : Type 0
 ShapeFaultIsFirst =
     (head : Head) (code : List Insn) (slot : ℕ) (rule : Rule) → shape_fault head code ≡ Some (slot, rule)
@@ -32,6 +34,6 @@ ShapeFaultIsLow =
 
 -- ---- frames
 
--- the most frames that calls add from a slot to the end of its function
+-- the maximum number of frames that calls add from a slot to the end of its function.
 abbrev pub frames_at : List Insn → ℕ → ℕ
 frames_at code slot = slice_index (depths (is_start code) 0 code) slot

@@ -1,4 +1,5 @@
--- What the form of counted loops says of a program: of its typing, of its paths, and of its counters.
+-- Consequences of the form of counted loops: for a program's typing, for its paths, and for its
+-- counters.
 use Rattle.std.specs.Prelude.{◌≡◌, ◌≢◌, ◌⊎◌, ℕ, suc, ◌+◌, ◌<◌, ◌≤◌, Bool, true, false, pos, List, length, Some, None, slice_get}
 use Rattle.fc_isa.specs.declared.insn.Width.TheVariants.{W64}
 use Rattle.fc_isa.specs.declared.insn.AluOp.TheVariants.{Add}
@@ -18,30 +19,30 @@ use Rattle.fc_image.specs.Loops.{is_written, has_call, begins, ends, loops_of}
 use Rattle.fc_image.specs.Paths.{IsLongestIn, cost_in}
 use Rattle.fc_image.specs.ShapeRules.{IsShapedBy}
 
--- a later slot of a program of so many
+-- a later slot of a program of `count` slots.
 abbrev pub IsLater : ℕ → ℕ → ℕ → Type 0
 IsLater count slot t = (slot < t) × (t < count)
 
--- each slot that a flow leads to is later, and in the program
+-- each successor is a later slot, and in the program.
 abbrev pub IsForward : ℕ → ℕ → Flow → Type 0
 IsForward count slot Halts = Unit {0}
 IsForward count slot (Goes next) = IsLater count slot next
 IsForward count slot (Forks taken next) = IsLater count slot taken × IsLater count slot next
 IsForward count slot (Enters start next) = IsLater count slot start × IsLater count slot next
 
--- a flow leads to a slot within its function
+-- the slot is a successor within the same function.
 abbrev pub FlowsTo : Flow → ℕ → Type 0
 FlowsTo Halts t = ⊥
 FlowsTo (Goes next) t = t ≡ next
 FlowsTo (Forks taken next) t = (t ≡ taken) ⊎ (t ≡ next)
 FlowsTo (Enters start next) t = t ≡ next
 
--- or calls the function there
+-- the flow calls the function at the slot.
 abbrev pub Calls : Flow → ℕ → Type 0
 Calls (Enters start next) t = t ≡ start
 Calls f t = ⊥
 
--- the jump back: `jlt counter, bound`
+-- the back jump: `jlt counter, bound`.
 pub record JumpsBack (code : List Insn) (l : Loop) : Type 0 where
   pub jump : Jump
   pub stands : slice_get code l.last ≡ Some (JumpIf jump)
@@ -50,7 +51,7 @@ pub record JumpsBack (code : List Insn) (l : Loop) : Type 0 where
   pub left : jump.left ≡ l.counter
   pub right : jump.right ≡ Imm (pos l.bound)
 
--- ---- of typings
+-- ---- for typings
 
 pub record IsLoop (code : List Insn) (l : Loop) : Type 0 where
   pub order : l.head < l.last
@@ -60,14 +61,14 @@ pub record IsLoop (code : List Insn) (l : Loop) : Type 0 where
   pub few : l.bound ≤ 1024
   pub jumps : JumpsBack code l
   pub counts : is_written code l l.counter ≡ true
-  -- a way into the body from a slot before leads to the head, or comes from the body
+  -- a flow into the body from an earlier slot leads to the head, or comes from the body.
   pub closed :
       (k t : ℕ) (insn : Insn) → slice_get code k ≡ Some insn → FlowsTo (flow k insn) t → k < t → l.head < t → t ≤ l.last
       → l.head ≤ k
-  -- no function starts within
+  -- no function starts within the body.
   pub whole : (k t : ℕ) (insn : Insn) → slice_get code k ≡ Some insn → Calls (flow k insn) t → l.head < t → t ≤ l.last → ⊥
 
--- the jump back of a loop
+-- the back jump of a loop.
 pub record IsBack (loops : List Loop) (slot t : ℕ) : Type 0 where
   pub index : ℕ
   pub loop : Loop
@@ -75,18 +76,18 @@ pub record IsBack (loops : List Loop) (slot t : ℕ) : Type 0 where
   pub last : slot ≡ loop.last
   pub head : t ≡ loop.head
 
--- each slot that a flow leads to is later, but that of a loop's jump back; and in the program
+-- each successor is a later slot, or the target of a loop's back jump; and in the program.
 abbrev pub IsOnward : ℕ → List Loop → ℕ → Flow → Type 0
 IsOnward count loops slot Halts = Unit {0}
 IsOnward count loops slot (Goes next) = IsLater count slot next
 IsOnward count loops slot (Forks taken next) = (IsLater count slot taken ⊎ IsBack loops slot taken) × IsLater count slot next
 IsOnward count loops slot (Enters start next) = IsLater count slot start × IsLater count slot next
 
--- the loops of a program: nested or apart, and there is no other way back
+-- the loops of a program: nested or apart, and no other jump goes back.
 pub record AreLoops (code : List Insn) (loops : List Loop) : Type 0 where
   pub each : (i : ℕ) (l : Loop) → slice_get loops i ≡ Some l → IsLoop code l
   pub one : (i : ℕ) (l : Loop) → slice_get loops i ≡ Some l → begins loops l.head ≡ Some l
-  -- an inner body writes nothing that the outer doesn't
+  -- an inner body writes no register that the outer doesn't.
   pub inner :
       (i k : ℕ) (l m : Loop) (r : ℕ) → slice_get loops i ≡ Some l → slice_get loops k ≡ Some m → l.head < m.head → m.head ≤ l.last
       → is_written code m r ≡ true → is_written code l r ≡ true
@@ -96,19 +97,20 @@ pub record AreLoops (code : List Insn) (loops : List Loop) : Type 0 where
   pub onward :
       (slot : ℕ) (insn : Insn) → slice_get code slot ≡ Some insn → IsOnward (length code) loops slot (flow slot insn)
 
--- ---- of paths
+-- ---- for paths
 
 pub record AreBodies (code : List Insn) (loops : List Loop) : Type 0 where
   pub order : (i : ℕ) (l : Loop) → slice_get loops i ≡ Some l → l.head < l.last
   pub jumps : (i : ℕ) (l : Loop) → slice_get loops i ≡ Some l → flow_at code l.last ≡ Some (Forks l.head (l.last + 1))
   pub after : (i : ℕ) (l : Loop) → slice_get loops i ≡ Some l → l.last + 1 < length code
-  -- no two begin together, or end together; they are nested or apart
+  -- no two begin at one slot, or end at one slot; they are nested or apart.
   pub first : (i : ℕ) (l : Loop) → slice_get loops i ≡ Some l → begins loops l.head ≡ Some l
   pub last : (i : ℕ) (l : Loop) → slice_get loops i ≡ Some l → ends loops l.last ≡ Some l
   pub nested :
       (i k : ℕ) (l m : Loop) → slice_get loops i ≡ Some l → slice_get loops k ≡ Some m → l.head < m.head → m.head ≤ l.last
       → m.last < l.last
-  -- there is no other way back, or into a body but by its head, or out of it but by its jump
+  -- no other jump goes back, no flow enters a body except by its head, and none leaves it except by
+  -- its back jump.
   pub onward :
       (slot : ℕ) (insn : Insn) → slice_get code slot ≡ Some insn → ends loops slot ≡ None
       → IsForward (length code) slot (flow slot insn)
@@ -121,7 +123,7 @@ pub record AreBodies (code : List Insn) (loops : List Loop) : Type 0 where
   pub whole :
       (i k t : ℕ) (l : Loop) (f : Flow) → slice_get loops i ≡ Some l → flow_at code k ≡ Some f → Calls f t → l.head < t
       → t ≤ l.last → ⊥
-  -- no exit is in a body
+  -- no exit is in a body.
   pub exits :
       (i k : ℕ) (l : Loop) → slice_get loops i ≡ Some l → l.head ≤ k → k ≤ l.last → slice_get code k ≡ Some Exit → ⊥
   pub starts : (i : ℕ) (l : Loop) → slice_get loops i ≡ Some l → flow_at code l.head ≡ Some Halts → ⊥
@@ -129,7 +131,7 @@ pub record AreBodies (code : List Insn) (loops : List Loop) : Type 0 where
       (i k t : ℕ) (l : Loop) (f : Flow) → slice_get loops i ≡ Some l → flow_at code k ≡ Some f → FlowsTo f t → l.head < t
       → t ≤ l.last → flow_at code t ≡ Some Halts → ⊥
 
--- ---- of counters
+-- ---- for counters
 
 pub record IsCounter (code : List Insn) (l : Loop) : Type 0 where
   pub step : 1 ≤ l.step
@@ -146,7 +148,7 @@ pub record IsCounter (code : List Insn) (l : Loop) : Type 0 where
 
 pub record AreCounters (code : List Insn) (loops : List Loop) : Type 0 where
   pub each : (i : ℕ) (l : Loop) → slice_get loops i ≡ Some l → IsCounter code l
-  -- the addition alone leads to a jump back
+  -- only the addition leads to a back jump.
   pub only :
       (i k : ℕ) (l : Loop) (f : Flow) → slice_get loops i ≡ Some l → flow_at code k ≡ Some f → FlowsTo f l.last
       → suc k ≡ l.last
@@ -154,10 +156,10 @@ pub record AreCounters (code : List Insn) (loops : List Loop) : Type 0 where
       (i k t : ℕ) (l : Loop) (f : Flow) → slice_get loops i ≡ Some l → flow_at code k ≡ Some f → FlowsTo f t
       → suc k ≡ l.last → t ≡ l.last
 
--- ---- of frames
+-- ---- for frames
 
--- the frames are the first and those that calls add; from each slot to a later one no more are needed, and a call's function
--- needs one fewer
+-- the frames are the first and those that calls add; a later slot in a function needs at most as
+-- many as an earlier one, and a called function one fewer.
 pub record FramesFall (code : List Insn) : Type 0 where
   pub first : frames code ≡ 1 + frames_at code 0
   pub later :
@@ -169,7 +171,7 @@ pub record FramesFall (code : List Insn) : Type 0 where
 
 -- ---- the law
 
--- the loops of a program that keeps the rules of the control flow
+-- the loops of a program that passes the control-flow checks.
 pub record HasLoops (code : List Insn) (loops : List Loop) : Type 0 where
   pub typing : AreLoops code loops
   pub paths : AreBodies code loops

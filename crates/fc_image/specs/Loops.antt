@@ -1,4 +1,4 @@
--- Counted loops: `add64 r, c`, and right after it `jlt r, n` back to the head of the loop.
+-- Counted loops: `add64 r, c`, directly followed by `jlt r, n` back to the head of the loop.
 use Rattle.std.specs.Prelude.{ℕ, suc, ◌-◌, ◌==◌, ◌||◌, ◌&&◌, not, nat_lt, nat_le, Bool, true, false, if◌then◌else◌, pos, List, [], ◌∷◌, take, drop, Option, Some, None, slice_get}
 use Rattle.std.specs.List.{list_any}
 use Rattle.fc_isa.specs.declared.insn.Width.{Width}
@@ -18,12 +18,12 @@ use Rattle.fc_image.specs.Functions.{with_offset}
 use Rattle.fc_image.specs.Head.{loops_allowed}
 use Rattle.fc_image.specs.declared.loops.Loop.{Loop}
 
--- the bound of a jump where its register is below an immediate of 1 to 1,024
+-- the bound of a jump that tests its register below an immediate of 1 to 1,024.
 abbrev pub bound_of : Width → Relation → Operand → Option ℕ
 bound_of W64 Lt (Imm (pos n)) = if nat_le 1 n && nat_le n 1024 then Some n else None
 bound_of width relation operand = None
 
--- how far an instruction counts a register up
+-- the step by which an instruction counts a register up.
 abbrev pub step_of : Option Insn → ℕ → Option ℕ
 step_of (Some (Alu Add W64 dst (Imm (pos c)))) r = if (dst == r) && nat_le 1 c then Some c else None
 step_of insn r = None
@@ -35,13 +35,13 @@ loop_by slot j (Some bound) (Some step) =
     else None
 loop_by slot j bound step = None
 
--- the loop whose jump back an instruction would be, by it and the one before
+-- the loop of which an instruction would be the back jump, from it and the one before.
 abbrev pub loop_at : List Insn → ℕ → Insn → Option Loop
 loop_at code slot (JumpIf j) =
     loop_by slot j (bound_of j.width j.relation j.right) (step_of (slice_get code (slot - 1)) j.left)
 loop_at code slot insn = None
 
--- ---- what may stand in a body, and lead into it
+-- ---- the instructions of a body, and jumps into it
 
 abbrev pub is_in : Loop → ℕ → Bool
 is_in l slot = nat_le l.head slot && nat_le slot l.last
@@ -50,11 +50,11 @@ abbrev pub is_exit : Insn → Bool
 is_exit Exit = true
 is_exit insn = false
 
--- in the body an instruction but the addition writes the counter, or is an exit
+-- in the body an instruction other than the addition writes the counter, or is an exit.
 abbrev pub spoils : Loop → ℕ → Insn → Bool
 spoils l slot insn = is_in l slot && ((writes insn l.counter && not (suc slot == l.last)) || is_exit insn)
 
--- a jump leads into the body or out of it, or to its jump back
+-- a jump leads into the body or out of it, or to its back jump.
 abbrev pub crosses : Loop → ℕ → Option ℕ → Bool
 crosses l slot None = false
 crosses l slot (Some t) = (if is_in l slot then not (is_in l t) else is_in l t) || (t == l.last)
@@ -62,7 +62,7 @@ crosses l slot (Some t) = (if is_in l slot then not (is_in l t) else is_in l t) 
 abbrev pub disturbs : Loop → ℕ → Insn → Bool
 disturbs l slot insn = spoils l slot insn || with_offset (jump_offset insn) (λ o. crosses l slot (target slot o))
 
--- some of these slots passes a test, the first of them being at a slot
+-- one of these slots passes the test; `slot` is the first of them.
 abbrev pub some_slot : (ℕ → Insn → Bool) → ℕ → List Insn → Bool
 some_slot test slot [] = false
 some_slot test slot (insn ∷ code) = test slot insn || some_slot test (suc slot) code
@@ -73,7 +73,7 @@ is_undisturbed code (Some l) = not (some_slot (disturbs l) 0 code)
 
 -- ---- the loops of a program
 
--- where loops are allowed at all, those of its jumps back
+-- the loop of a back jump, if loops are allowed at all.
 abbrev pub loop_if : Bool → List Insn → ℕ → Insn → Option Loop
 loop_if false code slot insn = None
 loop_if true code slot insn = loop_at code slot insn
@@ -89,11 +89,11 @@ loops_from allowed code slot (insn ∷ rest) = and_loop (loop_if allowed code sl
 unfoldable pub loops_of : Bool → List Insn → List Loop
 loops_of allowed code = loops_from allowed code 0 code
 
--- those of a program of an image's version
+-- the loops of a program of an image's version.
 abbrev pub loops_in : ImageVersion → List Insn → List Loop
 loops_in version code = loops_of (loops_allowed version) code
 
--- the loop that begins at a slot, and the one whose jump back stands there
+-- the loop that begins at a slot, and the one with its back jump at the slot.
 abbrev pub begins : List Loop → ℕ → Option Loop
 begins [] slot = None
 begins (l ∷ loops) slot = if l.head == slot then Some l else begins loops slot
@@ -102,7 +102,7 @@ abbrev pub ends : List Loop → ℕ → Option Loop
 ends [] slot = None
 ends (l ∷ loops) slot = if l.last == slot then Some l else ends loops slot
 
--- ---- what a body writes, by the text, whether it is reached or not
+-- ---- the registers that a body writes, statically: whether or not the code is reachable
 
 abbrev pub body : List Insn → Loop → List Insn
 body code l = take (suc l.last - l.head) (drop l.head code)

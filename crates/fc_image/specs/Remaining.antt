@@ -1,4 +1,4 @@
--- What is left of a path, at most.
+-- An upper bound on the rest of a path.
 use Rattle.std.specs.Prelude.{ℕ, ◌+◌, ◌*◌, List, [], ◌∷◌, Option, Some, None}
 use Rattle.fc_isa.specs.declared.insn.Insn.{Insn}
 use Rattle.fc_isa.specs.Flow.{Flow}
@@ -7,7 +7,7 @@ use Rattle.fc_image.specs.declared.loops.Loop.{Loop}
 use Rattle.fc_image.specs.Loops.{ends}
 use Rattle.fc_image.specs.Paths.{Behind, Return, Turns, own_cost, cost_in}
 
--- a slot's own cost
+-- a slot's own cost.
 abbrev pub own_by : (ℕ → ℕ) → Option Loop → Option Flow → ℕ
 own_by at o None = 0
 own_by at o (Some f) = own_cost at o f
@@ -15,7 +15,8 @@ own_by at o (Some f) = own_cost at o f
 abbrev pub own : List Insn → List Loop → ℕ → ℕ
 own code loops slot = own_by (cost_in code loops) (ends loops slot) (flow_at code slot)
 
--- behind a place, at most: of each open loop the turns after this one, and what comes behind it
+-- an upper bound on a continuation: for each active loop the iterations after this one, and the
+-- rest after the loop.
 abbrev pub left : List Insn → List Loop → List Behind → ℕ
 left code loops [] = 0
 left code loops (Return place ∷ behind) = cost_in code loops place + left code loops behind

@@ -17,7 +17,7 @@ abbrev pub is_instruction : Option Insn → Bool
 is_instruction None = false
 is_instruction (Some insn) = not (is_wide_second insn)
 
--- an instruction of the program stands there
+-- there is an instruction of the program at the place.
 abbrev pub is_place : List Insn → Option ℕ → Bool
 is_place code None = false
 is_place code (Some t) = is_instruction (slice_get code t)
@@ -26,15 +26,15 @@ abbrev pub is_later : ℕ → Option ℕ → Bool
 is_later slot None = false
 is_later slot (Some t) = nat_lt slot t
 
--- a jump that doesn't lead to a later slot
+-- a jump whose target isn't a later slot.
 abbrev pub leads_back : ℕ → Insn → Bool
 leads_back slot insn = with_offset (jump_offset insn) (λ o. not (is_later slot (target slot o)))
 
--- and isn't that of a counted loop, where loops are allowed
+-- such a jump that isn't a counted loop's, if loops are allowed.
 abbrev pub breaks_back : Bool → List Insn → ℕ → Insn → Bool
 breaks_back allowed code slot insn = not (is_undisturbed code (loop_if allowed code slot insn)) && leads_back slot insn
 
--- a function starts after the first of two slots, up to the other; the target is in the program
+-- a function starts after the lower of two slots, up to the higher; the target is in the program.
 abbrev pub leaves : List Insn → ℕ → Option ℕ → Bool
 leaves code slot None = false
 leaves code slot (Some t) = nat_lt t (length code) && starts_within code (min slot t) (max slot t - min slot t)
@@ -47,8 +47,9 @@ abbrev pub calls_no_helper : Insn → Bool
 calls_no_helper (CallHelper number) = not (is_helper number)
 calls_no_helper other = false
 
--- what a slot breaks: its target is no instruction of the program; a jump isn't to a later slot, nor that of a counted loop, or a call isn't; a jump leaves its
--- function, or the function's last instruction is no exit; a helper doesn't exist
+-- the rules that a slot breaks: its target isn't an instruction of the program; a jump leads to no
+-- later slot and isn't a counted loop's; a jump leaves its function, or the function's last
+-- instruction isn't an exit; a call leads to no later slot; a helper doesn't exist.
 abbrev pub breaks_flow : Bool → List Insn → ℕ → Insn → Rule → Bool
 breaks_flow allowed code slot insn JumpTarget =
     with_offset (jump_offset insn) (λ o. not (is_place code (target slot o)))
@@ -59,30 +60,31 @@ breaks_flow allowed code slot insn BackwardCall = with_offset (call_offset insn)
 breaks_flow allowed code slot insn Helper = calls_no_helper insn
 breaks_flow allowed code slot insn other = false
 
--- and slot 0 has more frames than the header's version allows, or the longest path has more steps than its budget
+-- in addition, at slot 0: the frames exceed the version's limit, or the longest path exceeds the
+-- header's budget.
 unfoldable pub breaks_shape : Head → List Insn → ℕ → Insn → Rule → Bool
 breaks_shape head code slot insn FrameDepth = (slot == 0) && nat_lt (frames_allowed head.version) (frames code)
 breaks_shape head code slot insn Cost = (slot == 0) && nat_lt head.budget (longest head.version code)
 breaks_shape head code slot insn rule = breaks_flow (loops_allowed head.version) code slot insn rule
 
--- no slot breaks a rule of the control flow, where counted loops are allowed, or aren't
+-- no slot breaks a rule of the control flow; `allowed` says whether counted loops are allowed.
 pub record IsShapedBy (allowed : Bool) (code : List Insn) : Type 0 where
   pub each :
       (rule : Rule) (slot : ℕ) (insn : Insn) → slice_get code slot ≡ Some insn → breaks_flow allowed code slot insn rule ≡ false
 
--- where they are allowed as a version of the format says
+-- counted loops are allowed as the version says.
 abbrev pub IsShaped : ImageVersion → List Insn → Type 0
 IsShaped version code = IsShapedBy (loops_allowed version) code
 
--- no slot breaks a rule
+-- no slot breaks the rule.
 pub record KeepsRule (head : Head) (code : List Insn) (rule : Rule) : Type 0 where
   pub each : (slot : ℕ) (insn : Insn) → slice_get code slot ≡ Some insn → breaks_shape head code slot insn rule ≡ false
 
--- the rules in their order: each is judged at all slots before the next
+-- the rules in their order: each is checked at all slots before the next.
 abbrev pub flow_rules : List Rule
 flow_rules = JumpTarget ∷ BackwardJump ∷ Boundary ∷ BackwardCall ∷ FrameDepth ∷ Cost ∷ Helper ∷ []
 
--- the rules before this one are kept, and this is the least slot that breaks it
+-- the rules before this one hold, and this is the first slot that breaks it.
 pub record IsShapeFault (head : Head) (code : List Insn) (slot : ℕ) (rule : Rule) : Type 0 where
   pub before : List Rule
   pub after : List Rule
@@ -95,7 +97,7 @@ pub record IsShapeFault (head : Head) (code : List Insn) (slot : ℕ) (rule : Ru
 
 -- ---- the same as a function
 
--- the least slot that passes a test, the first of these being at a slot
+-- the first slot that passes a test; `slot` is the first of them.
 abbrev pub least : (ℕ → Insn → Bool) → ℕ → List Insn → Option ℕ
 least test slot [] = None
 least test slot (insn ∷ code) = if test slot insn then Some slot else least test (slot + 1) code
@@ -104,7 +106,7 @@ abbrev pub or_next : Option ℕ → Rule → Option (ℕ × Rule) → Option (�
 or_next (Some slot) rule more = Some (slot, rule)
 or_next None rule more = more
 
--- the first of these rules that some slot breaks, with the least such slot
+-- the first of these rules that some slot breaks, with the first such slot.
 abbrev pub first_broken : Head → List Insn → List Rule → Option (ℕ × Rule)
 first_broken head code [] = None
 first_broken head code (rule ∷ rules) =

@@ -1,4 +1,4 @@
--- Short programs that the versions of the format judge differently.
+-- Short programs for which the checks of the two versions differ.
 use Rattle.std.specs.Prelude.{ℕ, zero, suc, pos, negsuc, List, [], ◌∷◌}
 use Rattle.fc_isa.specs.declared.insn.AluOp.TheVariants.{Add, Mov}
 use Rattle.fc_isa.specs.declared.insn.Insn.{Insn}
@@ -7,17 +7,17 @@ use Rattle.fc_isa.specs.declared.insn.Operand.TheVariants.{Imm}
 use Rattle.fc_isa.specs.declared.insn.Relation.TheVariants.{Lt}
 use Rattle.fc_isa.specs.declared.insn.Width.TheVariants.{W64}
 
--- R0 is zero, and exit
+-- R0 is zero, and exit.
 abbrev pub zero_function : List Insn
 zero_function = Alu Mov W64 0 (Imm (pos 0)) ∷ Exit ∷ []
 
--- so many functions in a row, each of which calls the next
+-- this many functions in a row, each of which calls the next.
 abbrev pub call_chain : ℕ → List Insn
 call_chain zero = []
 call_chain (suc zero) = zero_function
 call_chain (suc (suc n)) = CallLocal (pos 1) ∷ Exit ∷ call_chain (suc n)
 
--- R1 counts from 0 by ones to a bound: `add64 r1, 1`, and `jlt r1, bound` back to it
+-- R1 counts from 0 by ones to a bound: `add64 r1, 1`, and `jlt r1, bound` back to it.
 abbrev pub counted_to : ℕ → List Insn
 counted_to bound =
     Alu Mov W64 1 (Imm (pos 0)) ∷ Alu Add W64 1 (Imm (pos 1))

@@ -1,4 +1,4 @@
-//! The shape of a program: the rules of its control flow, in their order.
+//! Control-flow checks of a program, in the order of their rules.
 ghost use Rattle.std.specs.Prelude.{IfErr, IfOk, None, Some, length, not, true, ◌<◌, ◌≡◌, ◌≤◌};
 ghost use Rattle.fc_isa.specs.Flow.{target};
 ghost use Rattle.fc_isa.specs.Program.{is_program};
@@ -17,11 +17,13 @@ use crate::spans::Span;
 use crate::table::{MOST_SLOTS, Tables};
 use fc_isa::{Fault, Insn, Rule};
 
-/// Checks the control flow of a program of the header's count of slots, and gives its cost: the greatest number of steps on
-/// any path from slot 0 to its exit, a path through a local call being one through the whole callee.
+/// Checks the control flow of a program, and returns its cost.
+///
+/// The program must have the header's number of slots. The cost is the greatest number of steps on
+/// any path from slot 0 to its exit. A path through a local call passes through the whole callee.
 ///
 /// # Errors
-/// The least rule, 11 to 17, that a slot breaks, with the least slot that breaks it.
+/// Returns the least rule, 11 to 17, that a slot breaks, with the first slot that breaks it.
 #[tactic(auto, unfolding(crate::specs::ShapeRules::shape_fault))]
 pub fn shape(head: &Head, code: &[Insn]) -> Result<u32, Fault>
     requires count { length code.now ≡ head.now.count }
@@ -30,7 +32,7 @@ pub fn shape(head: &Head, code: &[Insn]) -> Result<u32, Fault>
     ensures cost { IfOk result (λ cost. (shape_fault head.now code.now ≡ None) × (cost ≡ longest head.now.version code.now)) }
     ensures fault { IfErr result (λ f. shape_fault head.now code.now ≡ Some (f.slot, f.rule)) }
 {
-    // The checker learns from these calls how many slots there are at most, and how many steps.
+    // These calls show the checker the greatest number of slots, and of steps.
     let _slots = head.count();
     let _steps = head.budget();
     let tables = Tables::of(head.version(), code);
@@ -51,7 +53,9 @@ const FLOW_RULES: [Rule; 7] = [
     Rule::Helper,
 ];
 
-/// The first of the rules that a slot breaks, with the least slot that breaks it.
+/// Returns the first of these rules that a slot breaks.
+///
+/// The fault has the first slot that breaks it.
 fn first_broken(code: &[Insn], tables: &Tables, head: &Head, rules: &[Rule]) -> Option<Fault>
     requires tables { AreTables head.now.version code.now tables.now }
     requires count { length code.now ≤ 1024 }
@@ -65,7 +69,7 @@ fn first_broken(code: &[Insn], tables: &Tables, head: &Head, rules: &[Rule]) -> 
     None
 }
 
-/// The least slot that breaks a rule.
+/// Returns the first slot that breaks a rule.
 fn least(code: &[Insn], tables: &Tables, head: &Head, rule: Rule) -> Option<usize>
     requires tables { AreTables head.now.version code.now tables.now }
     requires count { length code.now ≤ 1024 }
@@ -74,7 +78,7 @@ fn least(code: &[Insn], tables: &Tables, head: &Head, rule: Rule) -> Option<usiz
     (0..code.len()).find(|slot| breaks(code, tables, head, *slot, &code[*slot], rule))
 }
 
-/// Whether a slot breaks a rule.
+/// Returns whether a slot breaks a rule.
 #[tactic(auto, unfolding(crate::specs::ShapeRules::breaks_shape))]
 fn breaks(code: &[Insn], tables: &Tables, head: &Head, slot: usize, insn: &Insn, rule: Rule) -> bool
     requires tables { AreTables head.now.version code.now tables.now }
@@ -102,7 +106,7 @@ fn breaks(code: &[Insn], tables: &Tables, head: &Head, slot: usize, insn: &Insn,
     }
 }
 
-/// Whether no instruction of the program stands at an offset's target.
+/// Returns whether an offset's target isn't an instruction of the program.
 fn is_astray(code: &[Insn], slot: usize, offset: Option<i32>) -> bool
     requires { slot < 1024 }
     ensures { result ≡ with_offset offset (λ o. not (is_place code.now (target slot o))) }
@@ -122,7 +126,9 @@ fn is_place(code: &[Insn], place: Option<usize>) -> bool
     }
 }
 
-/// Whether a jump doesn't lead to a later slot, and isn't that of a counted loop, where loops are allowed.
+/// Returns whether a jump leads to no later slot, and isn't that of a counted loop.
+///
+/// Loops count only if they are allowed.
 fn breaks_back(
     allowed: bool,
     code: &[Insn],
@@ -138,7 +144,7 @@ fn breaks_back(
     is_back(slot, jump_offset(insn)) && !(allowed && is_counted(code, spans, slot, insn))
 }
 
-/// Whether an offset's target isn't a later slot.
+/// Returns whether an offset's target isn't a later slot.
 fn is_back(slot: usize, offset: Option<i32>) -> bool
     requires { slot < 1024 }
     ensures { result ≡ with_offset offset (λ o. not (is_later slot (target slot o))) }
@@ -158,7 +164,7 @@ fn is_later(slot: usize, place: Option<usize>) -> bool
     }
 }
 
-/// Whether a jump of this offset leaves its function.
+/// Returns whether a jump with this offset leaves its function.
 fn leaves(code: &[Insn], counts: &[u16; MOST_SLOTS], slot: usize, offset: Option<i32>) -> bool
     requires counts { AreCounts code.now counts.now }
     requires count { length code.now ≤ 1024 }
@@ -184,7 +190,9 @@ fn crosses_to(code: &[Insn], counts: &[u16; MOST_SLOTS], slot: usize, place: Opt
     }
 }
 
-/// Whether an instruction calls a helper that doesn't exist: there are 1 to 7.
+/// Returns whether an instruction calls a helper that doesn't exist.
+///
+/// There are helpers 1 to 7.
 fn calls_no_helper(insn: &Insn) -> bool
     ensures { result ≡ calls_no_helper insn.now }
 {

@@ -1,4 +1,4 @@
-//! The steps of a program's longest path.
+//! The number of steps on a program's longest path.
 ghost use Rattle.std.specs.Prelude.{ℕ, drop, length, min, slice_index, ◌+◌, ◌≡◌, ◌≤◌, ◌<◌};
 ghost use Rattle.fc_isa.specs.Flow.{flow, landing};
 ghost use Rattle.fc_image.specs.Loops.{loops_of};
@@ -11,11 +11,13 @@ use crate::loops::Loop;
 use crate::table::MOST_SLOTS;
 use fc_isa::Insn;
 
-/// More steps than any budget allows: costs are counted up to it.
+/// One more step than any budget allows: costs are capped at it.
 const TOO_MANY: u32 = 65_537;
 
-/// The steps of the longest path from slot 0, or 65,537 where it has more, by the loops that begin at each slot. Counted loops are
-/// allowed, or aren't.
+/// Returns the number of steps on the longest path from slot 0.
+///
+/// It is capped at 65,537. `heads` has the loop that begins at each slot, and `allowed` says
+/// whether counted loops are allowed.
 pub(crate) fn longest_cost(code: &[Insn], heads: &[Option<Loop>; MOST_SLOTS], allowed: bool) -> u32
     requires count { length code.now ≤ 1024 }
     requires heads { AreHeads (loops_of allowed code.now) heads.now }
@@ -33,7 +35,9 @@ pub(crate) fn longest_cost(code: &[Insn], heads: &[Option<Loop>; MOST_SLOTS], al
     costs[0]
 }
 
-/// The steps from an instruction on to the end of its body, or function, given the costs of the later slots.
+/// Returns the steps from an instruction to the end of its body or function.
+///
+/// `costs` has those of the later slots.
 fn own_steps(costs: &[u32; MOST_SLOTS], slot: usize, ending: &Option<Loop>, insn: &Insn) -> u32
     requires slot { slot < 1024 }
     requires capped { (k : ℕ) → slice_index costs.now k ≤ 65537 }
@@ -67,7 +71,9 @@ fn steps_along(costs: &[u32; MOST_SLOTS], slot: usize, insn: &Insn) -> u32
     }
 }
 
-/// The steps where a path comes to a slot: at a loop's head those of all turns, and what comes behind the loop.
+/// Returns the steps from a slot on, once a path reaches it.
+///
+/// At a loop's head they are those of all iterations, and of the rest after the loop.
 fn steps(costs: &[u32; MOST_SLOTS], slot: usize, beginning: &Option<Loop>, own: u32) -> u32
     requires slot { slot < 1024 }
     requires capped { (k : ℕ) → slice_index costs.now k ≤ 65537 }
@@ -81,7 +87,7 @@ fn steps(costs: &[u32; MOST_SLOTS], slot: usize, beginning: &Option<Loop>, own: 
     }
 }
 
-/// How often a path goes through a body.
+/// Returns how many times a path runs through a body.
 fn turns(counted: &Loop) -> u32
     requires { IsLow 1024 counted.now }
     ensures turns { result ≡ turns counted.now }
@@ -90,7 +96,7 @@ fn turns(counted: &Loop) -> u32
     1 + (counted.bound - 1) / counted.step
 }
 
-/// The slot that an offset leads to.
+/// Returns the slot to which an offset leads.
 fn landing(slot: usize, offset: i32) -> usize
     requires { slot < 1024 }
     ensures { result ≡ landing slot offset }
@@ -98,7 +104,7 @@ fn landing(slot: usize, offset: i32) -> usize
     target(slot, offset).unwrap_or(slot)
 }
 
-/// The cost at a later slot, or 0.
+/// Returns the cost at a later slot, or 0.
 fn at(costs: &[u32; MOST_SLOTS], slot: usize, place: usize) -> u32
     requires { (k : ℕ) → slice_index costs.now k ≤ 65537 }
     ensures cost { result ≡ cost_at (drop (slot + 1) costs.now) slot place }

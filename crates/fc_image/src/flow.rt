@@ -1,10 +1,10 @@
-//! Where jumps and calls lead.
+//! The targets of jumps and calls.
 ghost use Rattle.std.specs.Prelude.{◌≡◌, ◌<◌};
 ghost use Rattle.fc_isa.specs.Flow.{call_offset, jump_offset, target};
 
 use fc_isa::Insn;
 
-/// The offset of a jump, in slots after the next.
+/// Returns the offset of a jump, in slots after the next.
 pub(crate) fn jump_offset(insn: &Insn) -> Option<i32>
     ensures { result ≡ jump_offset insn.now }
 {
@@ -16,7 +16,7 @@ pub(crate) fn jump_offset(insn: &Insn) -> Option<i32>
     }
 }
 
-/// The offset of a local call.
+/// Returns the offset of a local call.
 pub(crate) fn call_offset(insn: &Insn) -> Option<i32>
     ensures { result ≡ call_offset insn.now }
 {
@@ -26,7 +26,7 @@ pub(crate) fn call_offset(insn: &Insn) -> Option<i32>
     }
 }
 
-/// The slot after this one, plus the offset: `None` where that is below 0.
+/// Returns the slot after this one plus the offset, or `None` if that is below 0.
 pub(crate) fn target(slot: usize, offset: i32) -> Option<usize>
     requires { slot < 1024 }
     ensures { result ≡ target slot offset }

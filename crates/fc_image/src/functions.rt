@@ -7,10 +7,10 @@ use crate::flow::{call_offset, target};
 use crate::table::MOST_SLOTS;
 use fc_isa::Insn;
 
-/// One frame more than any program may have: frames are counted up to it.
+/// One frame more than any program may have: depths are capped at it.
 const TOO_DEEP: u8 = 9;
 
-/// Which slots start a function.
+/// Returns which slots start a function.
 pub(crate) fn starts(code: &[Insn]) -> [bool; MOST_SLOTS]
     requires { length code.now ≤ 1024 }
     ensures { AreStarts code.now result }
@@ -25,7 +25,9 @@ pub(crate) fn starts(code: &[Insn]) -> [bool; MOST_SLOTS]
     starts
 }
 
-/// Marks the function that an instruction calls, where it starts at a slot of a program.
+/// Marks the start of the function that an instruction calls.
+///
+/// Nothing is marked if its target isn't a slot.
 fn mark(starts: &mut [bool; MOST_SLOTS], slot: usize, insn: &Insn)
     requires { slot < 1024 }
     ensures { IsMarked slot insn.now starts.old starts.new }
@@ -38,7 +40,7 @@ fn mark(starts: &mut [bool; MOST_SLOTS], slot: usize, insn: &Insn)
     }
 }
 
-/// How many functions start up to each slot.
+/// Returns how many functions start up to each slot.
 pub(crate) fn starts_counted(code: &[Insn], starts: &[bool; MOST_SLOTS]) -> [u16; MOST_SLOTS]
     requires { AreStarts code.now starts.now }
     ensures { AreCounts code.now result }
@@ -54,7 +56,7 @@ pub(crate) fn starts_counted(code: &[Insn], starts: &[bool; MOST_SLOTS]) -> [u16
     counts
 }
 
-/// Whether a function starts after a slot, up to another.
+/// Returns whether a function starts after a slot, up to another.
 pub(crate) fn crosses(code: &[Insn], counts: &[u16; MOST_SLOTS], slot: usize, place: usize) -> bool
     requires counts { AreCounts code.now counts.now }
     requires later { slot ≤ place }
@@ -64,7 +66,7 @@ pub(crate) fn crosses(code: &[Insn], counts: &[u16; MOST_SLOTS], slot: usize, pl
     counts[slot] < counts[place]
 }
 
-/// Whether an instruction is the last of its function, and no exit.
+/// Returns whether an instruction is the last of its function, and isn't an exit.
 pub(crate) fn is_open_end(
     code: &[Insn],
     starts: &[bool; MOST_SLOTS],
@@ -96,8 +98,9 @@ fn may_end(insn: &Insn) -> bool
     matches!(insn, Insn::Exit | Insn::WideSecond)
 }
 
-/// The most stack frames that the calls in a program's text nest, those that no path reaches among them, or 9 where they
-/// nest more.
+/// Returns the maximum depth of stack frames of a program's calls, or 9 if greater.
+///
+/// All calls count, also those that no path reaches.
 pub(crate) fn deepest(code: &[Insn], starts: &[bool; MOST_SLOTS]) -> u8
     requires starts { AreStarts code.now starts.now }
     requires count { length code.now ≤ 1024 }
@@ -112,7 +115,9 @@ pub(crate) fn deepest(code: &[Insn], starts: &[bool; MOST_SLOTS]) -> u8
     (1 + depths[0]).min(TOO_DEEP)
 }
 
-/// The frames that calls add from a slot to the end of its function, up to 9, given those of the later slots.
+/// Returns the frames that calls add from a slot to the end of its function.
+///
+/// They are capped at 9. `depths` has those of the later slots.
 fn depth(depths: &[u8; MOST_SLOTS], starts: &[bool; MOST_SLOTS], slot: usize, insn: &Insn) -> u8
     requires slot { slot < 1024 }
     requires capped { (k : ℕ) → slice_index depths.now k ≤ 9 }
@@ -138,7 +143,7 @@ fn at(depths: &[u8; MOST_SLOTS], place: usize) -> u8
     depths.get(place).copied().unwrap_or(0)
 }
 
-/// The frames of the function that an instruction calls.
+/// Returns the frames of the function that an instruction calls.
 fn called(depths: &[u8; MOST_SLOTS], slot: usize, insn: &Insn) -> u8
     requires slot { slot < 1024 }
     requires capped { (k : ℕ) → slice_index depths.now k ≤ 9 }
@@ -150,7 +155,9 @@ fn called(depths: &[u8; MOST_SLOTS], slot: usize, insn: &Insn) -> u8
     }
 }
 
-/// The depth at an offset from the next slot, 0 where the offset is negative.
+/// Returns the depth at an offset from the next slot.
+///
+/// It is 0 if the offset is negative.
 fn at_offset(depths: &[u8; MOST_SLOTS], slot: usize, offset: i32) -> u8
     requires slot { slot < 1024 }
     requires capped { (k : ℕ) → slice_index depths.now k ≤ 9 }

@@ -1,4 +1,4 @@
-//! The loops of a program, by the slots where they begin.
+//! The loops of a program, by the slots at which they begin.
 ghost use Rattle.std.specs.Prelude.{length, ◌<◌, ◌≡◌, ◌≤◌};
 ghost use Rattle.fc_image.specs.Loops.{loop_if, loops_in};
 ghost use Rattle.fc_image.specs.Tables.{AreHeads, AreLow, headed};
@@ -8,7 +8,7 @@ use crate::loops::{Loop, loop_at};
 use crate::table::MOST_SLOTS;
 use fc_isa::{ImageVersion, Insn};
 
-/// Finds the loop that begins at each slot of a program of a version.
+/// Returns the loop that begins at each slot of a program of this version.
 pub fn loops_by_head(version: ImageVersion, code: &[Insn]) -> [Option<Loop>; MOST_SLOTS]
     requires { length code.now ≤ 1024 }
     ensures { AreHeads (loops_in version code.now) result }
@@ -24,7 +24,7 @@ pub fn loops_by_head(version: ImageVersion, code: &[Insn]) -> [Option<Loop>; MOS
     heads
 }
 
-/// The loop whose jump back an instruction is, where loops are allowed.
+/// Returns the loop of which an instruction is the back jump, if loops are allowed.
 pub(crate) fn loop_if(allowed: bool, code: &[Insn], slot: usize, insn: &Insn) -> Option<Loop>
     requires count { length code.now ≤ 1024 }
     requires slot { slot < length code.now }
@@ -38,7 +38,7 @@ pub(crate) fn loop_if(allowed: bool, code: &[Insn], slot: usize, insn: &Insn) ->
     }
 }
 
-/// Keeps a loop by its head.
+/// Stores a loop at its head.
 fn put_head(heads: &mut [Option<Loop>; MOST_SLOTS], ending: &Option<Loop>)
     requires { AreLow 1024 ending.now }
     ensures { heads.new ≡ headed heads.old ending.now }

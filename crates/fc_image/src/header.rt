@@ -7,13 +7,13 @@ ghost use Rattle.fc_isa.specs.declared.rule.Rule.{Rule};
 use crate::limits::{Head, is_bad_budget, is_bad_count, is_bad_size};
 use fc_isa::{Fault, ImageVersion, Rule};
 
-/// The size of a header in bytes: an image's slots stand behind it.
+/// Size of a header in bytes; an image's slots follow it.
 pub const HEADER_SIZE: usize = 16;
 
 /// Parses the header of an image.
 ///
 /// # Errors
-/// The least rule of the header, 1 to 5, that the image breaks, at slot 0.
+/// Returns the least rule of the header, 1 to 5, that the image breaks, at slot 0.
 pub fn head(image: &[u8]) -> Result<Head, Fault>
     ensures head { IfOk result (λ h. (h ≡ stated image.now) × (head_fault image.now ≡ None)) }
     ensures kept { IfOk result (λ _. KeepsHead image.now) }
@@ -30,7 +30,7 @@ pub fn head(image: &[u8]) -> Result<Head, Fault>
     }
 }
 
-/// The least rule of the header that the image breaks.
+/// Returns the least rule of the header that the image breaks.
 fn fault(image: &[u8]) -> Option<Rule>
     ensures { result ≡ head_fault image.now }
 {
@@ -49,7 +49,7 @@ fn fault(image: &[u8]) -> Option<Rule>
     }
 }
 
-/// The image isn't a header with the magic of a version and its slots.
+/// Returns whether the image isn't a header with a known magic, and its slots.
 #[tactic(auto, unfolding(crate::specs::Head::head_breaks))]
 fn breaks_format(image: &[u8]) -> bool
     ensures value { result ≡ head_breaks image.now Rule.Format }
@@ -60,7 +60,7 @@ fn breaks_format(image: &[u8]) -> bool
         || image.len() != HEADER_SIZE + 8 * count(image) as usize
 }
 
-/// The count of slots isn't 1 to what the version allows.
+/// Returns whether the number of slots is 0, or above the version's limit.
 #[tactic(auto, unfolding(crate::specs::Head::head_breaks))]
 fn breaks_slot_count(image: &[u8]) -> bool
     requires { 16 ≤ length image.now }
@@ -69,7 +69,7 @@ fn breaks_slot_count(image: &[u8]) -> bool
     is_bad_count(version(image), count(image) as usize)
 }
 
-/// The variables aren't up to 256 bytes in words of eight.
+/// Returns whether the variables aren't up to 256 bytes in words of eight.
 #[tactic(auto, unfolding(crate::specs::Head::head_breaks))]
 fn breaks_vars_size(image: &[u8]) -> bool
     requires { 16 ≤ length image.now }
@@ -78,7 +78,7 @@ fn breaks_vars_size(image: &[u8]) -> bool
     is_bad_size(vars_size(image))
 }
 
-/// The budget isn't 1 to 65536.
+/// Returns whether the budget isn't 1 to 65536.
 #[tactic(auto, unfolding(crate::specs::Head::head_breaks))]
 fn breaks_budget(image: &[u8]) -> bool
     requires { 16 ≤ length image.now }
@@ -87,7 +87,7 @@ fn breaks_budget(image: &[u8]) -> bool
     is_bad_budget(budget(image))
 }
 
-/// A reserved byte isn't zero.
+/// Returns whether a reserved byte isn't zero.
 #[tactic(auto, unfolding(crate::specs::Head::head_breaks))]
 fn breaks_reserved(image: &[u8]) -> bool
     requires { 16 ≤ length image.now }
@@ -96,7 +96,7 @@ fn breaks_reserved(image: &[u8]) -> bool
     !is_word(&image[12..], [0; 4])
 }
 
-/// The bytes begin with these four.
+/// Returns whether the bytes begin with these four.
 fn is_word(bytes: &[u8], word: [u8; 4]) -> bool
     requires { 4 ≤ length bytes.now }
     ensures { result ≡ is_word (slice_index word 0) (slice_index word 1) (slice_index word 2) (slice_index word 3) bytes.now }
@@ -104,7 +104,7 @@ fn is_word(bytes: &[u8], word: [u8; 4]) -> bool
     (bytes[0] == word[0] && bytes[1] == word[1]) && (bytes[2] == word[2] && bytes[3] == word[3])
 }
 
-/// The version that the magic names.
+/// Returns the version that the magic names.
 fn version(image: &[u8]) -> ImageVersion
     requires { 4 ≤ length image.now }
     ensures { result ≡ (stated image.now).version }
@@ -116,7 +116,7 @@ fn version(image: &[u8]) -> ImageVersion
     }
 }
 
-/// The size of the variables, as the header says it.
+/// Returns the header's size of the variables.
 fn vars_size(image: &[u8]) -> u16
     requires { 16 ≤ length image.now }
     ensures { result ≡ (stated image.now).vars_size }
@@ -124,7 +124,7 @@ fn vars_size(image: &[u8]) -> u16
     u16::from_le_bytes([image[4], image[5]])
 }
 
-/// The count of slots, as the header says it.
+/// Returns the header's number of slots.
 fn count(image: &[u8]) -> u16
     requires { 16 ≤ length image.now }
     ensures { result ≡ (stated image.now).count }
@@ -132,7 +132,7 @@ fn count(image: &[u8]) -> u16
     u16::from_le_bytes([image[6], image[7]])
 }
 
-/// The budget, as the header says it.
+/// Returns the header's budget.
 fn budget(image: &[u8]) -> u32
     requires { 16 ≤ length image.now }
     ensures { result ≡ (stated image.now).budget }

@@ -1,4 +1,6 @@
-//! What headers and the shape of a program say, for the crates above: each function is a law, and its contract says it.
+//! Laws about headers and the control flow of programs, for the crates above.
+//!
+//! Each law is the contract of an empty function.
 ghost use Rattle.std.specs.Prelude.{List, None, Some, [], drop, false, length, map, suc, true, ℕ, ◌*◌, ◌++◌, ◌<◌, ◌≡◌, ◌≢◌, ◌↔◌, ◌∷◌};
 ghost use Rattle.fc_isa.specs.declared.rule.Rule.TheVariants.{BackwardJump, Budget, Cost, FrameDepth, SlotCount, VarsSize};
 ghost use Rattle.fc_isa.specs.Rules.{number_of};
@@ -23,75 +25,98 @@ ghost use Rattle.fc_image.specs.ShapeRules.{IsShaped, flow_rules, shape_fault};
 ghost use Rattle.fc_image.specs.Laws.{KeepsLimits};
 ghost use Rattle.fc_image.specs.VersionLaws.{call_chain, counted_to};
 
-/// An image whose header breaks no rule is the header and its slots, with numbers within their limits.
+/// An image whose header breaks no rule is the header and its slots.
+///
+/// The header's numbers are within their limits.
 pub fn faultless_head_is_kept(image: &[u8])
     ensures { head_fault image.now ≡ None → KeepsHead image.now }
 {}
 
-/// An image whose header breaks no rule begins with the bytes of that header.
+/// An image whose header breaks no rule begins with that header's encoding.
 pub fn read_head_is_written(image: &[u8])
     ensures { head_fault image.now ≡ None → image.now ≡ head_bytes (stated image.now) ++ drop 16 image.now }
 {}
 
-/// A program that keeps the rules of the control flow has a longest path, and `longest` is its number of steps.
+/// A program that passes the control-flow checks has a longest path.
+///
+/// `longest` is its number of steps.
 pub fn longest_is_longest()
     ensures { (version : ImageVersion) (code : List Insn) → 0 < length code → is_program code ≡ true → IsShaped version code
         → IsLongest version code (longest version code) }
 {}
 
-/// The loops of a program that keeps the rules of the control flow are nested or apart, a path comes into each by its head and
-/// leaves it by its jump, and each counts up to its bound.
+/// The loops of a program that passes the control-flow checks are well formed.
+///
+/// They are nested or apart. A path enters each by its head and leaves it by its back jump, and
+/// each counts up to its bound.
 pub fn shaped_loops_are_loops()
     ensures { ShapedLoopsAreLoops }
 {}
 
-/// A program with counted loops that keeps the rules of the control flow has a longest path, through each body as often as its
-/// loop turns.
+/// A program with counted loops that passes the checks has a longest path.
+///
+/// It runs through each body as many times as its loop has iterations.
 pub fn longest_path_turns()
     ensures { LoopsHaveLongestPaths }
 {}
 
-/// The fault of a program's shape is the least slot that breaks the first rule that is broken, one below 20.
+/// The fault of a program's control flow is the first broken rule.
+///
+/// Its slot is the first that breaks the rule, which has a number below 20.
 pub fn shape_fault_is_first()
     ensures is_first { ShapeFaultIsFirst }
     ensures only_first { FirstShapeFaultIsFound }
     ensures low { ShapeFaultIsLow }
 {}
 
-/// There is none exactly where the rules are kept, and the frames and the longest path are within what the header allows.
+/// There is no fault exactly if the rules hold and the limits are kept.
+///
+/// The frames and the longest path are within the limits of the header.
 pub fn faultless_shape_is_kept()
     ensures kept { (head : Head) (code : List Insn) → 0 < length code → shape_fault head code ≡ None → KeepsLimits head code }
     ensures only_kept { (head : Head) (code : List Insn) → KeepsLimits head code → shape_fault head code ≡ None }
 {}
 
-/// The bytes of a header, with its slots behind them, are an image that says the header's numbers.
+/// The encoding of a header, followed by its slots, is parsed as that header.
 pub fn written_head_is_read()
     ensures faultless { (h : Head) (slots : List ℕ) → IsHead h → length slots ≡ 8 * h.count → head_fault (head_bytes h ++ slots) ≡ None }
     ensures stated { (h : Head) (slots : List ℕ) → IsHead h → stated (head_bytes h ++ slots) ≡ h }
 {}
 
-/// The rules of a header are judged in the order of their numbers, and so are those of the control flow.
+/// The rules of a header are checked in the order of their numbers.
+///
+/// So are those of the control flow.
 pub fn rules_come_by_number()
     ensures head { map number_of head_rules ≡ 1 ∷ 2 ∷ 3 ∷ 4 ∷ 5 ∷ [] }
     ensures flow { map number_of flow_rules ≡ 11 ∷ 12 ∷ 13 ∷ 14 ∷ 15 ∷ 16 ∷ 17 ∷ [] }
 {}
 
-/// A jump is the jump back of a counted loop exactly where it is `jlt` of a register and a bound of 1 to 1,024, in 64 bits, right behind an
-/// `add64` of 1 or more to the same register, and leads to an earlier slot. No other instruction is one.
+/// The exact form of a counted loop's back jump.
+///
+/// It is `jlt` with a register and a bound of 1 to 1,024, in 64 bits, and leads to an earlier slot.
+/// An `add64` of 1 or more to the same register directly precedes it. No other instruction is a
+/// back jump.
 pub fn jumps_back_count_up()
     ensures counts { (code : List Insn) (slot : ℕ) (j : Jump) (l : Loop) → CountsUp code slot j l → loop_at code slot (JumpIf j) ≡ Some l }
     ensures only { (code : List Insn) (slot : ℕ) (insn : Insn) (l : Loop) → loop_at code slot insn ≡ Some l
         → (j : Jump) × (insn ≡ JumpIf j) × CountsUp code slot j l }
 {}
 
-/// An instruction disturbs no loop exactly where in the body it is no exit and, but for the addition, doesn't write the counter, and jumps
-/// neither out of the body, nor into it from outside, nor to the jump back.
+/// The exact condition under which an instruction doesn't disturb a loop.
+///
+/// In the body it isn't an exit, and doesn't write the counter unless it is the addition. It jumps
+/// neither out of the body, nor into it from outside, nor to the back jump.
 pub fn loops_are_left_as_they_are()
     ensures { (l : Loop) (k : ℕ) (insn : Insn) → ((disturbs l k insn ≡ false) ↔ LeavesLoop l k insn) }
 {}
 
-/// How an instruction is said to disturb a loop, it does: it writes the counter in the body, and isn't the addition; it is an exit there; it
-/// jumps out of the body; into it from outside; or past the addition, to the jump back.
+/// An instruction that is reported to disturb a loop does so in that way.
+///
+/// - The instruction writes the counter in the body, and isn't the addition.
+/// - It is an exit in the body.
+/// - It jumps out of the body.
+/// - It jumps into the body from outside.
+/// - It jumps past the addition, to the back jump.
 pub fn disturbances_are_what_they_say()
     ensures writes { (l : Loop) (k : ℕ) (insn : Insn) → disturbs_by Write l k insn ≡ true
         → IsInBody l k × (writes insn l.counter ≡ true) × (suc k ≢ l.last) }
@@ -101,15 +126,18 @@ pub fn disturbances_are_what_they_say()
     ensures skips { (l : Loop) (k t : ℕ) → crosses_by Skip l k (Some t) ≡ true → t ≡ l.last }
 {}
 
-/// A header is its magic, three numbers with the least byte first, and four zeros.
-/// The size of the variables is in bytes 4 and 5, the count of slots in 6 and 7, the budget in 8 to
-/// 11. Here they are 24, 258 and 65,536.
+/// The encoding of a header, with example numbers.
+///
+/// It is the magic, three numbers with the least significant byte first, and four zeros. The size
+/// of the variables is in bytes 4 and 5, the number of slots in 6 and 7, and the budget in 8 to 11.
+/// Here they are 24, 258 and 65,536.
 pub fn header_bytes_have_their_places()
     ensures written { head_bytes (head_of 24 258 65536 Two) ≡ 70 ∷ 67 ∷ 66 ∷ 50 ∷ 24 ∷ 0 ∷ 2 ∷ 1 ∷ 0 ∷ 0 ∷ 1 ∷ 0 ∷ 0 ∷ 0 ∷ 0 ∷ 0 ∷ [] }
     ensures read { stated (70 ∷ 67 ∷ 66 ∷ 50 ∷ 24 ∷ 0 ∷ 2 ∷ 1 ∷ 0 ∷ 0 ∷ 1 ∷ 0 ∷ 0 ∷ 0 ∷ 0 ∷ 0 ∷ []) ≡ head_of 24 258 65536 Two }
 {}
 
-/// The numbers of a header have limits, which rules 2, 3 and 4 check.
+/// The limits of a header's numbers, which rules 2, 3 and 4 check.
+///
 /// A program of version 1 has 1 to 512 slots, and one of version 2 has 1 to 1,024. Its variables
 /// have at most 256 bytes, in words of 8. Its budget is 1 to 65,536 steps.
 pub fn headers_have_limits()
@@ -124,10 +152,12 @@ pub fn headers_have_limits()
 {}
 
 #[tactic(auto, unfolding(crate::specs::ShapeRules::shape_fault, crate::specs::ShapeRules::breaks_shape, crate::specs::Paths::longest, crate::specs::Paths::cost_in, crate::specs::Paths::costs, crate::specs::Loops::loops_of, crate::specs::Functions::is_start, crate::specs::Functions::frames))]
-/// Version 1 has 4 stack frames and no loops; version 2 has 8, and counted loops.
-/// `FCB1` begins an image of version 1, and `FCB2` one of version 2. A call that nests deeper
-/// breaks rule 15. In version 1 every jump back breaks rule 12. In version 2 a counted loop has a
-/// bound of 1 to 1,024, and the steps of its body count once for each iteration.
+/// The limits of the versions: stack frames and loops.
+///
+/// Version 1 allows 4 stack frames and no loops; version 2 allows 8, and counted loops. `FCB1`
+/// begins an image of version 1, and `FCB2` one of version 2. A call that nests deeper breaks rule
+/// 15. In version 1 every jump back breaks rule 12. In version 2 a counted loop has a bound of 1 to
+/// 1,024, and the steps of its body count once for each iteration.
 pub fn versions_have_frames_and_loops()
     ensures magic { ((stated (70 ∷ 67 ∷ 66 ∷ 49 ∷ [])).version ≡ One) × ((stated (70 ∷ 67 ∷ 66 ∷ 50 ∷ [])).version ≡ Two) }
     ensures magics { (has_magic (70 ∷ 67 ∷ 66 ∷ 49 ∷ []) ≡ true) × (has_magic (70 ∷ 67 ∷ 66 ∷ 50 ∷ []) ≡ true) }

@@ -1,10 +1,12 @@
-//! Images of programs: the header, and the shape of the control flow: jumps, functions and frames, counted loops, and the longest path.
+//! Images of programs: the header, and the control-flow checks.
+//!
+//! The checks cover jumps, functions and frames, counted loops, and the longest path.
 //!
 //! ```rust
 //! use fc_image::Head;
 //! use fc_isa::{Fault, ImageVersion};
 //!
-//! /// The header of a program of two slots, with no variables, that may take two steps.
+//! /// Returns the header of a program of two slots, without variables, and two steps.
 //! fn header() -> Result<[u8; 16], Fault> {
 //!     Ok(Head::new(0, 2, 2, ImageVersion::One)?.bytes())
 //! }
@@ -12,15 +14,19 @@
 //!
 //! # What is proved
 //!
-//! - The header's rules come in their order, by the limits of the version that its magic names: 512 slots and four frames, or 1,024 and
-//!   eight (`slots_allowed`, `frames_allowed`).
-//! - The limits of each version, in literals: slots, stack frames, loops and their bounds.
-//! - The bytes of a header are read as that header, and a header that is read is written again as it stood.
-//! - Of all instructions, calls among them, the rules of the control flow come in their order, in the second version with counted loops.
-//!   The cost is the greatest number of steps on any path from slot 0 to the exit, which goes through a body as often as its loop turns.
-//! - Of a jump back that isn't a counted loop's it is told which part of the form it lacks, or which slot is in its way, and how.
-//! - A jump is a counted loop's exactly where it and the addition before it have that form, by literals. A program that is accepted with
-//!   such jumps has the loops that these are, nested or apart.
+//! - The header's rules are checked in their order, with the limits of the version that its magic
+//!   names: 512 slots and four frames, or 1,024 and eight (`slots_allowed`, `frames_allowed`).
+//! - The limits of each version are stated in literals: slots, stack frames, loops and their
+//!   bounds.
+//! - The encoding of a header is parsed as that header, and a parsed header is encoded as it was.
+//! - The rules of the control flow are checked in their order, for all instructions including
+//!   calls, in the second version with counted loops. The cost is the greatest number of steps on
+//!   any path from slot 0 to the exit. A path runs through a body as many times as its loop has
+//!   iterations.
+//! - For a jump back that isn't a counted loop's, the reason is returned: the missing part of the
+//!   form, or the slot that disturbs the loop, and how.
+//! - A jump is a counted loop's exactly if it and the addition before it have that form, in
+//!   literals. An accepted program with such jumps has these loops, nested or apart.
 //!
 //! By the contracts of `head`, `Head::new`, `Head::bytes`, `shape`, `why_uncounted`, `laws`.
 #![tactic(auto)]

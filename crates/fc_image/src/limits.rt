@@ -1,4 +1,4 @@
-//! What an image's header says, and the limits of its numbers.
+//! The fields of an image's header, and the limits of its numbers.
 ghost use Rattle.std.specs.Prelude.{◌≡◌, ◌≤◌};
 ghost use Rattle.fc_image.specs.Head.{frames_allowed, is_bad_budget, is_bad_count, is_bad_size, loops_allowed, slots_allowed};
 ghost use Rattle.fc_image.specs.Written.{limit_fault};
@@ -6,7 +6,7 @@ ghost use Rattle.fc_image.specs.Written.{limit_fault};
 use fc_isa::{Fault, ImageVersion, Rule};
 use std::marker::Model;
 
-/// The most slots of a program of a version.
+/// Returns the maximum number of slots of a program of this version.
 fn slots_allowed(version: ImageVersion) -> usize
     ensures is { result ≡ slots_allowed version }
     ensures few { result ≤ 1024 }
@@ -17,7 +17,7 @@ fn slots_allowed(version: ImageVersion) -> usize
     }
 }
 
-/// The most stack frames that the calls of a program of a version may nest.
+/// Returns the maximum depth of stack frames in a program of this version.
 fn frames_allowed(version: ImageVersion) -> u8
     ensures is { result ≡ frames_allowed version }
     ensures few { result ≤ 8 }
@@ -38,7 +38,9 @@ pub fn loops_allowed(version: ImageVersion) -> bool
     }
 }
 
-/// What an image's header says of its program. A clause sees the version and three numbers, which are within its limits.
+/// The header of an image.
+///
+/// In contracts it is the version and three numbers, which are within its limits.
 #[derive(Clone, Copy, PartialEq, Eq)]
 pub struct Head {
     version: ImageVersion,
@@ -65,11 +67,13 @@ impl Head {
     ghost use Rattle.fc_image.specs.Head.{frames_allowed, slots_allowed};
     ghost use Rattle.fc_image.specs.Written.{IsHead, IsWithinLimits, head_bytes, head_of, limit_fault};
 
-    /// Checks the header of these numbers: the size of the variables in bytes, the count of slots, and the budget of steps; and of this
-    /// version.
+    /// Checks these numbers, and makes the header of this version.
+    ///
+    /// `vars_size` is the size of the variables in bytes, `count` the number of slots, and `budget`
+    /// the maximum number of steps.
     ///
     /// # Errors
-    /// The least rule, 2 to 4, that a number breaks, at slot 0.
+    /// Returns the least rule, 2 to 4, that a number breaks, at slot 0.
     pub fn new(
         vars_size: u16,
         count: usize,
@@ -85,7 +89,7 @@ impl Head {
         }
     }
 
-    /// The header of numbers within their limits.
+    /// Makes the header of numbers within their limits.
     pub(crate) fn of(version: ImageVersion, vars_size: u16, count: u16, budget: u32) -> Self
         requires { IsHead (record { version = version; vars_size = vars_size; count = count; budget = budget }) }
         ensures { result ≡ record { version = version; vars_size = vars_size; count = count; budget = budget } }
@@ -98,7 +102,7 @@ impl Head {
         }
     }
 
-    /// Makes the same header with another budget.
+    /// Returns the same header with another budget.
     pub fn with_budget(&self, budget: u32) -> Self
         requires some { 1 ≤ budget }
         requires limit { budget ≤ 65536 }
@@ -107,7 +111,7 @@ impl Head {
         Head { budget, ..*self }
     }
 
-    /// Encodes the header: the sixteen bytes that its image begins with.
+    /// Encodes the header as the first sixteen bytes of its image.
     pub fn bytes(&self) -> [u8; 16]
         ensures { result ≡ head_bytes self.now }
     {
@@ -131,7 +135,7 @@ impl Head {
         self.version
     }
 
-    /// Returns the most stack frames that the program's calls may nest.
+    /// Returns the maximum depth of stack frames of the program's calls.
     pub fn frames(&self) -> u8
         ensures value { result ≡ frames_allowed self.now.version }
         ensures limit { result ≤ 8 }
@@ -148,19 +152,19 @@ impl Head {
         self.vars_size
     }
 
-    /// Returns the count of slots.
+    /// Returns the number of slots.
     pub fn count(&self) -> u16
         ensures value { result ≡ self.now.count }
         ensures allowed { result ≤ slots_allowed self.now.version }
         ensures some { 1 ≤ result }
         ensures limit { result ≤ 1024 }
     {
-        // The checker learns from this call how many there are at most.
+        // This call shows the checker the maximum.
         let _most = slots_allowed(self.version);
         self.count
     }
 
-    /// Returns the greatest number of steps that a run may take.
+    /// Returns the maximum number of steps of a run.
     pub fn budget(&self) -> u32
         ensures value { result ≡ self.now.budget }
         ensures some { 1 ≤ result }
@@ -170,7 +174,7 @@ impl Head {
     }
 }
 
-/// The least rule that these numbers break.
+/// Returns the least rule that these numbers break.
 fn broken_limit(version: ImageVersion, vars_size: u16, count: usize, budget: u32) -> Option<Rule>
     ensures { result ≡ limit_fault (record { version = version; vars_size = vars_size; count = count; budget = budget }) }
 {
@@ -185,21 +189,21 @@ fn broken_limit(version: ImageVersion, vars_size: u16, count: usize, budget: u32
     }
 }
 
-/// The count of slots isn't 1 to what the version allows.
+/// Returns whether the number of slots is 0, or above the version's limit.
 pub(crate) fn is_bad_count(version: ImageVersion, count: usize) -> bool
     ensures { result ≡ is_bad_count version count }
 {
     count == 0 || count > slots_allowed(version)
 }
 
-/// The variables aren't up to 256 bytes in words of eight.
+/// Returns whether the variables aren't up to 256 bytes in words of eight.
 pub(crate) fn is_bad_size(vars_size: u16) -> bool
     ensures { result ≡ is_bad_size vars_size }
 {
     vars_size > 256 || vars_size % 8 != 0
 }
 
-/// The budget isn't 1 to 65,536.
+/// Returns whether the budget isn't 1 to 65,536.
 pub(crate) fn is_bad_budget(budget: u32) -> bool
     ensures { result ≡ is_bad_budget budget }
 {

@@ -1,4 +1,6 @@
-//! Counted loops: `add64 r, c`, and right after it `jlt r, n` back to the head of the loop.
+//! Counted loops.
+//!
+//! Such a loop ends with `add64 r, c`, directly followed by `jlt r, n` back to its head.
 ghost use Rattle.std.specs.Prelude.{Some, length, ◌<◌, ◌||◌, ◌≡◌, ◌≤◌};
 ghost use Rattle.fc_isa.specs.Writes.{computes, is_call, is_that, writes};
 ghost use Rattle.fc_image.specs.Loops.{bound_of, disturbs, is_exit, is_in, is_undisturbed, loop_at, loop_by, step_of};
@@ -10,7 +12,10 @@ use crate::table::MOST_SLOTS;
 use crate::uncounted::how_disturbed;
 use fc_isa::{AluOp, Insn, Jump, Operand, Reg, Relation, Target, Width};
 
-/// A counted loop: its body are the slots from `head` to `last`; it counts in a register, below a bound, by a step.
+/// A counted loop.
+///
+/// Its body is the slots from `head` to `last`. It counts in a register, by a step, while the
+/// register is below a bound.
 #[derive(Clone, Copy)]
 pub struct Loop {
     pub head: usize,
@@ -20,7 +25,7 @@ pub struct Loop {
     pub step: u32,
 }
 
-/// Whether an instruction is the jump back of a counted loop.
+/// Returns whether an instruction is the back jump of a counted loop.
 pub(crate) fn is_counted(
     code: &[Insn],
     spans: &[Option<Span>; MOST_SLOTS],
@@ -38,7 +43,9 @@ pub(crate) fn is_counted(
     }
 }
 
-/// The loop whose jump back an instruction would be, by it and the one before.
+/// Returns the loop of which an instruction would be the back jump.
+///
+/// It depends on the instruction and the one before.
 pub(crate) fn loop_at(code: &[Insn], slot: usize, insn: &Insn) -> Option<Loop>
     requires count { length code.now ≤ 1024 }
     requires slot { slot < length code.now }
@@ -72,7 +79,9 @@ fn loop_by(slot: usize, jump: &Jump, bound: Option<u32>, step: Option<u32>) -> O
     }
 }
 
-/// The bound of a jump where its register is below an immediate of 1 to 1,024.
+/// Returns the bound of a jump that compares with an immediate of 1 to 1,024.
+///
+/// The jump is taken if its register is below the immediate.
 pub(crate) fn bound_of(jump: &Jump) -> Option<u32>
     ensures { result ≡ bound_of jump.now.width jump.now.relation jump.now.right }
 {
@@ -84,7 +93,7 @@ pub(crate) fn bound_of(jump: &Jump) -> Option<u32>
     }
 }
 
-/// How far an instruction counts a register up.
+/// Returns the step by which an instruction counts a register up.
 pub(crate) fn step_of(insn: &Insn, counter: Reg) -> Option<u32>
     ensures { result ≡ step_of (Some insn.now) counter }
 {
@@ -99,7 +108,9 @@ pub(crate) fn step_of(insn: &Insn, counter: Reg) -> Option<u32>
     }
 }
 
-/// Whether no instruction of a program disturbs a loop: those of its body are looked at, and where the jumps to them come from.
+/// Returns whether no instruction of a program disturbs a loop.
+///
+/// It checks the instructions of the body, and the sources of the jumps to them.
 fn is_undisturbed(code: &[Insn], spans: &[Option<Span>; MOST_SLOTS], counted: &Loop) -> bool
     requires count { length code.now ≤ 1024 }
     requires spans { AreSpans code.now (length code.now) spans.now }
@@ -115,7 +126,7 @@ fn is_undisturbed(code: &[Insn], spans: &[Option<Span>; MOST_SLOTS], counted: &L
     true
 }
 
-/// Whether the instruction at a slot of a body disturbs its loop, or a jump does that leads there.
+/// Returns whether a slot's instruction, or a jump to the slot, disturbs its loop.
 fn is_disturbed(counted: &Loop, slot: usize, insn: &Insn, span: &Option<Span>) -> bool
     requires { slot < 1024 }
     ensures { result ≡ (disturbs counted.now slot insn.now || is_jumped_into counted.now slot span.now) }
@@ -123,7 +134,9 @@ fn is_disturbed(counted: &Loop, slot: usize, insn: &Insn, span: &Option<Span>) -
     how_disturbed(counted, slot, insn).is_some() || is_jumped_into(counted, slot, span)
 }
 
-/// Whether a jump leads to this slot of a body from outside of it, or to the loop's jump back.
+/// Returns whether a jump leads to this slot from outside the body.
+///
+/// A jump to the loop's back jump counts too.
 fn is_jumped_into(counted: &Loop, slot: usize, span: &Option<Span>) -> bool
     ensures { result ≡ is_jumped_into counted.now slot span.now }
 {
@@ -147,7 +160,7 @@ pub(crate) fn is_exit(insn: &Insn) -> bool
     matches!(insn, Insn::Exit)
 }
 
-/// Returns whether an instruction writes a register: a call writes R0 to R5.
+/// Returns whether an instruction writes a register; a call writes R0 to R5.
 pub fn writes(insn: &Insn, register: usize) -> bool
     ensures { result ≡ writes insn.now register }
 {
@@ -174,7 +187,7 @@ pub fn computes(insn: &Insn) -> Option<Target>
     }
 }
 
-/// Returns whether an instruction calls a helper, or a function of the program.
+/// Returns whether an instruction calls a helper or a local function.
 pub fn is_call(insn: &Insn) -> bool
     ensures { result ≡ is_call insn.now }
 {

@@ -1,4 +1,4 @@
-//! Where the jumps come from that lead to a slot.
+//! The sources of the jumps to each slot.
 ghost use Rattle.std.specs.Prelude.{length, ◌<◌, ◌≡◌, ◌≤◌};
 ghost use Rattle.fc_image.specs.Spans.{AreSpans, jumps_to, widened, span_with};
 
@@ -6,14 +6,14 @@ use crate::flow::{jump_offset, target};
 use crate::table::MOST_SLOTS;
 use fc_isa::Insn;
 
-/// The least slot whose jump leads to a slot, and the greatest.
+/// The first and the last slot with a jump to a given slot.
 #[derive(Clone, Copy)]
 pub(crate) struct Span {
     pub(crate) least: u16,
     pub(crate) greatest: u16,
 }
 
-/// The span of each slot that a jump leads to.
+/// Returns the span of each slot that is a jump target.
 pub(crate) fn spans(code: &[Insn]) -> [Option<Span>; MOST_SLOTS]
     requires { length code.now ≤ 1024 }
     ensures { AreSpans code.now (length code.now) result }
@@ -25,7 +25,7 @@ pub(crate) fn spans(code: &[Insn]) -> [Option<Span>; MOST_SLOTS]
     spans
 }
 
-/// The slot that an instruction jumps to.
+/// Returns the slot to which an instruction jumps.
 fn jumps_to(slot: usize, insn: &Insn) -> Option<usize>
     requires { slot < 1024 }
     ensures { result ≡ jumps_to slot insn.now }
@@ -36,7 +36,9 @@ fn jumps_to(slot: usize, insn: &Insn) -> Option<usize>
     }
 }
 
-/// Widens the span of the slot that a jump leads to: the jump comes from a later slot than those before it.
+/// Widens the span of a jump's target.
+///
+/// The jump comes from a later slot than those before it.
 fn widen(spans: &mut [Option<Span>; MOST_SLOTS], slot: usize, place: Option<usize>)
     requires { slot < 1024 }
     ensures { spans.new ≡ widened spans.old slot place }

@@ -1,4 +1,4 @@
-//! What a program's control flow is judged by.
+//! The tables for the control-flow checks of a program.
 ghost use Rattle.std.specs.Prelude.{length, ◌≤◌};
 ghost use Rattle.fc_image.specs.Judged.{AreTables};
 
@@ -9,26 +9,26 @@ use crate::limits::loops_allowed;
 use crate::spans::{Span, spans};
 use fc_isa::{ImageVersion, Insn};
 
-/// The most slots of any program.
+/// Maximum number of slots of any program.
 pub const MOST_SLOTS: usize = 1024;
 
-/// The facts of a whole program that its slots are judged by.
+/// Facts about a whole program, for the checks of its slots.
 #[derive(Drop)]
 pub(crate) struct Tables {
     /// Which slots start a function.
     pub(crate) starts: [bool; MOST_SLOTS],
-    /// How many functions start up to each slot.
+    /// The number of functions that start up to each slot.
     pub(crate) counts: [u16; MOST_SLOTS],
-    /// Where the jumps come from that lead to each slot.
+    /// The sources of the jumps to each slot.
     pub(crate) spans: [Option<Span>; MOST_SLOTS],
-    /// The most stack frames that calls nest, up to 9.
+    /// The maximum depth of stack frames of calls, capped at 9.
     pub(crate) frames: u8,
-    /// The steps of the longest path, up to 65,537.
+    /// The steps of the longest path, capped at 65,537.
     pub(crate) cost: u32,
 }
 
 impl Tables {
-    /// The tables of a program of a version.
+    /// Computes the tables of a program of this version.
     pub(crate) fn of(version: ImageVersion, code: &[Insn]) -> Self
         requires { length code.now ≤ 1024 }
         ensures { AreTables version code.now result }

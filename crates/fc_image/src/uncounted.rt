@@ -1,4 +1,4 @@
-//! Why a jump back isn't that of a counted loop.
+//! The reasons why a jump back isn't that of a counted loop.
 ghost use Rattle.std.specs.Prelude.{None, length, true, ◌<◌, ◌≡◌, ◌≤◌};
 ghost use Rattle.fc_image.specs.Head.{loops_allowed};
 ghost use Rattle.fc_image.specs.Loops.{loop_at};
@@ -9,20 +9,20 @@ use crate::limits::loops_allowed;
 use crate::loops::{Loop, bound_of, is_exit, is_in, loop_at, step_of, writes};
 use fc_isa::{ImageVersion, Insn, Jump, Operand, Relation, Width};
 
-/// Why an instruction isn't the jump back of a counted loop.
+/// The reason why an instruction isn't the back jump of a counted loop.
 #[derive(Clone, Copy)]
 pub enum Uncounted {
     /// Programs of the image's version have no loops.
     NoLoops,
-    /// It isn't `jlt` of a register and an immediate, in 64 bits.
+    /// The instruction isn't `jlt` with a register and an immediate, in 64 bits.
     Jump,
     /// The immediate isn't 1 to 1,024.
     Bound,
-    /// The instruction before it isn't `add64` of the same register and an immediate of 1 or more.
+    /// The instruction before isn't an `add64` of 1 or more to the same register.
     Step,
-    /// It doesn't lead to an earlier slot.
+    /// The target isn't an earlier slot.
     Target,
-    /// This slot's instruction disturbs the loop that it would be.
+    /// This slot's instruction disturbs the loop that the jump would end.
     Disturbed {
         counted: Loop,
         slot: usize,
@@ -31,12 +31,12 @@ pub enum Uncounted {
     },
 }
 
-/// How an instruction disturbs a loop.
+/// The way in which an instruction disturbs a loop.
 #[derive(Clone, Copy)]
 pub enum Disturbance {
-    /// In the body it writes the counter, and isn't the addition.
+    /// It writes the counter in the body, and isn't the addition.
     Write,
-    /// In the body it is an exit.
+    /// It is an exit in the body.
     Exit,
     /// It jumps out of the body.
     Leave,
@@ -46,7 +46,9 @@ pub enum Disturbance {
     Skip,
 }
 
-/// Explains why the instruction at a slot isn't the jump back of a counted loop, if it isn't.
+/// Returns why a slot's instruction isn't a counted loop's back jump.
+///
+/// Returns `None` if it is one.
 pub fn why_uncounted(
     version: ImageVersion,
     code: &[Insn],
@@ -66,7 +68,9 @@ pub fn why_uncounted(
     }
 }
 
-/// What an instruction lacks that is no loop's jump back, whatever stands around it but for the slot before.
+/// Returns the missing part of an instruction that can't be a loop's back jump.
+///
+/// Of the other instructions, only the one before it matters.
 fn unformed(code: &[Insn], slot: usize, insn: &Insn) -> Uncounted
     requires count { length code.now ≤ 1024 }
     requires slot { slot < length code.now }
@@ -97,7 +101,7 @@ fn unformed_jump(code: &[Insn], slot: usize, jump: &Jump) -> Uncounted
     Uncounted::Target
 }
 
-/// Whether a jump compares if a register is below an immediate, in 64 bits.
+/// Returns whether a jump tests a register below an immediate, in 64 bits.
 fn is_below(jump: &Jump) -> bool
     ensures { result ≡ is_below jump.now.width jump.now.relation jump.now.right }
 {
@@ -107,7 +111,7 @@ fn is_below(jump: &Jump) -> bool
     )
 }
 
-/// An instruction of a program that disturbs a loop, and how: the first of them.
+/// Returns the first instruction of a program that disturbs a loop, and how.
 fn disturbed(code: &[Insn], counted: &Loop) -> Option<Uncounted>
     requires { length code.now ≤ 1024 }
     ensures { IsDisturbed code.now counted.now result }
@@ -125,7 +129,7 @@ fn disturbed(code: &[Insn], counted: &Loop) -> Option<Uncounted>
     None
 }
 
-/// How an instruction disturbs a loop, if it does.
+/// Returns how an instruction disturbs a loop, if it does.
 pub(crate) fn how_disturbed(counted: &Loop, slot: usize, insn: &Insn) -> Option<Disturbance>
     requires { slot < 1024 }
     ensures { IsHow counted.now slot insn.now result }
@@ -142,7 +146,7 @@ pub(crate) fn how_disturbed(counted: &Loop, slot: usize, insn: &Insn) -> Option<
     }
 }
 
-/// How a jump from a slot to a place crosses a loop, if it does.
+/// Returns how a jump from a slot to a place crosses a loop, if it does.
 fn crossing(counted: &Loop, slot: usize, place: Option<usize>) -> Option<Disturbance>
     ensures { IsCrossing counted.now slot place result }
 {

@@ -1,4 +1,4 @@
--- Faultless fields are those of the instruction that they spell.
+-- Fields without a fault are those of the instruction that they encode.
 use Rattle.std.proofs.Common.{◌≡◌, ◌⊎◌, inl, inr, ℕ, ◌+◌, ◌*◌, ◌^◌, ◌<◌, ◌==◌, ◌&&◌, ◌||◌, not, Bool, true, false, cond, Option, Some, None, refl, sym, ap, ◌∙◌, arith, rules}
 use Rattle.std.specs.Int.{w16, w32, cast_signed}
 use Rattle.std.specs.Prelude.{FitsSigned, nat_lt, if◌then◌else◌}
@@ -26,7 +26,7 @@ use Rattle.fc_isa.specs.Encoding.{Fields, fields_of, second_half, source_of, src
 use Rattle.fc_isa.proofs.Forms.{IsForm, form_is}
 use Rattle.fc_isa.proofs.Insns.{Fit}
 
--- ---- what fields that break no rule have
+-- ---- properties of fields that break no rule
 
 pub none_of_five : (a b c d e : Bool) (v w x y z : Rule) → cond a (Some v) (cond b (Some w) (cond c (Some x) (cond d (Some y) (cond e (Some z) None)))) ≡ None
     → (a ≡ false) × (b ≡ false) × (c ≡ false) × (d ≡ false) × (e ≡ false)
@@ -84,7 +84,7 @@ faultless f next h =
       wide = second_wide (is_wide (shape_of f.opcode)) (is_second_half next) p.4;
     }
 
--- what a form doesn't use is zero
+-- the fields that a form doesn't use are zero
 pub record Zeros (s : Shape) (f : Fields) : Type 0 where
   pub dst : (uses s).dst ≡ false → f.dst ≡ 0
   pub src : (uses s).src ≡ false → f.src ≡ 0
@@ -112,7 +112,7 @@ zeros s f h =
 same : (f : Fields) (o d s k i : ℕ) → o ≡ f.opcode → d ≡ f.dst → s ≡ f.src → k ≡ f.offset → i ≡ f.imm → record { opcode = o; dst = d; src = s; offset = k; imm = i } ≡ f
 same f o d s k i eo ed es ek ei = rw (eo, ed, es, ek, ei) refl
 
--- of the source and the immediate arithmetic uses one
+-- arithmetic uses either the source or the immediate
 record OneOf (source : SourceOperand) (f : Fields) : Type 0 where
   src : (uses (AluShape Mov W32 source)).src ≡ false → f.src ≡ 0
   imm : (uses (AluShape Mov W32 source)).imm ≡ false → f.imm ≡ 0
@@ -120,7 +120,7 @@ record OneOf (source : SourceOperand) (f : Fields) : Type 0 where
 one_of : (op : AluOp) (width : Width) (source : SourceOperand) (f : Fields) → Zeros (AluShape op width source) f → OneOf source f
 one_of op width source f z = record { src = z.src; imm = z.imm }
 
--- arithmetic with the offset that the operation has
+-- arithmetic with the operation's own offset
 plain_fields : (op : AluOp) (width : Width) (source : SourceOperand) (f : Fields) → opcode_of (AluShape op width source) ≡ f.opcode → sign_offset op ≡ f.offset → OneOf source f → Fit f
     → fields_of (Alu op width f.dst (operand_of source f)) ≡ f
 plain_fields op width K f o k z fit = same f _ _ _ _ _ o refl (sym (z.src refl)) k (of_z-to_z w32 f.imm fit.imm)
@@ -135,7 +135,7 @@ insn_if : (b : Bool) (x y : Insn) (f : Fields) → (b ≡ true → fields_of x �
 insn_if true x y f p q = p refl
 insn_if false x y f p q = q refl
 
--- the second of two values where it isn't the first
+-- the second of two values, if it isn't the first
 other : (n a b : ℕ) → ((n == a) || (n == b)) ≡ true → (n == a) ≡ false → b ≡ n
 other n a b h e = elim (either (n == a) (n == b) h) [ inl t ↦ absurd (cc (t, e)) | inr t ↦ sym (eqb-true n b t) ]
 
@@ -212,7 +212,7 @@ fields_of-insn_of f next fit h =
     let g = faultless f next h in
     by_form (shape_of f.opcode) f (imm_after next) g.known (form_is f.opcode (shape_of f.opcode) refl g.known) (zeros (shape_of f.opcode) f g.unused) g.values fit
 
--- ---- the instruction keeps what the types of its parts keep
+-- ---- the instruction is within the ranges of its parts
 
 signed16 : (n : ℕ) → n < 2 ^ 16 → FitsSigned w16 (cast_signed w16 n)
 signed16 n h = search (rules, ints)
@@ -228,7 +228,7 @@ if_is : (P : Insn → Type 0) (b : Bool) (x y : Insn) → P x → P y → P (if 
 if_is P true x y p q = p
 if_is P false x y p q = q
 
--- what a move and every sign extension are, a slot's move is
+-- a property of a move and of every sign extension holds for a slot's move
 moved_is : (P : Insn → Type 0) (width : Width) (f : Fields) → P (Alu Mov width f.dst (Reg f.src)) → ((e : SignExtension) → P (SignExtend e f.dst f.src)) → P (move_insn width f)
 moved_is P width f p q =
     let word = SignExtend Word f.dst f.src in
@@ -270,13 +270,13 @@ narrow : (op : AluOp) (width : Width) (source : SourceOperand) (f : Fields) → 
 narrow Mov width X f = moved_is (λ i. (is_wide_load i ≡ false) × (is_wide_second i ≡ false)) width f (refl, refl) (λ e. (refl, refl))
 narrow op width source f = (refl, refl)
 
--- a form's instruction is a wide load where the form is
+-- a form's instruction is a wide load if the form is one
 pub is_wide_insn : (s : Shape) (f : Fields) (high : ℕ) → is_wide_load (insn_with s f high) ≡ is_wide s
 is_wide_insn (AluShape op width source) f high = (narrow op width source f).0
 is_wide_insn CallShape f high = called_is (λ i. is_wide_load i ≡ false) f refl refl
 is_wide_insn s f high = refl
 
--- nor is it ever a second half
+-- it is never a second half
 pub is_own_insn : (s : Shape) (f : Fields) (high : ℕ) → is_wide_second (insn_with s f high) ≡ false
 is_own_insn (AluShape op width source) f high = (narrow op width source f).1
 is_own_insn CallShape f high = called_is (λ i. is_wide_second i ≡ false) f refl refl
@@ -298,7 +298,7 @@ wide_shape : (s : Shape) → is_wide s ≡ true → s ≡ LoadWideShape
 wide_shape LoadWideShape h = refl
 wide_shape s h = absurd (cc h)
 
--- the slot after a faultless wide load is there
+-- there is a slot after a wide load without a fault
 pub record HasHalf (f : Fields) (next : Option Fields) : Type 0 where
   pub half : Fields
   pub is : next ≡ Some half

@@ -1,4 +1,4 @@
--- Forms and opcodes give one another.
+-- Forms and opcodes determine each other.
 use Rattle.std.proofs.Common.{◌≡◌, ℕ, ◌==◌, Bool, true, false, cond, Option, Some, None, List, [], ◌∷◌, refl, sym, ap, ◌∙◌}
 use Rattle.std.specs.List.{find, list_all}
 use Rattle.std.proofs.lemmas.Bool.{eqb-true, and_parts}
@@ -89,7 +89,7 @@ unfolding shape_of known_shapes
 end_form Little = refl
 end_form order = refl
 
--- the form stands in the list by itself
+-- the form is in the list by itself
 pub record HasForm (shape : Shape) : Type 0 where
   pub form : shape_of (opcode_of shape) ≡ shape
 
@@ -121,7 +121,7 @@ is_plain (Alu Sdiv width source) = false
 is_plain (Alu Smod width source) = false
 is_plain shape = true
 
--- what a list's first element that passes is
+-- the first element of a list that passes
 pub record IsFound {A : Type 0} (p q : A → Bool) (x : A) : Type 0 where
   pub passes : p x ≡ true
   pub also : q x ≡ true
@@ -140,7 +140,7 @@ all_plain : list_all is_plain known_shapes ≡ true
 unfolding known_shapes
 all_plain = refl
 
--- what an opcode's form is
+-- the form of an opcode
 pub record IsForm (opcode : ℕ) (shape : Shape) : Type 0 where
   pub opcode_is : opcode_of shape ≡ opcode
   pub plain : is_plain shape ≡ true

@@ -1,4 +1,4 @@
--- An instruction and the fields of its slot give one another.
+-- An instruction and the fields of its slot determine each other.
 use Rattle.std.proofs.Common.{◌≡◌, ℤ, ℕ, ◌/◌, ◌^◌, ◌<◌, ◌==◌, ◌&&◌, not, true, false, Option, Some, None, refl, ap, ◌∙◌, arith, lit<}
 use Rattle.std.specs.Int.{w16, w32, cast_unsigned, cast_signed}
 use Rattle.std.specs.Prelude.{FitsSigned, nat_lt}
@@ -90,11 +90,11 @@ no_fault f next s e k d r w v n =
     let rs : nat_lt 10 f.src ≡ false = le-ltb 10 f.src (omega arith) in
     rw (e, k, rd, rs, w, v, n) refl
 
--- an opcode of no form comes before all else
+-- an opcode without a form is the first fault
 pub unknown_fault : (f : Fields) (next : Option Fields) → is_known (shape_of f.opcode) ≡ false → slot_fault f next ≡ Some Opcode
 unknown_fault f next k = rw k refl
 
--- an instruction has fields of its own, and a wide load a second half behind them
+-- an instruction has fields of its own, and a wide load is followed by a second half
 abbrev pub IsOwn : Insn → Option Fields → Type 0
 IsOwn (LoadWide dst value) next = (is_second_half next ≡ true) × (imm_after next ≡ value / 2 ^ 32)
 IsOwn WideSecond next = ⊥
@@ -160,7 +160,7 @@ own_faultless (CallLocal offset) next h o =
 own_faultless Exit next h o =
     no_fault (fields_of Exit) next ExitShape exit_form.form refl (lit< tt) (lit< tt) refl refl refl
 
--- ---- and give the instruction back
+-- ---- the fields determine the instruction
 
 alu_back : (op : AluOp) (width : Width) (dst : ℕ) (operand : Operand) (high : ℕ) → IsOperand operand
     → insn_with (AluShape (unsigned op) width (source_of operand)) (fields_of (Alu op width dst operand)) high ≡ Alu op width dst operand

@@ -1,4 +1,4 @@
--- Programs, read from the front with "a second half is due".
+-- Programs, read from the front with a flag that a second half must follow.
 use Rattle.std.proofs.Common.{Bool, true, false, not, cond, Option, Some, None, List, [], ◌∷◌, ◌++◌, ℕ, ◌+◌, ◌<◌, ◌≤◌, ◌≡◌, suc, take, drop, get_or, length, refl, sym, ap, ◌∙◌}
 use Rattle.std.proofs.lemmas.List.{take_more, take_all}
 use Rattle.std.proofs.Math.Seq.{split_at}
@@ -10,7 +10,8 @@ abbrev pub same : Bool → Bool → Bool
 same true b = b
 same false b = not b
 
--- whether a second half is due behind a list, if it was before it; none where one is missing or stands alone
+-- whether a second half must follow after a list, if one had to before it; none if one is missing
+-- or is elsewhere
 abbrev pub after : Bool → List Insn → Option Bool
 after due [] = Some due
 after due (insn ∷ program) = cond (same due (is_wide_second insn)) (after (is_wide_load insn) program) None
@@ -65,7 +66,7 @@ after_push due (j ∷ program) insn t h e =
     let p = cond_some (same due (is_wide_second j)) (after (is_wide_load j) program) t h in
     rw p.0 (after_push (is_wide_load j) program insn t p.1 e)
 
--- what is read so far decides the rest
+-- the slots read so far decide the rest
 pub after_stuck : (due : Bool) (program rest : List Insn) (insn : Insn) (t : Bool) → after due program ≡ Some t → (is_wide_second insn ≡ t → ⊥) → after due (program ++ insn ∷ rest) ≡ None
 after_stuck due [] rest insn t h e =
     let s : due ≡ t = cc in
@@ -74,7 +75,7 @@ after_stuck due (j ∷ program) rest insn t h e =
     let p = cond_some (same due (is_wide_second j)) (after (is_wide_load j) program) t h in
     rw p.0 (after_stuck (is_wide_load j) program rest insn t p.1 e)
 
--- the steps of `is_program`: one more slot, and a slot where none may follow
+-- the steps of `is_program`: one more slot, and a slot after which none may follow
 pub step_more : (slots : List Insn) (k : ℕ) (d : Insn) (due : Bool) → k < length slots → after false (take k slots) ≡ Some due → is_wide_second (get_or slots k d) ≡ due
     → after false (take (k + 1) slots) ≡ Some (is_wide_load (get_or slots k d))
 step_more slots k d due l h e = ap (after false) (take_more slots k d l) ∙ after_push false (take k slots) (get_or slots k d) due h e

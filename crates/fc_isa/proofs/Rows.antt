@@ -1,4 +1,4 @@
--- Facts over all opcodes, computed once.
+-- Facts about all opcodes, each computed once.
 use Rattle.std.proofs.Common.{◌≡◌, ℕ, zero, suc, ◌+◌, ◌<◌, length, List, [], ◌∷◌, Bool, true, false, cond, not, ◌==◌, ◌&&◌, subst, refl, arith, ap, ◌∙◌, sym}
 use Rattle.std.specs.Prelude.{slice_index_or, count_by}
 use Rattle.std.proofs.lemmas.Bool.{agree_below, agree_below_at, eqb-true, and_parts}
@@ -9,7 +9,7 @@ use Rattle.fc_isa.proofs.Forms.{is_plain, form_back}
 use Rattle.fc_isa.specs.Shapes.{opcode_of, shape_of, known_shapes, is_known, uses}
 use Rattle.fc_isa.specs.OpcodeFields.{opcode_uses_dst, opcode_uses_src, opcode_uses_offset, opcode_uses_imm}
 
--- a row has the opcode's form: a known one by its opcode, and the unknown one where there is none
+-- a row has the opcode's form: a known one with its opcode, or the unknown one if there is none
 abbrev row_test : ℕ → Shape → Bool
 row_test opcode row = cond (is_known row) ((opcode_of row == opcode) && is_plain row) (not (is_known (shape_of opcode)))
 
@@ -56,7 +56,7 @@ row_is opcode h =
 pub known_rows : count_by is_known SHAPES ≡ 117
 known_rows = refl
 
--- a test of a form that is also told by the opcode
+-- a test of a form that the opcode also decides
 abbrev told : (Shape → Bool) → ℕ → Bool
 told uses opcode = is_known (shape_of opcode) && uses (shape_of opcode)
 

@@ -1,4 +1,4 @@
--- One slot: its eight bytes and its fields give one another.
+-- One slot: its eight bytes and its fields determine each other.
 use Rattle.std.proofs.Common.{◌≡◌, ◌⊎◌, inl, inr, ℕ, zero, suc, ◌+◌, ◌*◌, ◌/◌, ◌%◌, ◌^◌, ◌<◌, ◌≤◌, List, [], ◌∷◌, ◌++◌, length, take, drop, get_or, refl, sym, ap, ◌∙◌, arith, lit<, Fits, w8}
 use Rattle.std.specs.Int.{w16, w32, to_le_bytes, from_le_bytes}
 use Rattle.std.proofs.lemmas.Bool.{cases_lt}
@@ -11,7 +11,7 @@ use Rattle.fc_isa.proofs.Insns.{Fit}
 pub record AreBytes (bs : List ℕ) : Type 0 where
   pub each : (i : ℕ) → get_or bs i 0 < 256
 
--- what the type of a slice of `u8` says
+-- the bound that the type of a slice of `u8` gives
 pub are_bytes : (bs : List ℕ) → ((i : ℕ) → Fits w8 (get_or bs i 0)) → AreBytes bs
 are_bytes bs h = record { each = λ i. let f = h i in omega arith }
 
@@ -22,7 +22,7 @@ byte_of_part bs n m i b (inr h) = rw (get_or_past (take m (drop n bs)) i 0 (omeg
 pub part_bytes : (bs : List ℕ) (n m : ℕ) → AreBytes bs → AreBytes (take m (drop n bs))
 part_bytes bs n m b = record { each = λ i. byte_of_part bs n m i b (cases_lt i m) }
 
--- reading what fields are written as
+-- reading the bytes of written fields
 pub read-bytes_of_fields : (f : Fields) → Fit f → read_fields (bytes_of_fields f) ≡ f
 read-bytes_of_fields f fit =
     let d : (16 * f.src + f.dst) % 16 ≡ f.dst = omega (arith, fit.dst) in
@@ -46,7 +46,7 @@ two_bytes a b p q zero = p
 two_bytes a b p q (suc zero) = q
 two_bytes a b p q (suc (suc i)) = lit< tt
 
--- writing the fields that eight bytes are read as
+-- writing the fields that were read from eight bytes
 pub bytes_of_fields-read_fields : (bs : List ℕ) → length bs ≡ 8 → AreBytes bs → bytes_of_fields (read_fields bs) ≡ bs
 bytes_of_fields-read_fields (a ∷ b ∷ c ∷ d ∷ e ∷ f ∷ g ∷ h ∷ []) l small =
     let regs : 16 * (b / 16) + b % 16 ≡ b = omega arith in
@@ -55,7 +55,7 @@ bytes_of_fields-read_fields (a ∷ b ∷ c ∷ d ∷ e ∷ f ∷ g ∷ h ∷ [])
     rw regs (ap (λ xs. a ∷ b ∷ (xs ++ to_le_bytes w32 (from_le_bytes w32 (e ∷ f ∷ g ∷ h ∷ [])))) two ∙ ap (λ xs. a ∷ b ∷ c ∷ d ∷ xs) four)
 bytes_of_fields-read_fields _ l small = absurd (omega arith)
 
--- a slot's fields give its bytes
+-- a slot's fields determine its bytes
 pub slot_bytes : (bytes : List ℕ) (k : ℕ) → AreBytes bytes → 8 * k + 8 ≤ length bytes → bytes_of_fields (fields_at bytes k) ≡ take 8 (drop (8 * k) bytes)
 slot_bytes bytes k b l =
     bytes_of_fields-read_fields (take 8 (drop (8 * k) bytes)) (length-take-le 8 (drop (8 * k) bytes) (omega (arith, length-drop (8 * k) bytes))) (part_bytes bytes (8 * k) 8 b)
@@ -63,7 +63,7 @@ slot_bytes bytes k b l =
 pub slot_fit : (bytes : List ℕ) (k : ℕ) → AreBytes bytes → Fit (fields_at bytes k)
 slot_fit bytes k b = read_fit (take 8 (drop (8 * k) bytes)) (part_bytes bytes (8 * k) 8 b)
 
--- a slot that begins with what fields are written as
+-- a slot that begins with the bytes of fields
 pub record IsSlot (bytes : List ℕ) (k : ℕ) (f : Fields) (tail : List ℕ) : Type 0 where
   pub whole : 8 * k + 8 ≤ length bytes
   pub fields : fields_at bytes k ≡ f

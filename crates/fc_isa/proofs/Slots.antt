@@ -1,4 +1,4 @@
--- Slots one after another: a list of instructions and its bytes give one another.
+-- A sequence of slots: a list of instructions and its bytes determine each other.
 use Rattle.std.proofs.Common.{◌≡◌, ◌⊎◌, inl, inr, ℕ, zero, suc, ◌+◌, ◌*◌, ◌/◌, ◌^◌, ◌<◌, ◌≤◌, ◌&&◌, Bool, true, false, Option, Some, None, List, [], ◌∷◌, ◌++◌, length, take, drop, get_or, refl, sym, ap, ◌∙◌, subst, arith, lit<, append_assoc, append-nil, add-one, add-zero}
 use Rattle.std.specs.Prelude.{All}
 use Rattle.std.specs.List.{flat_map}
@@ -17,27 +17,27 @@ use Rattle.fc_isa.proofs.Faultless.{fields_of-insn_of, IsInsn-insn_of, is_wide_i
 use Rattle.fc_isa.proofs.Slot.{AreBytes, slot_bytes, slot_fit, slot_is}
 use Rattle.fc_isa.proofs.Programs.{after, same, same_true, cond_some, after_push, program_ends, ends_program}
 
--- ---- what a slot's fault is
+-- ---- the fault of a slot
 
 pub slot_at_whole : (bytes : List ℕ) (k : ℕ) → 8 * k + 8 ≤ length bytes → whole_fields_at bytes k ≡ Some (fields_at bytes k)
 slot_at_whole bytes k h = rw (le-leb (8 * k + 8) (length bytes) h) refl
 
--- a second half answers for nothing
+-- a second half has no fault
 pub fault_at_second : (bytes : List ℕ) (k : ℕ) → 8 * k + 8 ≤ length bytes → is_second bytes k ≡ true → fault_at bytes k ≡ None
 unfolding fault_at
 fault_at_second bytes k h s = rw (le-leb (8 * k + 8) (length bytes) h, s) refl
 
--- every other whole slot breaks what its fields break
+-- every other whole slot has the fault of its fields
 pub fault_at_own : (bytes : List ℕ) (k : ℕ) → 8 * k + 8 ≤ length bytes → is_second bytes k ≡ false → fault_at bytes k ≡ slot_fault (fields_at bytes k) (whole_fields_at bytes (k + 1))
 unfolding fault_at
 fault_at_own bytes k h s = rw (le-leb (8 * k + 8) (length bytes) h, s) refl
 
--- a rest is a wide load that is cut off
+-- a partial slot at the end is a wide load that is cut off
 pub fault_at_rest : (bytes : List ℕ) (k : ℕ) → length bytes < 8 * k + 8 → 8 * k < length bytes → fault_at bytes k ≡ Some WideLoad
 unfolding fault_at
 fault_at_rest bytes k h l = rw (lt-leb (8 * k + 8) (length bytes) h, lt-ltb (8 * k) (length bytes) l) refl
 
--- past the end nothing is broken
+-- past the end there is no fault
 pub fault_at_past : (bytes : List ℕ) (k : ℕ) → length bytes ≤ 8 * k → fault_at bytes k ≡ None
 unfolding fault_at
 fault_at_past bytes k h = rw (lt-leb (8 * k + 8) (length bytes) (omega arith), le-ltb (8 * k) (length bytes) h) refl
@@ -56,15 +56,15 @@ and_true : (a : Bool) → (a && true) ≡ a
 and_true true = refl
 and_true false = refl
 
--- a second half is due behind a slot where its instruction is a wide load
+-- a second half must follow a slot if its instruction is a wide load
 pub second_after : (bytes : List ℕ) (k : ℕ) (s : Bool) → is_second bytes k ≡ s → is_second bytes (suc k) ≡ is_wide_load (insn_at bytes k)
 second_after bytes k true s = rw s (and_false (is_wide (shape_of (fields_at bytes k).opcode)))
 second_after bytes k false s =
     rw s (and_true (is_wide (shape_of (fields_at bytes k).opcode)) ∙ sym (is_wide_insn (shape_of (fields_at bytes k).opcode) (fields_at bytes k) (imm_after (whole_fields_at bytes (k + 1)))))
 
--- ---- bytes of faultless slots
+-- ---- bytes of slots without a fault
 
--- a slot more where a second half is due
+-- one more slot if a second half must follow
 abbrev pub due : Bool → ℕ
 due true = 1
 due false = 0
@@ -86,7 +86,7 @@ slots_plain (LoadWide dst value) w s = absurd (cc w)
 slots_plain WideSecond w s = absurd (cc s)
 slots_plain i w s = refl
 
--- the instruction of a slot with the bytes that it spells
+-- the instruction of a slot, with its bytes
 pub record IsRead (bytes : List ℕ) (n : ℕ) (s : Bool) (t : Bool) : Type 0 where
   pub second : is_second bytes (suc n) ≡ t
   pub whole : 8 * (suc n + due t) ≤ length bytes
@@ -125,7 +125,7 @@ read_plain bytes n i b l s e f k o w =
       wide = ap is_wide_load e ∙ w;
     }
 
--- the value of a wide load has the halves that it was made of
+-- the value of a wide load has the halves from which it was made
 halves : (high low : ℕ) → low < 2 ^ 32 → (high * 2 ^ 32 + low) / 2 ^ 32 ≡ high
 halves high low h = omega arith
 
@@ -173,7 +173,7 @@ read_wide bytes n g b l s h e w =
       wide = ap is_wide_load at;
     }
 
--- the imm of the slot after, where it is there
+-- the imm of the slot after, if there is one
 after_small : (bytes : List ℕ) (k : ℕ) (next : Option Fields) → AreBytes bytes → whole_fields_at bytes k ≡ next → imm_after next < 2 ^ 32
 after_small bytes k (Some g) b e = let w = some_whole bytes k g e (cases_lt (length bytes) (8 * k + 8)) in let g_fit : Fit g = subst Fit w.1 (slot_fit bytes k b) in g_fit.imm
 after_small bytes k None b e = lit< tt
@@ -190,7 +190,7 @@ read_own bytes n false b l s h w =
     read_plain bytes n (insn_of f next) b l s (insn_at_own bytes n s) (fields_of-insn_of f next fit h) (IsInsn-insn_of f next fit (after_small bytes (n + 1) next b refl) h)
     (is_own_insn (shape_of f.opcode) f (imm_after next)) (is_wide_insn (shape_of f.opcode) f (imm_after next) ∙ w)
 
--- some second half is due or not
+-- a second half must follow or not
 pub record IsReadOn (bytes : List ℕ) (n : ℕ) (s : Bool) : Type 0 where
   pub follows : Bool
   pub read : IsRead bytes n s follows
@@ -200,7 +200,7 @@ read_slot bytes n true b l s h = record { follows = false; read = read_second by
 read_slot bytes n false b l s h =
     record { follows = is_wide (shape_of (fields_at bytes n).opcode); read = read_own bytes n (is_wide (shape_of (fields_at bytes n).opcode)) b l s (sym (fault_at_own bytes n l s) ∙ h) refl }
 
--- the slots below one, where none of them breaks a rule
+-- the slots before `n`, if none of them breaks a rule
 pub record IsReadBelow (bytes : List ℕ) (n : ℕ) (s : Bool) : Type 0 where
   pub second : is_second bytes n ≡ s
   pub whole : 8 * (n + due s) ≤ length bytes
@@ -231,7 +231,7 @@ read_below bytes (suc n) b l h =
     let r = read_slot bytes n p.due_then b (omega arith) p.below.second (h n (omega arith)) in
     read_more bytes n p.due_then r.follows p.below r.read
 
--- where the slots are all the bytes, no second half is due
+-- if the slots are all the bytes, no second half must follow
 spell_all : (bytes : List ℕ) (n : ℕ) (s : Bool) → 8 * n ≡ length bytes → IsReadBelow bytes n s → Spells bytes (insns_below bytes n)
 spell_all bytes n true l p = absurd (let w = p.whole in omega arith)
 spell_all bytes n false l p = record {
@@ -243,12 +243,12 @@ spell_all bytes n false l p = record {
 pub below_spell : (bytes : List ℕ) (n : ℕ) → AreBytes bytes → 8 * n ≡ length bytes → ((k : ℕ) → k < n → fault_at bytes k ≡ None) → Spells bytes (insns_below bytes n)
 below_spell bytes n b l h = let p = read_below bytes n b (omega arith) h in spell_all bytes n p.due_then l p.below
 
--- a rest is a fault
+-- a partial slot is a fault
 no_rest : (bytes : List ℕ) → ((k : ℕ) → fault_at bytes k ≡ None) → (8 * (length bytes / 8) ≡ length bytes) ⊎ (8 * (length bytes / 8) < length bytes) → 8 * (length bytes / 8) ≡ length bytes
 no_rest bytes h (inl e) = e
 no_rest bytes h (inr l) = absurd (cc (fault_at_rest bytes (length bytes / 8) (omega arith) l, h (length bytes / 8)))
 
--- the bytes of faultless slots with no rest spell a program
+-- the bytes of slots without a fault, and without a partial one, encode a program
 pub faultless_spell : (bytes : List ℕ) → AreBytes bytes → ((k : ℕ) → fault_at bytes k ≡ None) → Spells bytes (decoded_program bytes)
 unfolding decoded_program
 faultless_spell bytes b h = below_spell bytes (length bytes / 8) b (no_rest bytes h (grind arith)) (λ k lt. h k)
@@ -257,9 +257,9 @@ pub length-insns_below : (bytes : List ℕ) (n : ℕ) → length (insns_below by
 length-insns_below bytes zero = refl
 length-insns_below bytes (suc n) = length_push (insns_below bytes n) (insn_at bytes n) ∙ (omega (arith, length-insns_below bytes n))
 
--- ---- the bytes that a program is written as
+-- ---- the bytes of an encoded program
 
--- a suffix of a program, whose bytes are those from a slot on
+-- a suffix of a program, with its bytes from a slot on
 pub record IsRest (bytes : List ℕ) (n : ℕ) (s : Bool) (q : List Insn) : Type 0 where
   pub second : is_second bytes n ≡ s
   pub whole : 8 * (n + due s) ≤ length bytes
@@ -343,7 +343,7 @@ next_wide bytes n dst value q r =
       };
     }
 
--- where a second half is due, and only there, one comes
+-- a second half follows exactly if it must
 not_due : (i : Insn) (s : Bool) (q : List Insn) → after s (i ∷ q) ≡ Some false → (is_wide_second i ≡ s) × (after (is_wide_load i) q ≡ Some false)
 not_due i s q h = let p = cond_some (same s (is_wide_second i)) (after (is_wide_load i) q) false h in (same_true s (is_wide_second i) p.0, p.1)
 
@@ -399,11 +399,11 @@ read_rest bytes n s (i ∷ q) r =
 pub read_all : (bytes : List ℕ) (p : List Insn) → Spells bytes p → IsReadRest bytes 0 p
 read_all bytes p s = read_rest bytes 0 false p (record { second = refl; whole = omega arith; rest = s.bytes_are; state = program_ends p s.whole; insns = s.insns })
 
--- bytes that spell a program have no fault
+-- bytes that encode a program have no fault
 pub spelled_faultless : (bytes : List ℕ) (p : List Insn) → Spells bytes p → (k : ℕ) → fault_at bytes k ≡ None
 spelled_faultless bytes p s k = (read_all bytes p s).faultless k (omega arith)
 
--- and no other program
+-- they encode no other program
 pub spelled_once : (bytes : List ℕ) (p : List Insn) → Spells bytes p → p ≡ decoded_program bytes
 unfolding decoded_program
 spelled_once bytes p s =
@@ -422,7 +422,7 @@ encode_more program k d old new l h e n =
     ∙ sym (encoded-push (take k program) (get_or program k d))
     ∙ ap encoded (sym (take_more program k d l))
 
--- the bytes of a program spell it
+-- the bytes of a program encode it
 pub written_spells : (program : List Insn) → All IsInsn program → is_program program ≡ true → Spells (encoded program) program
 written_spells program a w = record { bytes_are = refl; insns = a; whole = w }
 

@@ -1,4 +1,4 @@
--- What the steps of decoding show.
+-- Facts about the steps of decoding.
 use Rattle.std.proofs.Common.{◌≡◌, ℕ, ◌+◌, ◌-◌, ◌*◌, ◌/◌, ◌%◌, ◌<◌, ◌≤◌, false, Option, Some, None, List, [], ◌∷◌, ◌++◌, length, take, drop, sym, ap, ◌∙◌, below_more, arith, add-one, refl, subst}
 use Rattle.fc_isa.specs.declared.insn.Insn.{Insn}
 use Rattle.fc_isa.specs.declared.rule.Rule.{Rule}
@@ -13,7 +13,7 @@ use Rattle.fc_isa.proofs.First.{faultless_none}
 pub fields_are : (bytes : List ℕ) (k : ℕ) (f : Fields) → f ≡ read_fields (take (8 * k + 8 - 8 * k) (drop (8 * k) bytes)) → f ≡ fields_at bytes k
 fields_are bytes k f h = let e : 8 * k + 8 - 8 * k ≡ 8 = omega arith in h ∙ ap (λ n. read_fields (take n (drop (8 * k) bytes))) e
 
--- what the fields of a slot break is the slot's fault
+-- the fault of a slot's fields is the slot's fault
 pub own_fault : (bytes : List ℕ) (k : ℕ) (f : Fields) (next : Option Fields) (r : Option Rule) → 8 * k + 8 ≤ length bytes → is_second bytes k ≡ false → f ≡ fields_at bytes k
     → next ≡ whole_fields_at bytes (k + 1) → r ≡ slot_fault f next → fault_at bytes k ≡ r
 own_fault bytes k f next r l s ef en h =
@@ -29,7 +29,7 @@ broken bytes k rule h before = record { broken = h; before = before }
 pub broken_rest : (bytes : List ℕ) (k : ℕ) → length bytes / 8 ≤ k → 0 < length bytes % 8 → ((j : ℕ) → j < k → fault_at bytes j ≡ None) → IsFirstFault bytes WideLoad (length bytes / 8)
 broken_rest bytes k e h before = record { broken = fault_at_rest bytes (length bytes / 8) (omega arith) (omega arith); before = λ j lt. before j (omega arith) }
 
--- bytes with a fault spell no program
+-- bytes with a fault encode no program
 pub broken_not_spelled : (bytes : List ℕ) (k : ℕ) (rule : Rule) (p : List Insn) → IsFirstFault bytes rule k → Spells bytes p → ⊥
 broken_not_spelled bytes k rule p f s = cc (f.broken, spelled_faultless bytes p s k)
 
@@ -43,7 +43,7 @@ insns_more bytes k items insn e i = rw (add-one k, e, i) refl
 pub second_more : (bytes : List ℕ) (k : ℕ) (insn : Insn) → insn ≡ insn_at bytes k → is_wide_load insn ≡ is_second bytes (k + 1)
 second_more bytes k insn i = ap is_wide_load i ∙ sym (second_after bytes k (is_second bytes k) refl) ∙ ap (is_second bytes) (sym (add-one k))
 
--- what decoded bytes and their program are to one another
+-- the relation of decoded bytes and their program
 pub record IsDecoded (bytes : List ℕ) (program : List Insn) : Type 0 where
   pub spells : Spells bytes program
   pub program_is : program ≡ decoded_program bytes

@@ -1,4 +1,5 @@
--- How bytes spell a program (RFC 9669, 3 to 5): eight bytes a slot, numbers with the least byte first.
+-- The encoding of a program as bytes (RFC 9669, sections 3 to 5): eight bytes for each slot,
+-- numbers with the least significant byte first.
 use Rattle.std.specs.Prelude.{◌≡◌, ℕ, zero, suc, ◌+◌, ◌*◌, ◌/◌, ◌%◌, ◌^◌, ◌<◌, ◌==◌, ◌&&◌, ◌||◌, not, Bool, true, false, nat_lt, nat_le, if◌then◌else◌, List, [], ◌∷◌, ◌++◌, length, take, drop, find, All, Option, Some, None, slice_index}
 use Rattle.std.specs.Int.{w16, w32, cast_unsigned, cast_signed, to_le_bytes, from_le_bytes}
 use Rattle.std.specs.List.{flat_map}
@@ -25,7 +26,7 @@ use Rattle.fc_isa.specs.declared.decoder.DecodeError.TheVariants.{Fault, NoMemor
 use Rattle.fc_isa.specs.Shapes.{opcode_of, shape_of, is_known, is_wide, uses, writes_dst}
 use Rattle.fc_isa.specs.Program.{IsInsn, is_program}
 
--- the fields of a slot (3.1); offset and imm by their bits
+-- the fields of a slot (3.1); offset and imm by their bits.
 pub record Fields : Type 0 where
   pub opcode : ℕ
   pub dst : ℕ
@@ -33,13 +34,14 @@ pub record Fields : Type 0 where
   pub offset : ℕ
   pub imm : ℕ
 
--- opcode; a byte of two registers, the destination in its low four bits; offset; imm
+-- the opcode; a byte of two registers, the destination in its low four bits; the offset; the
+-- immediate.
 abbrev pub bytes_of_fields : Fields → List ℕ
 bytes_of_fields f = f.opcode ∷ (16 * f.src + f.dst) ∷ (to_le_bytes w16 f.offset ++ to_le_bytes w32 f.imm)
 
--- ---- the spelling of a program
+-- ---- the encoding of a program
 
--- an operand is the immediate (K) or the source register (X)
+-- an operand is the immediate (K) or the source register (X).
 abbrev pub source_of : Operand → SourceOperand
 source_of (Imm k) = K
 source_of (Reg r) = X
@@ -52,13 +54,13 @@ abbrev pub imm_of : Operand → ℕ
 imm_of (Imm k) = cast_unsigned w32 k
 imm_of (Reg r) = 0
 
--- signed division and modulo have offset 1 (4.1)
+-- signed division and modulo have offset 1 (4.1).
 abbrev pub sign_offset : AluOp → ℕ
 sign_offset Sdiv = 1
 sign_offset Smod = 1
 sign_offset op = 0
 
--- a move with sign extension is a move whose offset is the number of bits (4.1)
+-- a move with sign extension is a move with the number of bits as its offset (4.1).
 abbrev pub extended_bits : SignExtension → ℕ
 extended_bits (Byte width) = 8
 extended_bits (HalfWord width) = 16
@@ -69,7 +71,7 @@ extended_width (Byte width) = width
 extended_width (HalfWord width) = width
 extended_width Word = W64
 
--- a change of the byte order has the number of bits in imm (4.2)
+-- a byte-order change has the number of bits in imm (4.2).
 abbrev pub swap_bits : SwapWidth → ℕ
 swap_bits S16 = 16
 swap_bits S32 = 32
@@ -78,7 +80,8 @@ swap_bits S64 = 64
 abbrev pub fields : Shape → ℕ → ℕ → ℕ → ℕ → Fields
 fields shape dst src offset imm = record { opcode = opcode_of shape; dst = dst; src = src; offset = offset; imm = imm }
 
--- the fields of an instruction's own slot: opcode, dst, src, offset, imm; a second half has none
+-- the fields of an instruction's own slot: opcode, dst, src, offset, imm; a second half has none of
+-- its own.
 abbrev pub fields_of : Insn → Fields
 fields_of (Alu op width dst operand) = fields (shapes.Alu op width (source_of operand)) dst (src_of operand) (sign_offset op) (imm_of operand)
 fields_of (Neg width dst) = fields (shapes.Neg width) dst 0 0 0
@@ -97,30 +100,30 @@ fields_of (CallHelper number) = fields shapes.Call 0 0 0 (cast_unsigned w32 numb
 fields_of (CallLocal offset) = fields shapes.Call 0 1 0 (cast_unsigned w32 offset)
 fields_of Exit = fields shapes.Exit 0 0 0 0
 
--- the second slot of a wide load: 32 zero bits, then the high half of its value (3.2)
+-- the second slot of a wide load: 32 zero bits, then the high half of its value (3.2).
 abbrev pub second_half : ℕ → Fields
 second_half high = record { opcode = 0; dst = 0; src = 0; offset = 0; imm = high }
 
--- the slots that an instruction spells: a wide load two, so that the second half spells none
+-- the slots of an instruction: two for a wide load, so that the second half has none.
 abbrev pub insn_slots : Insn → List Fields
 insn_slots (LoadWide dst value) = fields_of (LoadWide dst value) ∷ second_half (value / 2 ^ 32) ∷ []
 insn_slots WideSecond = []
 insn_slots insn = fields_of insn ∷ []
 
--- the bytes of a program
+-- the bytes of a program.
 abbrev pub encoded : List Insn → List ℕ
 encoded [] = []
 encoded (insn ∷ program) = flat_map bytes_of_fields (insn_slots insn) ++ encoded program
 
--- the bytes spell the program
+-- the bytes encode the program.
 pub record Spells (bytes : List ℕ) (program : List Insn) : Type 0 where
   pub bytes_are : bytes ≡ encoded program
   pub insns : All IsInsn program
   pub whole : is_program program ≡ true
 
--- ---- the faults of bytes that spell none
+-- ---- the faults of bytes that encode no program
 
--- the fields that eight bytes have
+-- the fields in eight bytes.
 abbrev pub read_fields : List ℕ → Fields
 read_fields bs = record {
   opcode = slice_index bs 0;
@@ -133,21 +136,21 @@ read_fields bs = record {
 abbrev pub fields_at : List ℕ → ℕ → Fields
 fields_at bytes slot = read_fields (take 8 (drop (8 * slot) bytes))
 
--- the slot lies wholly within the bytes
+-- the slot lies wholly within the bytes.
 abbrev pub is_whole : List ℕ → ℕ → Bool
 is_whole bytes slot = nat_le (8 * slot + 8) (length bytes)
 
--- the slot's fields, where it lies wholly within the bytes
+-- the slot's fields, if it lies wholly within the bytes.
 abbrev pub whole_fields_at : List ℕ → ℕ → Option Fields
 whole_fields_at bytes slot = if is_whole bytes slot then Some (fields_at bytes slot) else None
 
--- what an opcode doesn't use is zero
+-- the fields that an opcode doesn't use are zero.
 abbrev pub unused_are_zero : Shape → Fields → Bool
 unused_are_zero shape f =
     (((uses shape).dst || (f.dst == 0)) && ((uses shape).src || (f.src == 0)))
     && (((uses shape).offset || (f.offset == 0)) && ((uses shape).imm || (f.imm == 0)))
 
--- a move's offset is 0 or the bits that it extends, 32 for all 64 bits alone
+-- a move's offset is 0 or the number of bits that it extends; 32 is for the 64-bit width only.
 abbrev pub is_move_offset : Width → ℕ → Bool
 is_move_offset W32 offset = ((offset == 0) || (offset == 8)) || (offset == 16)
 is_move_offset W64 offset = ((offset == 0) || (offset == 8)) || ((offset == 16) || (offset == 32))
@@ -158,19 +161,19 @@ alu_values_allowed Mod width source offset = (offset == 0) || (offset == 1)
 alu_values_allowed Mov width X offset = is_move_offset width offset
 alu_values_allowed op width source offset = true
 
--- what an opcode uses has a value that is allowed
+-- the fields that an opcode uses have allowed values.
 abbrev pub values_allowed : Shape → Fields → Bool
 values_allowed (shapes.Alu op width source) f = alu_values_allowed op width source f.offset
 values_allowed (shapes.End order) f = ((f.imm == 16) || (f.imm == 32)) || (f.imm == 64)
 values_allowed shapes.Call f = (f.src == 0) || (f.src == 1)
 values_allowed shape f = true
 
--- a wide load's second slot is there, and has nothing but an immediate
+-- a wide load's second slot exists, and has nothing but an immediate.
 abbrev pub is_second_half : Option Fields → Bool
 is_second_half (Some f) = ((f.opcode == 0) && (f.dst == 0)) && ((f.src == 0) && (f.offset == 0))
 is_second_half None = false
 
--- a slot's fields break a rule; the next slot's count where it is a wide load
+-- a slot's fields break a rule; the next slot's fields matter only for a wide load.
 abbrev pub breaks : Fields → Option Fields → Rule → Bool
 breaks f next Opcode = not (is_known (shape_of f.opcode))
 breaks f next Register = nat_lt 10 f.dst || nat_lt 10 f.src
@@ -179,31 +182,32 @@ breaks f next Field = not (unused_are_zero (shape_of f.opcode) f && values_allow
 breaks f next WideLoad = is_wide (shape_of f.opcode) && not (is_second_half next)
 breaks f next other = false
 
--- the rules of a slot, the least number first
+-- the rules of a slot, the least number first.
 abbrev pub slot_rules : List Rule
 slot_rules = Opcode ∷ Register ∷ FramePointer ∷ Field ∷ WideLoad ∷ []
 
--- the least rule that the fields break
+-- the least rule that the fields break.
 abbrev pub slot_fault : Fields → Option Fields → Option Rule
 slot_fault f next = find (breaks f next) slot_rules
 
--- slots with this opcode break the opcode rule first, whatever else they have
+-- slots with this opcode break the opcode rule first, whatever other fields they have.
 abbrev pub BreaksOpcodeFirst : ℕ → Type 0
 BreaksOpcodeFirst opcode = (f : Fields) (next : Option Fields) → f.opcode ≡ opcode → slot_fault f next ≡ Some Opcode
 
--- a slot is a second half where the slot before it is a wide load, and no second half itself
+-- a slot is a second half if the slot before it is a wide load, and isn't itself a second half.
 abbrev pub is_second : List ℕ → ℕ → Bool
 is_second bytes zero = false
 is_second bytes (suc slot) = is_wide (shape_of (fields_at bytes slot).opcode) && not (is_second bytes slot)
 
--- the least rule that a slot breaks: a second half none, since the wide load answers for it; a rest of under eight bytes is no slot
+-- the least rule that a slot breaks: none for a second half, since the rules of the wide load cover
+-- it; fewer than eight bytes at the end are no slot.
 unfoldable pub fault_at : List ℕ → ℕ → Option Rule
 fault_at bytes slot =
     if is_whole bytes slot
     then (if is_second bytes slot then None else slot_fault (fields_at bytes slot) (whole_fields_at bytes (slot + 1)))
     else (if nat_lt (8 * slot) (length bytes) then Some WideLoad else None)
 
--- the least slot that breaks a rule, with the least rule that it breaks
+-- the first slot that breaks a rule, with the least rule that it breaks.
 pub record IsFirstFault (bytes : List ℕ) (rule : Rule) (slot : ℕ) : Type 0 where
   pub broken : fault_at bytes slot ≡ Some rule
   pub before : (k : ℕ) → k < slot → fault_at bytes k ≡ None
@@ -212,7 +216,7 @@ abbrev pub IsDecodeError : List ℕ → DecodeError → Type 0
 IsDecodeError bytes (Fault f) = IsFirstFault bytes f.rule f.slot
 IsDecodeError bytes NoMemory = Unit {0}
 
--- the same as functions: the first of n places that has an answer, with that answer
+-- the same as functions: the first of n places that has a value, with that value.
 abbrev pub or_at : {A : Type 0} → Option (ℕ × A) → ℕ → Option A → Option (ℕ × A)
 or_at (Some x) n a = Some x
 or_at None n None = None
@@ -222,23 +226,24 @@ abbrev pub first_some : {A : Type 0} → (ℕ → Option A) → ℕ → Option (
 first_some f zero = None
 first_some f (suc n) = or_at (first_some f n) n (f n)
 
--- the first slot that breaks a rule, and that rule
+-- the first slot that breaks a rule, and that rule.
 unfoldable pub first_fault : List ℕ → Option (ℕ × Rule)
 first_fault bytes = first_some (fault_at bytes) (length bytes / 8 + 1)
 
--- ---- the program that faultless bytes spell
+-- ---- the program that bytes without a fault encode
 
 abbrev pub operand_of : SourceOperand → Fields → Operand
 operand_of K f = Imm (cast_signed w32 f.imm)
 operand_of X f = Reg f.src
 
--- division and modulo are signed where the offset isn't zero
+-- division and modulo are signed if the offset isn't zero.
 abbrev pub signed_by : ℕ → AluOp → AluOp
 signed_by offset Div = if offset == 0 then Div else Sdiv
 signed_by offset Mod = if offset == 0 then Mod else Smod
 signed_by offset op = op
 
--- a move of a register extends the sign of as many bits as the offset says
+-- a move of a register sign-extends as many bits as the offset gives; with offset 0 it is a plain
+-- move.
 abbrev pub move_insn : Width → Fields → Insn
 move_insn width f =
     if f.offset == 0 then Alu Mov width f.dst (Reg f.src)
@@ -256,7 +261,7 @@ swap_width imm = if imm == 16 then S16 else (if imm == 32 then S32 else S64)
 abbrev pub called : Fields → Insn
 called f = if f.src == 0 then CallHelper (cast_signed w32 f.imm) else CallLocal (cast_signed w32 f.imm)
 
--- the instruction of a form with these fields; high is the imm of the slot after them
+-- the instruction of a form with these fields; `high` is the imm of the slot after them.
 abbrev pub insn_with : Shape → Fields → ℕ → Insn
 insn_with (shapes.Alu op width source) f high = arithmetic op width source f
 insn_with (shapes.Neg width) f high = Neg width f.dst
@@ -277,7 +282,7 @@ abbrev pub imm_after : Option Fields → ℕ
 imm_after (Some f) = f.imm
 imm_after None = 0
 
--- the instruction that faultless fields spell, with the slot after them
+-- the instruction that fields without a fault encode, with the slot after them.
 abbrev pub insn_of : Fields → Option Fields → Insn
 insn_of f next = insn_with (shape_of f.opcode) f (imm_after next)
 
@@ -288,6 +293,6 @@ abbrev pub insns_below : List ℕ → ℕ → List Insn
 insns_below bytes zero = []
 insns_below bytes (suc n) = insns_below bytes n ++ (insn_at bytes n ∷ [])
 
--- the program that faultless bytes spell
+-- the program that bytes without a fault encode.
 unfoldable pub decoded_program : List ℕ → List Insn
 decoded_program bytes = insns_below bytes (length bytes / 8)

@@ -1,11 +1,12 @@
--- Which fields an opcode uses, by its bits: class, code and source bit (RFC 9669, 3.1 and 3.3).
+-- The fields that an opcode uses, from its bits: class, code and source bit (RFC 9669, sections 3.1
+-- and 3.3).
 use Rattle.std.specs.Prelude.{ℕ, ◌/◌, ◌%◌, ◌==◌, ◌&&◌, ◌||◌, not, Bool}
 
--- LD 0, LDX 1, ST 2, STX 3, ALU 4, JMP 5, JMP32 6, ALU64 7
+-- LD 0, LDX 1, ST 2, STX 3, ALU 4, JMP 5, JMP32 6, ALU64 7.
 abbrev pub class_of : ℕ → ℕ
 class_of opcode = opcode % 8
 
--- of arithmetic and jumps
+-- the code of an arithmetic or jump opcode.
 abbrev pub code_of : ℕ → ℕ
 code_of opcode = opcode / 16
 
@@ -18,22 +19,22 @@ is_arithmetic opcode = (class_of opcode == 4) || (class_of opcode == 7)
 abbrev pub is_jump : ℕ → Bool
 is_jump opcode = (class_of opcode == 5) || (class_of opcode == 6)
 
--- the source bit chooses the register; in a byte swap (13) it chooses the order
+-- the source bit selects the register; in a byte swap (13) it selects the order.
 abbrev pub takes_register : ℕ → Bool
 takes_register opcode = has_source_bit opcode && not (is_arithmetic opcode && (code_of opcode == 13))
 
--- all but jumps with no condition (0), calls (8) and exit (9)
+-- all opcodes but unconditional jumps (0), calls (8) and exit (9).
 unfoldable pub opcode_uses_dst : ℕ → Bool
 opcode_uses_dst opcode = not (is_jump opcode && (((code_of opcode == 0) || (code_of opcode == 8)) || (code_of opcode == 9)))
 
--- loads and stores of a register; arithmetic and jumps with the source bit; calls
+-- loads and stores of a register; arithmetic and jumps with the source bit; calls.
 unfoldable pub opcode_uses_src : ℕ → Bool
 opcode_uses_src opcode =
     ((class_of opcode == 1) || (class_of opcode == 3))
     || (((is_arithmetic opcode || is_jump opcode) && takes_register opcode) || (opcode == 133))
 
--- loads and stores; jumps of class JMP but calls and exit, of class JMP32 with a condition; division (3), modulo (9), and a
--- move (11) of a register
+-- loads and stores; jumps of class JMP except calls and exit, and of class JMP32 with a condition;
+-- division (3), modulo (9), and a move (11) of a register.
 unfoldable pub opcode_uses_offset : ℕ → Bool
 opcode_uses_offset opcode =
     (((class_of opcode == 1) || (class_of opcode == 2)) || (class_of opcode == 3))
@@ -41,7 +42,8 @@ opcode_uses_offset opcode =
     || (((class_of opcode == 6) && not (code_of opcode == 0))
     || (is_arithmetic opcode && (((code_of opcode == 3) || (code_of opcode == 9)) || ((code_of opcode == 11) && has_source_bit opcode)))))
 
--- the wide load and stores of an immediate; arithmetic but negation (8), and jumps but `ja` of class JMP and `exit`, with no register
+-- the wide load and stores of an immediate; without a register, arithmetic except negation (8), and
+-- jumps except `ja` of class JMP and `exit`.
 unfoldable pub opcode_uses_imm : ℕ → Bool
 opcode_uses_imm opcode =
     ((class_of opcode == 0) || (class_of opcode == 2))

@@ -1,4 +1,5 @@
--- The opcodes and the fields that each uses (RFC 9669, 3 to 5): class, code and source bit, or class, size and mode.
+-- The opcodes and the fields that each uses (RFC 9669, sections 3 to 5): class, code and source
+-- bit, or class, size and mode.
 use Rattle.std.specs.Prelude.{ℕ, ◌+◌, ◌*◌, ◌==◌, not, Bool, true, false, List, [], ◌∷◌, ◌++◌, map, Option, Some, None}
 use Rattle.std.specs.List.{flat_map, find}
 use Rattle.fc_isa.specs.declared.insn.Width.{Width}
@@ -21,17 +22,17 @@ use Rattle.fc_isa.specs.declared.shape.Shape.TheVariants.{Unknown, Alu, Neg, End
 
 -- ---- the opcode of a form
 
--- the classes of arithmetic: ALU and ALU64 (3.3)
+-- the classes of arithmetic: ALU and ALU64 (3.3).
 abbrev pub alu_class : Width → ℕ
 alu_class W32 = 4
 alu_class W64 = 7
 
--- the classes of jumps: JMP32 and JMP
+-- the classes of jumps: JMP32 and JMP.
 abbrev pub jump_class : Width → ℕ
 jump_class W32 = 6
 jump_class W64 = 5
 
--- the codes of arithmetic (4.1); signed division and modulo are told by the offset
+-- the codes of arithmetic (4.1); the offset distinguishes signed division and modulo.
 abbrev pub alu_code : AluOp → ℕ
 alu_code Add = 0
 alu_code Sub = 1
@@ -48,7 +49,7 @@ alu_code Xor = 10
 alu_code Mov = 11
 alu_code Arsh = 12
 
--- the codes of conditional jumps (4.3)
+-- the codes of conditional jumps (4.3).
 abbrev pub jump_code : Relation → ℕ
 jump_code Eq = 1
 jump_code Gt = 2
@@ -62,23 +63,24 @@ jump_code Le = 11
 jump_code Slt = 12
 jump_code Sle = 13
 
--- the source bit (4)
+-- the source bit (4).
 abbrev pub source_bit : SourceOperand → ℕ
 source_bit K = 0
 source_bit X = 8
 
--- an opcode of arithmetic or a jump: code, source bit, class
+-- an opcode of arithmetic or a jump: code, source bit, class.
 abbrev pub coded : ℕ → SourceOperand → ℕ → ℕ
 coded code source class = 16 * code + source_bit source + class
 
--- the sizes of loads and stores (5)
+-- the sizes of loads and stores (5).
 abbrev pub size_bits : Size → ℕ
 size_bits Word = 0
 size_bits HalfWord = 8
 size_bits Byte = 16
 size_bits DoubleWord = 24
 
--- an opcode of a load or store: mode (0 IMM, 3 MEM, 4 MEMSX), size, class (0 LD, 1 LDX, 2 ST, 3 STX)
+-- an opcode of a load or store: mode (0 IMM, 3 MEM, 4 MEMSX), size, class (0 LD, 1 LDX, 2 ST, 3
+-- STX).
 abbrev pub sized : ℕ → Size → ℕ → ℕ
 sized mode size class = 32 * mode + size_bits size + class
 
@@ -88,13 +90,13 @@ load_opcode SignedByte = sized 4 Byte 1
 load_opcode SignedHalfWord = sized 4 HalfWord 1
 load_opcode SignedWord = sized 4 Word 1
 
--- byte swap has code 13: its source bit is the byte order, and class ALU64 swaps always (4.2)
+-- a byte swap has code 13: its source bit is the byte order, and class ALU64 always swaps (4.2).
 abbrev pub end_opcode : ByteOrder → ℕ
 end_opcode Little = coded 13 K (alu_class W32)
 end_opcode Big = coded 13 X (alu_class W32)
 end_opcode Swapped = coded 13 K (alu_class W64)
 
--- the opcode of each form; the unknown form is given one that no known form has
+-- the opcode of each form; the unknown form has one that no known form has.
 abbrev pub opcode_of : Shape → ℕ
 opcode_of (Alu op width source) = coded (alu_code op) source (alu_class width)
 opcode_of (Neg width) = coded 8 K (alu_class width)
@@ -121,11 +123,11 @@ relations = Eq ∷ Gt ∷ Ge ∷ Set ∷ Ne ∷ Sgt ∷ Sge ∷ Lt ∷ Le ∷ Sl
 abbrev pub sizes : List Size
 sizes = Byte ∷ HalfWord ∷ Word ∷ DoubleWord ∷ []
 
--- each of the forms, of both widths and with both sources
+-- a form with both widths and both sources.
 abbrev pub of_both : (Width → SourceOperand → Shape) → List Shape
 of_both form = form W32 K ∷ form W32 X ∷ form W64 K ∷ form W64 X ∷ []
 
--- all forms that an instruction has
+-- all forms of instructions.
 unfoldable pub known_shapes : List Shape
 known_shapes =
     flat_map (λ op. of_both (λ width source. Alu op width source)) operations
@@ -142,7 +144,7 @@ abbrev pub or_unknown : Option Shape → Shape
 or_unknown (Some shape) = shape
 or_unknown None = Unknown
 
--- the form that has this opcode
+-- the form with this opcode.
 unfoldable pub shape_of : ℕ → Shape
 shape_of opcode = or_unknown (find (λ shape. opcode_of shape == opcode) known_shapes)
 
@@ -150,7 +152,7 @@ abbrev pub is_known : Shape → Bool
 is_known Unknown = false
 is_known shape = true
 
--- a wide load takes two slots
+-- a wide load occupies two slots.
 abbrev pub is_wide : Shape → Bool
 is_wide LoadWide = true
 is_wide shape = false
@@ -161,7 +163,7 @@ abbrev pub is_register : SourceOperand → Bool
 is_register K = false
 is_register X = true
 
--- arithmetic uses it in division and modulo, and in a move of a register
+-- an arithmetic operation uses the offset for division and modulo, and for a move of a register.
 abbrev pub alu_uses_offset : AluOp → SourceOperand → Bool
 alu_uses_offset Div source = true
 alu_uses_offset Mod source = true
@@ -171,7 +173,7 @@ alu_uses_offset op source = false
 abbrev pub used : Bool → Bool → Bool → Bool → Uses
 used dst src offset imm = record { dst = dst; src = src; offset = offset; imm = imm }
 
--- dst, src, offset and imm, row by row; an immediate stands where no register does
+-- dst, src, offset and imm, row by row; an operand that isn't a register is an immediate.
 abbrev pub uses : Shape → Uses
 uses (Alu op width source) = used true (is_register source) (alu_uses_offset op source) (not (is_register source))
 uses (Neg width) = used true false false false
@@ -187,7 +189,7 @@ uses (StoreImm size) = used true false true true
 uses (Store size) = used true true true false
 uses Unknown = used false false false false
 
--- classes LD, LDX, ALU and ALU64 write their destination; stores and jumps read it
+-- classes LD, LDX, ALU and ALU64 write their destination; stores and jumps read it.
 abbrev pub writes_dst : Shape → Bool
 writes_dst (Alu op width source) = true
 writes_dst (Neg width) = true
@@ -196,4 +198,4 @@ writes_dst LoadWide = true
 writes_dst (Load loaded) = true
 writes_dst shape = false
 
--- ---- the same by an opcode's bits (3.1 and 3.3): class, code and source bit
+-- ---- the same from an opcode's bits (3.1 and 3.3): class, code and source bit

@@ -1,9 +1,9 @@
--- Which registers an instruction writes.
+-- The registers that an instruction writes.
 use Rattle.std.specs.Prelude.{ℕ, ◌==◌, ◌||◌, ◌&&◌, Bool, true, false, nat_le, Option, Some, None}
 use Rattle.fc_isa.specs.declared.insn.Insn.{Insn}
 use Rattle.fc_isa.specs.declared.insn.Insn.TheVariants.{Alu, Neg, SignExtend, End, LoadWide, Load, CallHelper, CallLocal}
 
--- the register that an instruction computes
+-- the register that an instruction computes.
 abbrev pub computes : Insn → Option ℕ
 computes (Alu op width dst operand) = Some dst
 computes (Neg width dst) = Some dst
@@ -22,6 +22,6 @@ abbrev pub is_that : Option ℕ → ℕ → Bool
 is_that None r = false
 is_that (Some dst) r = dst == r
 
--- a call writes R0 to R5
+-- a call writes R0 to R5.
 abbrev pub writes : Insn → ℕ → Bool
 writes insn r = is_that (computes insn) r || (is_call insn && nat_le r 5)

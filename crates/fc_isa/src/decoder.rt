@@ -1,4 +1,4 @@
-//! From bytes to instructions.
+//! Decoding: from bytes to instructions.
 ghost use Rattle.std.specs.Prelude.{IfErr, IfOk, List, MatchResult, None, Some, length, ◌+◌, ◌*◌, ◌≡◌, ◌≤◌};
 ghost use Rattle.fc_isa.specs.Encoding.{IsDecodeError, Spells, fault_at, first_fault, insn_at, is_second, decoded_program, whole_fields_at};
 ghost use Rattle.fc_isa.specs.declared.insn.Insn.{Insn};
@@ -9,12 +9,12 @@ use crate::program::is_wide_load;
 use crate::rule::{Fault, Rule};
 use std::alloc::{AllocError, Global};
 
-/// Why bytes were not decoded.
+/// The reason why bytes weren't decoded.
 #[derive(Clone, Copy, Debug, PartialEq, Eq)]
 pub enum DecodeError {
-    /// The least slot that spells no instruction, with the least rule that it breaks.
+    /// The first slot that encodes no instruction, with the least rule that it breaks.
     Fault(Fault),
-    /// There was no memory for the program.
+    /// Memory for the program can't be allocated.
     NoMemory,
 }
 
@@ -31,14 +31,15 @@ impl From<AllocError> for DecodeError {
 /// Decodes a program.
 ///
 /// # Errors
-/// The fault of the first slot that spells no instruction, or that memory was refused, which comes first.
+/// Returns the fault of the first slot that encodes no instruction. Returns `NoMemory` if memory
+/// can't be allocated.
 pub fn decode(alloc: Global, bytes: &[u8]) -> Result<Vec<Insn>, DecodeError>
     ensures program { IfOk result (λ v. Spells bytes.now v.items) }
     ensures spelled { (p : List Insn) → Spells bytes.now p → MatchResult result (λ v. v.items ≡ p) (λ e. e ≡ DecodeError.NoMemory) }
     ensures fault { IfErr result (IsDecodeError bytes.now) }
     ensures function { IfOk result (λ v. (v.items ≡ decoded_program bytes.now) × (first_fault bytes.now ≡ None)) }
 {
-    // The checker has to see the parts of an instruction where one is moved into a collection.
+    // The checker must see the parts of an instruction if one is moved into a collection.
     let _parts: (Option<Operand>, Option<Jump>) = (None, None);
     let slots = bytes.len() / 8;
     let mut program = Vec::with_capacity(alloc, slots)?;
@@ -62,7 +63,9 @@ pub fn decode(alloc: Global, bytes: &[u8]) -> Result<Vec<Insn>, DecodeError>
     Ok(program)
 }
 
-/// The instruction of a slot, or the least rule that it breaks; `second` where it is the second half of a wide load.
+/// Returns the instruction of a slot, or the least rule that it breaks.
+///
+/// `second` says whether the slot is the second half of a wide load.
 fn decode_slot(bytes: &[u8], slot: usize, second: bool) -> Result<Insn, Rule>
     requires whole { 8 * slot + 8 ≤ length bytes.now }
     requires second { second ≡ is_second bytes.now slot }
@@ -80,7 +83,7 @@ fn decode_slot(bytes: &[u8], slot: usize, second: bool) -> Result<Insn, Rule>
     }
 }
 
-/// The fields of a slot, if it lies wholly within the bytes.
+/// Returns the fields of a slot, if it lies wholly within the bytes.
 fn fields_at(bytes: &[u8], slot: usize) -> Option<Fields>
     requires { 8 * slot ≤ length bytes.now }
     ensures { result ≡ whole_fields_at bytes.now slot }

@@ -1,4 +1,4 @@
-//! From instructions to bytes.
+//! Encoding: from instructions to bytes.
 ghost use Rattle.std.specs.Prelude.{IfOk, true, ◌++◌, ◌≡◌};
 ghost use Rattle.std.specs.List.{flat_map};
 ghost use Rattle.fc_isa.specs.Encoding.{bytes_of_fields, encoded, insn_slots};
@@ -8,10 +8,10 @@ use crate::fields::Fields;
 use crate::insn::Insn;
 use std::alloc::{AllocError, Global};
 
-/// Encodes a program: eight bytes for each slot (RFC 9669, 3).
+/// Encodes a program, eight bytes for each slot (RFC 9669, section 3).
 ///
 /// # Errors
-/// Memory was refused.
+/// Returns `AllocError` if memory can't be allocated.
 pub fn encode(alloc: Global, program: &[Insn]) -> Result<Vec<u8>, AllocError>
     requires { is_program program.now ≡ true }
     ensures { IfOk result (λ v. v.items ≡ encoded program.now) }
@@ -23,7 +23,9 @@ pub fn encode(alloc: Global, program: &[Insn]) -> Result<Vec<u8>, AllocError>
     Ok(bytes)
 }
 
-/// Appends an instruction's slots: a wide load has two, and its second half none of its own.
+/// Appends an instruction's slots.
+///
+/// A wide load writes two slots, and its second half writes none.
 fn write(bytes: &mut Vec<u8>, insn: Insn) -> Result<(), AllocError>
     ensures { IfOk result (λ _. bytes.new.items ≡ bytes.old.items ++ flat_map bytes_of_fields (insn_slots insn)) }
 {

@@ -1,4 +1,6 @@
-//! The fields of a slot: read from its bytes and written to them, with the first rule that they break.
+//! The fields of a slot: read from its bytes, written to them, and checked.
+//!
+//! A check returns the first rule that they break.
 ghost use Rattle.std.specs.Prelude.{◌≡◌, ◌<◌, ◌+◌, ◌*◌, ◌/◌, ◌%◌, ◌^◌, None, true, length};
 ghost use Rattle.std.specs.Int.{w16, w32, cast_signed, cast_unsigned};
 ghost use Rattle.fc_isa.specs.Encoding.{bytes_of_fields, fields, fields_of, insn_of, insn_with, read_fields, second_half, slot_fault, unused_are_zero, values_allowed, is_second_half, alu_values_allowed, arithmetic, move_insn, operand_of, called, sign_offset, signed_by, extended_bits, extended_width, swap_width, swap_bits, source_of, src_of, imm_of};
@@ -12,13 +14,15 @@ use crate::rule::Rule;
 use crate::shape::{Shape, SourceOperand};
 use std::marker::Model;
 
-/// The frame pointer, which no instruction may write, and the greatest register.
+/// The frame pointer, the greatest register; no instruction may write it.
 const FRAME_POINTER: u8 = 10;
 
-/// 2 to the 32: a wide load's value is its high half times this, and its low half.
+/// 2 to the 32, the factor of the high half of a wide load's value.
 const WORD: u64 = 1 << 32;
 
-/// The fields of a slot (RFC 9669, 3.1). The offset and the immediate are here by their bits.
+/// The fields of a slot (RFC 9669, section 3.1).
+///
+/// The offset and the immediate are stored by their bits.
 #[derive(Clone, Copy)]
 pub(crate) struct Fields {
     opcode: u8,
@@ -42,7 +46,7 @@ impl Model for Fields {
 }
 
 impl Fields {
-    /// The fields of eight bytes.
+    /// Reads the fields from eight bytes.
     pub(crate) fn read(slot: &[u8]) -> Self
         requires { length slot.now ≡ 8 }
         ensures { result ≡ read_fields slot.now }
@@ -56,7 +60,9 @@ impl Fields {
         }
     }
 
-    /// The fields of an instruction's own slot. A second half has none of its own.
+    /// Returns the fields of an instruction's own slot.
+    ///
+    /// A second half has none of its own.
     pub(crate) fn of(insn: &Insn) -> Self
         ensures { result ≡ fields_of insn.now }
     {
@@ -107,7 +113,7 @@ impl Fields {
         }
     }
 
-    /// The fields of an arithmetic instruction.
+    /// Returns the fields of an arithmetic instruction.
     fn computed(op: AluOp, width: Width, dst: Target, operand: &Operand) -> Self
         ensures { result ≡ fields_of (Insn.Alu op width dst operand.now) }
     {
@@ -119,7 +125,7 @@ impl Fields {
             .imm(imm_of(operand))
     }
 
-    /// The fields of a move with sign extension.
+    /// Returns the fields of a move with sign extension.
     fn extended(extension: SignExtension, dst: Target, src: Reg) -> Self
         ensures { result ≡ fields_of (Insn.SignExtend extension dst src) }
     {
@@ -129,7 +135,7 @@ impl Fields {
             .offset(extended_bits(extension))
     }
 
-    /// The fields of a change of the byte order.
+    /// Returns the fields of a byte-order change.
     fn swapped(order: ByteOrder, width: SwapWidth, dst: Target) -> Self
         ensures { result ≡ fields_of (Insn.End order width dst) }
     {
@@ -138,7 +144,7 @@ impl Fields {
             .imm(swap_bits(width))
     }
 
-    /// The fields of a wide load's first slot.
+    /// Returns the fields of a wide load's first slot.
     fn loaded_wide(dst: Target, value: u64) -> Self
         ensures { result ≡ fields_of (Insn.LoadWide dst value) }
     {
@@ -147,7 +153,7 @@ impl Fields {
             .imm(low_half(value))
     }
 
-    /// The fields of a store of an immediate.
+    /// Returns the fields of a store of an immediate.
     fn stored_imm(size: Size, base: Reg, offset: i16, imm: i32) -> Self
         ensures { result ≡ fields_of (Insn.StoreImm size base offset imm) }
     {
@@ -156,7 +162,7 @@ impl Fields {
             .signed_imm(imm)
     }
 
-    /// The fields of a conditional jump.
+    /// Returns the fields of a conditional jump.
     fn compared(jump: &Jump) -> Self
         ensures { result ≡ fields_of (Insn.JumpIf jump.now) }
     {
@@ -172,7 +178,7 @@ impl Fields {
             .imm(imm_of(&jump.right))
     }
 
-    /// A form's opcode, and zeros.
+    /// Returns a form's opcode, with zeros in the other fields.
     fn form(shape: Shape) -> Self
         ensures { result ≡ fields shape 0 0 0 0 }
     {
@@ -182,7 +188,7 @@ impl Fields {
         }
     }
 
-    /// The fields of a second half, of which none is its own.
+    /// Returns the fields of a second half, all zero.
     fn zeros() -> Self
         ensures { result ≡ fields_of Insn.WideSecond }
     {
@@ -195,7 +201,7 @@ impl Fields {
         }
     }
 
-    /// The registers of an access, and its signed offset.
+    /// Sets the registers and the signed offset of an access.
     fn between(self, dst: u8, src: u8, offset: i16) -> Self
         requires dst { dst < 16 }
         requires src { src < 16 }
@@ -236,14 +242,14 @@ impl Fields {
         Fields { imm, ..self }
     }
 
-    /// The second slot of the wide load of this value.
+    /// Returns the second slot of the wide load of this value.
     pub(crate) fn second_half_of(value: u64) -> Self
         ensures { result ≡ second_half (value / 2 ^ 32) }
     {
         Fields::zeros().imm((value / WORD) as u32)
     }
 
-    /// The slot's bytes.
+    /// Returns the slot's bytes.
     pub(crate) fn bytes(self) -> [u8; 8]
         ensures { result ≡ bytes_of_fields self }
     {
@@ -261,7 +267,9 @@ impl Fields {
         ]
     }
 
-    /// The instruction of faultless fields, with the slot after them.
+    /// Builds the instruction from fields that passed all checks.
+    ///
+    /// `next` has the fields of the following slot.
     pub(crate) fn insn(self, next: &Option<Self>) -> Insn
         requires { slot_fault self next.now ≡ None }
         ensures { result ≡ insn_of self next.now }
@@ -273,7 +281,9 @@ impl Fields {
         self.with_shape(Shape::of(self.opcode), high)
     }
 
-    /// The instruction of a form with these fields; `high` is the immediate of the slot after them.
+    /// Returns the instruction of a form with these fields.
+    ///
+    /// `high` is the immediate of the slot after them.
     fn with_shape(self, shape: Shape, high: u32) -> Insn
         requires dst { self.dst < 11 }
         requires src { self.src < 11 }
@@ -300,7 +310,9 @@ impl Fields {
         }
     }
 
-    /// The operation on the destination: a move of a register may extend its sign.
+    /// Returns the operation on the destination.
+    ///
+    /// A move of a register may be one with sign extension.
     fn arithmetic(self, op: AluOp, width: Width, source: SourceOperand) -> Insn
         requires target { self.dst < 10 }
         requires src { self.src < 11 }
@@ -317,7 +329,7 @@ impl Fields {
         }
     }
 
-    /// A move of a register, which extends the sign of as many bits as the offset says.
+    /// Returns a move of a register, which sign-extends the bits given by the offset.
     fn move_of(self, width: Width) -> Insn
         requires target { self.dst < 10 }
         requires src { self.src < 11 }
@@ -352,7 +364,7 @@ impl Fields {
         }
     }
 
-    /// The negation of the destination.
+    /// Returns the negation of the destination.
     fn neg(self, width: Width) -> Insn
         requires { self.dst < 10 }
         ensures { result ≡ Insn.Neg width self.dst }
@@ -361,7 +373,7 @@ impl Fields {
         Insn::Neg { width, dst }
     }
 
-    /// The change of the byte order of as many bits as the immediate says.
+    /// Returns the byte-order change of as many bits as the immediate gives.
     fn end(self, order: ByteOrder) -> Insn
         requires { self.dst < 10 }
         ensures { result ≡ Insn.End order (swap_width self.imm) self.dst }
@@ -370,7 +382,9 @@ impl Fields {
         Insn::End { order, width, dst }
     }
 
-    /// The wide load: its value has the immediate as the low half, and `high` as the high half.
+    /// Returns the wide load.
+    ///
+    /// Its value has the immediate as the low half, and `high` as the high half.
     fn load_wide(self, high: u32) -> Insn
         requires { self.dst < 10 }
         ensures { result ≡ Insn.LoadWide self.dst (high * 2 ^ 32 + self.imm) }
@@ -380,7 +394,7 @@ impl Fields {
         Insn::LoadWide { dst, value }
     }
 
-    /// The load from the source register's address and the offset.
+    /// Returns the load from the source register's address plus the offset.
     fn load(self, loaded: LoadType) -> Insn
         requires target { self.dst < 10 }
         requires src { self.src < 11 }
@@ -394,7 +408,9 @@ impl Fields {
         }
     }
 
-    /// The store of the immediate at the destination register's address and the offset.
+    /// Returns the store of the immediate.
+    ///
+    /// Its address is the destination register plus the offset.
     fn store_imm(self, size: Size) -> Insn
         requires { self.dst < 11 }
         ensures { result ≡ Insn.StoreImm size self.dst (cast_signed w16 self.offset) (cast_signed w32 self.imm) }
@@ -407,7 +423,9 @@ impl Fields {
         }
     }
 
-    /// The store of the source register at the destination register's address and the offset.
+    /// Returns the store of the source register.
+    ///
+    /// Its address is the destination register plus the offset.
     fn store(self, size: Size) -> Insn
         requires dst { self.dst < 11 }
         requires src { self.src < 11 }
@@ -421,7 +439,7 @@ impl Fields {
         }
     }
 
-    /// The jump without a condition, by the offset.
+    /// Returns the unconditional jump by the offset.
     fn jump_always(self) -> Insn
         ensures { result ≡ Insn.JumpAlways (cast_signed w16 self.offset) }
     {
@@ -429,7 +447,7 @@ impl Fields {
         Insn::JumpAlways { offset }
     }
 
-    /// The jump without a condition, by the immediate.
+    /// Returns the unconditional jump by the immediate.
     fn jump_always_long(self) -> Insn
         ensures { result ≡ Insn.JumpAlwaysLong (cast_signed w32 self.imm) }
     {
@@ -437,7 +455,9 @@ impl Fields {
         Insn::JumpAlwaysLong { offset }
     }
 
-    /// The conditional jump, which compares the destination register with the operand.
+    /// Returns the conditional jump.
+    ///
+    /// It compares the destination register with the operand.
     fn jump_if(self, width: Width, relation: Relation, source: SourceOperand) -> Insn
         requires dst { self.dst < 11 }
         requires src { self.src < 11 }
@@ -452,7 +472,7 @@ impl Fields {
         })
     }
 
-    /// The call of a helper, or of a function of the program where the source isn't zero.
+    /// Returns a call of a helper, or of a local function if the source isn't zero.
     fn called(self) -> Insn
         ensures { result ≡ called self }
     {
@@ -464,7 +484,7 @@ impl Fields {
         }
     }
 
-    /// The least rule that the fields break, with the slot after them.
+    /// Returns the least rule that the fields break; `next` is the slot after them.
     pub(crate) fn fault(self, next: &Option<Self>) -> Option<Rule>
         ensures { result ≡ slot_fault self next.now }
     {
@@ -484,7 +504,7 @@ impl Fields {
         }
     }
 
-    /// The fields that the form doesn't use are zero.
+    /// Returns whether the fields that the form doesn't use are zero.
     fn unused_are_zero(self, shape: Shape) -> bool
         ensures { result ≡ unused_are_zero shape self }
     {
@@ -495,7 +515,7 @@ impl Fields {
             && (uses.imm || self.imm == 0)
     }
 
-    /// The fields that the form uses have values that it allows.
+    /// Returns whether the fields that the form uses have allowed values.
     fn values_are_allowed(self, shape: Shape) -> bool
         ensures { result ≡ values_allowed shape self }
     {
@@ -507,7 +527,7 @@ impl Fields {
         }
     }
 
-    /// The offset is one that the operation allows, where it uses it.
+    /// Returns whether the operation allows the offset, if it uses it.
     fn is_alu_offset(self, op: AluOp, width: Width, source: SourceOperand) -> bool
         ensures { result ≡ alu_values_allowed op width source self.offset }
     {
@@ -525,7 +545,7 @@ impl Fields {
     }
 }
 
-/// The operation is signed where the offset of a division or modulo isn't zero.
+/// Returns the signed operation if a division's or modulo's offset isn't zero.
 fn signed_by(offset: u16, op: AluOp) -> AluOp
     ensures { result ≡ signed_by offset op }
 {
@@ -536,7 +556,7 @@ fn signed_by(offset: u16, op: AluOp) -> AluOp
     }
 }
 
-/// The offset of the operation: 1 in signed division and modulo.
+/// Returns the offset of the operation: 1 for signed division and modulo.
 fn sign_offset(op: AluOp) -> u16
     ensures { result ≡ sign_offset op }
 {
@@ -546,7 +566,7 @@ fn sign_offset(op: AluOp) -> u16
     }
 }
 
-/// The form of a move with sign extension.
+/// Returns the form of a move with sign extension.
 fn moving(extension: SignExtension) -> Shape
     ensures { result ≡ Shape.Alu AluOp.Mov (extended_width extension) SourceOperand.X }
 {
@@ -557,7 +577,7 @@ fn moving(extension: SignExtension) -> Shape
     }
 }
 
-/// The width of a move with sign extension.
+/// Returns the width of a move with sign extension.
 fn extended_width(extension: SignExtension) -> Width
     ensures { result ≡ extended_width extension }
 {
@@ -567,7 +587,7 @@ fn extended_width(extension: SignExtension) -> Width
     }
 }
 
-/// The offset of a move with sign extension: how many bits it extends.
+/// Returns the offset of a move with sign extension: the number of bits.
 fn extended_bits(extension: SignExtension) -> u16
     ensures { result ≡ extended_bits extension }
 {
@@ -598,7 +618,7 @@ fn swap_bits(width: SwapWidth) -> u32
     }
 }
 
-/// Where an operand comes from.
+/// Returns the source of an operand: the immediate or a register.
 fn source_of(operand: &Operand) -> SourceOperand
     ensures { result ≡ source_of operand.now }
 {
@@ -608,7 +628,7 @@ fn source_of(operand: &Operand) -> SourceOperand
     }
 }
 
-/// The source register of an operand, 0 where it is an immediate.
+/// Returns the source register of an operand, or 0 for an immediate.
 fn src_of(operand: &Operand) -> u8
     ensures src { result ≡ src_of operand.now }
     ensures below { result < 16 }
@@ -619,7 +639,7 @@ fn src_of(operand: &Operand) -> u8
     }
 }
 
-/// The immediate of an operand, 0 where it is a register.
+/// Returns the immediate of an operand, or 0 for a register.
 fn imm_of(operand: &Operand) -> u32
     ensures { result ≡ imm_of operand.now }
 {
@@ -635,7 +655,7 @@ fn low_half(value: u64) -> u32
     (value % WORD) as u32
 }
 
-/// The slot after a wide load is there, and has nothing but an immediate.
+/// Returns whether the slot after a wide load has nothing but an immediate.
 fn is_second_half(next: &Option<Fields>) -> bool
     ensures { result ≡ is_second_half next.now }
 {

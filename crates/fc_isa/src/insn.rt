@@ -1,9 +1,9 @@
-//! Instructions and what they are made of (RFC 9669, 4 and 5).
+//! Instructions and their parts (RFC 9669, sections 4 and 5).
 ghost use Rattle.std.specs.Prelude.{◌≡◌, ◌<◌, ℕ};
 
 use std::marker::Model;
 
-/// A register, R0 to R10. A clause sees its number.
+/// A register, R0 to R10. In contracts it is its number.
 #[derive(Clone, Copy, PartialEq, Eq)]
 pub struct Reg {
     number: u8,
@@ -20,7 +20,7 @@ impl Model for Reg {
 }
 
 impl Reg {
-    /// Makes the register of this number.
+    /// Makes the register with this number.
     #[inline(always)]
     pub fn new(number: u8) -> Self
         requires { number < 11 }
@@ -29,7 +29,7 @@ impl Reg {
         Reg { number }
     }
 
-    /// Returns the register's number, to index an array of eleven by.
+    /// Returns the register's number, as an index into an array of eleven.
     #[inline(always)]
     pub fn index(self) -> usize
         ensures number { result ≡ self }
@@ -48,7 +48,7 @@ impl Reg {
     }
 }
 
-/// A register that a program may write, R0 to R9. A clause sees its number.
+/// A writable register, R0 to R9. In contracts it is its number.
 #[derive(Clone, Copy, PartialEq, Eq)]
 pub struct Target {
     number: u8,
@@ -65,7 +65,7 @@ impl Model for Target {
 }
 
 impl Target {
-    /// Makes the register of this number.
+    /// Makes the register with this number.
     #[inline(always)]
     pub fn new(number: u8) -> Self
         requires { number < 10 }
@@ -74,7 +74,7 @@ impl Target {
         Target { number }
     }
 
-    /// Returns the register's number, to index an array of eleven by.
+    /// Returns the register's number, as an index into an array of eleven.
     #[inline(always)]
     pub fn index(self) -> usize
         ensures number { result ≡ self }
@@ -93,7 +93,7 @@ impl Target {
     }
 }
 
-/// How many bits an operation works on: the low half of a register, or all of it.
+/// The width of an operation: the low half of a register, or all of it.
 #[derive(Clone, Copy, Debug, PartialEq, Eq)]
 pub enum Width {
     W32,
@@ -107,7 +107,7 @@ pub enum Operand {
     Reg(Reg),
 }
 
-/// An arithmetic operation of two operands (RFC 9669, 4.1).
+/// An arithmetic operation with two operands (RFC 9669, section 4.1).
 #[derive(Clone, Copy, Debug, PartialEq, Eq)]
 pub enum AluOp {
     Add,
@@ -126,7 +126,9 @@ pub enum AluOp {
     Smod,
 }
 
-/// What `movsx` extends by its sign, and to which width. A word is extended to 64 bits alone.
+/// The source width of `movsx`, and the width to which it is extended.
+///
+/// A word is extended to 64 bits only.
 #[derive(Clone, Copy, Debug, PartialEq, Eq)]
 pub enum SignExtension {
     Byte(Width),
@@ -134,7 +136,9 @@ pub enum SignExtension {
     Word,
 }
 
-/// The byte order that `end` gives a number: the host's is little (RFC 9669, 4.2).
+/// The byte order that `end` gives a number (RFC 9669, section 4.2).
+///
+/// The host is little-endian.
 #[derive(Clone, Copy, Debug, PartialEq, Eq)]
 pub enum ByteOrder {
     Little,
@@ -142,7 +146,7 @@ pub enum ByteOrder {
     Swapped,
 }
 
-/// How many low bits a change of the byte order keeps.
+/// The number of low bits that a byte-order change keeps.
 #[derive(Clone, Copy, Debug, PartialEq, Eq)]
 pub enum SwapWidth {
     S16,
@@ -150,7 +154,7 @@ pub enum SwapWidth {
     S64,
 }
 
-/// How many bytes a store writes: 1, 2, 4 or 8.
+/// The number of bytes that a store writes: 1, 2, 4 or 8.
 #[derive(Clone, Copy, PartialEq, Eq)]
 pub enum Size {
     Byte,
@@ -159,7 +163,7 @@ pub enum Size {
     DoubleWord,
 }
 
-/// How many bytes a load reads, and whether their sign is extended.
+/// The number of bytes that a load reads, and whether they are sign-extended.
 #[derive(Clone, Copy, PartialEq, Eq)]
 pub enum LoadType {
     Unsigned(Size),
@@ -168,7 +172,7 @@ pub enum LoadType {
     SignedWord,
 }
 
-/// What a conditional jump asks of its two operands (RFC 9669, 4.3).
+/// The condition of a jump on its two operands (RFC 9669, section 4.3).
 #[derive(Clone, Copy, Debug, PartialEq, Eq)]
 pub enum Relation {
     /// Equal.
@@ -195,7 +199,7 @@ pub enum Relation {
     Sle,
 }
 
-/// A conditional jump: the offset counts slots from the one after it.
+/// A conditional jump; the offset counts slots from the one after it.
 #[derive(Clone, Copy, PartialEq, Eq)]
 pub struct Jump {
     pub width: Width,
@@ -205,10 +209,10 @@ pub struct Jump {
     pub offset: i16,
 }
 
-/// What a slot of a program holds: an instruction, or the second half of the wide load before it.
+/// The contents of a slot: an instruction, or the second half of a wide load.
 #[derive(Clone, Copy, PartialEq, Eq)]
 pub enum Insn {
-    /// `add64 dst, operand` and its like.
+    /// `add64 dst, operand` and similar instructions.
     Alu {
         op: AluOp,
         width: Width,
@@ -232,7 +236,7 @@ pub enum Insn {
         width: SwapWidth,
         dst: Target,
     },
-    /// `lddw dst, value`: it takes two slots.
+    /// `lddw dst, value`, which occupies two slots.
     LoadWide {
         dst: Target,
         value: u64,
@@ -268,13 +272,13 @@ pub enum Insn {
     JumpAlwaysLong {
         offset: i32,
     },
-    /// `jgt left, right, offset` and its like.
+    /// `jgt left, right, offset` and similar instructions.
     JumpIf(Jump),
-    /// `call number`: a helper.
+    /// `call number`: calls a helper.
     CallHelper {
         number: i32,
     },
-    /// `callf offset`: a function of the program.
+    /// `callf offset`: calls a function of the program.
     CallLocal {
         offset: i32,
     },

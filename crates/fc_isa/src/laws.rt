@@ -1,5 +1,6 @@
-//! What programs and their bytes are to one another, and what the table of forms says, for the crates above: each function
-//! is a law, and its contract says it.
+//! Laws about programs, their bytes, and the table of forms.
+//!
+//! They are for the crates above. Each law is the contract of an empty function.
 ghost use Rattle.std.specs.Prelude.{All, List, None, Some, [], count_by, false, length, map, slice_index_or, true, ℕ, ◌*◌, ◌/◌, ◌<◌, ◌≡◌, ◌∷◌};
 ghost use Rattle.fc_isa.specs.Encoding.{BreaksOpcodeFirst, IsFirstFault, Spells, encoded, fault_at, first_fault, decoded_program, slot_rules};
 ghost use Rattle.fc_isa.specs.Program.{IsInsn, is_program};
@@ -14,33 +15,35 @@ use crate::rule::Rule;
 use crate::shape::Shape;
 use crate::table::SHAPES;
 
-/// Bytes with no fault spell a program, with an instruction for each eight of them.
+/// Bytes without a fault encode a program, eight bytes for each instruction.
 pub fn faultless_bytes_spell(bytes: &[u8])
     ensures spells { first_fault bytes.now ≡ None → Spells bytes.now (decoded_program bytes.now) }
     ensures count { length (decoded_program bytes.now) ≡ length bytes.now / 8 }
 {}
 
-/// Bytes that spell a program have no fault, and spell no other.
+/// Bytes that encode a program have no fault, and encode no other.
 pub fn spelled_bytes_are_faultless(bytes: &[u8])
     ensures faultless { (p : List Insn) → Spells bytes.now p → first_fault bytes.now ≡ None }
     ensures one_program { (p : List Insn) → Spells bytes.now p → p ≡ decoded_program bytes.now }
 {}
 
-/// The fault of bytes is that of the first slot that has one, with the least rule that it breaks: a rule below 20.
+/// The fault of bytes is that of the first slot that has one.
+///
+/// Its rule is the least that the slot breaks, and has a number below 20.
 pub fn first_fault_is_first(bytes: &[u8])
     ensures is_first { (rule : Rule) (slot : ℕ) → first_fault bytes.now ≡ Some (slot, rule) → IsFirstFault bytes.now rule slot }
     ensures only_first { (rule : Rule) (slot : ℕ) → IsFirstFault bytes.now rule slot → first_fault bytes.now ≡ Some (slot, rule) }
     ensures low { (rule : Rule) (slot : ℕ) → fault_at bytes.now slot ≡ Some rule → number_of rule < 20 }
 {}
 
-/// The bytes that a program is written as are read as that program.
+/// Encoding and then decoding a program gives that program.
 pub fn written_programs_are_read(program: &[Insn])
     ensures spells { All IsInsn program.now → is_program program.now ≡ true → Spells (encoded program.now) program.now }
     ensures read { All IsInsn program.now → is_program program.now ≡ true → decoded_program (encoded program.now) ≡ program.now }
     ensures count { All IsInsn program.now → is_program program.now ≡ true → length (encoded program.now) ≡ 8 * length program.now }
 {}
 
-/// What an instruction is made of lies within the ranges of its types.
+/// The parts of an instruction are within the ranges of their types.
 pub fn parts_are_within_their_types(insn: Insn)
     ensures { IsInsn insn }
 {}
@@ -51,7 +54,9 @@ pub fn known_forms_are_117()
     ensures { count_by is_known SHAPES ≡ 117 }
 {}
 
-/// The form in an opcode's row is the one that has this opcode, and uses the fields that the opcode's bits say.
+/// The form in an opcode's row has this opcode.
+///
+/// It uses the fields that the opcode's bits require.
 #[tactic(none)]
 pub fn rows_fix_the_used_fields(opcode: u8)
     ensures row { slice_index_or SHAPES opcode Shape.Unknown ≡ shape_of opcode }
@@ -62,12 +67,14 @@ pub fn rows_fix_the_used_fields(opcode: u8)
     ensures imm { is_known (shape_of opcode) ≡ true → (uses (shape_of opcode)).imm ≡ opcode_uses_imm opcode }
 {}
 
-/// The rules of a slot are judged in the order of their numbers.
+/// The rules of a slot are checked in the order of their numbers.
 pub fn slot_rules_come_by_number()
     ensures { map number_of slot_rules ≡ 6 ∷ 7 ∷ 8 ∷ 9 ∷ 10 ∷ [] }
 {}
 
-/// A slot whose opcode has no known form breaks the opcode rule, whatever else it has.
+/// A slot whose opcode has no known form breaks the opcode rule.
+///
+/// This rule comes first, whatever other fields the slot has.
 pub fn unknown_opcodes_are_refused(opcode: u8)
     ensures { is_known (shape_of opcode) ≡ false → BreaksOpcodeFirst opcode }
 {}

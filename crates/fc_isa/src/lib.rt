@@ -1,10 +1,10 @@
-//! Rules and faults of images; instructions of programs, and how eight bytes spell one (RFC 9669, 3).
+//! BPF instructions and their encoding (RFC 9669); rules and faults of images.
 //!
 //! ```rust
 //! use fc_isa::{DecodeError, Insn, decode};
 //! use std::alloc::Global;
 //!
-//! /// Whether bytes spell a program that ends with an exit.
+//! /// Returns whether the bytes encode a program that ends with an exit.
 //! fn ends_with_exit(alloc: Global, bytes: &[u8]) -> Result<bool, DecodeError> {
 //!     let program = decode(alloc, bytes)?;
 //!     Ok(matches!(program.last(), Some(Insn::Exit)))
@@ -13,9 +13,11 @@
 //!
 //! # What is proved
 //!
-//! - What is decoded is spelled so, and what is spelled so is decoded, for all 117 opcodes. A fault is the least slot's least rule.
-//! - A program is written in its one spelling.
-//! - The table of opcodes has 117 known rows, and a row fixes which fields are used.
+//! - For all 117 opcodes: a decoded program is the one that the bytes encode, and every encoded
+//!   program is decoded. A fault is that of the first faulty slot, with the least rule that it
+//!   breaks.
+//! - A program is written in its one encoding.
+//! - The table of opcodes has 117 known rows, and a row determines the used fields.
 //!
 //! By the contracts of `decode`, `encode`, `is_program`, `SHAPES`, `laws`.
 #![tactic(auto)]

@@ -1,10 +1,12 @@
-//! Which lists of slots are programs.
+//! The lists of slots that are programs.
 ghost use Rattle.std.specs.Prelude.{◌≡◌};
 ghost use Rattle.fc_isa.specs.Program as programs;
 
 use crate::insn::Insn;
 
-/// Checks that each wide load has its second half behind it, and that none stands elsewhere. The empty list is a program.
+/// Returns whether each wide load is followed by its second half.
+///
+/// There must be no second half elsewhere. The empty list is a program.
 pub fn is_program(slots: &[Insn]) -> bool
     ensures { result ≡ programs.is_program slots.now }
 {
@@ -18,7 +20,7 @@ pub fn is_program(slots: &[Insn]) -> bool
     !second
 }
 
-/// Whether a second half has to follow.
+/// Returns whether a second half must follow.
 pub(crate) fn is_wide_load(insn: &Insn) -> bool
     ensures { result ≡ programs.is_wide_load insn.now }
 {

@@ -1,13 +1,15 @@
-//! The rules that an image has to keep, each with the number that a refusal's text gives.
+//! The rules for images, each with the number that a refusal prints.
 ghost use Rattle.std.specs.Prelude.{◌≡◌};
 ghost use Rattle.fc_isa.specs.Rules.{number_of, fault_text};
 
 use std::fmt;
 
-/// A rule that an image broke. Its number is 1 to 17 or 20 to 28, and a refusal prints it as `V` and two digits.
+/// A rule that an image broke.
+///
+/// Its number is 1 to 17 or 20 to 28, and a refusal prints it as `V` and two digits.
 #[derive(Clone, Copy, Debug, PartialEq, Eq)]
 pub enum Rule {
-    /// 1: under 16 bytes, another magic, or a length that isn't that of the header and the slots.
+    /// 1: under 16 bytes, another magic, or a length other than header and slots.
     Format,
     /// 2: the count of slots.
     SlotCount,
@@ -17,25 +19,27 @@ pub enum Rule {
     Budget,
     /// 5: a reserved byte of the header isn't zero.
     Reserved,
-    /// 6: an opcode that isn't known.
+    /// 6: an unknown opcode.
     Opcode,
     /// 7: a register nibble above 10.
     Register,
     /// 8: R10 is written.
     FramePointer,
-    /// 9: a field that the instruction doesn't use isn't zero, or a field has a value that isn't allowed.
+    /// 9: an unused field that isn't zero, or a field with a value that isn't allowed.
     Field,
-    /// 10: a wide load without its second slot or with a malformed one, or a rest of under eight bytes.
+    /// 10: a wide load without its second slot, or a partial slot.
+    ///
+    /// The second slot is missing or malformed, or fewer than eight bytes are left at the end.
     WideLoad,
     /// 11: a jump or call to a place outside the program or inside a wide load.
     JumpTarget,
-    /// 12: a jump to a place that isn't later, nor that of a counted loop.
+    /// 12: a jump to a slot that isn't later, other than that of a counted loop.
     BackwardJump,
-    /// 13: a jump out of its function, or a function whose last instruction isn't `exit`.
+    /// 13: a jump out of its function, or a function that doesn't end with `exit`.
     Boundary,
-    /// 14: a local call of a function that isn't later.
+    /// 14: a local call of a function that isn't later in the program.
     BackwardCall,
-    /// 15: more than four stack frames, in the second version eight.
+    /// 15: more than four stack frames, or more than eight in the second version.
     FrameDepth,
     /// 16: the greatest number of steps is above the budget.
     Cost,
@@ -43,21 +47,24 @@ pub enum Rule {
     Helper,
     /// 20: an unset register is read.
     UnsetRegister,
-    /// 21: a pointer where a number is wanted, or the reverse.
+    /// 21: a pointer in place of a number, or the reverse.
     OperandKind,
     /// 22: an access outside its region.
     Access,
-    /// 23: a store into the request.
+    /// 23: a store to the request.
     RequestStore,
     /// 24: a pointer is stored.
     PointerStore,
     /// 25: an exit without a number in R0.
     ExitValue,
-    /// 26: a pointer moves too far.
+    /// 26: a pointer moves outside the allowed range.
     PointerStep,
-    /// 27: a helper's argument is of the wrong kind or range.
+    /// 27: a helper's argument has the wrong kind or range.
     HelperArgument,
-    /// 28: a loop's counter that may not enter below the bound, or a pointer written in a loop's body.
+    /// 28: a loop's counter may start too high, or its body may compute a pointer.
+    ///
+    /// The counter must start below the bound, and each register that an instruction of the body
+    /// computes must be a number.
     LoopState,
 }
 
@@ -97,7 +104,9 @@ impl Rule {
     }
 }
 
-/// A broken rule, and the slot that broke it, counted from 0. It prints as `V16 slot 0`.
+/// A broken rule, with the slot that broke it, counted from 0.
+///
+/// It prints as `V16 slot 0`.
 #[derive(Clone, Copy, Debug, PartialEq, Eq)]
 pub struct Fault {
     pub rule: Rule,

@@ -1,11 +1,13 @@
-//! The form of an instruction, which its opcode alone fixes, and the fields that a form uses (RFC 9669, 3 to 5).
+//! The form of an instruction, and the fields that a form uses.
+//!
+//! The opcode alone determines the form (RFC 9669, sections 3 to 5).
 ghost use Rattle.std.specs.Prelude.{◌≡◌, ◌<◌, ◌≤◌};
 ghost use Rattle.fc_isa.specs.Shapes.{alu_uses_offset, used, uses, writes_dst, shape_of, is_register, is_known, is_wide, opcode_of, coded, sized, load_opcode, end_opcode, alu_class, jump_class, alu_code, jump_code, size_bits};
 
 use crate::insn::{AluOp, ByteOrder, LoadType, Relation, Size, Width};
 use crate::table::SHAPES;
 
-/// The classes (RFC 9669, 3.3).
+/// The classes (RFC 9669, section 3.3).
 const LD: u8 = 0;
 
 const LDX: u8 = 1;
@@ -22,7 +24,7 @@ const JMP32: u8 = 6;
 
 const ALU64: u8 = 7;
 
-/// The codes beside those of [`AluOp`] and [`Relation`] (4.1 to 4.3).
+/// The codes other than those of [`AluOp`] and [`Relation`] (4.1 to 4.3).
 const JA: u8 = 0;
 
 const NEG: u8 = 8;
@@ -40,19 +42,23 @@ const MEM: u8 = 3;
 
 const MEMSX: u8 = 4;
 
-/// [`SHAPES`] in memory, once: a constant that is indexed is written out anew at each use.
+/// [`SHAPES`] in memory, once: a constant is copied at each place that indexes it.
 static FORMS: [Shape; 256] = SHAPES;
 
-/// Where the second operand comes from (RFC 9669, 4): K is the immediate, X the source register.
+/// The source of the second operand (RFC 9669, section 4).
+///
+/// K is the immediate, and X the source register.
 #[derive(Clone, Copy, PartialEq, Eq)]
 pub enum SourceOperand {
     K,
     X,
 }
 
-/// An opcode's form. What the opcode leaves open stands in the other fields of the slot: the signed division is a division
-/// with offset 1, `movsx` a move of a register with another offset than 0, and a call's source tells a helper from a
-/// function of the program.
+/// An opcode's form.
+///
+/// Other fields of the slot decide the rest. Signed division is a division with offset 1, and
+/// `movsx` is a move of a register with an offset other than 0. A call's source distinguishes a
+/// helper from a function of the program.
 #[derive(Clone, Copy, PartialEq, Eq)]
 pub enum Shape {
     /// No instruction has this opcode.
@@ -89,7 +95,9 @@ pub enum Shape {
     Exit,
 }
 
-/// Which fields a slot uses: the destination, the source, the offset, the immediate. The others are zero.
+/// The fields that a slot uses; the others are zero.
+///
+/// They are the destination, the source, the offset and the immediate.
 #[derive(Clone, Copy, PartialEq, Eq)]
 pub struct Uses {
     pub dst: bool,
@@ -99,7 +107,7 @@ pub struct Uses {
 }
 
 impl Shape {
-    /// Looks up the form of the instructions with this opcode.
+    /// Returns the form of the instructions with this opcode.
     #[tactic(none)]
     pub fn of(opcode: u8) -> Self
         ensures { result ≡ shape_of opcode }
@@ -107,7 +115,7 @@ impl Shape {
         FORMS[opcode as usize]
     }
 
-    /// The opcode of the form.
+    /// Returns the opcode of the form.
     pub(crate) fn opcode(self) -> u8
         ensures { result ≡ opcode_of self }
     {
@@ -132,21 +140,21 @@ impl Shape {
         }
     }
 
-    /// Whether it is an instruction's form.
+    /// Returns whether it is an instruction's form.
     pub(crate) fn is_known(self) -> bool
         ensures { result ≡ is_known self }
     {
         !matches!(self, Shape::Unknown)
     }
 
-    /// Whether it takes two slots.
+    /// Returns whether it occupies two slots.
     pub(crate) fn is_wide(self) -> bool
         ensures { result ≡ is_wide self }
     {
         matches!(self, Shape::LoadWide)
     }
 
-    /// Whether the destination register is written.
+    /// Returns whether it writes the destination register.
     pub(crate) fn writes_dst(self) -> bool
         ensures { result ≡ writes_dst self }
     {
@@ -160,8 +168,10 @@ impl Shape {
         )
     }
 
-    /// Tells which fields of its slot the form uses, as the table of instructions has them, row by row: an immediate stands where no
-    /// register does.
+    /// Returns the fields that the form uses.
+    ///
+    /// It follows the instruction table row by row: an operand that isn't a register is an
+    /// immediate.
     pub fn uses(self) -> Uses
         ensures { result ≡ uses self }
     {
@@ -191,7 +201,7 @@ impl Shape {
     }
 }
 
-/// The fields dst, src, offset and imm.
+/// Returns the uses of the fields dst, src, offset and imm.
 fn used(dst: bool, src: bool, offset: bool, imm: bool) -> Uses
     ensures { result ≡ used dst src offset imm }
 {
@@ -203,7 +213,9 @@ fn used(dst: bool, src: bool, offset: bool, imm: bool) -> Uses
     }
 }
 
-/// Whether arithmetic uses the offset: division and modulo do, and a move of a register.
+/// Returns whether an arithmetic operation uses the offset.
+///
+/// Division and modulo do, and so does a move of a register.
 fn alu_uses_offset(op: AluOp, source: SourceOperand) -> bool
     ensures { result ≡ alu_uses_offset op source }
 {
@@ -215,7 +227,7 @@ fn alu_uses_offset(op: AluOp, source: SourceOperand) -> bool
 }
 
 impl SourceOperand {
-    /// Whether it is the source register.
+    /// Returns whether the operand is the source register.
     pub(crate) fn is_register(self) -> bool
         ensures { result ≡ is_register self }
     {
@@ -223,7 +235,7 @@ impl SourceOperand {
     }
 }
 
-/// An opcode of arithmetic or a jump.
+/// Returns the opcode of an arithmetic instruction or a jump.
 fn coded(code: u8, source: SourceOperand, class: u8) -> u8
     requires code { code < 16 }
     requires class { class < 8 }
@@ -235,7 +247,7 @@ fn coded(code: u8, source: SourceOperand, class: u8) -> u8
     }
 }
 
-/// An opcode of a load or store.
+/// Returns the opcode of a load or store.
 fn sized(mode: u8, size: Size, class: u8) -> u8
     requires mode { mode < 8 }
     requires class { class < 8 }
@@ -297,7 +309,9 @@ fn jump_class(width: Width) -> u8
     }
 }
 
-/// The code of an operation (4.1); signed division and modulo share that of the unsigned.
+/// Returns the code of an operation (RFC 9669, section 4.1).
+///
+/// Signed division and modulo have the code of the unsigned operation.
 fn alu_code(op: AluOp) -> u8
     ensures code { result ≡ alu_code op }
     ensures below { result < 16 }
@@ -318,7 +332,7 @@ fn alu_code(op: AluOp) -> u8
     }
 }
 
-/// The code of a conditional jump (4.3).
+/// Returns the code of a conditional jump (RFC 9669, section 4.3).
 fn jump_code(relation: Relation) -> u8
     ensures code { result ≡ jump_code relation }
     ensures below { result < 16 }

@@ -1,4 +1,4 @@
-//! The form of each opcode, as one table.
+//! The table of forms, by opcode.
 use crate::insn::{AluOp, ByteOrder, LoadType, Relation, Size, Width};
 use crate::shape::{Shape, SourceOperand};
 
@@ -20,7 +20,7 @@ macro_rules! load {
     };
 }
 
-/// Each opcode's form, in the order of the opcodes.
+/// The form of each opcode, in the order of the opcodes.
 pub const SHAPES: [Shape; 256] = [
     Shape::Unknown, // 0x00
     Shape::Unknown, // 0x01

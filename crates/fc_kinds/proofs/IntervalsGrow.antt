@@ -1,4 +1,4 @@
--- A wider range of operands has a wider range of results.
+-- A wider interval of operands has a wider interval of results.
 use Rattle.std.proofs.Common.{◌≡◌, inl, inr, ℕ, zero, suc, ◌-◌, ◌*◌, ◌/◌, ◌%◌, ◌^◌, ◌<◌, ◌≤◌, ◌==◌, ◌&&◌, Bool, true, false, nat_lt, if◌then◌else◌, max, refl, subst, arith}
 use Rattle.std.proofs.lemmas.Bool.Decides.{nat_tests}
 use Rattle.std.proofs.lemmas.Bool.{cases_lt}
@@ -53,7 +53,7 @@ moded_grows w a b a' b' p q h i = grind (arith, nat_tests, p, q, h, i)
 masked_grows : (w : ℕ) (a b a' b' : Interval) → IsInterval w a → IsInterval w b → IntervalWithin a a' → IntervalWithin b b' → IntervalWithin (masked a b) (masked a' b')
 masked_grows w a b a' b' p q h i = grind (arith, nat_tests, p, q, h, i)
 
--- the bits that a number needs
+-- the number of bits of a number
 pub needed_enough : (w n : ℕ) → n < 2 ^ w → n < 2 ^ bits_needed w n
 needed_enough zero n h = h
 needed_enough (suc k) n h = go (nat_lt n (2 ^ k)) refl (needed_enough k n)
@@ -151,7 +151,7 @@ span_grows w Arsh a b a' b' p q p' q' h i = shifted_signed_grows w a b a' b' p q
 span_grows w Sdiv a b a' b' p q p' q' h i = all_within w
 span_grows w Smod a b a' b' p q p' q' h i = all_within w
 
--- what an operation makes of wider ranges is wider
+-- the interval of an operation on wider intervals is wider
 pub alu_interval_grows : (op : AluOp) (width : Width) (a b a' b' : Interval) → a.lo ≤ a.hi → b.lo ≤ b.hi → IntervalWithin a a' → IntervalWithin b b' → IntervalWithin (alu_interval op width a b) (alu_interval op width a' b')
 unfolding alu_interval
 alu_interval_grows op width a b a' b' p q h i =

@@ -1,4 +1,4 @@
--- The range that an operation gives holds some number, and numbers of the width alone.
+-- The interval of an operation contains a number, and only numbers of the width.
 use Rattle.std.proofs.Common.{ℕ, ◌*◌, ◌/◌, ◌%◌, ◌^◌, ◌≤◌, max, arith}
 use Rattle.std.proofs.lemmas.Bool.Decides.{nat_tests}
 use Rattle.std.proofs.lemmas.Nat.{pow_pos, mul-le, shr_le}

@@ -1,4 +1,5 @@
--- Refinement: numbers of which the relation holds stay in the ranges, and wider ranges are refined to wider ones.
+-- Refinement: numbers for which the relation holds stay in the intervals, and wider intervals are
+-- refined to wider ones.
 use Rattle.std.proofs.Common.{◌≡◌, ℕ, ◌≤◌, ◌==◌, not, Bool, true, false, nat_lt, nat_le, Option, Some, None, refl, sym, ap, subst, arith}
 use Rattle.std.proofs.lemmas.Bool.Decides.{nat_tests}
 use Rattle.fc_isa.specs.declared.insn.Relation.{Relation}
@@ -8,14 +9,15 @@ use Rattle.fc_kinds.specs.declared.interval.Interval.{Interval}
 use Rattle.fc_kinds.specs.Intervals.{both, above, above_equal, exchanged, equal, unequal, refined}
 use Rattle.fc_kinds.specs.Containing.{Inside, IntervalWithin}
 
--- a refinement that leaves these two numbers possible
+-- after a refinement these two numbers are still in the intervals
 pub record Leaves (o : Option (Interval × Interval)) (x y : ℕ) : Type 0 where
   pub pair : Interval × Interval
   pub is : o ≡ Some pair
   pub left : Inside x pair.0
   pub right : Inside y pair.1
 
--- a refinement of two ranges that hold some number is within a refinement of wider ones, where there is one
+-- a refinement of two intervals with numbers in them is within the refinement of wider ones, if
+-- there is one
 pub record Narrower (o : Option (Interval × Interval)) (p q : Interval) : Type 0 where
   pub pair : Interval × Interval
   pub is : o ≡ Some pair
@@ -44,7 +46,7 @@ equal_left a b x y t h i = left_both _ _ _ x y (grind (arith, nat_tests, t, h, i
 unequal_left : (a b : Interval) (x y : ℕ) → not (x == y) ≡ true → Inside x a → Inside y b → Leaves (unequal a b) x y
 unequal_left a b x y t h i = left_both _ _ _ x y (grind (arith, nat_tests, t, h, i)) (grind (arith, nat_tests, t, h, i)) i
 
--- the numbers of which the relation holds are left
+-- the numbers for which the relation holds stay
 pub refined_leaves : (r : Relation) (a b : Interval) (x y : ℕ) → holds 64 r x y ≡ true → Inside x a → Inside y b → Leaves (refined r a b) x y
 unfolding refined holds
 refined_leaves Eq a b x y t h i = equal_left a b x y t h i
@@ -59,7 +61,7 @@ refined_leaves Sge a b x y t h i = record { pair = (a, b); is = refl; left = h; 
 refined_leaves Slt a b x y t h i = record { pair = (a, b); is = refl; left = h; right = i }
 refined_leaves Sle a b x y t h i = record { pair = (a, b); is = refl; left = h; right = i }
 
--- ---- wider ranges
+-- ---- wider intervals
 
 narrower_both : (t t' : Bool) (a b a' b' p q : Interval) → both t a b ≡ Some (p, q) → (t ≡ true → t' ≡ true) → (t ≡ true → IntervalWithin a a') → (t ≡ true → IntervalWithin b b') → Narrower (both t' a' b') p q
 narrower_both false t' a b a' b' p q e f h i = absurd (cc e)
@@ -97,7 +99,7 @@ unequal_narrower a b a' b' p q m n e h i = narrower_both _ _ _ _ _ _ p q e (λ t
 unrefined : (a b a' b' p q : Interval) → both true a b ≡ Some (p, q) → IntervalWithin a a' → IntervalWithin b b' → Narrower (both true a' b') p q
 unrefined a b a' b' p q e h i = narrower_both true true a b a' b' p q e (λ t. t) (λ t. h) (λ t. i)
 
--- ranges that hold some number each are refined within what wider ones are
+-- intervals with numbers in them are refined within the refinement of wider ones
 pub refined_narrower : (r : Relation) (a b a' b' p q : Interval) → a.lo ≤ a.hi → b.lo ≤ b.hi → refined r a b ≡ Some (p, q) → IntervalWithin a a' → IntervalWithin b b' → Narrower (refined r a' b') p q
 unfolding refined
 refined_narrower Eq a b a' b' p q m n e h i = equal_narrower a b a' b' p q e h i
@@ -112,7 +114,7 @@ refined_narrower Sge a b a' b' p q m n e h i = unrefined a b a' b' p q e h i
 refined_narrower Slt a b a' b' p q m n e h i = unrefined a b a' b' p q e h i
 refined_narrower Sle a b a' b' p q m n e h i = unrefined a b a' b' p q e h i
 
--- ---- a refinement leaves ranges that hold some number
+-- ---- after a refinement the intervals contain numbers
 
 proper_both : (t : Bool) (a b p q : Interval) → both t a b ≡ Some (p, q) → (t ≡ true → (a.lo ≤ a.hi) × (b.lo ≤ b.hi)) → (p.lo ≤ p.hi) × (q.lo ≤ q.hi)
 proper_both false a b p q e f = absurd (cc e)
@@ -153,7 +155,7 @@ refined_proper Sge a b p q m n e = proper_both true a b p q e (λ t. (m, n))
 refined_proper Slt a b p q m n e = proper_both true a b p q e (λ t. (m, n))
 refined_proper Sle a b p q m n e = proper_both true a b p q e (λ t. (m, n))
 
--- ---- and within those before
+-- ---- and are within those before
 
 abbrev pub AreInside : Interval → Interval → Interval → Interval → Type 0
 AreInside p q a b = IntervalWithin p a × IntervalWithin q b

@@ -1,4 +1,4 @@
--- The results of an operation are in the range that is said of them.
+-- The results of an operation are in its interval.
 use Rattle.std.proofs.Common.{◌≡◌, ℕ, ◌+◌, ◌-◌, ◌*◌, ◌/◌, ◌%◌, ◌^◌, ◌<◌, ◌≤◌, ◌==◌, ◌&&◌, Bool, true, false, nat_lt, nat_le, if◌then◌else◌, max, ℤ, pos, negsuc, refl, ap, ◌∙◌, arith}
 use Rattle.std.proofs.lemmas.Bool.Decides.{nat_tests}
 use Rattle.std.proofs.lemmas.Nat.{pow_pos, mul-le, shr_le, or_lt, xor_lt, and_le_l, and_le_r, mod_below}
@@ -35,7 +35,7 @@ added_in w x y a b p q h i =
     let small : x + y < 2 ^ w → (x + y) % 2 ^ w ≡ x + y = λ lt. mod-eq_of_lt lt in
     grind (arith, nat_tests, h, i, r, small)
 
--- a whole turn more changes no remainder
+-- adding the modulus doesn't change a remainder
 turn : (m d : ℕ) → d < m → (d + m) % m ≡ d
 turn m d h = add-mod_right d m ∙ mod-eq_of_lt h
 
@@ -129,7 +129,7 @@ shifted_signed_in w x y a b p h i = go ((b.lo == b.hi) && nat_lt a.hi (2 ^ (w - 
         let is : unsigned w (floor_halved (signed w x) (y % w)) ≡ x / 2 ^ (y % w) = ap (λ z. unsigned w (floor_halved z (y % w))) (low_signed w x (omega (arith, h, low))) ∙ mod-eq_of_lt (omega (arith, less, p)) in
         rw (is, ← same) (div_grows a.lo x (2 ^ (b.lo % w)) (2 ^ (b.lo % w)) h.0 (pow_pos (b.lo % w)) (omega arith), div_grows x a.hi (2 ^ (b.lo % w)) (2 ^ (b.lo % w)) h.1 (pow_pos (b.lo % w)) (omega arith))
 
--- signed division and modulo, and what they leave where the divisor is zero
+-- signed division and modulo, and their results for a zero divisor
 sdiv_in : (w y : ℕ) (z : ℤ) → Inside (if y == 0 then 0 else unsigned w z) (all w)
 sdiv_in w y z = let r = unsigned_below w z in let p = pow_pos w in grind (arith, nat_tests, r, p)
 
@@ -160,7 +160,7 @@ clipped_in w x a h =
     let small : x < 2 ^ w → x % 2 ^ w ≡ x = λ lt. mod-eq_of_lt lt in
     grind (arith, nat_tests, h, r, small)
 
--- what an operation makes of numbers in two ranges is in the range of its results
+-- the result of an operation on numbers in two intervals is in its interval
 pub alu_interval_sound : (op : AluOp) (width : Width) (x y : ℕ) (a b : Interval) → Inside x a → Inside y b → Inside (computed_at op width x y) (alu_interval op width a b)
 unfolding alu_interval computed_at
 alu_interval_sound op width x y a b h i =

@@ -28,9 +28,9 @@ use Rattle.fc_kinds.specs.Refinement.{put_right, put_both, relation_of, refines,
 use Rattle.fc_kinds.specs.Ways.{Way, way_where, kinds_when, ways_along, ways_after}
 use Rattle.fc_kinds.proofs.JoinLaws.{joined_at}
 
--- ---- one kind
+-- ---- one abstract value
 
--- a kind that there is
+-- an abstract value, if there is one, has a low level
 abbrev IsLow : ℕ → Option Kind → Type 0
 IsLow top None = Unit {0}
 IsLow top (Some k) = IsShallow top k
@@ -198,7 +198,7 @@ transfer_shallow top vars (CallHelper number) ks after h e = helped_shallow top 
 transfer_shallow top vars (CallLocal offset) ks after h e = met_shallow top true (returned ks) after (call_shallow top (num (all 64)) ks tt h) e
 transfer_shallow top vars Exit ks after h e = met_shallow top _ ks after h e
 
--- ---- ways
+-- ---- branches
 
 abbrev AreLow : ℕ → Option (List Kind) → Type 0
 AreLow top None = Unit {0}

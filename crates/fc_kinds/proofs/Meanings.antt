@@ -1,4 +1,4 @@
--- Worked rows of what instructions and helpers do, and of what programs mean.
+-- Worked examples of the effects of instructions and helpers, and of the meanings of programs.
 use Rattle.std.proofs.Common.{◌≡◌, ℕ, Bool, true, false, List, [], ◌∷◌, ◌++◌, Option, None, Some, refl}
 use Rattle.std.specs.Prelude.{ℤ, pos, negsuc, filter, take, drop, replicate, is_some}
 use Rattle.fc_isa.specs.declared.insn.AluOp.{AluOp}
@@ -36,7 +36,7 @@ use Rattle.fc_kinds.proofs.Rows.{operations}
 abbrev says : List ℕ → Request
 says payload = request_with Post 1 None [] payload
 
--- what it means to a POST of this payload, with a word of variables
+-- the meaning for a POST of this payload, with one word of variables
 abbrev means : List Insn → List ℕ → List ℕ → Meaning
 means code payload vars = meant (record { version = One; code = code; vars_size = 8; budget = 16; cost = 16 }) (input_with (says payload) vars no_readings)
 
@@ -55,7 +55,7 @@ one = 1 ∷ 0 ∷ 0 ∷ 0 ∷ 0 ∷ 0 ∷ 0 ∷ 0 ∷ []
 abbrev none : List ℕ
 none = 0 ∷ 0 ∷ 0 ∷ 0 ∷ 0 ∷ 0 ∷ 0 ∷ 0 ∷ []
 
--- counts the requests in the first word, with a notice
+-- counts the requests in the first word, and sets the notify flag
 abbrev count : List Insn
 count = set 1 (pos 0) ∷ CallHelper (pos 3) ∷ Alu Add W64 0 (Imm (pos 1)) ∷ copy 2 0 ∷ set 1 (pos 0) ∷ CallHelper (pos 4) ∷ CallHelper (pos 7) ∷ set 0 (pos 0) ∷ Exit ∷ []
 
@@ -63,7 +63,7 @@ counts : means count [] none ≡ record { code = 68; reply = []; vars = one; not
 unfolding meant step act helped result_of computed_at computed
 counts = refl
 
--- byte i of the payload is the code, but past the payload's end, where it is 5.00
+-- byte i of the payload is the code; past the payload's end the code is 5.00
 abbrev byte_of : ℤ → List Insn
 byte_of i = set 1 i ∷ CallHelper (pos 2) ∷ Exit ∷ []
 
@@ -87,7 +87,8 @@ past_the_end : means past [] one ≡ result 4 [] one
 unfolding meant step act helped result_of computed_at computed
 past_the_end = refl
 
--- R6 and R10 are kept over a local call, and its frame is fresh: the byte that its caller stores is zero in it
+-- R6 and R10 are saved over a local call, and its frame is fresh: the byte that its caller stores
+-- is zero in it
 abbrev called : List Insn
 called =
     StoreImm Byte 10 (negsuc 0) (pos 5) ∷ set 6 (pos 0) ∷ CallLocal (pos 4) ∷ Load (Unsigned Byte) 1 10 (negsuc 0) ∷ CallHelper (pos 6) ∷ copy 0 6 ∷ Exit
@@ -99,14 +100,15 @@ frames_are_fresh = refl
 
 -- ---- the code of the reply
 
--- 133 (4.05) is no answer
+-- 133 (4.05) isn't an allowed code
 method_not_allowed_is_no_answer : (means (set 0 (pos 133) ∷ Exit ∷ []) [] none).code ≡ 160
 unfolding meant step act helped result_of computed_at computed
 method_not_allowed_is_no_answer = refl
 
 -- ---- loads and stores
 
--- a store of -1 in eight bytes, and signed loads of its parts, are all ones, so that the sum with 129 is 128
+-- a store of -1 in eight bytes, and signed loads of its parts, are all ones, so that the sum with
+-- 129 is 128
 abbrev refused : Meaning
 refused = record { code = 128; reply = []; vars = none; notice = false; steps = 4 }
 
@@ -117,14 +119,14 @@ signs_are_extended : (means (signs (Unsigned DoubleWord)) [] none ≡ refused) �
 unfolding meant step act helped result_of computed_at computed
 signs_are_extended = (refl, refl, refl, refl)
 
--- the least byte comes first; a sign is the last byte's highest bit
+-- the least significant byte comes first; the sign is the last byte's highest bit
 ends_of_loaded_numbers : (loaded_number SignedByte (127 ∷ []) ≡ 127) × (loaded_number SignedByte (128 ∷ []) ≡ 18446744073709551488) × (loaded_number SignedHalfWord (255 ∷ 127 ∷ []) ≡ 32767)
     × (loaded_number SignedHalfWord (0 ∷ 128 ∷ []) ≡ 18446744073709518848) × (loaded_number SignedWord (255 ∷ 255 ∷ 255 ∷ 127 ∷ []) ≡ 2147483647) × (loaded_number SignedWord (0 ∷ 0 ∷ 0 ∷ 128 ∷ []) ≡ 18446744071562067968)
     × (loaded_number (Unsigned Byte) (128 ∷ []) ≡ 128) × (loaded_number (Unsigned HalfWord) (1 ∷ 128 ∷ []) ≡ 32769) × (loaded_number (Unsigned Word) (1 ∷ 1 ∷ 1 ∷ 128 ∷ []) ≡ 2147549441)
     × (loaded_number (Unsigned DoubleWord) (1 ∷ 1 ∷ 1 ∷ 1 ∷ 1 ∷ 1 ∷ 1 ∷ 128 ∷ []) ≡ 9223654615654924545)
 ends_of_loaded_numbers = (refl, refl, refl, refl, refl, refl, refl, refl, refl, refl)
 
--- ten zeros of the frame, in which an instruction stores at the second, are the reply
+-- the reply is ten zeros of the frame, with an instruction's store at the second
 abbrev storing : Insn → List Insn
 storing store =
     LoadWide 6 1234605616436508552 ∷ WideSecond ∷ store ∷ copy 1 10 ∷ Alu Add W64 1 (Imm (negsuc 9)) ∷ set 2 (pos 10) ∷ CallHelper (pos 5) ∷ set 0 (pos 0) ∷ Exit ∷ []
@@ -140,7 +142,8 @@ stores_write_their_bytes : (frame_after (Store Byte 10 (negsuc 8) 6) ≡ 0 ∷ 1
 unfolding meant step act helped result_of computed_at computed
 stores_write_their_bytes = (refl, refl, refl, refl, refl, refl, refl, refl, refl)
 
--- of eight bytes and a zero in the frame, what a load from the second on gives is put into the variables
+-- the result of a load from the second of eight bytes and a zero in the frame, stored in the
+-- variables
 abbrev loading : LoadType → List Insn
 loading l = LoadWide 6 1234605616436508552 ∷ WideSecond ∷ Store DoubleWord 10 (negsuc 8) 6 ∷ Load l 7 10 (negsuc 7) ∷ Store DoubleWord 2 (pos 0) 7 ∷ set 0 (pos 0) ∷ Exit ∷ []
 
@@ -151,7 +154,7 @@ loads_read_their_bytes : ((means (loading (Unsigned Byte)) [] none).vars ≡ 119
 unfolding meant step act helped result_of computed_at computed
 loads_read_their_bytes = (refl, refl, refl, refl, refl, refl, refl)
 
--- ---- jumps: the reply says which of two calls behind a jump are run; R7 is all ones
+-- ---- jumps: the reply shows which of two calls after a jump are run; R7 is all ones
 
 abbrev says_byte : ℤ → List Insn
 says_byte b = set 1 b ∷ CallHelper (pos 6) ∷ []
@@ -176,7 +179,7 @@ jumps_lead_on = (refl, refl, refl, refl, refl, refl, refl, refl, refl, refl, ref
 abbrev words : List ℕ
 words = 1 ∷ 2 ∷ 3 ∷ 4 ∷ 5 ∷ 6 ∷ 7 ∷ 8 ∷ 255 ∷ 255 ∷ 255 ∷ 255 ∷ 255 ∷ 255 ∷ 255 ∷ 255 ∷ []
 
--- a run that has added so many bytes to its reply, with these in R1 and R2, and in R6
+-- a run with this many bytes in its reply, and these values in R1 and R2, and in R6
 abbrev before : Method → ℕ → Value → Value → Config
 before method added a b =
     record (start One (input_with (request_with method 1 None [] (7 ∷ 128 ∷ [])) words no_readings)) {
@@ -208,7 +211,7 @@ helpers_ask_for_arguments : (answer PayloadByte Unset Unset ≡ None) × (answer
 unfolding helped region_of
 helpers_ask_for_arguments = (refl, refl, refl, refl, refl, refl, refl, refl, refl, refl, refl, refl, refl, refl)
 
--- the answer, and the bytes that are behind those of before
+-- the result, and the bytes appended to those of before
 abbrev added_in : ℕ → Option Config → Option (Value × List ℕ)
 added_in added None = None
 added_in added (Some c) = Some (value_at c.regs 0, drop added c.reply)
@@ -240,7 +243,7 @@ calls_keep_registers : (regs_in (helped (before Post 0 (Number 0) (Number 1)) Pa
 unfolding act helped
 calls_keep_registers = (refl, refl)
 
--- ---- what has no step: R1 and R2 hold these
+-- ---- instructions without a step: R1 and R2 have these values
 
 abbrev goes : Insn → Value → Value → Bool
 goes insn a b = is_some (act insn (before Post 0 a b))
@@ -248,7 +251,7 @@ goes insn a b = is_some (act insn (before Post 0 a b))
 abbrev op : AluOp → Width → Insn
 op o width = Alu o width 1 (Reg 2)
 
--- of the operations, those that have a step
+-- the operations that have a step
 abbrev steps_of : Width → Value → Value → List AluOp
 steps_of width a b = filter (λ o. goes (op o width) a b) operations
 
@@ -301,7 +304,7 @@ accesses_stay_in_their_regions : (goes (Load (Unsigned DoubleWord) 6 1 (pos 0)) 
 unfolding act region_of
 accesses_stay_in_their_regions = (refl, refl, refl, refl, refl, refl, refl, refl, refl, refl, refl, refl, refl, refl, refl, refl, refl, refl, refl, refl, refl, refl, refl, refl, refl, refl, refl, refl, refl, refl, refl, refl, refl, refl, refl, refl)
 
--- an exit of a function that was called
+-- an exit from a called function
 abbrev leaving : Value → Option Config
 leaving a = act Exit (record (before Post 0 Unset Unset) { regs = a ∷ []; callers = record { place = 3; kept = [] } ∷ [] })
 
@@ -317,7 +320,7 @@ frames_are_eight : (is_some (calling_from 6) ≡ true) × (is_some (calling_from
 unfolding act
 frames_are_eight = (refl, refl)
 
--- the readings may be read, to their last byte, and not written
+-- the readings can be read, to their last byte, and not written
 readings_are_read : (goes (Load (Unsigned DoubleWord) 6 1 (pos 0)) (Pointer Readings (pos 56)) (Number 3) ≡ true) × (goes (Load (Unsigned DoubleWord) 6 1 (pos 0)) (Pointer Readings (pos 57)) (Number 3) ≡ false)
     × (goes (Store DoubleWord 1 (pos 0) 2) (Pointer Readings (pos 0)) (Number 3) ≡ false) × (goes (StoreImm Byte 1 (pos 0) (pos 0)) (Pointer Readings (pos 0)) (Number 3) ≡ false)
     × (answer ReplyPut (Pointer Readings (pos 0)) (Number 64) ≡ Some (Number 1)) × (answer ReplyPut (Pointer Readings (pos 1)) (Number 64) ≡ None)

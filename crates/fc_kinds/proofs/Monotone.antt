@@ -1,4 +1,5 @@
--- What is allowed at wider kinds is allowed at narrower ones, and its effect and its ways are narrower.
+-- An instruction that is allowed in a wider state is allowed in a narrower one, and its effect and
+-- its branches are narrower.
 use Rattle.std.proofs.Common.{◌≡◌, ℕ, ◌≤◌, ◌&&◌, Bool, true, false, nat_le, if◌then◌else◌, ℤ, pos, negsuc, ◌+ℤ◌, ◌-ℤ◌, ◌≤ℤ◌, int_le, Option, Some, None, List, refl, subst, arith}
 use Rattle.std.proofs.lemmas.Int.{ints}
 use Rattle.std.proofs.lemmas.Bool.Decides.{nat_tests}
@@ -25,13 +26,13 @@ use Rattle.fc_kinds.specs.declared.kind.Kind.TheVariants.{Unset, Num, Stack, Req
 use Rattle.fc_kinds.specs.Kinds.{KindWithin, Within}
 use Rattle.fc_kinds.specs.Transfer.{num, by_form, no_pointer, where_number, is_number, operand_kind, small, distance, near, numbers, forth, back, set, alu_kind, ordered_interval, inside, may_read, may_write}
 
--- where the wider has a kind, the narrower has one too, and it is narrower
+-- if the wider has a result, the narrower has one too, and it is narrower
 abbrev pub KindFollows : Option Kind → Option Kind → Type 0
 KindFollows narrow None = Unit {0}
 KindFollows None (Some wide) = ⊥
 KindFollows (Some narrow) (Some wide) = KindWithin narrow wide × IsKind narrow
 
--- a pointer's form, whose containment is that of its ends
+-- a pointer's form, for which containment is that of the ends
 pub record IsForm (form : ℤ → ℤ → Kind) : Type 0 where
   pub within : (lo hi lo' hi' : ℤ) → lo' ≤ℤ lo → hi ≤ℤ hi' → KindWithin (form lo hi) (form lo' hi')
   pub is : (lo hi : ℤ) → IsNear lo hi → IsKind (form lo hi)
@@ -79,7 +80,7 @@ numbers_follow : (op : AluOp) (width : Width) (b b' : Kind) → IsKind b → Kin
 numbers_follow op width b b' p w s s' q v = on_number_follows b b' (λ t. Some (num (alu_interval op width s t))) (λ t. Some (num (alu_interval op width s' t))) p w
     (λ t t' r u. (alu_interval_grows op width s t s' t' q.0 r.0 v u, low width (alu_interval op width s t) (alu_interval_proper op width s t q.0 r.0)))
 
--- how far pointers are moved
+-- the distances by which pointers are moved
 abbrev FarFollows : Option (ℤ × ℤ) → Option (ℤ × ℤ) → Type 0
 FarFollows narrow None = Unit {0}
 FarFollows None (Some wide) = ⊥
@@ -159,7 +160,7 @@ alu_follows Arsh width o a b a' b' p q v w = plain_follows Arsh width a b a' b' 
 alu_follows Sdiv width o a b a' b' p q v w = plain_follows Sdiv width a b a' b' p q v w
 alu_follows Smod width o a b a' b' p q v w = plain_follows Smod width a b a' b' p q v w
 
--- ---- tests: what the wider passes the narrower passes
+-- ---- tests: if the wider passes, the narrower does
 
 ends_follow : (least most lo hi lo' hi' : ℤ) → lo' ≤ℤ lo → hi ≤ℤ hi' → (int_le least lo' && int_le hi' most) ≡ true → (int_le least lo && int_le hi most) ≡ true
 ends_follow least most lo hi lo' hi' p q e = grind (arith, ints, e, p, q)

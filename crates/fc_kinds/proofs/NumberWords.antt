@@ -1,4 +1,4 @@
--- What the code's shifts give.
+-- The results of the code's shifts.
 use Rattle.std.proofs.Common.{◌%◌, ◌≡◌, Option, Some, None, inl, inr, ℕ, zero, suc, ◌+◌, ◌-◌, ◌*◌, ◌/◌, ◌^◌, ◌<◌, ◌≤◌, Bool, true, false, nat_lt, if◌then◌else◌, refl, ap, ◌∙◌, arith}
 use native.Mathlib.Numerals.{unary_clauses}
 use Rattle.std.proofs.lemmas.Bool.{cases_lt}
@@ -57,7 +57,7 @@ fits_shifted a k m p h =
 pub shifted_fits : (a k m : ℕ) → a * 2 ^ k < m → a ≤ (m - 1) / 2 ^ k
 shifted_fits a k m h = le-div a (m - 1) (2 ^ k) (pow_pos k) (omega (arith, h))
 
--- a range that is shifted out of the width
+-- an interval that is shifted out of the width
 pub shifted_out : (w by : ℕ) (a b : Interval) → by ≡ b.lo % w → (2 ^ w - 1) / 2 ^ by < a.hi → shifted_left w a b ≡ all w
 shifted_out w by a b e h =
     let no : a.hi * 2 ^ by < 2 ^ w → ⊥ = λ lt. let f = shifted_fits a.hi by (2 ^ w) lt in omega (arith, f, h) in

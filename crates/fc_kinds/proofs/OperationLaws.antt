@@ -1,4 +1,4 @@
--- What is known after an operation contains its result, which there is.
+-- The abstract value after an operation contains its result, which exists.
 use Rattle.std.proofs.Common.{◌≡◌, ℕ, ◌≤◌, ◌&&◌, Bool, true, false, nat_le, if◌then◌else◌, ℤ, pos, negsuc, ◌+ℤ◌, ◌-ℤ◌, ◌≤ℤ◌, int_le, Option, Some, None, refl, sym, subst, arith}
 use Rattle.std.specs.Prelude.{FitsSigned}
 use Rattle.std.specs.Int.{w32, w64, cast_signed, cast_unsigned}
@@ -21,7 +21,7 @@ use Rattle.fc_kinds.specs.Values.{Region, Frame, Asked, Variables, Readings, Val
 use Rattle.fc_kinds.specs.Transfer.{immediate, num, by_form, no_pointer, where_number, small, distance, near, numbers, forth, back, moved, alu_kind}
 use Rattle.fc_kinds.specs.Operations.{by_value, no_step, computed_with, moved_forth, moved_back, copied, result_of}
 
--- where there is a kind there is a value, and the kind contains it
+-- if there is an abstract value there is a value, and it is contained
 abbrev pub Gives : ℕ → Option Kind → Option Value → Type 0
 Gives depth None v = Unit {0}
 Gives depth (Some k) None = ⊥
@@ -55,12 +55,12 @@ numbers_give depth op width b y c s x h = by_form_gives depth b y (λ t. Some (n
 plain_gives : (depth : ℕ) (op : AluOp) (width : Width) (a b : Kind) (x y : Value) → Contains depth a x → Contains depth b y → Gives depth (where_number a (numbers op width b)) (by_value x (computed_with op width y) no_step)
 plain_gives depth op width a b x y c d = by_form_gives depth a x (numbers op width b) no_pointer (computed_with op width y) no_step c (numbers_give depth op width b y d) (no_pointers_give depth)
 
--- the operand's kind and value: an immediate is one value
+-- the operand's abstract value and value: an immediate is a single value
 abbrev pub IsOwn : Width → Operand → Value → Type 0
 IsOwn width (Imm k) y = FitsSigned w32 k × (y ≡ Number (immediate width k))
 IsOwn width (Reg r) y = Unit {0}
 
--- how far the operand moves a pointer
+-- the distance by which the operand moves a pointer
 abbrev FarGives : Option (ℤ × ℤ) → Value → Type 0
 FarGives None y = Unit {0}
 FarGives (Some d) (Number n) = (d.0 ≤ℤ cast_signed w64 n) × (cast_signed w64 n ≤ℤ d.1)
@@ -107,7 +107,8 @@ moved_gives : (depth : ℕ) (width : Width) (b : Kind) (y : Value) → Contains 
 moved_gives depth W64 b y c = by_form_gives depth b y (λ s. Some (num s)) (λ form lo hi. Some (form lo hi)) (λ n. Some (Number n)) (λ region o. Some (Pointer region o)) c (λ s n h. h) (λ form lo hi region o i p q. i.contains lo hi o p q)
 moved_gives depth W32 b y c = by_form_gives depth b y (λ t. Some (num (alu_interval Mov W32 t t))) no_pointer (λ n. Some (Number (computed_at Mov W32 n n))) no_step c (λ t n i. alu_interval_sound Mov W32 n n t t i i) (no_pointers_give depth)
 
--- an operation whose demands are met has a result, which the kind after it contains
+-- an operation whose preconditions hold has a result, and the abstract value after it contains the
+-- result
 pub alu_gives : (depth : ℕ) (op : AluOp) (width : Width) (o : Operand) (a b : Kind) (x y : Value) → IsOwn width o y → Contains depth a x → Contains depth b y → Gives depth (alu_kind op width o a b) (result_of op width x y)
 unfolding alu_kind result_of
 alu_gives depth Mov width o a b x y own c d = moved_gives depth width b y d

@@ -1,4 +1,4 @@
--- What is known on a way grows with what is known before.
+-- A wider state has a wider state on each branch.
 use Rattle.std.proofs.Common.{◌≡◌, Bool, true, false, if◌then◌else◌, Option, Some, None, List, length, refl, sym, subst, arith, length-set}
 use Rattle.std.specs.Prelude.{slice_set}
 use Rattle.fc_isa.specs.declared.insn.Width.TheVariants.{W64}
@@ -21,7 +21,7 @@ use Rattle.fc_kinds.proofs.KindLaws.{within_put}
 use Rattle.fc_kinds.proofs.Monotone.{operand_within}
 use Rattle.fc_kinds.proofs.TransferLaws.{kinds_put, operand_is}
 
--- a way that the narrower has the wider has too
+-- a branch of the narrower state is one of the wider
 abbrev pub WayFollows : Option (List Kind) → Option (List Kind) → Type 0
 WayFollows None wide = Unit {0}
 WayFollows (Some narrow) None = ⊥

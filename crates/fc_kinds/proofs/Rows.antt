@@ -1,4 +1,4 @@
--- Worked rows of the transfer function, of refinement and of joins.
+-- Worked examples of the transfer function, of refinement and of joins.
 use Rattle.std.proofs.Common.{◌≡◌, ℕ, Bool, true, false, List, [], ◌∷◌, Option, Some, None, refl}
 use Rattle.std.specs.Prelude.{ℤ, pos, negsuc, map, sum}
 use Rattle.fc_isa.specs.declared.insn.AluOp.{AluOp}
@@ -26,7 +26,8 @@ use Rattle.fc_kinds.specs.Lattice.{join_kind}
 use Rattle.fc_kinds.specs.Transfer.{alu_kind, enter, transfer}
 use Rattle.fc_kinds.specs.Refinement.{when}
 
--- the kind of R0 after an instruction that has R0 and R1 of these kinds, in a program of 8 variable bytes
+-- the abstract value of R0 after an instruction, with these ones in R0 and R1 before it, in a
+-- program with 8 bytes of variables
 abbrev first_of : Option (List Kind) → Option Kind
 first_of None = None
 first_of (Some kinds) = Some (kind_at kinds 0)
@@ -68,7 +69,7 @@ rows_shift : (both Lsh W64 (Num 1 3) (Num 66 66) ≡ Some (Num 4 12)) × (both L
 unfolding transfer alu_kind alu_interval interval_of
 rows_shift = (refl, refl, refl, refl, refl, refl)
 
--- a count of 2 ^ 32 + 1 is no single count of a 32-bit shift; an immediate is its 32 bits there
+-- a count of 2 ^ 32 + 1 isn't a single count of a 32-bit shift; an immediate has 32 bits for it
 rows_narrow : (both Rsh W32 (Num 8 64) (Num 4294967297 4294967297) ≡ Some (Num 0 64)) × (leaves (Alu Mov W32 0 (Imm (negsuc 0))) Unset Unset ≡ Some (Num 4294967295 4294967295)) × (leaves (Alu Mov W64 0 (Imm (negsuc 0))) Unset Unset ≡ Some (Num 18446744073709551615 18446744073709551615))
     × (both Mov W32 Unset (Num 1 4294967296) ≡ Some all32)
 unfolding transfer alu_kind alu_interval interval_of
@@ -99,7 +100,7 @@ rows_access : (leaves (Load (Unsigned Byte) 0 1 (pos 79)) Unset (Req (pos 0) (po
 unfolding transfer alu_kind alu_interval interval_of
 rows_access = (refl, refl, refl, refl, refl, refl, refl, refl, refl, refl, refl, refl, refl, refl)
 
--- ---- refinement: R0 beside R1
+-- ---- refinement: R0 compared with R1
 
 abbrev taken : Relation → Width → Kind → Kind → Option (List Kind)
 taken relation width a b = when (record { width = width; relation = relation; left = 0; right = Reg 1; offset = pos 0 }) true (a ∷ b ∷ [])
@@ -123,7 +124,7 @@ ways_equal : (taken Eq W64 (Num 0 10) (Num 4 20) ≡ two (Num 4 10) (Num 4 10)) 
 unfolding when refined
 ways_equal = (refl, refl, refl, refl, refl, refl, refl, refl)
 
--- signed relations, bits in common, low halves, and a register with itself say nothing
+-- signed relations, common bits, low halves, and a register compared with itself don't refine
 ways_unrefined : (taken Sgt W64 (Num 0 4) (Num 4 20) ≡ two (Num 0 4) (Num 4 20)) × (taken Set W64 (Num 0 0) (Num 4 20) ≡ two (Num 0 0) (Num 4 20)) × (taken Gt W32 (Num 0 4) (Num 4 20) ≡ two (Num 0 4) (Num 4 20))
     × (when (record { width = W64; relation = Gt; left = 0; right = Reg 0; offset = pos 0 }) true (Num 3 3 ∷ []) ≡ Some (Num 3 3 ∷ []))
 unfolding when refined
@@ -132,7 +133,7 @@ ways_unrefined = (refl, refl, refl, refl)
 joins : (join_kind (Num 0 10) (Num 20 30) ≡ Num 0 30) × (join_kind (Num 0 10) (Req (pos 0) (pos 0)) ≡ Unset) × (join_kind (Stack 0 (pos 1) (pos 2)) (Stack 1 (pos 1) (pos 2)) ≡ Unset) × (join_kind (Stack 1 (pos 1) (pos 2)) (Stack 1 (negsuc 0) (pos 1)) ≡ Stack 1 (negsuc 0) (pos 2)) × (join_kind Unset (Num 1 1) ≡ Unset)
 joins = (refl, refl, refl, refl, refl)
 
--- ---- helpers and local calls, in a program of 8 variable bytes
+-- ---- helpers and local calls, in a program with 8 bytes of variables
 
 abbrev helps : ℤ → Kind → Kind → Option Kind
 helps number a b = first_of (transfer 8 (CallHelper number) (Unset ∷ a ∷ b ∷ []))
@@ -143,7 +144,7 @@ rows_helpers : (helps (pos 1) Unset Unset ≡ Some (Num 0 1024)) × (helps (pos 
 unfolding transfer
 rows_helpers = (refl, refl, refl, refl, refl, refl, refl, refl, refl, refl, refl, refl)
 
--- the readings: 64 bytes that may be read and not written
+-- the readings: 64 bytes that can be read and not written
 rows_readings : (leaves (Load (Unsigned DoubleWord) 0 1 (pos 56)) Unset (Dev (pos 0) (pos 0)) ≡ Some all64) × (leaves (Load (Unsigned DoubleWord) 0 1 (pos 57)) Unset (Dev (pos 0) (pos 0)) ≡ None)
     × (is_met (leaves (StoreImm Byte 1 (pos 0) (pos 1)) Unset (Dev (pos 0) (pos 0))) ≡ 0) × (is_met (leaves (Store Byte 1 (pos 0) 0) (Num 1 1) (Dev (pos 0) (pos 0))) ≡ 0)
     × (helps (pos 5) (Dev (pos 0) (pos 0)) (Num 0 64) ≡ Some (Num 0 1)) × (helps (pos 5) (Dev (pos 1) (pos 1)) (Num 0 64) ≡ None)
@@ -161,7 +162,7 @@ rows_reply_put = (refl, refl, refl, refl, refl, refl, refl, refl, refl)
 abbrev regs : List Kind
 regs = Num 0 0 ∷ Num 1 1 ∷ Stack 0 (pos 1) (pos 2) ∷ Req (pos 3) (pos 3) ∷ Num 4 4 ∷ Stack 2 (pos 5) (pos 5) ∷ Num 6 6 ∷ Stack 1 (pos 7) (pos 7) ∷ Num 8 8 ∷ Num 9 9 ∷ Stack 0 (pos 256) (pos 256) ∷ []
 
--- R0 is the answer, R1 to R5 are unset, R6 to R10 are kept
+-- R0 is the result, R1 to R5 are unset, R6 to R10 are saved
 calls_answer : (transfer 8 (CallHelper (pos 7)) regs ≡ Some (Num 0 0 ∷ Unset ∷ Unset ∷ Unset ∷ Unset ∷ Unset ∷ Num 6 6 ∷ Stack 1 (pos 7) (pos 7) ∷ Num 8 8 ∷ Num 9 9 ∷ Stack 0 (pos 256) (pos 256) ∷ []))
     × (transfer 8 (CallLocal (pos 0)) regs ≡ Some (all64 ∷ Unset ∷ Unset ∷ Unset ∷ Unset ∷ Unset ∷ Num 6 6 ∷ Stack 1 (pos 7) (pos 7) ∷ Num 8 8 ∷ Num 9 9 ∷ Stack 0 (pos 256) (pos 256) ∷ []))
 unfolding transfer
@@ -175,11 +176,11 @@ call_hands_on = refl
 abbrev pub operations : List AluOp
 operations = Add ∷ Sub ∷ Mul ∷ Div ∷ Or ∷ And ∷ Lsh ∷ Rsh ∷ Mod ∷ Xor ∷ Mov ∷ Arsh ∷ Sdiv ∷ Smod ∷ []
 
--- what each operation leaves of 6 to 12 and of these numbers
+-- the result of each operation on 6 to 12 and these numbers
 abbrev of_each : Width → Kind → List (Option Kind)
 of_each width b = map (λ op. both op width (Num 6 12) b) operations
 
--- and what it leaves where nothing is refused
+-- the results if no operation is refused
 abbrev somes : List Kind → List (Option Kind)
 somes kinds = map (λ kind. Some kind) kinds
 
@@ -231,7 +232,7 @@ ends_of_shifts : (both Lsh W64 (Num 1 1) (Num 63 63) ≡ Some (Num 9223372036854
 unfolding transfer alu_kind alu_interval interval_of
 ends_of_shifts = (refl, refl, refl, refl, refl, refl, refl, refl, refl, refl, refl, refl, refl, refl, refl, refl, refl, refl)
 
--- a number that may have more than 32 bits is any, where its low half is read
+-- a number that may have more than 32 bits is any number if its low half is read
 low_halves : (both Mov W32 Unset (Num 1 4294967295) ≡ Some (Num 1 4294967295)) × (both Mov W32 Unset (Num 4294967296 4294967296) ≡ Some all32) × (both Mov W64 Unset (Num 1 18446744073709551615) ≡ Some (Num 1 18446744073709551615))
     × (both Rsh W32 (Num 16 4294967295) (Num 4 4) ≡ Some (Num 1 268435455)) × (both Rsh W32 (Num 4294967296 4294967296) (Num 4 4) ≡ Some (Num 0 268435455)) × (both Div W32 (Num 16 16) (Num 1 4294967296) ≡ Some (Num 0 16))
     × (both Div W64 (Num 16 16) (Num 1 4294967296) ≡ Some (Num 0 16)) × (both And W32 (Num 1 4294967296) (Num 7 4294967295) ≡ Some all32) × (both Sub W32 (Num 4294967305 4294967305) (Num 1 2) ≡ Some all32)
@@ -282,7 +283,8 @@ ends_of_offsets : (leaves (Alu Add W64 0 (Imm (pos 1))) (Req (pos 0) (pos 65535)
 unfolding transfer alu_kind alu_interval interval_of
 ends_of_offsets = (refl, refl, refl, refl, refl, refl, refl, refl, refl, refl, refl, refl, refl, refl, refl, refl, refl, refl, refl, refl, refl, refl, refl, refl)
 
--- a register moves a pointer by 65,536 at most, an immediate by any number, and no pointer moves another
+-- a register moves a pointer by at most 65,536, an immediate by any number, and a pointer never
+-- moves another
 ends_of_distances : (both Add W64 (Req (negsuc 65535) (negsuc 65535)) (Num 65536 65536) ≡ Some (Req (pos 0) (pos 0))) × (both Add W64 (Req (negsuc 65535) (negsuc 65535)) (Num 65537 65537) ≡ None)
     × (both Sub W64 (Req (pos 65536) (pos 65536)) (Num 65536 65536) ≡ Some (Req (pos 0) (pos 0))) × (both Sub W64 (Req (pos 65536) (pos 65536)) (Num 65537 65537) ≡ None)
     × (leaves (Alu Add W64 0 (Imm (pos 131072))) (Req (negsuc 65535) (negsuc 65535)) Unset ≡ Some (Req (pos 65536) (pos 65536)))
@@ -336,7 +338,7 @@ is_open (Some kinds) = 1
 abbrev every_relation : List Relation
 every_relation = Eq ∷ Gt ∷ Ge ∷ Set ∷ Ne ∷ Sgt ∷ Sge ∷ Lt ∷ Le ∷ Slt ∷ Sle ∷ []
 
--- how many relations may be asked of these two, beside a register and beside an immediate
+-- how many relations can compare these two, with a register and with an immediate
 abbrev asked : Width → Kind → Kind → ℕ × ℕ
 asked width a b =
     (sum (map (λ relation. is_open (transfer 8 (asks relation width (Reg 1)) (a ∷ b ∷ []))) every_relation), sum (map (λ relation. is_open (transfer 8 (asks relation width (Imm (pos 1))) (a ∷ b ∷ []))) every_relation))
@@ -353,7 +355,7 @@ stores_and_jumps_keep_kinds : (transfer 8 (JumpAlways (pos 3)) [] ≡ Some []) �
 unfolding transfer
 stores_and_jumps_keep_kinds = (refl, refl, refl, refl, refl, refl, refl, refl, refl, refl)
 
--- ---- both sides of each way's condition
+-- ---- both sides of each branch's condition
 
 ends_of_ways_above : (taken Gt W64 (Num 0 4) (Num 4 20) ≡ None) × (taken Gt W64 (Num 0 5) (Num 4 20) ≡ two (Num 5 5) (Num 4 4)) × (taken Gt W64 (Num 7 30) (Num 4 20) ≡ two (Num 7 30) (Num 4 20))
     × (taken Gt W64 (Num 5 21) (Num 4 20) ≡ two (Num 5 21) (Num 4 20)) × (taken Gt W64 (Num 4 20) (Num 4 20) ≡ two (Num 5 20) (Num 4 19)) × (past Gt W64 (Num 5 20) (Num 0 4) ≡ None)
@@ -381,7 +383,7 @@ ends_of_ways_equal : (taken Eq W64 (Num 0 4) (Num 4 20) ≡ two (Num 4 4) (Num 4
 unfolding when refined
 ends_of_ways_equal = (refl, refl, refl, refl, refl, refl, refl, refl, refl, refl, refl, refl, refl, refl, refl, refl, refl, refl, refl, refl, refl, refl, refl, refl, refl, refl)
 
--- R0 beside an immediate, whose sign is extended
+-- R0 compared with a sign-extended immediate
 abbrev beside : Bool → Relation → ℤ → Kind → Option (List Kind)
 beside is_taken relation k a = when (record { width = W64; relation = relation; left = 0; right = Imm k; offset = pos 0 }) is_taken (a ∷ Num 7 7 ∷ [])
 
@@ -396,7 +398,7 @@ ways_beside_an_immediate : (beside true Gt (pos 4) (Num 0 9) ≡ alone (Num 5 9)
 unfolding when refined
 ways_beside_an_immediate = (refl, refl, refl, refl, refl, refl, refl, refl, refl, refl, refl, refl, refl, refl, refl, refl)
 
--- what the relations say on their ways of R0 beside R1, and of a register beside itself
+-- the refinements of R0 compared with R1, and of a register compared with itself
 abbrev said : Width → Bool → List Relation → List (Option (List Kind))
 said width is_taken relations = map (λ relation. when (record { width = width; relation = relation; left = 0; right = Reg 1; offset = pos 0 }) is_taken (Num 0 4 ∷ Num 4 4 ∷ [])) relations
 

@@ -1,4 +1,5 @@
--- Where the wider kinds meet the demands the narrower do, and their effect is narrower.
+-- If the preconditions hold in the wider state, they hold in the narrower, and its effect is
+-- narrower.
 use Rattle.std.proofs.Common.{◌≡◌, ℕ, zero, suc, ◌+◌, ◌^◌, ◌<◌, ◌&&◌, Bool, true, false, Option, Some, None, List, [], ◌∷◌, length, refl, sym, ap, subst, arith, length-set, inl, inr, get_or-set_same, get_or-set_other}
 use Rattle.std.specs.Prelude.{slice_set}
 use Rattle.std.proofs.lemmas.Bool.{cases_eq, and_parts, and_from}
@@ -36,7 +37,7 @@ kinds_put ks r k lt i h = record {
   ];
 }
 
--- where the wider meets the demands the narrower does, and stays narrower
+-- if the preconditions hold in the wider, they hold in the narrower, and the result is narrower
 pub record Meets (narrow wide : Option (List Kind)) (after' : List Kind) : Type 0 where
   pub after : List Kind
   pub is : narrow ≡ Some after
@@ -77,7 +78,7 @@ loaded_is SignedWord = omega arith
 pub number_operand : (width : Width) (o : Operand) (ks ks' : List Kind) → Within ks ks' → is_number (operand_kind width o ks') ≡ true → is_number (operand_kind width o ks) ≡ true
 number_operand width o ks ks' w e = is_number_follows (operand_kind width o ks) (operand_kind width o ks') (operand_within width o ks ks' w) e
 
--- ---- lists that are written out, kind by kind
+-- ---- lists written out, register by register
 
 abbrev pub AreWithin : List Kind → List Kind → Type 0
 AreWithin [] ls = Unit {0}
@@ -126,7 +127,7 @@ raised_is (Req lo hi) i = i
 raised_is (Vars lo hi) i = i
 raised_is (Dev lo hi) i = i
 
--- what a call hands on grows with the caller's kinds
+-- the state at a callee's start is monotone in the caller's state
 pub enter_within : (ks ks' : List Kind) → Within ks ks' → Within (enter ks) (enter ks')
 enter_within ks ks' w =
     let h = λ (r : ℕ). raised_within (kind_at ks r) (kind_at ks' r) (w.each r) in

@@ -1,4 +1,5 @@
--- What intervals and kinds contain, which of them hold some value of their form, and how far up their stack frames lie.
+-- The values in an interval or an abstract value, well-formed abstract values, and bounds on the
+-- levels of their stack frames.
 use Rattle.std.specs.Prelude.{ℕ, ◌^◌, ◌<◌, ◌≤◌, ◌≡◌, ◌+◌, ◌≤ℤ◌, List, ℤ, pos, negsuc, length, [], ◌∷◌}
 use Rattle.fc_kinds.specs.declared.interval.Interval.{Interval}
 use Rattle.fc_kinds.specs.declared.kind.Kind.{Kind}
@@ -13,11 +14,11 @@ Inside n s = (s.lo ≤ n) × (n ≤ s.hi)
 abbrev pub IntervalWithin : Interval → Interval → Type 0
 IntervalWithin a b = (b.lo ≤ a.lo) × (a.hi ≤ b.hi)
 
--- it holds some number, and those of w bits alone
+-- the interval contains a number, and only numbers of w bits.
 abbrev pub IsInterval : ℕ → Interval → Type 0
 IsInterval w s = (s.lo ≤ s.hi) × (s.hi < 2 ^ w)
 
--- a kind contains a value, where the present stack frame is the one of index `depth`
+-- an abstract value contains a value, if the current stack frame has the index `depth`.
 abbrev pub Contains : ℕ → Kind → Value → Type 0
 Contains depth Unset v = Unit {0}
 Contains depth (Num lo hi) (Number n) = (lo ≤ n) × (n ≤ hi)
@@ -27,15 +28,15 @@ Contains depth (Vars lo hi) (Pointer Variables o) = (lo ≤ℤ o) × (o ≤ℤ h
 Contains depth (Dev lo hi) (Pointer Readings o) = (lo ≤ℤ o) × (o ≤ℤ hi)
 Contains depth _ _ = ⊥
 
--- the registers' kinds contain their values
+-- the registers' abstract values contain their values.
 pub record Holds (depth : ℕ) (kinds : List Kind) (values : List Value) : Type 0 where
   pub each : (r : ℕ) → Contains depth (kind_at kinds r) (value_at values r)
 
--- a pointer's ends stay within 65,536 on both sides
+-- a pointer's ends are within 65,536 on both sides.
 abbrev pub IsNear : ℤ → ℤ → Type 0
 IsNear lo hi = (lo ≤ℤ hi) × (negsuc 65535 ≤ℤ lo) × (hi ≤ℤ pos 65536)
 
--- it holds some value of its form; a number has 64 bits
+-- the abstract value contains some value of its form; a number has 64 bits.
 abbrev pub IsKind : Kind → Type 0
 IsKind Unset = Unit {0}
 IsKind (Num lo hi) = (lo ≤ hi) × (hi < 2 ^ 64)
@@ -44,21 +45,21 @@ IsKind (Req lo hi) = IsNear lo hi
 IsKind (Vars lo hi) = IsNear lo hi
 IsKind (Dev lo hi) = IsNear lo hi
 
--- the kinds of eleven registers, each of which holds some value of its form
+-- the abstract values of eleven registers, each of which contains some value of its form.
 pub record AreKinds (kinds : List Kind) : Type 0 where
   pub count : length kinds ≡ 11
   pub each : (r : ℕ) → IsKind (kind_at kinds r)
 
--- a stack frame is at most so many levels above the present one
+-- a stack frame is at most `top` levels above the current one.
 abbrev pub IsShallow : ℕ → Kind → Type 0
 IsShallow top (Stack level lo hi) = level ≤ top
 IsShallow top kind = Unit {0}
 
--- and so it is for each register
+-- this holds for each register.
 pub record AreShallow (top : ℕ) (kinds : List Kind) : Type 0 where
   pub each : (r : ℕ) → IsShallow top (kind_at kinds r)
 
--- no way's kinds have a stack frame more than so many levels above
+-- on no branch is a stack frame more than `top` levels above.
 abbrev pub AllShallow : ℕ → List Way → Type 0
 AllShallow top [] = Unit {0}
 AllShallow top (w ∷ ws) = AreShallow top w.kinds × AllShallow top ws

@@ -1,4 +1,4 @@
--- Ranges of numbers, and the range that each operation's results are in.
+-- Intervals of numbers, and the interval of each operation's results.
 use Rattle.std.specs.Prelude.{ℕ, zero, suc, ◌+◌, ◌-◌, ◌*◌, ◌/◌, ◌%◌, ◌^◌, ◌==◌, ◌&&◌, not, Bool, true, false, nat_lt, nat_le, if◌then◌else◌, min, max, Option, Some, None}
 use Rattle.fc_isa.specs.declared.insn.Width.{Width}
 use Rattle.fc_isa.specs.declared.insn.AluOp.{AluOp}
@@ -13,11 +13,11 @@ use Rattle.fc_kinds.specs.declared.interval.Interval.{Interval}
 abbrev pub interval : ℕ → ℕ → Interval
 interval lo hi = record { lo = lo; hi = hi }
 
--- every number of w bits
+-- every number of w bits.
 abbrev pub all : ℕ → Interval
 all w = interval 0 (2 ^ w - 1)
 
--- what is known of the low w bits
+-- the interval of the low w bits.
 abbrev pub clipped : ℕ → Interval → Interval
 clipped w s = if nat_lt s.hi (2 ^ w) then s else all w
 
@@ -36,7 +36,7 @@ divided a b = if nat_le 1 b.lo then interval (a.lo / b.hi) (a.hi / b.lo) else in
 abbrev pub moded : Interval → Interval → Interval
 moded a b = if nat_le 1 b.lo then interval 0 (min a.hi (b.hi - 1)) else interval 0 a.hi
 
--- the least k up to w with n < 2 ^ k
+-- the least k up to w with n < 2 ^ k.
 abbrev pub bits_needed : ℕ → ℕ → ℕ
 bits_needed zero n = zero
 bits_needed (suc k) n = if nat_lt n (2 ^ k) then bits_needed k n else suc k
@@ -62,7 +62,7 @@ shifted_signed w a b =
     then interval (a.lo / 2 ^ (b.lo % w)) (a.hi / 2 ^ (b.lo % w))
     else all w
 
--- the results of an operation on numbers of w bits in these ranges
+-- the interval of the results of an operation on numbers of w bits in these intervals.
 unfoldable pub interval_of : ℕ → AluOp → Interval → Interval → Interval
 interval_of w Mov a b = b
 interval_of w Add a b = added w a b
@@ -79,11 +79,11 @@ interval_of w Arsh a b = shifted_signed w a b
 interval_of w Sdiv a b = all w
 interval_of w Smod a b = all w
 
--- of two registers, or of their low halves
+-- the same for two registers, or for their low halves.
 unfoldable pub alu_interval : AluOp → Width → Interval → Interval → Interval
 alu_interval op width a b = interval_of (bits_of width) op (clipped (bits_of width) a) (clipped (bits_of width) b)
 
--- the low v bits, their sign extended to w bits
+-- the low v bits, sign-extended to w bits.
 abbrev pub extended_interval : ℕ → ℕ → Interval → Interval
 extended_interval v w b = if nat_lt b.hi (2 ^ (v - 1)) then b else all w
 
@@ -92,14 +92,14 @@ extended_values (Byte width) b = extended_interval 8 (bits_of width) b
 extended_values (HalfWord width) b = extended_interval 16 (bits_of width) b
 extended_values Word b = extended_interval 32 64 b
 
--- ---- refinement: what is known of two numbers of which a relation holds; nothing where it holds of none
+-- ---- refinement: the intervals of two numbers in a relation; `None` if it holds for no two
 
--- two ranges that hold a number each
+-- two intervals, if each contains a number.
 abbrev pub both : Bool → Interval → Interval → Option (Interval × Interval)
 both true a b = Some (a, b)
 both false a b = None
 
--- the first is above the second
+-- the first is above the second.
 abbrev pub above : Interval → Interval → Option (Interval × Interval)
 above a b = both (nat_lt b.lo a.hi) (interval (max a.lo (b.lo + 1)) a.hi) (interval b.lo (min b.hi (a.hi - 1)))
 
@@ -110,14 +110,14 @@ abbrev pub exchanged : Option (Interval × Interval) → Option (Interval × Int
 exchanged None = None
 exchanged (Some p) = Some (p.1, p.0)
 
--- what both hold
+-- the numbers in both intervals.
 abbrev pub overlap : Interval → Interval → Interval
 overlap a b = interval (max a.lo b.lo) (min a.hi b.hi)
 
 abbrev pub equal : Interval → Interval → Option (Interval × Interval)
 equal a b = both (nat_le (max a.lo b.lo) (min a.hi b.hi)) (overlap a b) (overlap a b)
 
--- without a number at an end
+-- the interval without a number at one of its ends.
 abbrev pub without : Interval → ℕ → Interval
 without a n = if a.lo == n then interval (a.lo + 1) a.hi else (if a.hi == n then interval a.lo (a.hi - 1) else a)
 
@@ -127,7 +127,7 @@ is_one a = a.lo == a.hi
 abbrev pub unequal : Interval → Interval → Option (Interval × Interval)
 unequal a b = both (not (is_one a && (is_one b && (a.lo == b.lo)))) (if is_one b then without a b.lo else a) b
 
--- the relations of all 64 bits that say something of ranges
+-- the refinement by a relation of all 64 bits.
 unfoldable pub refined : Relation → Interval → Interval → Option (Interval × Interval)
 refined Eq a b = equal a b
 refined Gt a b = above a b
@@ -137,7 +137,7 @@ refined Lt a b = exchanged (above b a)
 refined Le a b = exchanged (above_equal b a)
 refined relation a b = Some (a, b)
 
--- the relation of the way that isn't taken, where it is one of these
+-- the relation on the branch not taken, for the relations that refine.
 abbrev pub opposite : Relation → Relation
 opposite Eq = Ne
 opposite Gt = Le

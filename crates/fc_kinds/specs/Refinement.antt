@@ -1,4 +1,4 @@
--- What is known on each way of a conditional jump.
+-- The abstract state on each branch of a conditional jump.
 use Rattle.std.specs.Prelude.{ℕ, ◌==◌, Bool, true, false, if◌then◌else◌, List, Option, Some, slice_set}
 use Rattle.fc_isa.specs.declared.insn.Width.{Width}
 use Rattle.fc_isa.specs.declared.insn.Width.TheVariants.{W64}
@@ -14,26 +14,26 @@ use Rattle.fc_kinds.specs.Values.{with_some}
 use Rattle.fc_kinds.specs.Kinds.{kind_at}
 use Rattle.fc_kinds.specs.Transfer.{num, operand_kind}
 
--- what is known of an operand that is a register
+-- sets the interval of an operand that is a register.
 abbrev pub put_right : Operand → List Kind → Interval → List Kind
 put_right (Imm k) kinds s = kinds
 put_right (Reg r) kinds s = slice_set kinds r (num s)
 
--- what is known of both operands, an immediate being in no register
+-- sets the intervals of both operands; an immediate isn't in a register.
 abbrev pub put_both : Jump → List Kind → Interval × Interval → List Kind
 put_both j kinds pair = put_right j.right (slice_set kinds j.left (num pair.0)) pair.1
 
--- a register is compared with itself
+-- a register is compared with itself.
 abbrev pub is_same : Operand → ℕ → Bool
 is_same (Imm k) r = false
 is_same (Reg q) r = q == r
 
--- the way that isn't taken has the opposite relation
+-- the branch not taken has the opposite relation.
 abbrev pub relation_of : Bool → Jump → Relation
 relation_of true j = j.relation
 relation_of false j = opposite j.relation
 
--- relations of all 64 bits are refined, between two registers or a register and an immediate
+-- relations of all 64 bits refine two different registers, or a register and an immediate.
 abbrev pub refines_at : Width → Bool → Bool
 refines_at W64 false = true
 refines_at width same = false
@@ -45,7 +45,7 @@ abbrev pub both_numbers : Kind → Kind → (Interval → Interval → Option (L
 both_numbers (Num lo hi) (Num lo' hi') f kinds = f (interval lo hi) (interval lo' hi')
 both_numbers a b f kinds = Some kinds
 
--- the kinds on a way; nothing where no numbers of these kinds take it
+-- the state on a branch; `None` if no numbers in the state take it.
 unfoldable pub when : Jump → Bool → List Kind → Option (List Kind)
 when j taken kinds =
     if refines j

@@ -1,4 +1,4 @@
--- The transfer function: the registers' kinds after each instruction, where its demands are met.
+-- The transfer function: the abstract state after each instruction, if its preconditions hold.
 use Rattle.std.specs.Prelude.{ℕ, ◌+◌, ◌-◌, ◌^◌, ◌&&◌, Bool, true, false, nat_lt, nat_le, if◌then◌else◌, ℤ, pos, negsuc, ◌+ℤ◌, ◌-ℤ◌, int_le, List, [], ◌∷◌, Option, Some, None, slice_set}
 use Rattle.std.specs.Int.{w32, w64, cast_unsigned}
 use Rattle.fc_isa.specs.declared.insn.Width.{Width}
@@ -32,7 +32,7 @@ use Rattle.fc_kinds.specs.Kinds.{kind_at}
 abbrev pub num : Interval → Kind
 num s = Num s.lo s.hi
 
--- a number's range, a pointer's form and ends, or nothing
+-- by the form of an abstract value: a number's interval, a pointer's form and ends, or `None`.
 abbrev pub by_form : {A : Type 0} → Kind → (Interval → Option A) → ((ℤ → ℤ → Kind) → ℤ → ℤ → Option A) → Option A
 by_form Unset number pointer = None
 by_form (Num lo hi) number pointer = number (interval lo hi)
@@ -51,17 +51,17 @@ abbrev pub is_number : Kind → Bool
 is_number (Num lo hi) = true
 is_number k = false
 
--- an immediate as a number: its 32 bits, or its sign extended to 64
+-- an immediate as a number: its 32 bits, or sign-extended to 64 bits.
 abbrev pub immediate : Width → ℤ → ℕ
 immediate W32 k = cast_unsigned w32 k
 immediate W64 k = cast_unsigned w64 k
 
--- an immediate is one value
+-- an immediate is a single value.
 abbrev pub operand_kind : Width → Operand → List Kind → Kind
 operand_kind width (Imm k) kinds = Num (immediate width k) (immediate width k)
 operand_kind width (Reg r) kinds = kind_at kinds r
 
--- how far a pointer is moved: by an immediate, or by a small number
+-- the distance by which a pointer is moved: an immediate, or a small number.
 abbrev pub small : Interval → Option (ℤ × ℤ)
 small s = if nat_le s.hi 65536 then Some (pos s.lo, pos s.hi) else None
 
@@ -69,7 +69,7 @@ abbrev pub distance : Operand → Kind → Option (ℤ × ℤ)
 distance (Imm k) kind = Some (k, k)
 distance (Reg r) kind = where_number kind small
 
--- offsets stay within 65536 on both sides
+-- offsets stay within 65536 on both sides.
 abbrev pub near : (ℤ → ℤ → Kind) → ℤ → ℤ → Option Kind
 near form lo hi = if int_le (negsuc 65535) lo && int_le hi (pos 65536) then Some (form lo hi) else None
 
@@ -95,7 +95,8 @@ abbrev pub moved : Width → Kind → Option Kind
 moved W64 b = set b
 moved W32 b = where_number b (λ t. Some (num (alu_interval Mov W32 t t)))
 
--- what is known of the destination after an operation, by the kinds of the destination and of the operand
+-- the destination's abstract value after an operation, from those of the destination and of the
+-- operand.
 unfoldable pub alu_kind : AluOp → Width → Operand → Kind → Kind → Option Kind
 alu_kind Mov width operand a b = moved width b
 alu_kind Add W64 operand a b = kind_added operand a b
@@ -122,7 +123,7 @@ abbrev pub loaded_interval : LoadType → Interval
 loaded_interval (Unsigned size) = interval 0 (256 ^ size_of size - 1)
 loaded_interval other = all 64
 
--- n bytes at offset f, from a pointer between these ends, lie in the region
+-- n bytes at offset f, from a pointer between these ends, are in the region.
 abbrev pub inside : ℕ → ℕ → ℤ → ℤ → ℤ → Bool
 inside region n f lo hi = int_le (pos 0) (lo +ℤ f) && int_le (hi +ℤ f +ℤ pos n) (pos region)
 
@@ -145,53 +146,55 @@ abbrev pub where_met : Bool → List Kind → Option (List Kind)
 where_met true kinds = Some kinds
 where_met false kinds = None
 
--- after a call R0 is its answer, R1 to R5 are unset, and the others are as they were
+-- after a call R0 is its result, R1 to R5 are unset, and the others don't change.
 abbrev pub after_call : Kind → List Kind → List Kind
 after_call answer kinds =
     answer ∷ Unset ∷ Unset ∷ Unset ∷ Unset ∷ Unset
     ∷ kind_at kinds 6 ∷ kind_at kinds 7 ∷ kind_at kinds 8 ∷ kind_at kinds 9 ∷ kind_at kinds 10 ∷ []
 
--- a local call answers any number
+-- a local call returns any number.
 abbrev pub returned : List Kind → List Kind
 returned kinds = after_call (num (all 64)) kinds
 
--- the bytes from a pointer on, as many as a number says, lie in its region
+-- the bytes from a pointer on, as many as a number gives, are in its region.
 abbrev pub are_bytes : ℕ → Kind → Kind → Bool
 are_bytes vars pointer (Num lo hi) = may_read vars hi (pos 0) pointer
 are_bytes vars pointer other = false
 
--- R1, or R1 and R2, are what a helper takes
+-- R1, or R1 and R2, are the arguments that a helper requires.
 abbrev pub are_arguments : ℕ → Arguments → List Kind → Bool
 are_arguments vars NoArgument kinds = true
 are_arguments vars OneNumber kinds = is_number (kind_at kinds 1)
 are_arguments vars TwoNumbers kinds = is_number (kind_at kinds 1) && is_number (kind_at kinds 2)
 are_arguments vars Bytes kinds = are_bytes vars (kind_at kinds 1) (kind_at kinds 2)
 
--- the kinds after a helper's call, where it gets what it takes
+-- the state after a helper's call, if it has the arguments that it requires.
 abbrev pub helped_kinds : ℕ → List Kind → Helper → Option (List Kind)
 helped_kinds vars kinds helper =
     where_met (are_arguments vars (signature_of helper).arguments kinds) (after_call (Num 0 (signature_of helper).most) kinds)
 
--- a caller's frame is one level further above in the function that it calls
+-- in a called function its caller's frame is one level further above.
 abbrev pub raised : Kind → Kind
 raised (Stack level lo hi) = Stack (level + 1) lo hi
 raised kind = kind
 
--- what a local call hands to the start of its function: R1 to R5, and R10 at the end of a fresh frame
+-- the state at the start of a function after a local call: R1 to R5 are passed, and R10 is at the
+-- end of a fresh frame.
 abbrev pub enter : List Kind → List Kind
 enter kinds =
     Unset ∷ raised (kind_at kinds 1) ∷ raised (kind_at kinds 2) ∷ raised (kind_at kinds 3) ∷ raised (kind_at kinds 4)
     ∷ raised (kind_at kinds 5)
     ∷ Unset ∷ Unset ∷ Unset ∷ Unset ∷ Stack 0 (pos 256) (pos 256) ∷ []
 
--- it loads or stores
+-- the instruction is a load or a store.
 abbrev pub is_access : Insn → Bool
 is_access (Load loaded dst base offset) = true
 is_access (StoreImm size base offset imm) = true
 is_access (Store size base offset src) = true
 is_access other = false
 
--- the kinds after an instruction, or nothing where its demands aren't met; a program's variables have this size
+-- the state after an instruction, or `None` if its preconditions don't hold; `vars` is the size of
+-- the program's variables.
 unfoldable pub transfer : ℕ → Insn → List Kind → Option (List Kind)
 transfer vars (Alu op width dst operand) kinds =
     put_kind kinds dst (alu_kind op width operand (kind_at kinds dst) (operand_kind width operand kinds))

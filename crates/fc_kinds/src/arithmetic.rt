@@ -1,4 +1,4 @@
-//! The kinds that arithmetic leaves.
+//! Abstract values after arithmetic.
 ghost use Rattle.std.specs.Prelude.{IfErr, IfOk, None, Some, ◌≡◌, ◌≤◌};
 ghost use Rattle.fc_isa.specs.Rules.{number_of};
 ghost use Rattle.fc_kinds.specs.Containing.{AreKinds, IsKind};
@@ -10,10 +10,10 @@ use crate::operands::{num, operand_fault, operand_kind};
 use crate::pointers::{distance, is_near, minus, plus};
 use fc_isa::{AluOp, ByteOrder, Operand, Rule, SwapWidth, Width};
 
-/// An operation on two numbers.
+/// Returns the abstract value after an operation on two numbers.
 ///
 /// # Errors
-/// One of them isn't a number.
+/// Returns the broken rule if one of them isn't a number.
 fn numbers(op: AluOp, width: Width, a: Interval, b: Kind) -> Result<Kind, Rule>
     requires left { a.lo ≤ a.hi }
     requires right { IsKind b }
@@ -28,7 +28,7 @@ fn numbers(op: AluOp, width: Width, a: Interval, b: Kind) -> Result<Kind, Rule>
     }
 }
 
-/// The sum of numbers, or a pointer that is moved.
+/// Returns the sum of numbers, or a pointer moved forwards.
 fn added(operand: Operand, a: Kind, b: Kind) -> Result<Kind, Rule>
     requires left { IsKind a }
     requires right { IsKind b }
@@ -78,7 +78,7 @@ fn added(operand: Operand, a: Kind, b: Kind) -> Result<Kind, Rule>
     }
 }
 
-/// The difference of numbers, or a pointer that is moved back.
+/// Returns the difference of numbers, or a pointer moved backwards.
 fn subtracted(operand: Operand, a: Kind, b: Kind) -> Result<Kind, Rule>
     requires left { IsKind a }
     requires right { IsKind b }
@@ -128,7 +128,9 @@ fn subtracted(operand: Operand, a: Kind, b: Kind) -> Result<Kind, Rule>
     }
 }
 
-/// What a move makes of a kind: the same, of the low half a number's range.
+/// Returns the abstract value after a move.
+///
+/// A 64-bit move keeps it. A 32-bit move gives the range of a number's low half.
 fn moved(width: Width, b: Kind) -> Result<Kind, Rule>
     requires { IsKind b }
     ensures kind { IfOk result (λ k. moved width b ≡ Some k) }
@@ -150,10 +152,11 @@ fn moved(width: Width, b: Kind) -> Result<Kind, Rule>
     }
 }
 
-/// The kind that an operation leaves in its destination.
+/// Returns the destination's abstract value after an operation.
 ///
 /// # Errors
-/// An operand is unset or of the wrong kind, or a pointer is moved too far.
+/// Returns the broken rule if an operand is unset or of the wrong kind, or if a pointer is moved
+/// too far.
 #[tactic(auto, unfolding(crate::specs::Transfer::alu_kind))]
 fn alu_kind(op: AluOp, width: Width, operand: Operand, a: Kind, b: Kind) -> Result<Kind, Rule>
     requires left { IsKind a }
@@ -173,10 +176,11 @@ fn alu_kind(op: AluOp, width: Width, operand: Operand, a: Kind, b: Kind) -> Resu
     }
 }
 
-/// The kind that an operation leaves in its destination, which had the kind `a`.
+/// Returns the destination's abstract value after an operation; it was `a` before.
 ///
 /// # Errors
-/// An operand is unset or of the wrong kind, or a pointer is moved too far.
+/// Returns the broken rule if an operand is unset or of the wrong kind, or if a pointer is moved
+/// too far.
 pub(crate) fn alu_after(
     op: AluOp,
     width: Width,
@@ -193,7 +197,7 @@ pub(crate) fn alu_after(
     alu_kind(op, width, *operand, a, operand_kind(width, *operand, regs))
 }
 
-/// The numbers after a change of the byte order.
+/// Returns the range of numbers after a byte-order change.
 pub(crate) fn ordered_interval(order: ByteOrder, width: SwapWidth, s: Interval) -> Interval
     ensures { result ≡ ordered_interval order width s }
 {

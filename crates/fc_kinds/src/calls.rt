@@ -1,4 +1,4 @@
-//! Calls: what they take, what they hand to a function, and what they leave.
+//! Calls: arguments, effects, and the abstract state at a callee's start.
 ghost use Rattle.std.specs.Prelude.{IfErr, IfOk, None, Some, ◌≡◌, ◌≤◌};
 ghost use Rattle.fc_isa.specs.Rules.{number_of};
 ghost use Rattle.fc_kinds.specs.Containing.{AreKinds, IsKind};
@@ -12,8 +12,10 @@ use crate::pointers::may_read;
 use fc_help::{Arguments, Helper, Signature, helper_of, signature_of};
 use fc_isa::{Insn, Rule, Width};
 
-/// Computes the kinds that a local call hands to the start of its function: R1 to R5, with stack frames one level further
-/// above, and R10 at the end of a fresh frame. Levels are below 1,024.
+/// Returns the abstract state at the start of a function after a local call.
+///
+/// R1 to R5 are passed, with stack frames one level further above. R10 is at the end of a fresh
+/// frame. Levels must be below 1,024.
 pub fn enter(regs: &Regs) -> Regs
     requires { AreShallow 1023 regs.now }
     ensures { result ≡ enter regs.now }
@@ -53,14 +55,16 @@ fn raised(kind: Kind) -> Kind
     }
 }
 
-/// The kinds after a local call: R0 is a number.
+/// Updates the abstract state to that after a local call: R0 is a number.
 pub(crate) fn returned(regs: &mut Regs)
     ensures { regs.new ≡ returned regs.old }
 {
     after_call(num(all(Width::W64)), regs);
 }
 
-/// The kinds after a call: R0 is its answer, R1 to R5 are unset, and the others are as they were.
+/// Updates the abstract state to that after a call.
+///
+/// R0 is the result, R1 to R5 are unset, and the others don't change.
 fn after_call(answer: Kind, regs: &mut Regs)
     ensures { regs.new ≡ after_call answer regs.old }
 {
@@ -70,10 +74,11 @@ fn after_call(answer: Kind, regs: &mut Regs)
     ];
 }
 
-/// The kinds after a helper's call, where the helper exists and gets what it takes.
+/// Updates the abstract state to that after a call of a helper.
 ///
 /// # Errors
-/// An argument is unset, or another than the helper takes.
+/// Returns the broken rule if the helper doesn't exist, or if an argument is unset or isn't one
+/// that the helper accepts. The state then doesn't change.
 #[tactic(auto, unfolding(crate::specs::Transfer::transfer))]
 pub(crate) fn call_helper(number: i32, regs: &mut Regs, vars_size: u16) -> Result<(), Rule>
     requires { AreKinds regs.old }
@@ -88,10 +93,12 @@ pub(crate) fn call_helper(number: i32, regs: &mut Regs, vars_size: u16) -> Resul
     }
 }
 
-/// The kinds after the call of a helper that gets what it takes.
+/// Updates the abstract state to that after a call of this helper.
+///
+/// If it lacks an argument that it requires, the state doesn't change.
 ///
 /// # Errors
-/// An argument is unset, or another than the helper takes.
+/// Returns the broken rule if an argument is unset or isn't one that the helper accepts.
 fn helped_kinds(helper: Helper, regs: &mut Regs, vars_size: u16) -> Result<(), Rule>
     requires { AreKinds regs.old }
     ensures after { IfOk result (λ u. helped_kinds vars_size regs.old helper ≡ Some regs.new) }
@@ -108,7 +115,7 @@ fn helped_kinds(helper: Helper, regs: &mut Regs, vars_size: u16) -> Result<(), R
     }
 }
 
-/// Whether R1, or R1 and R2, are what a helper takes.
+/// Returns whether R1, or R1 and R2, are the arguments that a helper requires.
 fn are_arguments(vars_size: u16, arguments: Arguments, regs: &Regs) -> bool
     requires { AreKinds regs.now }
     ensures { result ≡ are_arguments vars_size arguments regs.now }
@@ -121,7 +128,7 @@ fn are_arguments(vars_size: u16, arguments: Arguments, regs: &Regs) -> bool
     }
 }
 
-/// Whether the bytes from a pointer on, as many as a number says, lie in its region.
+/// Returns whether the `count` bytes from `pointer` on are in its region.
 fn are_bytes(vars_size: u16, pointer: Kind, count: Kind) -> bool
     requires { IsKind pointer }
     ensures { result ≡ are_bytes vars_size pointer count }
@@ -132,7 +139,7 @@ fn are_bytes(vars_size: u16, pointer: Kind, count: Kind) -> bool
     }
 }
 
-/// Why a helper doesn't get what it takes: an unset register comes first.
+/// Returns the rule that a helper's arguments break: an unset register first.
 fn argument_fault(arguments: Arguments, regs: &Regs) -> Rule
     ensures { (20 ≤ number_of result) × (number_of result ≤ 27) }
 {

@@ -1,4 +1,4 @@
-//! Ranges of numbers.
+//! Intervals of numbers.
 ghost use Rattle.std.specs.Prelude.{◌≡◌, ◌≤◌, ◌-◌, ◌^◌, ◌%◌};
 ghost use Rattle.fc_kinds.specs.Intervals.{above, above_equal, added, all, alu_interval, clipped, divided, equal, exchanged, masked, merged, moded, multiplied, refined, shifted_left, shifted_right, shifted_signed, extended_values, interval_of, subtracted, unequal, without};
 ghost use Rattle.fc_kinds.specs.Containing.{IsInterval};
@@ -13,7 +13,7 @@ pub struct Interval {
     pub hi: u64,
 }
 
-/// The greatest number of a width.
+/// Returns the greatest number of a width.
 fn limit(width: Width) -> u64
     ensures { result ≡ 2 ^ bits_of width - 1 }
 {
@@ -23,7 +23,7 @@ fn limit(width: Width) -> u64
     }
 }
 
-/// Makes the interval of every number of a width.
+/// Returns the interval of all numbers of a width.
 pub fn all(width: Width) -> Interval
     ensures { result ≡ all (bits_of width) }
 {
@@ -112,7 +112,9 @@ fn moded(a: Interval, b: Interval) -> Interval
     }
 }
 
-/// The least number of the form `2 ^ k - 1` that both are at most.
+/// Returns the interval from 0 to `2 ^ k - 1`.
+///
+/// This is the least number of that form that is at least both upper ends.
 fn merged(width: Width, a: Interval, b: Interval) -> Interval
     requires left { IsInterval (bits_of width) a }
     requires right { IsInterval (bits_of width) b }
@@ -134,7 +136,7 @@ fn masked(a: Interval, b: Interval) -> Interval
     }
 }
 
-/// A shift's count at a width.
+/// Returns a shift's count at a width.
 fn count(width: Width, n: u64) -> u32
     ensures { result ≡ n % bits_of width }
 {
@@ -188,7 +190,7 @@ fn shifted_signed(width: Width, a: Interval, b: Interval) -> Interval
     }
 }
 
-/// The results of an operation on numbers in these ranges.
+/// Returns an interval with the results of an operation on these intervals.
 #[tactic(auto, unfolding(crate::specs::Intervals::interval_of))]
 fn interval_of(op: AluOp, width: Width, a: Interval, b: Interval) -> Interval
     requires left { IsInterval (bits_of width) a }
@@ -211,7 +213,9 @@ fn interval_of(op: AluOp, width: Width, a: Interval, b: Interval) -> Interval
     }
 }
 
-/// Bounds the results of an operation on two registers, or on their low halves, whose numbers are in these ranges.
+/// Returns an interval that contains the results of an operation.
+///
+/// The operation is on two registers, or on their low halves, with numbers in these intervals.
 #[tactic(auto, unfolding(crate::specs::Intervals::alu_interval))]
 pub fn alu_interval(op: AluOp, width: Width, a: Interval, b: Interval) -> Interval
     requires left { a.lo ≤ a.hi }
@@ -222,7 +226,7 @@ pub fn alu_interval(op: AluOp, width: Width, a: Interval, b: Interval) -> Interv
     interval_of(op, width, clipped(width, a), clipped(width, b))
 }
 
-/// Bounds the results of a move that extends the sign.
+/// Returns an interval that contains the results of a move with sign extension.
 #[tactic(auto, unfolding(crate::specs::Intervals::extended_values))]
 pub fn extended_values(extension: SignExtension, b: Interval) -> Interval
     ensures { result ≡ extended_values extension b }
@@ -237,7 +241,9 @@ pub fn extended_values(extension: SignExtension, b: Interval) -> Interval
     }
 }
 
-/// Refines two ranges by a relation of all 64 bits, or gives nothing where it holds of no two numbers in them.
+/// Refines two intervals by a relation of all 64 bits.
+///
+/// Returns `None` if it holds for no two numbers in them.
 #[tactic(auto, unfolding(crate::specs::Intervals::refined))]
 pub fn refined(relation: Relation, a: Interval, b: Interval) -> Option<(Interval, Interval)>
     requires left { a.lo ≤ a.hi }
@@ -330,7 +336,7 @@ fn unequal(a: Interval, b: Interval) -> Option<(Interval, Interval)>
     Some((without(a, b.lo), b))
 }
 
-/// The range without a number that is at its end.
+/// Returns the interval without a number at one of its ends.
 fn without(a: Interval, n: u64) -> Interval
     requires some { a.lo ≤ a.hi }
     requires other { (a.lo ≡ a.hi) → (a.lo ≡ n) → ⊥ }

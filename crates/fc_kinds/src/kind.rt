@@ -1,17 +1,19 @@
-//! Kinds of register values.
+//! Abstract values of registers.
 ghost use Rattle.std.specs.Prelude.{◌≡◌};
 ghost use Rattle.fc_kinds.specs.Entry.{entry};
 
 use fc_isa::ImageVersion;
 
-/// What is known of a register's value.
+/// A register's abstract value.
 #[derive(Clone, Copy, PartialEq, Eq)]
 pub enum Kind {
-    /// Nothing: it can't be read.
+    /// Any value or none; the register can't be read.
     Unset,
     /// A number from `lo` to `hi`.
     Num { lo: u64, hi: u64 },
-    /// A pointer into the stack frame `level` above the present one, at an offset from `lo` to `hi`.
+    /// A pointer into a stack frame, at an offset from `lo` to `hi`.
+    ///
+    /// The frame is `level` above the current one.
     Stack { level: u32, lo: i64, hi: i64 },
     /// A pointer into the request.
     Req { lo: i64, hi: i64 },
@@ -21,11 +23,13 @@ pub enum Kind {
     Dev { lo: i64, hi: i64 },
 }
 
-/// The kinds of the eleven registers.
+/// The abstract state: the abstract values of the eleven registers.
 pub type Regs = [Kind; 11];
 
-/// Makes the kinds at the entry of a program of this version: R1 points to the request, R2 to the variables, R3 is the payload's
-/// length, and R10 points behind the stack frame of 256 bytes. In the second version R4 points to the readings.
+/// Returns the abstract state at the entry of a program of this version.
+///
+/// R1 points to the request, R2 to the variables, R3 is the payload's length, and R10 points to the
+/// end of the stack frame of 256 bytes. In the second version R4 points to the readings.
 pub fn entry(version: ImageVersion) -> Regs
     ensures { result ≡ entry version }
 {

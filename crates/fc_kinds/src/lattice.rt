@@ -1,10 +1,10 @@
-//! Joins of kinds.
+//! Joins of abstract values.
 ghost use Rattle.std.specs.Prelude.{◌≡◌};
 ghost use Rattle.fc_kinds.specs.Lattice.{join_kind, joined};
 
 use crate::kind::{Kind, Regs};
 
-/// The least that contains both.
+/// Returns the least abstract value that contains both.
 fn join_kind(a: Kind, b: Kind) -> Kind
     ensures { result ≡ join_kind a b }
 {
@@ -49,7 +49,9 @@ fn join_kind(a: Kind, b: Kind) -> Kind
     }
 }
 
-/// Joins to a state another, register by register: the least kinds that contain both.
+/// Joins another abstract state to `state`, register by register.
+///
+/// The result has the least abstract values that contain both.
 pub fn join(state: &mut Regs, other: &Regs)
     ensures { state.new ≡ joined state.old other.now }
 {

@@ -1,4 +1,6 @@
-//! Laws of kinds, for the crates above: each function is a law, and its contract says it.
+//! Laws about abstract values, for the crates above.
+//!
+//! Each law is the contract of an empty function.
 ghost use Rattle.std.specs.List.{list_any};
 ghost use Rattle.std.specs.Prelude.{List, Some, [], false, length, map, pos, true, ℕ, ◌==◌, ◌∷◌, ◌≡◌, ◌≤◌};
 ghost use Rattle.fc_isa.specs.Program.{IsInsn};
@@ -20,14 +22,18 @@ ghost use Rattle.fc_kinds.specs.Values.{Asked, Frame, Number, Pointer, Readings,
 ghost use Rattle.fc_kinds.specs.declared.kind.Kind.{Kind as What};
 ghost use Rattle.fc_kinds.specs.declared.kind.Kind.TheVariants.{Dev, Num, Req, Stack, Unset, Vars};
 
-/// Containment of states is reflexive and transitive, and what a state contains each wider one does.
+/// Containment of abstract states is reflexive and transitive.
+///
+/// The values in a state are also in each wider state.
 pub fn containment_is_an_order()
     ensures same { (ks : List What) → Within ks ks }
     ensures then { (a b c : List What) → Within a b → Within b c → Within a c }
     ensures values { (depth : ℕ) (ks wider : List What) (vs : List Value) → Within ks wider → Holds depth ks vs → Holds depth wider vs }
 {}
 
-/// A join contains both states, each state that contains both contains it, and it holds values where both do.
+/// A join is the least abstract state that contains both states.
+///
+/// If in both states each abstract value contains some value of its form, this holds in the join.
 pub fn joins_are_least()
     ensures left { (a b : List What) → Within a (joined a b) }
     ensures right { (a b : List What) → Within b (joined a b) }
@@ -35,51 +41,73 @@ pub fn joins_are_least()
     ensures kinds { (a b : List What) → AreKinds a → AreKinds b → AreKinds (joined a b) }
 {}
 
-/// Where an instruction's demands are met at wider kinds they are met at narrower ones, and the kinds after it are narrower.
+/// Transfer functions are monotone.
+///
+/// If an instruction's preconditions hold in a wider state, they hold in a narrower one, and the
+/// state after it is narrower.
 pub fn effects_are_monotone()
     ensures { EffectsAreMonotone }
 {}
 
-/// The kinds after an instruction hold some values where those before it do.
+/// The transfer function keeps abstract states well formed.
+///
+/// If each abstract value before an instruction contains some value of its form, so does each after
+/// it.
 pub fn effects_keep_kinds()
     ensures { (vars : ℕ) (insn : Insn) (ks ls : List What) → IsInsn insn → AreKinds ks → transfer vars insn ks ≡ Some ls → AreKinds ls }
 {}
 
-/// A way that is open at narrower kinds is open at wider ones, with wider kinds on it.
+/// Branch refinement is monotone.
+///
+/// A branch that is possible in a narrower state is possible in a wider one, with a wider state on
+/// it.
 pub fn refinement_is_monotone()
     ensures { RefinementIsMonotone }
 {}
 
-/// What a local call hands on grows with its caller's kinds.
+/// The state at a callee's start is monotone in its caller's state.
 pub fn entering_is_monotone()
     ensures { (ks wider : List What) → Within ks wider → Within (enter ks) (enter wider) }
 {}
 
-/// On an instruction's ways stack frames are at most one level further above than before it, and a join raises none.
+/// On an instruction's branches the levels of stack frames grow by at most one.
+///
+/// A join raises no level.
 pub fn ways_raise_by_one()
     ensures ways { WaysRaiseByOne }
     ensures join { (top : ℕ) (a b : List What) → AreShallow top a → AreShallow top b → AreShallow top (joined a b) }
 {}
 
-/// Where an instruction's demands are met by kinds that contain the registers' values, it has a step; the step leads along some
-/// way, whose kinds contain the values after it, and keeps the sizes of the regions. Of local calls and exits nothing is said.
+/// The transfer function is sound for all instructions except calls and exits.
+///
+/// If the state contains the registers' values and the preconditions hold, the instruction has a
+/// step. The step follows a branch with a state that contains the values after it, and it keeps the
+/// sizes of the regions. The law says nothing about local calls and exits.
 pub fn effects_contain_the_step()
     ensures { EffectsContainTheStep }
 {}
 
-/// Where the kinds contain the registers' values, and there are fewer than eight frames, a local call has a step: into its
-/// function, with what it hands on; its caller waits.
+/// The abstract call entry is sound.
+///
+/// If the state contains the registers' values, and there are fewer than eight frames, a local call
+/// has a step. It enters the function with the state of `enter`, and its caller waits.
 pub fn calls_contain_the_step()
     ensures { CallsContainTheStep }
 {}
 
-/// Where an exit's demands are met by kinds that contain the registers' values, and a caller waits, it has a step: back to the
-/// caller, where the kinds after the call contain the registers' values.
+/// The transfer function is sound for exits to a caller.
+///
+/// If the state contains the registers' values, the exit's preconditions hold, and a caller waits,
+/// the exit has a step. It returns to the caller, and the state after the call contains the
+/// registers' values.
 pub fn exits_contain_the_step()
     ensures { ExitsContainTheStep }
 {}
 
-/// The way that a conditional jump takes is open where the kinds contain the values, and its kinds contain them.
+/// Branch refinement is sound.
+///
+/// If the state contains the values, the branch that a conditional jump takes is possible, and its
+/// state contains the values.
 pub fn refinement_keeps_what_takes_the_way()
     ensures { RefinementKeepsWhatTakesTheWay }
 {}
@@ -89,22 +117,24 @@ pub fn runs_have_one_meaning()
     ensures { (p : Program) (input : Input) (m n : Meaning) → Means p input m → Means p input n → m ≡ n }
 {}
 
-/// What a program means is the meaning of its run, where that comes to its exit within the budget.
+/// A program's meaning is that of its run, if it exits within the budget.
 pub fn programs_mean_what_runs_show()
     ensures { (p : Program) (input : Input) (m : Meaning) (w : Means p input m) → w.count ≤ p.budget → meant p input ≡ m }
 {}
 
-/// Whatever R0 holds at the exit, the reply's code is its method's success (2.05 to a GET, 2.04 to a POST), 4.00, 4.03, 4.04
-/// or 5.00.
+/// The code of a reply is an allowed one, whatever R0 is at the exit.
+///
+/// These are its method's success (2.05 for a GET, 2.04 for a POST), 4.00, 4.03, 4.04 and 5.00.
 pub fn reply_codes_are_known()
     ensures { (method : Method) (n : ℕ) → is_reply_code method (reply_code method n) ≡ true }
 {}
 
-/// A program answers with one of four codes, and every other number is 5.00.
-/// R0 at the exit is the code: 2.05 (Content), 69, to a GET, or 2.04 (Changed), 68, to a POST;
-/// 4.00 (Bad Request), 128, 4.03 (Forbidden), 131, or 4.04 (Not Found), 132, to both. 0 stands for
-/// the method's success. Any other number gives 5.00 (Internal Server Error), 160 (RFC 7252,
-/// section 12.1.2).
+/// A program can return one of four codes, and every other number gives 5.00.
+///
+/// R0 at the exit is the code: 2.05 (Content), 69, for a GET, or 2.04 (Changed), 68, for a POST;
+/// 4.00 (Bad Request), 128, 4.03 (Forbidden), 131, or 4.04 (Not Found), 132, for both. 0 means the
+/// method's success. Any other number gives 5.00 (Internal Server Error), 160 (RFC 7252, section
+/// 12.1.2).
 pub fn answers_are_let_through()
     ensures success { (reply_code Get 0 ≡ 69) × (reply_code Post 0 ≡ 68) }
     ensures to_a_get { map (reply_code Get) (69 ∷ 128 ∷ 131 ∷ 132 ∷ []) ≡ 69 ∷ 128 ∷ 131 ∷ 132 ∷ [] }
@@ -113,10 +143,10 @@ pub fn answers_are_let_through()
     ensures no_others_to_a_post { (n : ℕ) → list_any (λ code. n == code) (0 ∷ 68 ∷ 128 ∷ 131 ∷ 132 ∷ []) ≡ false → reply_code Post n ≡ 160 }
 {}
 
-/// At the entry R1, R2, R3 and R10 are set, and in version 2 R4 is set too.
-/// R1 points to the request, R2 to the variables, R10 to the end of a stack frame of 256 bytes,
-/// and R4 to the readings. R3 is the length of the payload, 0 to 1,024. All other registers are
-/// unset.
+/// At the entry R1, R2, R3 and R10 are set, and in version 2 also R4.
+///
+/// R1 points to the request, R2 to the variables, R10 to the end of a stack frame of 256 bytes, and
+/// R4 to the readings. R3 is the length of the payload, 0 to 1,024. All other registers are unset.
 pub fn registers_are_known_at_the_entry()
     ensures one { entry One ≡ Unset ∷ Req (pos 0) (pos 0) ∷ Vars (pos 0) (pos 0) ∷ Num 0 1024 ∷ Unset ∷ Unset
         ∷ Unset ∷ Unset ∷ Unset ∷ Unset ∷ Stack 0 (pos 256) (pos 256) ∷ [] }

@@ -1,12 +1,14 @@
-//! What programs mean on the machine, and the kinds of registers: what each instruction makes of them, and typings.
+//! Semantics of programs, and the abstract values of registers.
 //!
-//! `specs/` has the machine (values, configurations, steps, the meaning of a run) and the typing rules; the
-//! code has what the verifier computes of them: the kinds after an instruction.
+//! `specs/` has the machine (values, configurations, steps, the meaning of a run) and the typing
+//! rules. The code computes the verifier's part of them: the abstract state after an instruction.
 //!
 //! ```rust
 //! use fc_kinds::{Kind, Regs, join};
 //!
-//! /// What is known of R0 where two paths meet: numbers of both are within the least interval that has both.
+//! /// Returns the abstract value of R0 at a join of two paths.
+//! ///
+//! /// Numbers of both are within the least interval that contains both.
 //! fn met(mut state: Regs, other: &Regs) -> Kind {
 //!     join(&mut state, other);
 //!     state[0]
@@ -15,12 +17,15 @@
 //!
 //! # What is proved
 //!
-//! - Of every instruction: the registers' kinds after it, and on each way of a jump.
-//! - Joins are least. Effects, refinement and what a call hands on are monotone, and contain what the machine's step gives.
-//! - A run has at most one meaning; where it comes to its exit within the budget, that is what its program means. Its reply's code is its
-//!   method's success, 4.00, 4.03, 4.04 or 5.00, by which numbers in R0 is said in literals.
-//! - What each register holds at the entry, in literals. R4 is unset in version 1, and points in version 2 to the readings, which are read
-//!   and never written.
+//! - The state after every instruction, and the state on each branch of a jump, are computed as the
+//!   definitions state.
+//! - Joins are least. Transfer functions, branch refinement and call entry are monotone, and
+//!   contain the results of the machine's step.
+//! - A run has at most one meaning. If it exits within the budget, this is its program's meaning.
+//!   Its reply's code is its method's success, 4.00, 4.03, 4.04 or 5.00; the numbers in R0 that
+//!   give each are stated in literals.
+//! - The value of each register at the entry is stated in literals. R4 is unset in version 1. In
+//!   version 2 it points to the readings, which can be read and not written.
 //!
 //! By the contracts of `after`, `refine`, `join`, `enter`, `entry`, `laws`.
 #![tactic(auto)]

@@ -10,10 +10,12 @@ use crate::operands::{is_number, num, put};
 use crate::pointers::{access_fault, bytes_loaded, may_read, may_write, size_of};
 use fc_isa::{Insn, LoadType, Reg, Rule, Size, Target, Width};
 
-/// A load from a base register's address and an offset.
+/// Updates the abstract state to that after a load.
+///
+/// The address is a base register plus an offset.
 ///
 /// # Errors
-/// The base is no pointer, or the bytes don't lie in its region.
+/// Returns the broken rule if the base isn't a pointer, or the bytes aren't in its region.
 #[tactic(auto, unfolding(crate::specs::Transfer::transfer))]
 pub(crate) fn load(
     loaded: LoadType,
@@ -39,7 +41,7 @@ pub(crate) fn load(
     }
 }
 
-/// The numbers that a load may give.
+/// Returns the interval of the numbers that a load can give.
 fn loaded_interval(loaded: LoadType) -> Interval
     ensures { result ≡ loaded_interval loaded }
 {
@@ -54,10 +56,11 @@ fn loaded_interval(loaded: LoadType) -> Interval
     }
 }
 
-/// A store of an immediate at a base register's address and an offset.
+/// Checks a store of an immediate at a base register plus an offset.
 ///
 /// # Errors
-/// The base is no pointer, the bytes don't lie in its region, or that is the request or the readings.
+/// Returns the broken rule if the base isn't a pointer, the bytes aren't in its region, or the
+/// region is the request or the readings.
 #[tactic(auto, unfolding(crate::specs::Transfer::transfer))]
 pub(crate) fn store_imm(
     size: Size,
@@ -81,10 +84,10 @@ pub(crate) fn store_imm(
     }
 }
 
-/// A store of a register at a base register's address and an offset.
+/// Checks a store of a register at a base register plus an offset.
 ///
 /// # Errors
-/// As of an immediate's, or the register is no number.
+/// Returns the broken rule as for an immediate, or if the register isn't a number.
 #[tactic(auto, unfolding(crate::specs::Transfer::transfer))]
 pub(crate) fn store(
     size: Size,
@@ -111,7 +114,7 @@ pub(crate) fn store(
     }
 }
 
-/// An unset register comes before what else is wrong with a store.
+/// Returns the rule that a store breaks: an unset register before any other fault.
 fn store_fault(other: Rule, stored: Kind) -> Rule
     requires { (20 ≤ number_of other) × (number_of other ≤ 27) }
     ensures { (20 ≤ number_of result) × (number_of result ≤ 27) }

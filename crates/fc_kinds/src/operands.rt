@@ -1,4 +1,4 @@
-//! What an instruction reads.
+//! The operands that an instruction reads.
 ghost use Rattle.std.specs.Prelude.{IfErr, IfOk, false, slice_set, ◌≡◌, ◌≤◌};
 ghost use Rattle.fc_isa.specs.Rules.{number_of};
 ghost use Rattle.fc_kinds.specs.Containing.{AreKinds, IsKind};
@@ -8,10 +8,10 @@ use crate::interval::Interval;
 use crate::kind::{Kind, Regs};
 use fc_isa::{Operand, Rule, Target, Width};
 
-/// The interval of a number.
+/// Returns the interval of a number.
 ///
 /// # Errors
-/// The register is unset, or a pointer.
+/// Returns the broken rule if the register is unset or a pointer.
 pub(crate) fn number(kind: Kind) -> Result<Interval, Rule>
     ensures number { IfOk result (λ s. kind ≡ num s) }
     ensures refused { IfErr result (λ rule. is_number kind ≡ false) }
@@ -24,21 +24,21 @@ pub(crate) fn number(kind: Kind) -> Result<Interval, Rule>
     }
 }
 
-/// Whether a kind is a number's.
+/// Returns whether the abstract value is a number.
 pub(crate) fn is_number(kind: Kind) -> bool
     ensures { result ≡ is_number kind }
 {
     matches!(kind, Kind::Num { .. })
 }
 
-/// The kind of the numbers of an interval.
+/// Returns the abstract value of the numbers in an interval.
 pub(crate) fn num(s: Interval) -> Kind
     ensures { result ≡ num s }
 {
     Kind::Num { lo: s.lo, hi: s.hi }
 }
 
-/// Why two kinds aren't both numbers: an unset register comes first.
+/// Returns the rule that two operands break: an unset register first.
 pub(crate) fn operand_fault(a: Kind, b: Kind) -> Rule
     ensures { (20 ≤ number_of result) × (number_of result ≤ 27) }
 {
@@ -49,7 +49,9 @@ pub(crate) fn operand_fault(a: Kind, b: Kind) -> Rule
     }
 }
 
-/// The kind of the second operand: an immediate is one value.
+/// Returns the abstract value of the second operand.
+///
+/// An immediate is a single value.
 pub(crate) fn operand_kind(width: Width, operand: Operand, regs: &Regs) -> Kind
     requires { AreKinds regs.now }
     ensures kind { result ≡ operand_kind width operand regs.now }
@@ -64,7 +66,7 @@ pub(crate) fn operand_kind(width: Width, operand: Operand, regs: &Regs) -> Kind
     }
 }
 
-/// An immediate as a number: its 32 bits, or its sign extended to 64.
+/// Returns an immediate as a number: its 32 bits, or sign-extended to 64 bits.
 fn immediate(width: Width, imm: i32) -> u64
     ensures { result ≡ immediate width imm }
 {
@@ -74,7 +76,7 @@ fn immediate(width: Width, imm: i32) -> u64
     }
 }
 
-/// Puts a kind into one of the registers.
+/// Sets the abstract value of a register.
 pub(crate) fn put(regs: &mut Regs, dst: Target, kind: Kind)
     ensures { regs.new ≡ slice_set regs.old dst kind }
 {

@@ -1,4 +1,4 @@
-//! Pointers: how they move, and what may be accessed through them.
+//! Pointers: arithmetic on them, and accesses through them.
 ghost use Rattle.std.specs.Prelude.{IfErr, IfOk, None, Some, ℤ, int_le, negsuc, pos, ◌&&◌, ◌+ℤ◌, ◌-ℤ◌, ◌≡◌, ◌≤ℤ◌, ◌≤◌};
 ghost use Rattle.fc_isa.specs.Rules.{number_of};
 ghost use Rattle.fc_kinds.specs.Containing.{IsKind};
@@ -7,19 +7,20 @@ ghost use Rattle.fc_kinds.specs.Transfer.{bytes_loaded, distance, inside, may_re
 use crate::kind::Kind;
 use fc_isa::{LoadType, Operand, Rule, Size};
 
-/// The bytes of a stack frame.
+/// Length of a stack frame, in bytes.
 const FRAME: u16 = 256;
 
-/// The bytes of the request's region.
+/// Length of the request's region, in bytes.
 const REQUEST: u16 = 1104;
 
-/// The bytes of the readings.
+/// Length of the readings, in bytes.
 const READINGS: u16 = 64;
 
-/// How far an operand moves a pointer, at least and at most.
+/// Returns the least and the greatest distance by which an operand moves a pointer.
 ///
 /// # Errors
-/// The operand isn't a number, or one that may be above 65,536.
+/// Returns the broken rule if the operand isn't a number, or is in a register and may be above
+/// 65,536.
 pub(crate) fn distance(operand: Operand, b: Kind) -> Result<(i64, i64), Rule>
     requires { IsKind b }
     ensures far { IfOk result (λ d. distance operand b ≡ Some d) }
@@ -39,14 +40,14 @@ pub(crate) fn distance(operand: Operand, b: Kind) -> Result<(i64, i64), Rule>
     }
 }
 
-/// Whether a pointer's ends stay within 65,536 of its region's begin.
+/// Returns whether both ends are within 65,536 of the start of the region.
 pub(crate) fn is_near(lo: i64, hi: i64) -> bool
     ensures { result ≡ (int_le (negsuc 65535) lo && int_le hi (pos 65536)) }
 {
     -65_536 <= lo && hi <= 65_536
 }
 
-/// The sum of an offset and a distance.
+/// Returns the sum of an offset and a distance.
 pub(crate) fn plus(a: i64, b: i64) -> i64
     requires left { (negsuc 1099511627775 ≤ℤ a) × (a ≤ℤ pos 1099511627776) }
     requires right { (negsuc 2147483647 ≤ℤ b) × (b ≤ℤ pos 2147483647) }
@@ -55,7 +56,7 @@ pub(crate) fn plus(a: i64, b: i64) -> i64
     a + b
 }
 
-/// The difference of an offset and a distance.
+/// Returns the difference of an offset and a distance.
 pub(crate) fn minus(a: i64, b: i64) -> i64
     requires left { (negsuc 1099511627775 ≤ℤ a) × (a ≤ℤ pos 1099511627776) }
     requires right { (negsuc 2147483647 ≤ℤ b) × (b ≤ℤ pos 2147483647) }
@@ -64,7 +65,7 @@ pub(crate) fn minus(a: i64, b: i64) -> i64
     a - b
 }
 
-/// The bytes that a store writes.
+/// Returns the number of bytes that a store writes.
 pub(crate) fn size_of(size: Size) -> u16
     ensures is { result ≡ size_of size }
     ensures few { result ≤ 8 }
@@ -77,7 +78,7 @@ pub(crate) fn size_of(size: Size) -> u16
     }
 }
 
-/// The bytes that a load reads.
+/// Returns the number of bytes that a load reads.
 pub(crate) fn bytes_loaded(loaded: LoadType) -> u16
     ensures is { result ≡ bytes_loaded loaded }
     ensures few { result ≤ 8 }
@@ -102,7 +103,9 @@ fn widened(offset: i16) -> i64
     offset as i64
 }
 
-/// Whether so many bytes at an offset from a pointer between two ends lie in a region.
+/// Returns whether an access is within its region.
+///
+/// It has `bytes` bytes, at an offset from a pointer between `lo` and `hi`.
 fn inside(region: u16, bytes: u16, offset: i16, lo: i64, hi: i64) -> bool
     requires lo { (negsuc 65535 ≤ℤ lo) × (lo ≤ℤ pos 65536) }
     requires hi { (negsuc 65535 ≤ℤ hi) × (hi ≤ℤ pos 65536) }
@@ -114,7 +117,7 @@ fn inside(region: u16, bytes: u16, offset: i16, lo: i64, hi: i64) -> bool
     first >= 0 && end <= whole(region)
 }
 
-/// Whether so many bytes may be read through a pointer.
+/// Returns whether this number of bytes may be read through a pointer.
 pub(crate) fn may_read(vars_size: u16, bytes: u16, offset: i16, kind: Kind) -> bool
     requires { IsKind kind }
     ensures { result ≡ may_read vars_size bytes offset kind }
@@ -128,7 +131,7 @@ pub(crate) fn may_read(vars_size: u16, bytes: u16, offset: i16, kind: Kind) -> b
     }
 }
 
-/// Whether so many bytes may be written through a pointer.
+/// Returns whether this number of bytes may be written through a pointer.
 pub(crate) fn may_write(vars_size: u16, bytes: u16, offset: i16, kind: Kind) -> bool
     requires { IsKind kind }
     ensures { result ≡ may_write vars_size bytes offset kind }
@@ -140,8 +143,10 @@ pub(crate) fn may_write(vars_size: u16, bytes: u16, offset: i16, kind: Kind) -> 
     }
 }
 
-/// Why an access through this kind is refused: it is no pointer, it may lie outside its region, or it would write the request or
-/// the readings.
+/// Returns the rule that an access breaks.
+///
+/// The abstract value isn't a pointer, the bytes may be outside its region, or the access would
+/// write the request or the readings.
 pub(crate) fn access_fault(vars_size: u16, bytes: u16, offset: i16, kind: Kind) -> Rule
     requires { IsKind kind }
     ensures { (20 ≤ number_of result) × (number_of result ≤ 27) }

@@ -1,4 +1,4 @@
-//! What the ways of a conditional jump say of its operands.
+//! Branch refinement: the operands of a conditional jump on each branch.
 ghost use Rattle.std.specs.Prelude.{◌≡◌};
 ghost use Rattle.fc_kinds.specs.Containing.{AreKinds};
 ghost use Rattle.fc_kinds.specs.Refinement.{put_both, refines, relation_of, when};
@@ -9,7 +9,7 @@ use crate::kind::{Kind, Regs};
 use crate::operands::{num, operand_kind};
 use fc_isa::{Jump, Operand, Relation, Width};
 
-/// The relation of a jump's way.
+/// Returns the relation that holds on a jump's branch.
 fn relation_of(jump: &Jump, taken: bool) -> Relation
     ensures { result ≡ relation_of taken jump.now }
 {
@@ -27,7 +27,7 @@ fn relation_of(jump: &Jump, taken: bool) -> Relation
     }
 }
 
-/// Whether what is known of a jump's operands can be refined.
+/// Returns whether a jump's operands can be refined.
 fn refines(jump: &Jump) -> bool
     ensures { result ≡ refines jump.now }
 {
@@ -38,7 +38,7 @@ fn refines(jump: &Jump) -> bool
     }
 }
 
-/// Puts what is known of a jump's operands into the registers.
+/// Sets the intervals of a jump's operands in the registers.
 fn put_both(jump: &Jump, regs: &mut Regs, left: Interval, right: Interval)
     ensures { regs.new ≡ put_both jump.now regs.old (left, right) }
 {
@@ -48,9 +48,12 @@ fn put_both(jump: &Jump, regs: &mut Regs, left: Interval, right: Interval)
     }
 }
 
-/// Refines the kinds for one way of a conditional jump, whose operands are numbers, in place: whether any numbers of these kinds take
-/// it; where none do, the kinds stay. Unsigned relations and equality of whole registers refine, of two registers or a register and an
-/// immediate.
+/// Refines the abstract state for one branch of a conditional jump.
+///
+/// A jump refines only if it compares numbers, unsigned or for equality, in two different whole
+/// registers, or in a whole register and an immediate. Then the result is `false` exactly if no
+/// numbers in the state take the branch, and the contract doesn't say what the state is. Any other
+/// jump doesn't change the state, and the result is `true`.
 #[tactic(auto, unfolding(crate::specs::Refinement::when))]
 pub fn refine(jump: &Jump, taken: bool, regs: &mut Regs) -> bool
     requires { AreKinds regs.old }

@@ -1,4 +1,4 @@
-//! The transfer function of the verifier: the kinds after an instruction.
+//! The verifier's transfer function: the abstract state after an instruction.
 ghost use Rattle.std.specs.Prelude.{IfErr, IfOk, None, Some, true, ◌≡◌, ◌≤◌};
 ghost use Rattle.fc_isa.specs.Rules.{number_of};
 ghost use Rattle.fc_kinds.specs.Containing.{AreKinds};
@@ -13,11 +13,14 @@ use crate::memory::{load, store, store_imm};
 use crate::operands::{is_number, num, number, operand_fault, operand_kind, put};
 use fc_isa::{Insn, Jump, Rule};
 
-/// Makes kinds, in place, those after an instruction of a program whose variables have this many bytes, where its demands are met; a
-/// local call's are those after its function's exit.
+/// Updates the abstract state to that after an instruction.
+///
+/// The program's variables have `vars_size` bytes. After a local call the state is that after the
+/// function's exit.
 ///
 /// # Errors
-/// A rule, 20 to 27, that the instruction breaks at these kinds; a wide load's second half breaks rule 27. The kinds stay.
+/// Returns a rule, 20 to 27, that the instruction breaks in this state; a wide load's second half
+/// breaks rule 27. The state doesn't change.
 #[tactic(auto, unfolding(crate::specs::Transfer::transfer))]
 pub fn after(insn: Insn, regs: &mut Regs, vars_size: u16) -> Result<(), Rule>
     requires { AreKinds regs.old }
@@ -76,7 +79,7 @@ pub fn after(insn: Insn, regs: &mut Regs, vars_size: u16) -> Result<(), Rule>
     }
 }
 
-/// The kind of a register that holds this number.
+/// Returns the abstract value of this number.
 fn one_number(value: u64) -> Kind
     ensures { result ≡ Num value value }
 {
@@ -86,7 +89,7 @@ fn one_number(value: u64) -> Kind
     }
 }
 
-/// The kinds after a load or a store.
+/// Updates the abstract state to that after a load or a store.
 #[tactic(auto, unfolding(crate::specs::Transfer::transfer))]
 fn after_access(insn: Insn, regs: &mut Regs, vars_size: u16) -> Result<(), Rule>
     requires kinds { AreKinds regs.old }
@@ -119,10 +122,10 @@ fn after_access(insn: Insn, regs: &mut Regs, vars_size: u16) -> Result<(), Rule>
     }
 }
 
-/// A conditional jump compares two numbers.
+/// Checks that a conditional jump compares two numbers.
 ///
 /// # Errors
-/// One of them is unset, or a pointer.
+/// Returns the broken rule if one of them is unset or a pointer.
 #[tactic(auto, unfolding(crate::specs::Transfer::transfer))]
 fn jump_if(jump: &Jump, regs: &Regs) -> Result<(), Rule>
     requires { AreKinds regs.now }

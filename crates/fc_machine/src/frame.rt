@@ -1,12 +1,14 @@
-//! Where programs run.
+//! The memory in which programs run.
 ghost use Rattle.std.specs.Prelude.{◌≤◌};
 ghost use Rattle.fc_machine.specs.Kept.{IsZeroPast};
 
 use crate::state::State;
 use std::alloc::{AllocError, Global};
 
-/// The registers and the memory of the machine. One is made at the start, and each run uses it again: its type keeps that behind the last
-/// payload are zeros.
+/// The registers and the memory of the machine.
+///
+/// One frame is made at the start, and each run uses it again. Its type guarantees that the bytes
+/// after the last payload are zero.
 #[derive(Drop)]
 pub struct Frame {
     pub(crate) state: Box<State>,
@@ -15,10 +17,10 @@ pub struct Frame {
 }
 
 impl Frame {
-    /// Makes a frame. Nothing of what a run leaves in it can be seen by the next.
+    /// Makes a frame. No run can observe the contents that an earlier one left.
     ///
     /// # Errors
-    /// There was no memory for it.
+    /// Returns `AllocError` if memory for the frame can't be allocated.
     pub fn new(alloc: Global) -> Result<Frame, AllocError> {
         Ok(Frame {
             state: Box::new(alloc, State::zeros())?,

@@ -1,4 +1,4 @@
-//! What a run gave.
+//! The outcome of a run.
 ghost use Rattle.std.specs.Prelude.{length, true, ◌≡◌, ◌≤◌};
 ghost use Rattle.fc_help.specs.Helpers.{room_of};
 ghost use Rattle.fc_kinds.specs.Runnable.{is_reply_code};
@@ -9,7 +9,10 @@ use fc_kinds::laws::reply_codes_are_known;
 use fc_verify::Verified;
 use std::marker::Model;
 
-/// What a run gave. A clause sees what it was made of: each part of an outcome is that of the meaning of these.
+/// The outcome of a run.
+///
+/// In contracts it is the inputs of the run: each part of an outcome is that of the meaning of
+/// these inputs.
 #[derive(Drop)]
 pub struct Outcome<'a> {
     pub(crate) program: &'a Verified,
@@ -43,7 +46,7 @@ impl<'a> Outcome<'a> {
         self.program
     }
 
-    /// Returns the request that it answered.
+    /// Returns the request that it handled.
     pub fn request(&self) -> &'a Request
         ensures { result.now ≡ self.now.input.request }
     {
@@ -57,14 +60,16 @@ impl<'a> Outcome<'a> {
         self.found
     }
 
-    /// Returns the readings that it was handed.
+    /// Returns the readings that it was given.
     pub fn readings(&self) -> &'a Readings
         ensures { result.now ≡ self.now.input.readings }
     {
         self.readings
     }
 
-    /// Returns the reply's code, of class 2, 4 or 5: its method's success, 4.00, 4.03, 4.04 or 5.00.
+    /// Returns the reply's code, of class 2, 4 or 5.
+    ///
+    /// It is the method's success, 4.00, 4.03, 4.04 or 5.00.
     pub fn code(&self) -> u8
         ensures code { result ≡ (meaning_of self.now).code }
         ensures known { is_reply_code self.now.input.request.method result ≡ true }
@@ -74,7 +79,9 @@ impl<'a> Outcome<'a> {
         self.code
     }
 
-    /// Returns the reply's bytes, at most 4,096 to a GET and 1,024 to a POST. They lie in the frame.
+    /// Returns the reply's bytes, borrowed from the frame.
+    ///
+    /// They are at most 4,096 for a GET, and 1,024 for a POST.
     pub fn reply(&self) -> &'a [u8]
         ensures reply { result.now ≡ (meaning_of self.now).reply }
         ensures room { length result.now ≤ room_of self.now.input.request.method }
@@ -82,14 +89,16 @@ impl<'a> Outcome<'a> {
         self.reply
     }
 
-    /// Returns whether the program gave a notice.
+    /// Returns whether the program set the notify flag.
     pub fn notice(&self) -> bool
         ensures { result ≡ (meaning_of self.now).notice }
     {
         self.notice
     }
 
-    /// Returns the variables that it left, of the program's size. They lie in the frame.
+    /// Returns the variables after the run, borrowed from the frame.
+    ///
+    /// They have the program's size.
     pub fn after(&self) -> &'a [u8]
         ensures vars { result.now ≡ (meaning_of self.now).vars }
         ensures size { length result.now ≡ self.now.program.vars_size }
@@ -97,7 +106,9 @@ impl<'a> Outcome<'a> {
         self.after
     }
 
-    /// Returns the steps that it took, its exit among them: at most the program's budget.
+    /// Returns the number of steps, including the exit.
+    ///
+    /// It is at most the program's budget.
     pub fn steps(&self) -> u32
         ensures steps { result ≡ (meaning_of self.now).steps }
         ensures within { result ≤ self.now.program.budget }

@@ -1,4 +1,4 @@
-//! The reply's code that a program's answer stands for.
+//! The reply's code, from a program's result.
 ghost use Rattle.std.specs.Prelude.{◌≡◌};
 ghost use Rattle.fc_kinds.specs.Meaning.{is_answer, reply_code, success_of};
 
@@ -22,7 +22,7 @@ const NOT_FOUND: u8 = 0x84;
 /// 5.00 Internal Server Error.
 const INTERNAL_ERROR: u8 = 0xa0;
 
-/// The code of a method's success.
+/// Returns the code of a method's success.
 fn success(method: Method) -> u8
     ensures { result ≡ success_of method }
 {
@@ -32,7 +32,9 @@ fn success(method: Method) -> u8
     }
 }
 
-/// The codes that a program may answer: its method's success, 4.00, 4.03 and 4.04.
+/// Returns whether a program may return this code.
+///
+/// It may return its method's success, 4.00, 4.03 and 4.04.
 fn may_answer(method: Method, answer: u64) -> bool
     ensures { result ≡ is_answer method answer }
 {
@@ -42,8 +44,10 @@ fn may_answer(method: Method, answer: u64) -> bool
         || answer == NOT_FOUND as u64
 }
 
-/// The reply's code that R0 at the exit stands for: 0 is the method's success, a code that the program may answer is let
-/// through, and anything else is the program's fault.
+/// Returns the reply's code for R0 at the exit.
+///
+/// 0 gives the method's success, and a code that the program may return is kept. Any other number
+/// is the program's fault, and gives 5.00.
 pub(crate) fn code_for(method: Method, answer: u64) -> u8
     ensures { result ≡ reply_code method answer }
 {

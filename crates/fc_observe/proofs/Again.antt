@@ -1,4 +1,4 @@
--- The first late notification is sent again.
+-- The first notification that timed out is retransmitted.
 use Rattle.std.proofs.Common.{◌≡◌, ℕ, ◌<◌, List, [], ◌∷◌, ◌++◌, length, Bool, true, false, cond, Option, Some, refl, ap, ◌∙◌}
 use Rattle.std.specs.Prelude.{find, ◌||◌}
 use Rattle.std.specs.List.{list_any}

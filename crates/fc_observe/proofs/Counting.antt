@@ -1,4 +1,4 @@
--- How many entries there are, in all and of an endpoint and token.
+-- The number of entries, in all and per endpoint and token.
 use Rattle.std.proofs.Common.{◌≡◌, ℕ, ◌≤◌, List, [], ◌∷◌, ◌++◌, length, Bool, true, false, cond, Option, Some, None, refl, sym, ap, ◌∙◌, arith, length-append}
 use Rattle.std.specs.Prelude.{count_by, max, nat_eq, nat_lt, not, sum_by, ◌==◌, ◌&&◌}
 use Rattle.std.specs.Cmp.Lexicographic.{pointwise, bytes_decides}
@@ -56,9 +56,9 @@ timed_sum : (m : Entry → ℕ) (now : ℕ) (o : Entry) (e : Option Emission) �
 timed_sum m now o None le = omega arith
 timed_sum m now o (Some emission) le = omega (arith, le)
 
--- ---- a call adds nothing, but for a registration
+-- ---- only a registration adds an entry
 
--- what is to hold of a registration
+-- the property that a registration must have
 abbrev pub IfAdds : (Entry → ℕ) → ObserverCall → ObserverList → ℕ → Type 0
 IfAdds m (Register now to token request szx serial) t n = sum_by m (observers_after (Register now to token request szx serial) t).held ≤ n
 IfAdds m other t n = Unit {0}
@@ -114,12 +114,12 @@ kept_key_by : (to own : Endpoint) (token : List ℕ) (now id serial random : ℕ
 kept_key_by to own token now id serial random bytes o true = refl
 kept_key_by to own token now id serial random bytes o false = refl
 
--- a call leaves an entry its endpoint and token
+-- a call keeps an entry's endpoint and token
 pub kept_key : (to : Endpoint) (token : List ℕ) (c : ObserverCall) (t : ObserverList) (o : Entry) → is_entry_of to token (changed_by c t o) ≡ is_entry_of to token o
 kept_key to token (Notify now turn id serial random bytes) t o = kept_key_by to to token (max t.moment now) id serial random bytes o (must_confirm t.confirm_after (max t.moment now) o)
 kept_key to token other t o = refl
 
--- an entry of two keys shows that they are equal
+-- two keys of one entry are equal
 pub own_key : (to from : Endpoint) (token own : List ℕ) → (same_endpoint from to && pointwise nat_eq own token) ≡ true → (o : Entry) → is_entry_of to token o ≡ is_entry_of from own o
 own_key to from token own e o =
     let w = and_parts (same_endpoint from to) (pointwise nat_eq own token) e in
@@ -141,7 +141,7 @@ count_gone : (p q : Entry → Bool) → ((o : Entry) → p o ≡ q o) → (os : 
 count_gone p q same [] = refl
 count_gone p q same (o ∷ os) = gone_by p q o (without_those q os) (q o) refl (same o) (count_gone p q same os)
 
--- with a new entry, where those of its key are gone
+-- with a new entry, once those of its key are removed
 joined_one : (to from : Endpoint) (token own : List ℕ) (o : Entry) (os : List Entry) (b : Bool) → (same_endpoint from to && pointwise nat_eq own token) ≡ b → is_entry_of to token o ≡ b → count_by (is_entry_of to token) os ≤ 1 → count_by (is_entry_of to token) (without_those (is_entry_of from own) os ++ o ∷ []) ≤ 1
 joined_one to from token own o os true e here le =
     let m = λ (x : Entry). cond (is_entry_of to token x) 1 0 in

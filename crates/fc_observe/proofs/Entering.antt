@@ -1,4 +1,4 @@
--- Which registrations are entered, and where.
+-- The registrations that are entered, and their places.
 use Rattle.std.proofs.Common.{◌≡◌, ℕ, ◌<◌, ◌≤◌, [], ◌∷◌, ◌++◌, length, Bool, true, false, List, Option, cond, refl, sym, ap, ◌∙◌, subst, arith}
 use Rattle.std.specs.Prelude.{nat_lt, not, if◌then◌else◌}
 use Rattle.std.specs.List.{Any, list_any}
@@ -16,7 +16,7 @@ use Rattle.fc_observe.specs.Laws.{IsRegistrationOf, StandsLast}
 use Rattle.fc_observe.specs.Observers.{ObserverList, entered_by, registered, registration, registration_by, with_held, without_those}
 use Rattle.fc_observe.proofs.First.{or_false, some_passes}
 
--- where none passes all stay, and where one does all others
+-- if no entry passes, all stay; if one does, all others stay
 all_stay : (p : Entry → Bool) (os : List Entry) → list_any p os ≡ false → without_those p os ≡ os
 all_stay p [] none = refl
 all_stay p (o ∷ os) none =
@@ -59,7 +59,7 @@ module _ (to : Endpoint) (token : ArrayVec ℕ) (request : Request) (szx : Optio
   abbrev is_known : Entry → Bool
   is_known = is_entry_of to token.items
 
-  -- the registration stands last, behind these
+  -- the registration is the last, after these entries
   abbrev IsLast : List Entry → Type 0
   IsLast others = StandsLast others (IsRegistrationOf to token request szx serial) (registered to token request szx serial t).held
 

@@ -1,4 +1,4 @@
--- Who gets the turn.
+-- The observer that gets the lease.
 use Rattle.std.proofs.Common.{◌≡◌, ℕ, ◌<◌, List, [], ◌∷◌, ◌++◌, Bool, true, false, cond, refl, ap, ◌∙◌}
 use Rattle.std.specs.Prelude.{◌&&◌, ◌||◌}
 use Rattle.std.specs.List.{list_any}
@@ -11,7 +11,7 @@ pub or_false : (a b : Bool) → (a || b) ≡ false → (a ≡ false) × (b ≡ f
 or_false true b e = absurd (cc e)
 or_false false b e = (refl, e)
 
--- the first that passes gives way, where none before it passes
+-- the first that passes is replaced, if none before it passes
 first_passes : (p : Entry → Bool) (g : Entry → List Entry) (before : List Entry) (o : Entry) (after : List Entry) → list_any p before ≡ false → p o ≡ true → at_first p g (before ++ o ∷ after) ≡ before ++ (g o ++ after)
 first_passes p g [] o after none is = ap (λ (b : Bool). cond b (g o ++ after) (o ∷ at_first p g after)) is
 first_passes p g (x ∷ xs) o after none is =

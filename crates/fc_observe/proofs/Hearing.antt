@@ -1,4 +1,4 @@
--- Who has a turn out, and who is sent a notification again.
+-- Entries with an active lease, and entries whose notification is retransmitted.
 use Rattle.std.proofs.Common.{◌≡◌, ℕ, ◌+◌, ◌<◌, ◌≤◌, List, [], ◌∷◌, suc, Bool, true, false, cond, Option, Some, None, refl, sym, ap, ◌∙◌, subst, arith}
 use Rattle.std.specs.Prelude.{find, max, nat_lt, ◌==◌, ◌&&◌, ◌||◌}
 use Rattle.std.specs.List.{All, Any, Contains, list_any}
@@ -50,7 +50,7 @@ found_by : (p : Entry → Bool) (o x : Entry) (os : List Entry) (b : Bool) → (
 found_by p o x os true rest found = let same : o ≡ x = cc in (0, omega arith, same)
 found_by p o x os false rest found = let there = rest found in let lt = there.1 in (suc there.0, omega (arith, lt), there.2)
 
--- what is found is held
+-- a found entry is stored
 pub found_held : (p : Entry → Bool) (os : List Entry) (x : Entry) → find p os ≡ Some x → Contains os x
 found_held p [] x found = absurd (cc found)
 found_held p (o ∷ os) x found = found_by p o x os (p o) (found_held p os x) found
@@ -71,9 +71,9 @@ all_gone to token (c ∷ h) t none all = gone_after to token c (after_calls h t)
 pub stays_gone : (to : Endpoint) (token : List ℕ) (h : List ObserverCall) (t : ObserverList) → RegistersNone to token h → list_any (is_entry_of to token) t.held ≡ false → list_any (is_entry_of to token) (after_calls h t).held ≡ false
 stays_gone to token h t none gone = none_any (is_entry_of to token) (after_calls h t).held (all_gone to token h t none (all_fail (is_entry_of to token) t.held gone))
 
--- ---- a turn that is no longer out
+-- ---- a lease that is no longer active
 
--- the moment after a call
+-- the time after a call
 abbrev moment_after : ObserverCall → ObserverList → ℕ
 moment_after (Advance now) t = max t.moment now
 moment_after (Register now to token request szx serial) t = max t.moment now
@@ -83,7 +83,8 @@ moment_after (GiveUp turn now) t = max t.moment now
 moment_after (Tick now) t = max t.moment now
 moment_after other t = t.moment
 
--- the list after a call has the same slot, confirms after as long, has that moment, and no fewer turns
+-- the list after a call has the same slot, the same `confirm_after`, that time, and at least as
+-- many leases
 record GoesOn (t after : ObserverList) (now : ℕ) : Type 0 where
   slot : after.slot ≡ t.slot
   confirm_after : after.confirm_after ≡ t.confirm_after
@@ -100,12 +101,12 @@ goes_on (NextDue now noticed) t =
     record { slot = g.slot; confirm_after = g.confirm_after; moment = g.moment; turns = g.turns }
 goes_on other t = record { slot = refl; confirm_after = refl; moment = refl; turns = omega arith }
 
--- so the slot is that of the list's `new`, and a list that was asked for a turn was handed the moment
+-- so the slot is that of the list's `new`, and a list that was called for a lease got the time
 pub slot_is : (slot confirm_after : ℕ) (h : List ObserverCall) → (observers slot confirm_after h).slot ≡ slot
 slot_is slot confirm_after [] = refl
 slot_is slot confirm_after (c ∷ h) = let g = goes_on c (observers slot confirm_after h) in g.slot ∙ slot_is slot confirm_after h
 
--- and it confirms after as long as that
+-- and so is `confirm_after`
 pub confirm_after_is : (slot confirm_after : ℕ) (h : List ObserverCall) → (observers slot confirm_after h).confirm_after ≡ confirm_after
 confirm_after_is slot confirm_after [] = refl
 confirm_after_is slot confirm_after (c ∷ h) = let g = goes_on c (observers slot confirm_after h) in g.confirm_after ∙ confirm_after_is slot confirm_after h
@@ -137,7 +138,7 @@ over_if : (b : Bool) (x y : Bool) → (x ≡ false → y ≡ false) → (b && x)
 over_if true x y f over = f over
 over_if false x y f over = refl
 
--- a phase without a turn of this number
+-- a phase without a lease of this number
 missed_over : (m k : ℕ) (p : Phase) → is_out_in m k p ≡ false → is_out_in m k (missed_phase p) ≡ false
 missed_over m k (TurnOut own at missing) over = over
 missed_over m k other over = over
@@ -195,7 +196,7 @@ pub stays_out : (turn : Turn) (h : List ObserverCall) (t : ObserverList) → tur
 stays_out turn [] t lt none = none
 stays_out turn (c ∷ h) t lt none = let more = more_turns h t in over_after turn c (after_calls h t) (omega (arith, lt, more)) (stays_out turn h t lt none)
 
--- ---- what is sent again
+-- ---- retransmissions
 
 resend_is : (e : Emission) (o : Option Emission) → ticked_by o ≡ Resend e → o ≡ Some e
 resend_is e None told = absurd (cc told)

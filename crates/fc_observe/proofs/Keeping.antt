@@ -1,4 +1,4 @@
--- What holds of each entry after a call, from what held of each before it.
+-- Properties of each entry after a call, from properties of each entry before it.
 use Rattle.std.proofs.Common.{◌≡◌, ℕ, List, [], ◌∷◌, ◌++◌, Bool, true, false, cond, Option, Some, None, refl, inl, inr}
 use Rattle.std.specs.Prelude.{max, not, ◌&&◌, ◌⊎◌}
 use Rattle.std.specs.List.{All, Any, Contains}
@@ -37,7 +37,7 @@ all_without P Q p same os all = All-filter (λ o. not (p o)) Q os (All-weaker P 
 
 -- ---- calls
 
--- what is to hold of an entry that the call registers
+-- the property that an entry registered by the call must have
 abbrev pub IfRegisters : (Entry → Type 0) → ObserverCall → ObserverList → Type 0
 IfRegisters Q (Register now to token request szx serial) t = Q (new_entry (max t.moment now) to token request szx serial)
 IfRegisters Q other t = Unit {0}
@@ -68,7 +68,7 @@ all_after P Q (Reset to id) t same made new all = all_without P Q (has_last_id t
 all_after P Q (Acknowledge to id) t same made new all = all_each P Q (has_last_id to id) acknowledged same made t.held all
 all_after P Q (Tick now) t same made new all = all_first P Q (is_late (max t.moment now)) (timed_out (max t.moment now)) same (λ o here late. timed_all Q (max t.moment now) o (retransmission o) (made o here late)) t.held all
 
--- ---- where entries come from
+-- ---- the origin of entries
 
 pub any_of : (P : Entry → Type 0) (os : List Entry) (o : Entry) → Contains os o → P o → Any P os
 any_of P os o there here = (there.0, o, there.1, there.2, here)

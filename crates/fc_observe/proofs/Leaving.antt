@@ -1,4 +1,4 @@
--- Whom the end of a turn removes.
+-- The observer that the end of a lease removes.
 use Rattle.std.proofs.Common.{◌≡◌, ℕ, ◌+◌, List, [], ◌∷◌, ◌++◌, Bool, true, false, cond, Some, refl, ap, ◌∙◌, arith}
 use Rattle.std.specs.Prelude.{count_by, find, nat_eq, ◌==◌, ◌&&◌, ◌||◌}
 use Rattle.std.specs.Cmp.Lexicographic.{pointwise, bytes_decides}
@@ -12,7 +12,7 @@ use Rattle.fc_observe.specs.Entries.{is_entry_of}
 use Rattle.fc_observe.specs.Observers.{at_first, entry_out, is_out}
 use Rattle.fc_observe.proofs.Counting.{one_of_key, unit}
 
--- where the first that passes q goes, and passes p, one fewer passes p
+-- if the first that passes q is removed, and passes p, one fewer passes p
 less_by : (p q : Entry → Bool) (o x : Entry) (os : List Entry) (b : Bool) → (find q os ≡ Some x → count_by p (at_first q (λ y. []) os) + 1 ≡ count_by p os) → p x ≡ true → cond b (Some o) (find q os) ≡ Some x → count_by p (cond b ([] ++ os) (o ∷ at_first q (λ y. []) os)) + 1 ≡ count_by p (o ∷ os)
 less_by p q o x os true rest passes found =
     let same : o ≡ x = cc found in
@@ -37,7 +37,7 @@ none_passes : (p : Entry → Bool) (os : List Entry) → count_by p os ≡ 0 →
 none_passes p [] none = refl
 none_passes p (o ∷ os) none = none_by p o os (p o) refl (none_passes p os) none
 
--- an entry is of its own endpoint and token
+-- an entry has its own endpoint and token
 own_entry : (o : Entry) → is_entry_of o.endpoint o.token.items o ≡ true
 own_entry o =
     let ip : pointwise nat_eq o.endpoint.ip o.endpoint.ip ≡ true = (bytes_decides o.endpoint.ip o.endpoint.ip).1 refl in

@@ -1,4 +1,4 @@
--- Turns whose taking found the slot empty.
+-- Leases whose snapshot found the slot empty.
 use Rattle.std.proofs.Common.{◌≡◌, ℕ, List, [], ◌∷◌, Bool, true, false, cond, Some, refl, ap, ◌∙◌, subst, arith}
 use Rattle.std.specs.Prelude.{find, is_some, ◌==◌, ◌&&◌}
 use Rattle.std.specs.List.{All}
@@ -14,7 +14,7 @@ use Rattle.fc_observe.specs.Observers.{ObserverList, at_first, at_moment, entry_
 use Rattle.fc_observe.proofs.Keeping.{all_after}
 use Rattle.fc_observe.proofs.Serials.{OutBelow, all_below, out_phase}
 
--- ---- a taking that found the slot empty
+-- ---- a snapshot that found the slot empty
 
 still_out : (m k : ℕ) (p : Phase) → is_out_in m k (missed_phase p) ≡ is_out_in m k p
 still_out m k (TurnOut own at missing) = refl
@@ -44,7 +44,7 @@ first_missed slot m turn (o ∷ os) out = missed_by slot m turn o os (has_turn s
 pub missing_after : (turn : Turn) (t : ObserverList) → is_some (entry_out turn t) ≡ true → is_missing turn (observers_after (Miss turn) t) ≡ true
 missing_after turn t out = first_missed t.slot t.moment turn t.held out
 
--- ---- a new turn
+-- ---- a new lease
 
 found_new_by : (p : Entry → Bool) (o : Entry) (os : List Entry) (b : Bool) → p o ≡ b → (p o ≡ true → has_missed o ≡ false) → is_missing_by (find p os) ≡ false → is_missing_by (cond b (Some o) (find p os)) ≡ false
 found_new_by p o os true e here rest = here e
@@ -56,7 +56,7 @@ found_new p (o ∷ os) all =
     let P = λ (o : Entry). p o ≡ true → has_missed o ≡ false in
     found_new_by p o os (p o) refl (All-head P o os all) (found_new p os (All-tail P o os all))
 
--- an entry whose turn has this number, if any, isn't missing
+-- the entry's lease, if it has this number, isn't marked as missing
 abbrev NewIn : ℕ → Entry → Type 0
 NewIn n o = (at : ℕ) (missing : Bool) → o.phase ≡ TurnOut n at missing → missing ≡ false
 

@@ -1,4 +1,4 @@
--- A list of no observers, which only a registration ends.
+-- A list without observers, which only a registration changes.
 use Rattle.std.proofs.Common.{◌≡◌, ℕ, List, [], ◌∷◌, Bool, true, false, ap}
 use Rattle.std.specs.Prelude.{max}
 use Rattle.fc_observe.specs.declared.entry.Entry.{Entry}
@@ -6,7 +6,7 @@ use Rattle.fc_observe.specs.Calls.{ObserverCall, Advance, Register, Cancel, Next
 use Rattle.fc_observe.specs.Entries.{acknowledged, given_up, has_last_id, is_due, is_entry_of, is_late, missed, notified, timed_out, with_turn}
 use Rattle.fc_observe.specs.Observers.{ObserverList, at_each, at_first, at_moment, gives_turn, is_out, turn_given_by, without_those}
 
--- the call is no registration
+-- the call isn't a registration
 abbrev pub EntersNone : ObserverCall → Type 0
 EntersNone (Register now to token request szx serial) = ⊥
 EntersNone other = Unit {0}

@@ -1,4 +1,4 @@
--- What an entry keeps of its last notification.
+-- The data of an entry's last notification.
 use Rattle.std.proofs.Common.{◌≡◌, ℕ, Bool, true, false, Some, refl, sym, ap, subst, inl, inr}
 use Rattle.std.specs.Prelude.{max, if◌then◌else◌, ◌⊎◌}
 use Rattle.std.specs.List.{All, Any}

@@ -1,4 +1,4 @@
--- The first entry that passes a test, by its place.
+-- The first entry that passes a test, and its place.
 use Rattle.std.proofs.Common.{◌≡◌, ℕ, ◌+◌, ◌<◌, List, [], ◌∷◌, ◌++◌, length, get_or, set, suc, zero, take, drop, Bool, true, false, cond, Some, None, refl, sym, ap, ◌∙◌, subst, arith}
 use Rattle.std.specs.Prelude.{find, is_some, ◌||◌}
 use Rattle.std.specs.List.{list_any, position, position_from, remove}
@@ -8,13 +8,13 @@ use Rattle.fc_observe.specs.declared.entry.Entry.{Entry}
 use Rattle.fc_observe.specs.declared.entry.Turn.{Turn}
 use Rattle.fc_observe.specs.Observers.{ObserverList, at_first, entry_out, gives_turn, is_out, next_turn, next_turn_by, with_held}
 
--- none passes
+-- no entry passes
 pub record PassesNone (p : Entry → Bool) (os : List Entry) : Type 0 where
   pub any : list_any p os ≡ false
   pub found : find p os ≡ None
   pub change : (g : Entry → List Entry) → at_first p g os ≡ os
 
--- the first that passes stands here
+-- the first that passes is here
 pub record IsFirst (p : Entry → Bool) (os : List Entry) (i : ℕ) : Type 0 where
   pub within : i < length os
   pub any : list_any p os ≡ true
@@ -68,7 +68,7 @@ first_passes p os j some =
     let same : r.0 ≡ j = omega (arith, r.1) in
     subst (λ (i : ℕ). IsFirst p os i) same r.2
 
--- ---- what the code does there
+-- ---- the code's actions there
 
 -- it is found there
 pub found_there : (p : Entry → Bool) (os : List Entry) (i : ℕ) (x : Entry) → IsFirst p os i → x ≡ get_or os i x → find p os ≡ Some x
@@ -118,7 +118,7 @@ given_by t false = refl
 pub is_some-next_turn : (noticed : ℕ) (t : ObserverList) → is_some (next_turn noticed t) ≡ gives_turn noticed t
 is_some-next_turn noticed t = given_by t (gives_turn noticed t)
 
--- ---- the entry whose turn is out
+-- ---- the entry with the active lease
 
 module _ (turn : Turn) (v w : ObserverList) (same : v ≡ w) where
   -- it is found there
@@ -140,7 +140,7 @@ module _ (turn : Turn) (v w : ObserverList) (same : v ≡ w) where
       ∙ ap (λ (h : List Entry). with_held h w)
       (removed_there (is_out turn w) (λ o. []) w.held i x (first_passes (is_out turn w) w.held i (sym at)) (read ∙ ap (λ (l : ObserverList). get_or l.held i x) same) refl)
 
--- nobody has the turn out
+-- no entry has the active lease
 pub none_out : (turn : Turn) (w : ObserverList) → None ≡ position (is_out turn w) w.held → entry_out turn w ≡ None
 none_out turn w none = (none_passes (is_out turn w) w.held (sym none)).found
 

@@ -1,4 +1,4 @@
--- Until when a list of observers has nothing to do.
+-- The time until which a list of observers is idle.
 use Rattle.std.proofs.Common.{◌≡◌, ℕ, ◌<◌, ◌≤◌, List, [], ◌∷◌, ◌++◌, Bool, true, false, None, refl, sym, ap, ◌∙◌, arith}
 use Rattle.std.specs.Prelude.{is_none, max, nat_lt, not, ◌&&◌}
 use Rattle.std.specs.List.{All, list_any}
@@ -11,17 +11,17 @@ use Rattle.fc_observe.specs.Quiet.{AreQuietUntil, IsQuiet, IsQuietUntil}
 use Rattle.fc_observe.proofs.First.{or_false}
 use Rattle.fc_observe.proofs.Hearing.{none_any, none_found}
 
--- no moment is before the first
+-- no time is before 0
 pub never : (noticed : ℕ) (held : List Entry) → AreQuietUntil 0 noticed held
 never noticed [] = All-nil (IsQuietUntil 0 noticed)
 never noticed (o ∷ os) = All-cons (IsQuietUntil 0 noticed) o os (λ now lt. absurd (omega (arith, lt))) (never noticed os)
 
--- fewer entries are quiet as long
+-- fewer entries are idle as long
 pub quiet_without : (until noticed : ℕ) (p : Entry → Bool) (held : List Entry) → AreQuietUntil until noticed held →
     AreQuietUntil until noticed (without_those p held)
 quiet_without until noticed p held quiet = All-filter (λ (o : Entry). not (p o)) (IsQuietUntil until noticed) held quiet
 
--- an earlier end
+-- entries are idle until an earlier time
 pub quiet_before : (early late noticed : ℕ) (o : Entry) → early ≤ late → IsQuietUntil late noticed o → IsQuietUntil early noticed o
 quiet_before early late noticed o le quiet now lt = quiet now (omega (arith, lt, le))
 
@@ -33,7 +33,7 @@ quiet_more early late until noticed os o first second quiet next =
     (λ x. quiet_before until early noticed x first) os quiet)
     (All-cons (IsQuietUntil until noticed) o [] (quiet_before until late noticed o second next) (All-nil (IsQuietUntil until noticed)))
 
--- a lower serial that is noticed makes nobody due
+-- a lower noticed revision makes no further notification pending
 fewer_due : (now less noticed : ℕ) (o : Entry) (b : Bool) → less ≤ noticed → nat_lt o.serial less ≡ b →
     (nat_lt o.serial noticed && is_free now o.phase) ≡ false → (b && is_free now o.phase) ≡ false
 fewer_due now less noticed o false le e none = refl
@@ -42,13 +42,14 @@ fewer_due now less noticed o true le e none =
     let lt : o.serial < noticed = omega (arith, low, le) in
     ap (λ (b : Bool). b && is_free now o.phase) (sym (lt-ltb o.serial noticed lt)) ∙ none
 
--- what is known before a moment, and up to a noticed serial, is so at each moment before, with a lower serial
+-- facts about all times before `until`, up to a noticed revision, hold at each earlier time with a
+-- lower revision
 pub at_rest : (until noticed now less : ℕ) (held : List Entry) → now < until → less ≤ noticed → AreQuietUntil until noticed held → All (IsQuiet now less) held
 at_rest until noticed now less held lt le quiet =
     All-weaker (IsQuietUntil until noticed) (IsQuiet now less)
     (λ o q. let here = q now lt in (here.0, fewer_due now less noticed o (nat_lt o.serial less) le refl here.1)) held quiet
 
--- then no notification is late, and nobody gets a turn
+-- then no notification timed out, and no observer gets a lease
 pub none_late : (now noticed : ℕ) (t : ObserverList) → All (IsQuiet (max t.moment now) noticed) t.held → late_entry (at_moment now t) ≡ None
 none_late now noticed t quiet =
     none_found (is_late (max t.moment now)) t.held (All-weaker (IsQuiet (max t.moment now) noticed) (λ (o : Entry). is_late (max t.moment now) o ≡ false)

@@ -1,4 +1,4 @@
--- What a Reset message and a cancellation remove.
+-- The entries that a Reset message and a cancellation remove.
 use Rattle.std.proofs.Common.{◌≡◌, ◌↔◌, ℕ, ◌<◌, List, [], ◌∷◌, length, get_or, suc, zero, Bool, true, false, cond, Option, Some, None, refl, ap, ◌∙◌, subst, arith}
 use Rattle.std.specs.Prelude.{nat_eq, not, ◌==◌, ◌&&◌}
 use Rattle.std.specs.Cmp.Lexicographic.{pointwise, bytes_decides}
@@ -11,7 +11,7 @@ use Rattle.fc_observe.specs.declared.entry.Entry.{Entry}
 use Rattle.fc_observe.specs.Entries.{has_last_id, is_entry_of, is_id}
 use Rattle.fc_observe.specs.Observers.{ObserverList, after_reset, cancelled}
 
--- ---- what a filter keeps
+-- ---- the elements that a filter keeps
 
 kept_head : (p : Entry → Bool) (o : Entry) (os : List Entry) (b : Bool) → p o ≡ b → b ≡ true → Contains (cond b (o ∷ filter p os) (filter p os)) o
 kept_head p o os true e passes = (0, omega arith, refl)
@@ -36,7 +36,7 @@ not_from : (b : Bool) → (b ≡ true → ⊥) → not b ≡ true
 not_from true f = absurd (f refl)
 not_from false f = refl
 
--- where a test tells what is its own, just those that aren't stay
+-- if a test recognises its own elements, just the others stay
 just_others : (p : Entry → Bool) (Own : Entry → Type 0) → ((o : Entry) → Own o → p o ≡ true) → ((o : Entry) → p o ≡ true → Own o) → (held : List Entry) (o : Entry)
     → Contains (filter (λ (x : Entry). not (p x)) held) o ↔ (Contains held o × (Own o → ⊥))
 just_others p Own so is held o =

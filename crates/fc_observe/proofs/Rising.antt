@@ -1,4 +1,4 @@
--- The serial that an observer was last sent doesn't fall before it registers anew.
+-- The last revision sent to an observer doesn't decrease before it registers again.
 use Rattle.std.proofs.Common.{◌≡◌, ℕ, ◌<◌, ◌≤◌, List, [], ◌∷◌, ◌++◌, Bool, true, false, cond, Option, Some, max, sym, ap, ◌∙◌, subst, arith}
 use Rattle.std.specs.Prelude.{count_by, find}
 use Rattle.std.specs.List.{All}
@@ -16,16 +16,16 @@ use Rattle.fc_observe.proofs.Counting.{kept_key, one_of_key, unit}
 use Rattle.fc_observe.proofs.Keeping.{IfRegisters, all_after}
 use Rattle.fc_observe.proofs.Serials.{notified_keeps}
 
--- an entry of this endpoint and token was last sent this serial, or a later one
+-- this revision, or a later one, was the last sent to an entry of this endpoint and token
 abbrev pub SentFrom : ℕ → Endpoint → List ℕ → Entry → Type 0
 SentFrom m to token o = is_entry_of to token o ≡ true → m ≤ o.serial
 
--- a notification is of a later serial than the last that its observer was sent
+-- a notification has a later revision than the last one sent to its observer
 abbrev pub Above : ObserverCall → ObserverList → Entry → Type 0
 Above (Notify now turn id serial random bytes) t o = is_out turn (at_moment now t) o ≡ true → o.serial < serial
 Above other t o = Unit {0}
 
--- and so is each of these
+-- the same for each of these calls
 abbrev pub AreAbove : List ObserverCall → ObserverList → Type 0
 AreAbove [] t = Unit {0}
 AreAbove (c ∷ h) t = All (Above c (after_calls h t)) (after_calls h t).held × AreAbove h t
@@ -71,7 +71,7 @@ one_passes : (p q : Entry → Bool) (x : Entry) (os : List Entry) → find q os 
 one_passes p q x [] found passes = absurd (cc found)
 one_passes p q x (o ∷ os) found passes = one_passes_by p o x os (find q os) (q o) (λ e. one_passes p q x os e passes) found passes
 
--- where only the one that gives way passed p
+-- only the replaced entry passed p
 module _ (p q : Entry → Bool) (g : Entry → List Entry) (Q : Entry → Type 0) (x : Entry) (passes : p x ≡ true) (new : All (λ o. p o ≡ true → Q o) (g x)) where
   only_by : (o : Entry) (os : List Entry) (b : Bool) → count_by p (o ∷ os) ≤ 1 → (count_by p os ≤ 1 → find q os ≡ Some x → All (λ o. p o ≡ true → Q o) (at_first q g os)) → cond b (Some o) (find q os) ≡ Some x → All (λ o. p o ≡ true → Q o) (cond b (g o ++ os) (o ∷ at_first q g os))
   only_by o os true few rest found =

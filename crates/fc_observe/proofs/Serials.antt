@@ -1,4 +1,5 @@
--- The last serials that observers were sent, and the noticed serials for which their turns were given.
+-- The last revisions sent to observers, and the noticed revisions for which their leases were
+-- granted.
 use Rattle.std.proofs.Common.{◌≡◌, ℕ, ◌+◌, ◌<◌, ◌≤◌, List, [], ◌∷◌, Bool, true, false, cond, refl, sym, ap, subst, inl, inr, arith}
 use Rattle.std.specs.Prelude.{max, nat_lt, ◌==◌, ◌&&◌, ◌⊎◌}
 use Rattle.std.specs.List.{All, Any}
@@ -16,14 +17,15 @@ use Rattle.fc_observe.specs.Observers.{ObserverList, at_moment, gives_turn, is_o
 use Rattle.fc_observe.specs.Views.{interest_of}
 use Rattle.fc_observe.proofs.Keeping.{IfRegisters, all_after, come_from}
 
--- of a turn that was given: it was counted, and its observer was last sent less than the noticed serial
+-- for a lease that was granted: it was counted, and the last revision sent to its observer is below
+-- the noticed one
 abbrev pub IsGivenFor : ℕ → ℕ → ℕ → ℕ → Type 0
 IsGivenFor turns noticed n serial = (n < turns) × (serial < noticed)
 
 abbrev pub OutBelow : ℕ → ℕ → List ObserverCall → Entry → Type 0
 OutBelow slot confirm_after h o = (n at : ℕ) (missing : Bool) → o.phase ≡ TurnOut n at missing → IsGivenFor (observers slot confirm_after h).turns (noticed_for n slot confirm_after h) n o.serial
 
--- an older turn, where another may be given
+-- an older lease, if another may be granted
 older_by : (t : ObserverList) (noticed n old serial : ℕ) (b : Bool) → n < t.turns → serial < old → IsGivenFor (turn_given_by b noticed t).turns (cond (b && (t.turns == n)) noticed old) n serial
 older_by t noticed n old serial true lt below =
     let other : (t.turns == n) ≡ false = false_from_ne_true (t.turns == n) (λ e. let same = eqb-true t.turns n e in absurd (omega (arith, same, lt))) in
@@ -36,7 +38,7 @@ stays_below slot confirm_after h (NextDue now noticed) o below = λ n at missing
     older_by (at_moment now (observers slot confirm_after h)) noticed n (noticed_for n slot confirm_after h) o.serial (gives_turn noticed (at_moment now (observers slot confirm_after h))) w.0 w.1
 stays_below slot confirm_after h other o below = below
 
--- the new turn
+-- the new lease
 newest : (t : ObserverList) (noticed old serial : ℕ) (b : Bool) → b ≡ true → serial < noticed → IsGivenFor (turn_given_by b noticed t).turns (cond (b && (t.turns == t.turns)) noticed old) t.turns serial
 newest t noticed old serial true e below =
     let same : (t.turns == t.turns) ≡ true = eq-eqb t.turns t.turns refl in
@@ -88,7 +90,7 @@ out_phase_by : (m k own at : ℕ) (b : Bool) → (own == k) ≡ b → (b && nat_
 out_phase_by m k own at true e out = eqb-true own k e
 out_phase_by m k own at false e out = absurd (cc out)
 
--- a turn that is out has its number
+-- an active lease has its number
 pub out_phase : (m k : ℕ) (p : Phase) → is_out_in m k p ≡ true → (at : ℕ) × (missing : Bool) × (p ≡ TurnOut k at missing)
 out_phase m k (TurnOut own at missing) out = (at, missing, ap (λ (n : ℕ). TurnOut n at missing) (out_phase_by m k own at (own == k) refl out))
 out_phase m k other out = absurd (cc out)
@@ -104,7 +106,7 @@ sent_above slot confirm_after now turn serial h le =
     omega (arith, lt, le))
     (observers slot confirm_after h).held (all_below slot confirm_after h)
 
--- ---- what a call leaves of the last sent serial
+-- ---- the effect of a call on the last sent revision
 
 pub notified_keeps : (now id serial random : ℕ) (bytes : ArrayVec ℕ) (o : Entry) (b : Bool) → (interest_of (notified_by b now id serial random bytes o) ≡ interest_of o) × ((notified_by b now id serial random bytes o).serial ≡ serial)
 notified_keeps now id serial random bytes o true = (refl, refl)
@@ -127,7 +129,7 @@ keeps c t o (inr w) = inr (w.0, w.1, w.2, w.3, keeps_by c t o w.1 w.4)
 pub serials_kept : (c : ObserverCall) (t : ObserverList) → All (λ (o : Entry). IsRegisteredBy c t o ⊎ Any (KeepsSerial c t o) t.held) (observers_after c t).held
 serials_kept c t = All-weaker (ComesFrom c t) (λ (o : Entry). IsRegisteredBy c t o ⊎ Any (KeepsSerial c t o) t.held) (keeps c t) (observers_after c t).held (come_from c t)
 
--- ---- serials stay below a bound
+-- ---- revisions stay below a bound
 
 registered_below : (n : ℕ) (c : ObserverCall) (t : ObserverList) → HandsInUpTo n c → IfRegisters (λ (o : Entry). o.serial ≤ n) c t
 registered_below n (Register now to token request szx serial) t le = le

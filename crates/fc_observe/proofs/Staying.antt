@@ -1,4 +1,4 @@
--- Which calls take an entry of an endpoint and token from the list.
+-- The calls that remove an entry of an endpoint and token from the list.
 use Rattle.std.proofs.Common.{◌≡◌, ℕ, List, [], ◌∷◌, ◌++◌, suc, Bool, true, false, cond, Option, Some, None, refl, sym, ap, ◌∙◌, ◌⊎◌, inl, inr, ⊎_elim, arith}
 use Rattle.std.specs.Prelude.{find, max, nat_eq, not, ◌&&◌, ◌||◌}
 use Rattle.std.specs.Cmp.Lexicographic.{pointwise, bytes_decides}
@@ -18,13 +18,13 @@ use Rattle.fc_observe.proofs.Counting.{kept_key}
 use Rattle.fc_observe.proofs.Hearing.{all_fail}
 use Rattle.fc_observe.proofs.Resets.{endpoint_is}
 
--- ---- an entry that passes is there still, or it is the one that gives way
+-- ---- an entry that passes is still there, or it is the one that is replaced
 
 is_true_by : (b : Bool) → (b ≡ false → ⊥) → b ≡ true
 is_true_by true not = refl
 is_true_by false not = absurd (not refl)
 
--- what is held and passes is found
+-- an entry that is stored and passes is found
 pub held_passes : (p : Entry → Bool) (os : List Entry) (x : Entry) → Contains os x → p x ≡ true → list_any p os ≡ true
 held_passes p os x there passes = is_true_by (list_any p os) (λ none.
     let not : p x ≡ false = ap p (sym there.2) ∙ all_fail p os none there.0 x there.1 in
@@ -34,7 +34,7 @@ or_right : (b : Bool) → (b || true) ≡ true
 or_right true = refl
 or_right false = refl
 
--- the first that passes q gives way, which passed p, or p is passed still
+-- the first that passes q is replaced, which passed p, or an entry still passes p
 module _ (p q : Entry → Bool) (g : Entry → List Entry) where
   abbrev Stays : List Entry → Type 0
   Stays os = (list_any p (at_first q g os) ≡ true) ⊎ ((o : Entry) × (find q os ≡ Some o) × (p o ≡ true) × (list_any p (g o) ≡ false))
@@ -60,7 +60,7 @@ module _ (p q : Entry → Bool) (g : Entry → List Entry) where
   first_stays [] some = absurd (cc some)
   first_stays (o ∷ os) some = at_head o os (q o) (first_stays os) some
 
--- where the one that passes q is only changed
+-- the entry that passes q is only changed
 changed_stays : (p q : Entry → Bool) (f : Entry → Entry) → ((o : Entry) → p (f o) ≡ p o) → (os : List Entry) → list_any p os ≡ true → list_any p (at_first q (λ o. f o ∷ []) os) ≡ true
 changed_stays p q f same os some = ⊎_elim
     (λ (w : list_any p (at_first q (λ o. f o ∷ []) os) ≡ true). w)
@@ -77,7 +77,7 @@ each_stays : (p q : Entry → Bool) (f : Entry → Entry) → ((o : Entry) → p
 each_stays p q f same [] = refl
 each_stays p q f same (o ∷ os) = λ i. each_by p f o (q o) (same o) i || each_stays p q f same os i
 
--- where those that pass q go
+-- the entries that pass q are removed
 module _ (p q : Entry → Bool) where
   abbrev Remains : List Entry → Type 0
   Remains os = (list_any p (without_those q os) ≡ true) ⊎ ((o : Entry) × Contains os o × (p o ≡ true) × (q o ≡ true))
@@ -107,7 +107,7 @@ module _ (p q : Entry → Bool) where
 
 -- ---- keys
 
--- an entry of two keys shows that they are equal
+-- two keys of one entry are equal
 two_keys : (to from : Endpoint) (token own : List ℕ) (o : Entry) → is_entry_of to token o ≡ true → is_entry_of from own o ≡ true → (same_endpoint from to && pointwise nat_eq own token) ≡ true
 two_keys to from token own o of_to of_from =
     let w = and_parts (same_endpoint o.endpoint from) (pointwise nat_eq o.token.items own) of_from in
@@ -117,7 +117,7 @@ two_keys to from token own o of_to of_from =
 
 -- ---- calls
 
--- the call takes an entry of this endpoint and token away
+-- the call removes an entry of this endpoint and token
 abbrev pub TakesAway : Endpoint → List ℕ → ObserverCall → ObserverList → Type 0
 TakesAway to token (Cancel from own) t = (same_endpoint from to && pointwise nat_eq own token) ≡ true
 TakesAway to token (End turn) t = (o : Entry) × (entry_out turn t ≡ Some o) × (is_entry_of to token o ≡ true)

@@ -1,4 +1,4 @@
--- A turn is one observer's, and ends once.
+-- A lease belongs to one observer, and ends once.
 use Rattle.std.proofs.Common.{◌≡◌, ℕ, ◌+◌, ◌<◌, ◌≤◌, List, [], ◌∷◌, ◌++◌, Bool, true, false, cond, Some, None, refl, ap, arith}
 use Rattle.std.specs.Prelude.{count_by, find, max, nat_lt, sum_by, ◌==◌, ◌&&◌}
 use Rattle.std.specs.List.{All}
@@ -21,11 +21,11 @@ use Rattle.fc_observe.proofs.Counting.{IfAdds, sum_after, sum_first, sum_left, u
 use Rattle.fc_observe.proofs.Serials.{all_below}
 use Rattle.fc_observe.proofs.Hearing.{notified_in}
 
--- 1 for an entry whose turn has the number
+-- 1 for an entry whose lease has the number
 abbrev pub turns_of : ℕ → Entry → ℕ
 turns_of n o = unit (has_number n o)
 
--- ---- calls that give no turn
+-- ---- calls that grant no lease
 
 notified_number : (n now id serial random : ℕ) (bytes : ArrayVec ℕ) (o : Entry) (b : Bool) → turns_of n (notified_by b now id serial random bytes o) ≤ turns_of n o
 notified_number n now id serial random bytes o true = omega arith
@@ -43,7 +43,7 @@ resent_number : (n now : ℕ) (p : Phase) → unit (has_number_in n (retransmitt
 resent_number n now (Outstanding sent_at timeout k bytes) = omega arith
 resent_number n now other = omega arith
 
--- what is to hold of a call that gives no turn
+-- the property that a call must have that grants no lease
 abbrev IfGivesNone : ℕ → ObserverCall → ObserverList → Type 0
 IfGivesNone n (NextDue now noticed) t = Unit {0}
 IfGivesNone n c t = (o : Entry) → turns_of n (changed_by c t o) ≤ turns_of n o
@@ -66,7 +66,7 @@ turns_added : (n : ℕ) (c : ObserverCall) (t : ObserverList) → sum_by (turns_
 turns_added n (Register now to token request szx serial) t le = entered_turns n (registration to token.items (at_moment now t)) to token.items (new_entry (max t.moment now) to token request szx serial) t.held refl le
 turns_added n other t le = tt
 
--- ---- the call that gives one
+-- ---- the call that grants one
 
 zero_sum : (m : Entry → ℕ) (os : List Entry) → All (λ o. m o ≡ 0) os → sum_by m os ≡ 0
 zero_sum m [] all = refl
@@ -116,7 +116,7 @@ pub one_turn : (slot confirm_after number : ℕ) (h : List ObserverCall) → cou
 one_turn slot confirm_after number [] = omega arith
 one_turn slot confirm_after number (c ∷ h) = one_after number slot confirm_after h c (one_turn slot confirm_after number h)
 
--- ---- a turn that ends
+-- ---- a lease that ends
 
 first_gone_by : (p : Entry → Bool) (g : Entry → List Entry) (o : Entry) (os : List Entry) (b : Bool) → p o ≡ b → count_by p (g o) ≡ 0 → (count_by p os ≤ 1 → count_by p (at_first p g os) ≡ 0) → count_by p (o ∷ os) ≤ 1 → count_by p (cond b (g o ++ os) (o ∷ at_first p g os)) ≡ 0
 first_gone_by p g o os true e none rest le =
@@ -144,7 +144,7 @@ unfound : (p : Entry → Bool) (os : List Entry) → count_by p os ≡ 0 → fin
 unfound p [] none = refl
 unfound p (o ∷ os) none = unfound_by p o os (p o) refl (unfound p os) none
 
--- a turn that is out has its number
+-- an active lease has its number
 out_numbered : (m k : ℕ) (p : Phase) (b : Bool) → unit (b && is_out_in m k p) ≤ unit (has_number_in k p)
 out_numbered m k p false = omega arith
 out_numbered m k (TurnOut own at missing) true = both (own == k)

@@ -1,4 +1,4 @@
--- The calls on the observers of a slot, and the list that they leave.
+-- Calls on the observers of a slot, and the list after them.
 use Rattle.std.specs.Prelude.{◌≡◌, ℕ, ◌&&◌, ◌⊎◌, max, Bool, true, false, nat_eq, List, [], ◌∷◌, Option}
 use Rattle.std.specs.Cmp.Lexicographic.{pointwise}
 use Rattle.std.specs.List.{Any}
@@ -11,7 +11,7 @@ use Rattle.fc_observe.specs.declared.entry.Turn.{Turn}
 use Rattle.fc_observe.specs.Entries.{acknowledged, given_up, has_last_id, is_due, is_late, missed, new_entry, notified, retransmitted, with_turn}
 use Rattle.fc_observe.specs.Observers.{ObserverList, after_ack, after_reset, after_tick, at_moment, cancelled, gives_turn, is_out, no_observers, registered, turn_ended, turn_given, turn_given_up, turn_missed, turn_notified}
 
--- a call that may change the list, with what it is handed
+-- a call that may change the list, with its arguments.
 pub data ObserverCall : Type 0 where
   Advance : (now : ℕ) → ObserverCall
   Register : (now : ℕ) (to : Endpoint) (token : ArrayVec ℕ) (request : Request) (szx : Option ℕ) (serial : ℕ) → ObserverCall
@@ -25,7 +25,7 @@ pub data ObserverCall : Type 0 where
   Acknowledge : (to : Endpoint) (id : ℕ) → ObserverCall
   Tick : (now : ℕ) → ObserverCall
 
--- the list after a call, whose contract cites the same word
+-- the list after a call; the contract of the call uses the same definition.
 abbrev pub observers_after : ObserverCall → ObserverList → ObserverList
 observers_after (Advance now) t = at_moment now t
 observers_after (Register now to token request szx serial) t = registered to token request szx serial (at_moment now t)
@@ -39,18 +39,18 @@ observers_after (Reset to id) t = after_reset to id t
 observers_after (Acknowledge to id) t = after_ack to id t
 observers_after (Tick now) t = after_tick (at_moment now t)
 
--- the list after calls, of which the latest stands first
+-- the list after these calls, the latest first.
 abbrev pub after_calls : List ObserverCall → ObserverList → ObserverList
 after_calls [] t = t
 after_calls (c ∷ h) t = observers_after c (after_calls h t)
 
--- the list after calls since its `new`
+-- the list after calls since its `new`.
 abbrev pub observers : ℕ → ℕ → List ObserverCall → ObserverList
 observers slot confirm_after h = after_calls h (no_observers slot confirm_after)
 
--- ---- what a call does to an entry
+-- ---- the effect of a call on an entry
 
--- the entries that a call changes, if it isn't their removal
+-- the entries that a call changes, other than by their removal.
 abbrev pub may_change : ObserverCall → ObserverList → Entry → Bool
 may_change (NextDue now noticed) t o = gives_turn noticed (at_moment now t) && is_due (max t.moment now) noticed o
 may_change (Miss turn) t o = is_out turn t o
@@ -60,7 +60,7 @@ may_change (Acknowledge to id) t o = has_last_id to id o
 may_change (Tick now) t o = is_late (max t.moment now) o
 may_change other t o = false
 
--- and what they are after it
+-- these entries after the call.
 abbrev pub changed_by : ObserverCall → ObserverList → Entry → Entry
 changed_by (NextDue now noticed) t o = with_turn t.turns (max t.moment now) o
 changed_by (Miss turn) t o = missed o
@@ -70,16 +70,17 @@ changed_by (Acknowledge to id) t o = acknowledged o
 changed_by (Tick now) t o = retransmitted (max t.moment now) o
 changed_by other t o = o
 
--- the call is the entry's registration
+-- the call is the entry's registration.
 abbrev pub IsRegisteredBy : ObserverCall → ObserverList → Entry → Type 0
 IsRegisteredBy (Register now to token request szx serial) t o = o ≡ new_entry (max t.moment now) to token request szx serial
 IsRegisteredBy other t o = ⊥
 
--- the call is a registration of this endpoint and token
+-- the call is a registration of this endpoint and token.
 abbrev pub is_registration_of : Endpoint → List ℕ → ObserverCall → Bool
 is_registration_of to token (Register now from own request szx serial) = same_endpoint from to && pointwise nat_eq own.items token
 is_registration_of to token other = false
 
--- an entry after a call was there before it, as it is or changed by the call, or is registered by it
+-- an entry after a call was there before it, and is unchanged or changed by the call, or the call
+-- registered it.
 abbrev pub ComesFrom : ObserverCall → ObserverList → Entry → Type 0
 ComesFrom c t o = IsRegisteredBy c t o ⊎ Any (λ before. (o ≡ before) ⊎ ((may_change c t before ≡ true) × (o ≡ changed_by c t before))) t.held

@@ -1,4 +1,5 @@
--- An entry in the list of observers of a slot (RFC 7641, 4.1), and the transmission of its notifications.
+-- An entry in the list of observers of a slot (RFC 7641, section 4.1), and the transmission of its
+-- notifications.
 use Rattle.std.specs.Prelude.{ℕ, ◌+◌, ◌*◌, ◌%◌, ◌^◌, ◌==◌, ◌&&◌, nat_eq, nat_lt, nat_le, min, Bool, true, false, if◌then◌else◌, List, [], ◌∷◌, Option, Some, None}
 use Rattle.std.specs.Cmp.Lexicographic.{pointwise}
 use Rattle.arrayvec.specs.ArrayVec.{ArrayVec}
@@ -12,147 +13,149 @@ use Rattle.fc_observe.specs.declared.entry.Phase.{Phase}
 use Rattle.fc_observe.specs.declared.entry.Phase.TheVariants.{Idle, GivenUp, TurnOut, Outstanding}
 use Rattle.fc_observe.specs.declared.entry.Turn.{Turn}
 
--- it is of this endpoint and token, by which an entry is known
+-- the entry has this endpoint and token, which identify it.
 abbrev pub is_entry_of : Endpoint → List ℕ → Entry → Bool
 is_entry_of to token o = same_endpoint o.endpoint to && pointwise nat_eq o.token.items token
 
--- a message id that was sent
+-- a message ID that was sent.
 abbrev pub is_id : ℕ → Option ℕ → Bool
 is_id id None = false
 is_id id (Some own) = own == id
 
--- its last notification went to this endpoint, with this message id
+-- the entry's last notification went to this endpoint, with this message ID.
 abbrev pub has_last_id : Endpoint → ℕ → Entry → Bool
 has_last_id to id o = same_endpoint o.endpoint to && is_id id o.id
 
--- f where the test passes; else it stays
+-- applies f if the test holds; else there is no change.
 abbrev pub changed_if : Bool → (Entry → Entry) → Entry → Entry
 changed_if true f o = f o
 changed_if false f o = o
 
--- ---- turns
+-- ---- leases
 
--- a turn is out for less than a window
+-- a lease is active for less than EXCHANGE_LIFETIME.
 abbrev pub is_out_in : ℕ → ℕ → Phase → Bool
 is_out_in now number (TurnOut own at missing) = (own == number) && within_window now at
 is_out_in now number other = false
 
--- it has this turn of the slot, and the turn is out
+-- the entry has this lease of the slot, and the lease is active.
 abbrev pub has_turn : ℕ → ℕ → Turn → Entry → Bool
 has_turn slot now turn o = (turn.slot == slot) && is_out_in now turn.number o.phase
 
--- the taking of a turn, out or lapsed, found the slot empty
+-- the snapshot of a lease, active or expired, found the slot empty.
 abbrev pub has_missed_in : Phase → Bool
 has_missed_in (TurnOut number at missing) = missing
 has_missed_in other = false
 
--- that of the entry's turn
+-- the same for the entry's lease.
 abbrev pub has_missed : Entry → Bool
 has_missed o = has_missed_in o.phase
 
--- nothing is under way, and its last turn was given up earlier; one that is out for a window is given up at its end
+-- no lease is active, no notification is outstanding, and the last lease was released earlier; one
+-- that is active for EXCHANGE_LIFETIME is released at its end.
 abbrev pub is_free : ℕ → Phase → Bool
 is_free now Idle = true
 is_free now (GivenUp at) = nat_lt at now
 is_free now (TurnOut number at missing) = nat_lt (at + window) now
 is_free now (Outstanding sent_at timeout retransmissions bytes) = false
 
--- a change is noticed that it wasn't notified of, and nothing is under way
+-- the entry has a pending notification: the noticed revision is above the last one sent to it, and
+-- its phase is free.
 abbrev pub is_due : ℕ → ℕ → Entry → Bool
 is_due now noticed o = nat_lt o.serial noticed && is_free now o.phase
 
--- the turn of this number is out from now on; its taking is to come
+-- the lease with this number is active from now on, and its snapshot is still to be taken.
 abbrev pub with_turn : ℕ → ℕ → Entry → Entry
 with_turn number now o = record o { phase = TurnOut number now false }
 
--- a turn whose taking found the slot empty is missing; other phases stay
+-- a lease whose snapshot found the slot empty is marked as missing; other phases don't change.
 abbrev pub missed_phase : Phase → Phase
 missed_phase (TurnOut number at missing) = TurnOut number at true
 missed_phase other = other
 
--- the entry after it
+-- the entry with this mark.
 abbrev pub missed : Entry → Entry
 missed o = record o { phase = missed_phase o.phase }
 
--- the turn is given up
+-- the lease is released.
 abbrev pub given_up : ℕ → Entry → Entry
 given_up now o = record o { phase = GivenUp now }
 
 -- ---- notifications
 
--- its next notification is confirmable: `confirm_after` ms passed since the last one that was
+-- the next notification is confirmable: `confirm_after` ms passed since the last one that was.
 abbrev pub must_confirm : ℕ → ℕ → Entry → Bool
 must_confirm confirm_after now o = nat_le (o.confirmed + confirm_after) now
 
--- how long the first transmission is waited for, in milliseconds (RFC 7252, 4.2)
+-- the timeout of the first transmission, in milliseconds (RFC 7252, section 4.2).
 abbrev pub first_timeout : ℕ → ℕ
 first_timeout random = 2000 + random % 1001
 
--- the entry after a notification of this message id, serial and bytes, which is confirmable or not
+-- the entry after a notification with this message ID, revision and bytes, confirmable or not.
 abbrev pub notified_by : Bool → ℕ → ℕ → ℕ → ℕ → ArrayVec ℕ → Entry → Entry
 notified_by true now id serial random bytes o =
     record o { serial = serial; id = Some id; confirmed = now; phase = Outstanding now (first_timeout random) 0 bytes }
 notified_by false now id serial random bytes o = record o { serial = serial; id = Some id; phase = Idle }
 
--- confirmable if `confirm_after` ms passed since the last confirmable one (RFC 7641, 4.5)
+-- confirmable if `confirm_after` ms passed since the last confirmable one (RFC 7641, section 4.5).
 abbrev pub notified : ℕ → ℕ → ℕ → ℕ → ℕ → ArrayVec ℕ → Entry → Entry
 notified confirm_after now id serial random bytes o = notified_by (must_confirm confirm_after now o) now id serial random bytes o
 
--- an acknowledgement ends the wait, and nothing else
+-- an acknowledgement ends the wait, and changes nothing else.
 abbrev pub acknowledged_phase : Phase → Phase
 acknowledged_phase (Outstanding sent_at timeout retransmissions bytes) = Idle
 acknowledged_phase other = other
 
--- the entry after it
+-- the entry after an acknowledgement.
 abbrev pub acknowledged : Entry → Entry
 acknowledged o = record o { phase = acknowledged_phase o.phase }
 
 -- ---- retransmission (RFC 7252, 4.2)
 
--- the timeout is doubled by each retransmission, four times at most
+-- each retransmission doubles the timeout, at most four times.
 abbrev pub backoff : ℕ → ℕ → ℕ
 backoff timeout retransmissions = timeout * 2 ^ min retransmissions 4
 
--- a phase whose timeout is over
+-- the timeout of the phase has passed.
 abbrev pub is_late_in : ℕ → Phase → Bool
 is_late_in now (Outstanding sent_at timeout retransmissions bytes) = nat_le (sent_at + backoff timeout retransmissions) now
 is_late_in now other = false
 
--- its notification is outstanding, and its timeout is over
+-- the entry's notification is outstanding, and its timeout has passed.
 abbrev pub is_late : ℕ → Entry → Bool
 is_late now o = is_late_in now o.phase
 
--- the same bytes again, where they were retransmitted less than four times
+-- the same bytes again, if they were retransmitted less than four times.
 abbrev pub retransmission_in : Endpoint → Phase → Option Emission
 retransmission_in to (Outstanding sent_at timeout retransmissions bytes) =
     if nat_lt retransmissions 4 then Some (record { to = to; bytes = bytes }) else None
 retransmission_in to other = None
 
--- what an entry is sent again
+-- the retransmission of an entry's notification.
 abbrev pub retransmission : Entry → Option Emission
 retransmission o = retransmission_in o.endpoint o.phase
 
--- the timeout runs anew
+-- the timeout starts again.
 abbrev pub retransmitted_phase : ℕ → Phase → Phase
 retransmitted_phase now (Outstanding sent_at timeout retransmissions bytes) = Outstanding now timeout (retransmissions + 1) bytes
 retransmitted_phase now other = other
 
--- the entry after its retransmission
+-- the entry after its retransmission.
 abbrev pub retransmitted : ℕ → Entry → Entry
 retransmitted now o = record o { phase = retransmitted_phase now o.phase }
 
--- a late entry after its timeout: its notification is sent again, or the entry is removed
+-- an entry after its timeout: its notification is retransmitted, or the entry is removed.
 abbrev pub timed_out_by : Option Emission → ℕ → Entry → List Entry
 timed_out_by None now o = []
 timed_out_by (Some emission) now o = retransmitted now o ∷ []
 
--- by its own retransmission
+-- the same, with its own retransmission.
 abbrev pub timed_out : ℕ → Entry → List Entry
 timed_out now o = timed_out_by (retransmission o) now o
 
 -- ---- registration
 
--- an entry at its registration, which counts as confirmed; no notification was sent yet
+-- an entry at its registration, which counts as confirmed; no notification was sent yet.
 abbrev pub new_entry : ℕ → Endpoint → ArrayVec ℕ → Request → Option ℕ → ℕ → Entry
 new_entry now to token request szx serial = record {
   endpoint = to;

@@ -1,4 +1,4 @@
--- The list of observers of a slot (RFC 7641, 4.1), and what each call does to it.
+-- The list of observers of a slot (RFC 7641, section 4.1), and the effect of each call on it.
 use Rattle.std.specs.Prelude.{ℕ, ◌+◌, ◌&&◌, nat_lt, max, Bool, true, false, not, if◌then◌else◌, List, [], ◌∷◌, ◌++◌, length, map, filter, find, Option, Some, None}
 use Rattle.std.specs.List.{list_any}
 use Rattle.arrayvec.specs.ArrayVec.{ArrayVec}
@@ -13,8 +13,8 @@ use Rattle.fc_observe.specs.declared.observers.Ticked.{Ticked}
 use Rattle.fc_observe.specs.declared.observers.Ticked.TheVariants.{Resend, Removed, Quiet}
 use Rattle.fc_observe.specs.Entries.{acknowledged, changed_if, given_up, has_last_id, has_missed, has_turn, is_due, is_entry_of, is_late, missed, must_confirm, new_entry, notified, retransmission, timed_out, with_turn}
 
--- the slot, after how many ms a notification is confirmable again, the greatest moment handed in, how many turns were given, and the
--- entries, in order of registration
+-- the slot, the interval of confirmable notifications in ms, the greatest time passed, how many
+-- leases were granted, and the entries, in order of registration.
 pub record ObserverList : Type 0 where
   pub slot : ℕ
   pub confirm_after : ℕ
@@ -22,152 +22,152 @@ pub record ObserverList : Type 0 where
   pub turns : ℕ
   pub held : List Entry
 
--- a new list
+-- a new list.
 abbrev pub no_observers : ℕ → ℕ → ObserverList
 no_observers slot confirm_after = record { slot = slot; confirm_after = confirm_after; moment = 0; turns = 0; held = [] }
 
--- the clock is advanced, never backwards
+-- the clock is advanced, never backwards.
 abbrev pub at_moment : ℕ → ObserverList → ObserverList
 at_moment now t = record t { moment = max t.moment now }
 
--- the list with these entries
+-- the list with these entries.
 abbrev pub with_held : List Entry → ObserverList → ObserverList
 with_held held t = record t { held = held }
 
 -- ---- lists of entries
 
--- those that don't pass
+-- the entries that don't pass the test.
 abbrev pub without_those : (Entry → Bool) → List Entry → List Entry
 without_those p held = filter (λ o. not (p o)) held
 
--- the first that passes gives way to these; the others stay
+-- these entries replace the first that passes; the others don't change.
 abbrev pub at_first : (Entry → Bool) → (Entry → List Entry) → List Entry → List Entry
 at_first p g [] = []
 at_first p g (o ∷ os) = if p o then g o ++ os else o ∷ at_first p g os
 
--- f at each that passes; the others stay
+-- f is applied to each entry that passes; the others don't change.
 abbrev pub at_each : (Entry → Bool) → (Entry → Entry) → List Entry → List Entry
 at_each p f held = map (λ o. changed_if (p o) f o) held
 
 -- ---- registration
 
--- the entry of the same endpoint and token is replaced; else there is room for 32
+-- the entry of the same endpoint and token is replaced; else there is room for 32.
 abbrev pub registration_by : Bool → ℕ → Registered
 registration_by true count = Replaced
 registration_by false count = if nat_lt count 32 then Entered else Full
 
--- what becomes of a registration
+-- the result of a registration.
 abbrev pub registration : Endpoint → List ℕ → ObserverList → Registered
 registration to token t = registration_by (list_any (is_entry_of to token) t.held) (length t.held)
 
--- the new entry is the last
+-- the new entry is the last.
 abbrev pub entered_by : Registered → Endpoint → List ℕ → Entry → List Entry → List Entry
 entered_by Full to token o held = held
 entered_by Entered to token o held = without_those (is_entry_of to token) held ++ o ∷ []
 entered_by Replaced to token o held = without_those (is_entry_of to token) held ++ o ∷ []
 
--- the list after a registration
+-- the list after a registration.
 abbrev pub registered : Endpoint → ArrayVec ℕ → Request → Option ℕ → ℕ → ObserverList → ObserverList
 registered to token request szx serial t = with_held (entered_by (registration to token.items t) to token.items (new_entry t.moment to token request szx serial) t.held) t
 
--- after a cancellation (RFC 7641, 3.6)
+-- the list after a cancellation (RFC 7641, section 3.6).
 abbrev pub cancelled : Endpoint → List ℕ → ObserverList → ObserverList
 cancelled to token t = with_held (without_those (is_entry_of to token) t.held) t
 
--- ---- turns
+-- ---- leases
 
--- an observer is due, and the count of turns isn't at its end
+-- an observer has a pending notification, and the count of leases isn't at its maximum.
 abbrev pub gives_turn : ℕ → ObserverList → Bool
 gives_turn noticed t = nat_lt t.turns 18446744073709551615 && list_any (is_due t.moment noticed) t.held
 
--- the next turn, numbered by how many were given
+-- the next lease, numbered by how many were granted.
 abbrev pub next_turn_by : Bool → ObserverList → Option Turn
 next_turn_by true t = Some (record { slot = t.slot; number = t.turns })
 next_turn_by false t = None
 
--- the turn that is given where this serial is noticed
+-- the lease that is granted for the noticed revision.
 abbrev pub next_turn : ℕ → ObserverList → Option Turn
 next_turn noticed t = next_turn_by (gives_turn noticed t) t
 
--- the first that is due gets the turn
+-- the first observer with a pending notification gets the lease.
 abbrev pub turn_given_by : Bool → ℕ → ObserverList → ObserverList
 turn_given_by true noticed t = record t { turns = t.turns + 1; held = at_first (is_due t.moment noticed) (λ o. with_turn t.turns t.moment o ∷ []) t.held }
 turn_given_by false noticed t = t
 
--- the list after it
+-- the list after the grant.
 abbrev pub turn_given : ℕ → ObserverList → ObserverList
 turn_given noticed t = turn_given_by (gives_turn noticed t) noticed t
 
--- this turn is the entry's, and is out
+-- the entry has this lease, and the lease is active.
 abbrev pub is_out : Turn → ObserverList → Entry → Bool
 is_out turn t o = has_turn t.slot t.moment turn o
 
--- the entry whose turn is out
+-- the entry that has this active lease.
 abbrev pub entry_out : Turn → ObserverList → Option Entry
 entry_out turn t = find (is_out turn t) t.held
 
--- the taking of the turn found the slot empty
+-- the lease is marked: its snapshot found the slot empty.
 abbrev pub turn_missed : Turn → ObserverList → ObserverList
 turn_missed turn t = with_held (at_first (is_out turn t) (λ o. missed o ∷ []) t.held) t
 
--- whether the taking of a turn found the slot empty; not where the turn is not out
+-- whether the snapshot of a lease found the slot empty; `false` if the lease isn't active.
 abbrev pub is_missing_by : Option Entry → Bool
 is_missing_by None = false
 is_missing_by (Some o) = has_missed o
 
--- by the entry that has it
+-- the same, for the entry that has the lease.
 abbrev pub is_missing : Turn → ObserverList → Bool
 is_missing turn t = is_missing_by (entry_out turn t)
 
--- whether the notification of a turn is confirmable; not where the turn is not out
+-- whether the notification of a lease is confirmable; `false` if the lease isn't active.
 abbrev pub must_confirm_by : Option Entry → ℕ → ℕ → Bool
 must_confirm_by None confirm_after now = false
 must_confirm_by (Some o) confirm_after now = must_confirm confirm_after now o
 
--- by the entry that has it
+-- the same, for the entry that has the lease.
 abbrev pub must_confirm_turn : Turn → ObserverList → Bool
 must_confirm_turn turn t = must_confirm_by (entry_out turn t) t.confirm_after t.moment
 
--- the turn ends by this notification
+-- the lease ends with this notification.
 abbrev pub turn_notified : Turn → ℕ → ℕ → ℕ → ArrayVec ℕ → ObserverList → ObserverList
 turn_notified turn id serial random bytes t = with_held (at_first (is_out turn t) (λ o. notified t.confirm_after t.moment id serial random bytes o ∷ []) t.held) t
 
--- the turn ends by the removal of its entry
+-- the lease ends with the removal of its entry.
 abbrev pub turn_ended : Turn → ObserverList → ObserverList
 turn_ended turn t = with_held (at_first (is_out turn t) (λ o. []) t.held) t
 
--- the turn is given up
+-- the lease is released.
 abbrev pub turn_given_up : Turn → ObserverList → ObserverList
 turn_given_up turn t = with_held (at_first (is_out turn t) (λ o. given_up t.moment o ∷ []) t.held) t
 
 -- ---- signals and time
 
--- a Reset removes each entry whose last notification it answers
+-- a Reset removes each entry whose last notification it matches.
 abbrev pub after_reset : Endpoint → ℕ → ObserverList → ObserverList
 after_reset to id t = with_held (without_those (has_last_id to id) t.held) t
 
--- an Acknowledgement ends the wait of each entry whose last notification it answers
+-- an Acknowledgement ends the wait of each entry whose last notification it matches.
 abbrev pub after_ack : Endpoint → ℕ → ObserverList → ObserverList
 after_ack to id t = with_held (at_each (has_last_id to id) acknowledged t.held) t
 
--- the first whose notification is late
+-- the first entry whose notification timed out.
 abbrev pub late_entry : ObserverList → Option Entry
 late_entry t = find (is_late t.moment) t.held
 
--- what a tick does: it sends a notification again, removes its entry, or does nothing
+-- the effect of a tick: it retransmits a notification, removes the entry, or does nothing.
 abbrev pub ticked_by : Option Emission → Ticked
 ticked_by None = Removed
 ticked_by (Some emission) = Resend emission
 
--- to the late entry, if there is one
+-- the effect on the entry that timed out, if there is one.
 abbrev pub ticked_at : Option Entry → Ticked
 ticked_at None = Quiet
 ticked_at (Some o) = ticked_by (retransmission o)
 
--- at the moment of the list
+-- the effect at the list's time.
 abbrev pub ticked : ObserverList → Ticked
 ticked t = ticked_at (late_entry t)
 
--- the list after a tick
+-- the list after a tick.
 abbrev pub after_tick : ObserverList → ObserverList
 after_tick t = with_held (at_first (is_late t.moment) (timed_out t.moment) t.held) t

@@ -1,4 +1,4 @@
--- What an observer is lent as.
+-- The observation of an observer, as it is borrowed.
 use Rattle.std.specs.Prelude.{ℕ, Option}
 use Rattle.arrayvec.specs.ArrayVec.{ArrayVec}
 use Rattle.coap_msg.specs.declared.types.Endpoint.{Endpoint}
@@ -6,17 +6,18 @@ use Rattle.fc_help.specs.Request.{Request}
 use Rattle.fc_observe.specs.declared.entry.Entry.{Entry}
 use Rattle.fc_observe.specs.declared.entry.Observer.{Observer}
 
--- whose it is, and the GET that each notification answers, with its block size
+-- an observation: endpoint and token, and the GET that each notification executes, with its block
+-- size.
 pub record Interest : Type 0 where
   pub endpoint : Endpoint
   pub token : ArrayVec ℕ
   pub request : Request
   pub szx : Option ℕ
 
--- what is lent
+-- the observation of an observer.
 abbrev pub interest : Observer → Interest
 interest o = record { endpoint = o.endpoint; token = o.token.now; request = o.request.now; szx = o.szx }
 
--- what an entry says of it
+-- the observation of an entry.
 abbrev pub interest_of : Entry → Interest
 interest_of o = record { endpoint = o.endpoint; token = o.token; request = o.request; szx = o.szx }

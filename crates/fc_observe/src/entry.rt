@@ -7,80 +7,91 @@ ghost use Rattle.fc_observe.specs.Views.{interest, interest_of};
 use coap_msg::{Datagram, Emission, Endpoint, Token, WINDOW};
 use fc_help::Request;
 
-/// The default time without a confirmable notification after which the next one is confirmable, in milliseconds: 24 hours, the most that RFC 7641,
-/// section 4.5 allows.
+/// Default interval between confirmable notifications, in milliseconds: 24 hours.
+///
+/// Once this time has passed without one, the next notification is confirmable. RFC 7641, section
+/// 4.5 allows at most 24 hours.
 pub const CONFIRM_AFTER: u64 = 86_400_000;
 
-/// The least time that the first transmission is waited for, in milliseconds: ACK_TIMEOUT (RFC 7252, 4.8).
+/// Minimum timeout of the first transmission, in milliseconds.
+///
+/// This is ACK_TIMEOUT (RFC 7252, section 4.8).
 pub const ACK_TIMEOUT: u16 = 2000;
 
-/// How many times there are to wait for the first transmission, each a millisecond longer: up to ACK_TIMEOUT *
-/// ACK_RANDOM_FACTOR (RFC 7252, 4.8).
+/// Number of possible timeouts of the first transmission.
+///
+/// They are a millisecond apart, up to ACK_TIMEOUT * ACK_RANDOM_FACTOR (RFC 7252, section 4.8).
 pub const ACK_TIMEOUTS: u16 = 1001;
 
-/// How often a confirmable notification is sent again at most: MAX_RETRANSMIT (RFC 7252, 4.8).
+/// Maximum number of retransmissions of a confirmable notification.
+///
+/// This is MAX_RETRANSMIT (RFC 7252, section 4.8).
 pub const MAX_RETRANSMIT: u8 = 4;
 
-/// A turn of an observer to be notified: its slot, and its number among the turns of that slot, from 0.
+/// A notification lease: permission to notify one observer once.
+///
+/// It has its slot, and its number among the leases of that slot, counted from 0.
 #[derive(Clone, Copy, Default, PartialEq, Eq)]
 pub struct Turn {
     /// The slot.
     pub slot: u8,
-    /// Its number among the turns of the slot.
+    /// Its number among the leases of the slot.
     pub number: u64,
 }
 
-/// What is under way with an observer. Moments and timeouts are in milliseconds.
+/// The state of an observer's notification.
+///
+/// Times and timeouts are in milliseconds.
 #[derive(Drop)]
 pub enum Phase {
-    /// Nothing.
+    /// No lease and no outstanding notification.
     Idle,
-    /// Nothing, since its turn was given up at this moment.
+    /// The same; the last lease was released at this time.
     GivenUp(u64),
-    /// A turn of this number is out since a moment. At a window's end it is given up.
+    /// A granted lease. 247,000 ms after its grant it counts as released.
     TurnOut {
-        /// The turn's number.
+        /// The lease's number.
         number: u64,
-        /// When it was given.
+        /// The time at which it was granted.
         at: u64,
-        /// Whether its taking found the slot empty.
+        /// Whether the lease's snapshot found the slot empty.
         missing: bool,
     },
-    /// A confirmable notification waits for its acknowledgement (RFC 7252, 4.2).
+    /// A confirmable notification without its acknowledgement (RFC 7252, section 4.2).
     Outstanding {
-        /// When it was last sent.
+        /// The time at which it was last sent.
         sent_at: u64,
-        /// How long its first transmission is waited for; each retransmission doubles that.
+        /// The timeout of its first transmission; each retransmission doubles it.
         timeout: u16,
-        /// How often it was sent again.
+        /// How many times it was retransmitted.
         retransmissions: u8,
         /// Its bytes.
         bytes: Datagram,
     },
 }
 
-/// An entry in the list of observers (RFC 7641, 4.1).
+/// An entry in the list of observers (RFC 7641, section 4.1).
 #[derive(Drop)]
 pub struct Entry {
     /// The observer's endpoint.
     pub endpoint: Endpoint,
-    /// The token of its request, which each notification carries.
+    /// The token of its request, sent in each notification.
     pub token: Token,
-    /// Its request, which each notification answers anew.
+    /// Its request, executed again for each notification.
     pub request: Request,
-    /// The size exponent of its Block2 option, if it had one (RFC 7959, 2.6).
+    /// The size exponent of its Block2 option, if it had one (RFC 7959, section 2.6).
     pub szx: Option<u8>,
-    /// The serial that it was last sent, in the reply to its registration or in a notification.
+    /// The last revision sent to it, in the response to its registration or later.
     pub serial: u64,
-    /// The message id of its last notification.
+    /// The message ID of its last notification.
     pub id: Option<u16>,
-    /// When it was registered or last sent a confirmable notification, in milliseconds.
+    /// The time of its registration or last confirmable notification, in milliseconds.
     pub confirmed: u64,
-    /// What is under way with it.
+    /// The state of its notification.
     pub phase: Phase,
 }
 
-/// An observer, as its entry lends it: what its notification needs.
+/// An observer, borrowed from its entry: the data for its notification.
 #[derive(Drop)]
 pub struct Observer<'a> {
     /// Its endpoint.
@@ -91,12 +102,12 @@ pub struct Observer<'a> {
     pub request: &'a Request,
     /// The size exponent of its Block2 option, if it had one.
     pub szx: Option<u8>,
-    /// Whether its notification is to be confirmable (RFC 7641, 4.5).
+    /// Whether its notification must be confirmable (RFC 7641, section 4.5).
     pub confirmable: bool,
 }
 
 impl Entry {
-    // The observer, at a moment of the list.
+    // Returns the observer, at a time of the list.
     pub(crate) fn observer(&self, confirm_after: u64, now: u64) -> Observer<'_>
         ensures interest { interest result ≡ interest_of self.now }
         ensures confirmable { result.confirmable ≡ must_confirm confirm_after now self.now }
@@ -110,21 +121,21 @@ impl Entry {
         }
     }
 
-    // Whether it is of this endpoint and token.
+    // Returns whether the entry has this endpoint and token.
     pub(crate) fn is_entry_of(&self, endpoint: Endpoint, token: &Token) -> bool
         ensures { result ≡ is_entry_of endpoint token.now.items self.now }
     {
         self.endpoint == endpoint && self.token.as_slice() == token.as_slice()
     }
 
-    // Whether its last notification went to this endpoint, with this message id.
+    // Returns whether its last notification went to this endpoint, with this message ID.
     pub(crate) fn has_last_id(&self, endpoint: Endpoint, id: u16) -> bool
         ensures { result ≡ has_last_id endpoint id self.now }
     {
         self.endpoint == endpoint && self.id == Some(id)
     }
 
-    // Whether it has this turn of the slot, and the turn is out.
+    // Returns whether the entry has this lease of the slot, and the lease is active.
     pub(crate) fn has_turn(&self, slot: u8, now: u64, turn: Turn) -> bool
         ensures { result ≡ has_turn slot now turn self.now }
     {
@@ -136,7 +147,7 @@ impl Entry {
         }
     }
 
-    // Whether the taking of its turn, out or lapsed, found the slot empty.
+    // Returns whether the snapshot of its lease, active or expired, found the slot empty.
     pub(crate) fn has_missed(&self) -> bool
         ensures { result ≡ has_missed self.now }
     {
@@ -146,21 +157,22 @@ impl Entry {
         }
     }
 
-    // Whether it is to be notified of a change that is noticed.
+    // Returns whether the entry has a pending notification about revision `noticed`.
     pub(crate) fn is_due(&self, now: u64, noticed: u64) -> bool
         ensures { result ≡ is_due now noticed self.now }
     {
         self.serial < noticed && is_free(now, &self.phase)
     }
 
-    // Whether its next notification is confirmable, where one is after so many milliseconds.
+    // Returns whether its next notification is confirmable, if one is every `confirm_after`
+    // milliseconds.
     pub(crate) fn must_confirm(&self, confirm_after: u64, now: u64) -> bool
         ensures { result ≡ must_confirm confirm_after now self.now }
     {
         self.confirmed <= now && now - self.confirmed >= confirm_after
     }
 
-    // Whether its notification is outstanding, and its timeout is over.
+    // Returns whether its notification is outstanding, and its timeout has passed.
     pub(crate) fn is_late(&self, now: u64) -> bool
         ensures { result ≡ is_late now self.now }
     {
@@ -175,7 +187,8 @@ impl Entry {
         }
     }
 
-    // Until when it is neither late nor due, where this serial is noticed.
+    // Returns a time before which no retransmission and no notification about revision `noticed` is
+    // pending.
     pub(crate) fn quiet_until(&self, noticed: u64) -> u64
         ensures { IsQuietUntil result noticed self.now }
     {
@@ -187,7 +200,7 @@ impl Entry {
         }
     }
 
-    // Takes a turn.
+    // Grants a lease.
     pub(crate) fn take_turn(&mut self, number: u64, now: u64)
         ensures { self.new ≡ with_turn number now self.old }
     {
@@ -198,7 +211,7 @@ impl Entry {
         };
     }
 
-    // Notes that the taking of its turn found the slot empty.
+    // Records that the snapshot of its lease found the slot empty.
     pub(crate) fn miss(&mut self)
         ensures { self.new ≡ missed self.old }
     {
@@ -207,14 +220,14 @@ impl Entry {
         }
     }
 
-    // Gives its turn up.
+    // Releases its lease.
     pub(crate) fn give_up(&mut self, now: u64)
         ensures { self.new ≡ given_up now self.old }
     {
         self.phase = Phase::GivenUp(now);
     }
 
-    // Notes that it was sent a notification.
+    // Records that a notification was sent to it.
     pub(crate) fn notify(
         &mut self,
         confirm_after: u64,
@@ -242,7 +255,7 @@ impl Entry {
         }
     }
 
-    // Ends its wait for an acknowledgement, where this message is its last notification.
+    // Ends its wait for an acknowledgement, if this message is its last notification.
     pub(crate) fn acknowledge(&mut self, endpoint: Endpoint, id: u16)
         ensures { self.new ≡ changed_if (has_last_id endpoint id self.old) acknowledged self.old }
     {
@@ -253,7 +266,8 @@ impl Entry {
         }
     }
 
-    // Sends its outstanding notification again, where it wasn't sent again four times.
+    // Returns its outstanding notification for retransmission, unless it was retransmitted four
+    // times.
     pub(crate) fn retransmit(&mut self, now: u64) -> Option<Emission>
         ensures sent { result ≡ retransmission self.old }
         ensures after { self.new
@@ -278,7 +292,8 @@ impl Entry {
     }
 }
 
-// Whether nothing is under way, and its last turn was given up earlier.
+// Returns whether no lease is active, no notification is outstanding, and the last lease was
+// released earlier.
 fn is_free(now: u64, phase: &Phase) -> bool
     ensures { result ≡ is_free now phase.now }
 {
@@ -290,7 +305,7 @@ fn is_free(now: u64, phase: &Phase) -> bool
     }
 }
 
-// From when on that may be so.
+// Returns a time before which the phase isn't free.
 fn free_from(phase: &Phase) -> u64
     ensures { (now : ℕ) → now < result → is_free now phase.now ≡ false }
 {
@@ -302,7 +317,7 @@ fn free_from(phase: &Phase) -> u64
     }
 }
 
-// From when on its notification may be late.
+// Returns a time before which no retransmission is due.
 fn late_from(phase: &Phase) -> u64
     ensures { (now : ℕ) → now < result → is_late_in now phase.now ≡ false }
 {
@@ -317,21 +332,21 @@ fn late_from(phase: &Phase) -> u64
     }
 }
 
-// How long a transmission is waited for, after so many retransmissions.
+// Returns the timeout of a transmission after this number of retransmissions.
 fn backoff(timeout: u16, retransmissions: u8) -> u64
     ensures { result ≡ backoff timeout retransmissions }
 {
     (timeout as u64) << retransmissions.min(MAX_RETRANSMIT)
 }
 
-// How long the first transmission is waited for.
+// Returns the timeout of the first transmission.
 fn first_timeout(random: u16) -> u16
     ensures { result ≡ first_timeout random }
 {
     ACK_TIMEOUT + random % ACK_TIMEOUTS
 }
 
-// Another copy of a datagram.
+// Returns a copy of a datagram.
 fn copy(bytes: &Datagram) -> Datagram
     ensures { result ≡ bytes.now }
 {
@@ -340,7 +355,7 @@ fn copy(bytes: &Datagram) -> Datagram
     copy
 }
 
-// Another copy of a token.
+// Returns a copy of a token.
 pub(crate) fn copy_token(token: &Token) -> Token
     ensures { result ≡ token.now }
 {

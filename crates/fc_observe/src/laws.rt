@@ -1,4 +1,6 @@
-//! What the calls on the observers of a slot promise together: each function is a law, and its contract says it.
+//! Laws about calls on the observers of a slot.
+//!
+//! Each law is the contract of an empty function.
 ghost use Rattle.std.specs.Prelude.{◌≡◌, ◌↔◌, ℕ, ◌+◌, ◌*◌, ◌%◌, ◌<◌, ◌≤◌, ◌⊎◌, nat_lt, nat_le, Bool, false, true, [], ◌∷◌, ◌++◌, List, None, Option, Some, count_by, is_some, length};
 ghost use Rattle.std.specs.List.{All, AllZip, Any, Contains, list_any};
 ghost use Rattle.arrayvec.specs.ArrayVec.{ArrayVec};
@@ -14,22 +16,29 @@ ghost use Rattle.fc_observe.specs.declared.entry.Phase.TheVariants.{TurnOut};
 ghost use Rattle.fc_observe.specs.declared.entry.Turn.{Turn};
 ghost use Rattle.fc_observe.specs.declared.observers.Ticked.TheVariants.{Resend};
 
-/// A slot has at most 32 observers, and at most one entry of an endpoint and token.
+/// A slot has at most 32 observers, and one entry per endpoint and token.
 pub fn entries_are_few()
     ensures most { (slot confirm_after : ℕ) (h : List ObserverCall) → length (observers slot confirm_after h).held ≤ 32 }
     ensures key { (slot confirm_after : ℕ) (h : List ObserverCall) (to : Endpoint) (token : List ℕ) →
         count_by (is_entry_of to token) (observers slot confirm_after h).held ≤ 1 }
 {}
 
-/// An observer is due exactly where it was last sent less than the noticed serial, none of its confirmable notifications is
-/// outstanding, none of its turns is out, and none was given up at this moment.
+/// The exact condition for a pending notification.
+///
+/// An observer has one exactly if these conditions hold:
+///
+/// - The last revision sent to it is below the noticed one.
+/// - None of its confirmable notifications is outstanding.
+/// - None of its leases is active, and none was released at this time.
 pub fn observers_are_due()
     ensures { (now noticed : ℕ) (o : Entry) → ((is_due now noticed o ≡ true)
         ↔ ((o.serial < noticed) × (IsOutstanding o.phase → ⊥) × (IsTurnOut now o.phase → ⊥)
         × (IsGivenUpNow now o.phase → ⊥))) }
 {}
 
-/// A turn is one observer's, and once its notification is sent, it is ended or given up, it is no longer out.
+/// A lease belongs to one observer, and ends once.
+///
+/// Once its notification is sent, or it is ended or released, it is no longer active.
 pub fn turns_end_once()
     ensures one { (slot confirm_after number : ℕ) (h : List ObserverCall) →
         count_by (has_number number) (observers slot confirm_after h).held ≤ 1 }
@@ -42,7 +51,9 @@ pub fn turns_end_once()
         entry_out turn (observers slot confirm_after (GiveUp turn now ∷ h)) ≡ None }
 {}
 
-/// Once the taking of a turn that is out found the slot empty, the turn is missing; a new turn isn't.
+/// An active lease whose snapshot found the slot empty is marked as missing.
+///
+/// A new lease isn't.
 pub fn turns_keep_what_they_missed()
     ensures missed { (turn : Turn) (t : ObserverList) → is_some (entry_out turn t) ≡ true →
         is_missing turn (observers_after (Miss turn) t) ≡ true }
@@ -51,14 +62,20 @@ pub fn turns_keep_what_they_missed()
         is_missing turn (observers slot confirm_after (NextDue now noticed ∷ h)) ≡ false }
 {}
 
-/// Each entry after a call was there before it, as it is or changed as the call says, or is registered by it.
+/// The origin of each entry after a call.
+///
+/// It was there before the call, and is unchanged or changed as the call says, or the call
+/// registered it.
 pub fn entries_come_from_entries()
     ensures { (c : ObserverCall) (t : ObserverList) →
         All (ComesFrom c t) (observers_after c t).held }
 {}
 
-/// A late confirmable notification is sent again, the same bytes to the same endpoint: t, then 2t, 4t and 8t milliseconds after it
-/// was last sent, t being 2,000 to 3,000; and 16t after the fourth time its observer is removed.
+/// A confirmable notification that timed out is retransmitted.
+///
+/// The same bytes go to the same endpoint: t, then 2t, 4t and 8t milliseconds after they were last
+/// sent, where t is 2,000 to 3,000. If 16t milliseconds pass after the fourth time, the observer is
+/// removed.
 pub fn notifications_are_retransmitted()
     ensures sent { (confirm_after now id serial random : ℕ) (bytes : ArrayVec ℕ) (o : Entry) →
         must_confirm confirm_after now o ≡ true →
@@ -80,8 +97,11 @@ pub fn notifications_are_retransmitted()
         IsSentAt s t bytes o → length at ≡ 4 → timed_out later (resent_entry at o) ≡ [] }
 {}
 
-/// An observer whose turn was given up at a moment isn't due at that moment; at a later one it is, where its serial is below the
-/// noticed one. A turn that is out for 247,000 ms is given up at that millisecond.
+/// A released lease makes its observer wait until a later time.
+///
+/// At the time of the release the observer has no pending notification. At a later time it has one
+/// if its revision is below the noticed one. A lease that is active for 247,000 ms is released at
+/// that millisecond.
 pub fn given_up_turns_wait()
     ensures same { (now noticed : ℕ) (o : Entry) → is_due now noticed (given_up now o) ≡ false }
     ensures later { (now later noticed : ℕ) (o : Entry) → now < later →
@@ -93,22 +113,29 @@ pub fn given_up_turns_wait()
         is_due now noticed o ≡ nat_lt o.serial noticed }
 {}
 
-/// A Reset message removes just the entries whose last notification went to its endpoint with its message id.
+/// A Reset removes just the entries whose last notification it matches.
+///
+/// The notification went to the Reset's endpoint with its message ID.
 pub fn resets_remove_their_own()
     ensures { (to : Endpoint) (id : ℕ) (t : ObserverList) (o : Entry) →
         (Contains (after_reset to id t).held o
         ↔ (Contains t.held o × ((o.endpoint ≡ to) × (o.id ≡ Some id) → ⊥))) }
 {}
 
-/// A cancellation removes just the entry of its endpoint and token (RFC 7641, 3.6).
+/// A cancellation removes just the entry of its endpoint and token.
+///
+/// See RFC 7641, section 3.6.
 pub fn cancellations_remove_their_own()
     ensures { (to : Endpoint) (token : List ℕ) (t : ObserverList) (o : Entry) →
         (Contains (cancelled to token t).held o
         ↔ (Contains t.held o × ((o.endpoint ≡ to) × (o.token.items ≡ token) → ⊥))) }
 {}
 
-/// An observer that was removed hears nothing more: no entry of its endpoint and token is held before it registers again, and a
-/// turn that is no longer out stays so. Only entries that are held have turns out, and are sent notifications again.
+/// A removed observer gets no further notification.
+///
+/// No entry has its endpoint and token before it registers again, and a lease that is no longer
+/// active stays so. Only stored entries have active leases, and only their notifications are
+/// retransmitted.
 pub fn removed_observers_hear_nothing()
     ensures gone { (to : Endpoint) (token : List ℕ) (h : List ObserverCall) (t : ObserverList) →
         RegistersNone to token h → list_any (is_entry_of to token) t.held ≡ false →
@@ -122,9 +149,11 @@ pub fn removed_observers_hear_nothing()
         Any (λ (o : Entry). retransmission o ≡ Some e) t.held }
 {}
 
-/// The serials that are sent to one observer rise: where the serial of a notification is at least the noticed serial for which its
-/// turn was given, it is above the last serial that the turn's observer was sent; and an entry keeps its observer and its last sent
-/// serial through each other call.
+/// The revisions sent to an observer increase if each is at least its lease's.
+///
+/// If the revision of a notification is at least the noticed one for which its lease was granted,
+/// it is above the last revision sent to the lease's observer. In every other call an entry keeps
+/// its observer and its last sent revision.
 pub fn serials_rise()
     ensures kept { (c : ObserverCall) (t : ObserverList) →
         All (λ (o : Entry). IsRegisteredBy c t o ⊎ Any (KeepsSerial c t o) t.held)
@@ -135,15 +164,18 @@ pub fn serials_rise()
         o.serial < serial) (observers slot confirm_after h).held }
 {}
 
-/// No observer was sent a serial above those that are handed in: where none was sent more than n, none was after a call that hands
-/// in no serial above n.
+/// No observer was sent a revision above those passed to the calls.
+///
+/// If none was sent more than `n`, none was after a call that passes no revision above `n`.
 pub fn serials_stay_below()
     ensures { (n : ℕ) (c : ObserverCall) (t : ObserverList) → HandsInUpTo n c →
         All (λ (o : Entry). o.serial ≤ n) t.held →
         All (λ (o : Entry). o.serial ≤ n) (observers_after c t).held }
 {}
 
-/// The first observer of the list that is due gets the turn, numbered by how many were given before it; each other entry stays as it is.
+/// The first observer in the list with a pending notification gets the lease.
+///
+/// The lease is numbered by how many were granted before it. The other entries don't change.
 pub fn the_first_due_gets_the_turn()
     ensures { (noticed : ℕ) (t : ObserverList) (before after : List Entry) (o : Entry) →
         t.turns < 18446744073709551615 → t.held ≡ before ++ o ∷ after →
@@ -151,9 +183,11 @@ pub fn the_first_due_gets_the_turn()
         (turn_given noticed t).held ≡ before ++ with_turn t.turns t.moment o ∷ after }
 {}
 
-/// An entry's message id is that of its last notification; there is none before the first. A notification is confirmable exactly if
-/// `confirm_after` ms or more have passed since the entry's registration, or since its last confirmable notification if there was one. A list keeps
-/// the `confirm_after` that it began with.
+/// An entry's message ID is that of its last notification.
+///
+/// There is none before the first. A notification is confirmable exactly if `confirm_after` ms or
+/// more have passed since the entry's registration, or since its last confirmable notification if
+/// there was one. A list keeps its initial `confirm_after`.
 pub fn entries_keep_their_last_notification()
     ensures kept { (c : ObserverCall) (t : ObserverList) →
         All (λ (o : Entry). IsNewAt c t o ⊎ Any (KeepsLast c t o) t.held) (observers_after c t).held }
@@ -164,13 +198,19 @@ pub fn entries_keep_their_last_notification()
     ensures same { (slot confirm_after : ℕ) (h : List ObserverCall) → (observers slot confirm_after h).confirm_after ≡ confirm_after }
 {}
 
-/// An Acknowledgement ends the wait of the entries whose last notification it answers, and changes nothing else.
+/// An Acknowledgement ends the wait of the entries that it matches.
+///
+/// These are the entries whose last notification went to its endpoint with its message ID. Nothing
+/// else changes.
 pub fn acknowledgements_end_the_wait()
     ensures { (to : Endpoint) (id : ℕ) (t : ObserverList) →
         AllZip (IsAcknowledged to id) t.held (after_ack to id t).held }
 {}
 
-/// A registration is entered where fewer than 32 observe the slot, or its own endpoint and token do. Where 32 others do, it changes nothing.
+/// A registration is entered if there is room, or its entry exists.
+///
+/// There is room if fewer than 32 observe the slot. If 32 others do, the registration changes
+/// nothing.
 pub fn registrations_are_entered()
     ensures room { (to : Endpoint) (token : ArrayVec ℕ) (request : Request) (szx : Option ℕ) (serial : ℕ) (t : ObserverList) →
         length t.held < 32 →
@@ -183,8 +223,10 @@ pub fn registrations_are_entered()
         registered to token request szx serial t ≡ t }
 {}
 
-/// A registration stands last. A new one comes behind all entries; one that is renewed leaves its place and comes behind all others, which
-/// stay as they are, in order.
+/// A registration is the last entry.
+///
+/// A new one is appended to all entries. A renewed one leaves its place and is appended to all
+/// others, which keep their order.
 pub fn registrations_stand_last()
     ensures new { (to : Endpoint) (token : ArrayVec ℕ) (request : Request) (szx : Option ℕ) (serial : ℕ) (t : ObserverList) →
         length t.held < 32 → list_any (is_entry_of to token.items) t.held ≡ false →
@@ -195,8 +237,9 @@ pub fn registrations_stand_last()
         StandsLast (before ++ after) (IsRegistrationOf to token request szx serial) (registered to token request szx serial t).held }
 {}
 
-/// A tick sends the first notification of the list that is late, the same bytes to the same endpoint, where it was sent again less than
-/// four times.
+/// A tick retransmits the first notification in the list that timed out.
+///
+/// The same bytes go to the same endpoint, if they were retransmitted less than four times.
 pub fn late_notifications_are_sent_again()
     ensures { (s wait : ℕ) (bytes : ArrayVec ℕ) (o : Entry) (at : List ℕ) (before after : List Entry) (t : ObserverList) →
         IsSentAt s wait bytes o → length at < 4 → is_late t.moment (resent_entry at o) ≡ true →
@@ -204,7 +247,9 @@ pub fn late_notifications_are_sent_again()
         ticked t ≡ Resend (record { to = o.endpoint; bytes = bytes }) }
 {}
 
-/// The end of a turn removes the observer that has it out: no entry of its endpoint and token is left.
+/// The end of a lease removes the observer that has it.
+///
+/// No entry of its endpoint and token is left.
 pub fn ended_turns_remove_their_observer()
     ensures { (slot confirm_after : ℕ) (turn : Turn) (o : Entry) (h : List ObserverCall) →
         entry_out turn (observers slot confirm_after h) ≡ Some o →

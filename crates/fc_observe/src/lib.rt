@@ -1,20 +1,27 @@
-//! The observers of a slot (RFC 7641): who is due, whose turn is out, and which notifications wait for an acknowledgement.
+//! The observers of a slot: registrations, leases, notifications (RFC 7641).
 //!
-//! [`Observers`] is the list of observers, in order of registration. A change of the slot makes observers due; each gets a turn by
-//! [`Observers::next_due`], in which its request is answered anew. The turn keeps whether its taking, which looks into the slot,
-//! found the slot empty ([`Observers::miss`]). It ends by its notification ([`Observers::sent`]), by the removal of its observer
-//! ([`Observers::end`]), or by being given up. A confirmable notification is sent again by [`Observers::tick`] until it is
-//! acknowledged.
+//! [`Observers`] is the list of observers, in order of registration. The slot's *noticed revision*
+//! is that of its last change that requires notifications. After such a change, observers have
+//! pending notifications. Each of them gets a notification lease by [`Observers::next_due`], and
+//! its request is executed again. The lease records whether its snapshot of the slot found it empty
+//! ([`Observers::miss`]).
 //!
-//! A clause sees the list as `specs/Observers`' record: the slot, the greatest moment handed in, how many turns were given, and the
-//! entries. Every moment is handed in, in milliseconds, and so is every random word; only `new` takes memory.
+//! A lease ends with its notification ([`Observers::sent`]), with the removal of its observer
+//! ([`Observers::end`]), or by its release. [`Observers::tick`] retransmits a confirmable
+//! notification until it is acknowledged.
+//!
+//! In contracts the list is the record of `specs/Observers`: the slot, `confirm_after`, the
+//! greatest time passed to it, how many leases were granted, and the entries. Times, in
+//! milliseconds, and random words are arguments. Only `new` allocates memory.
 //!
 //! ```rust
 //! use coap_msg::{Datagram, Emission, Endpoint, Token};
 //! use fc_help::Request;
 //! use fc_observe::{Observers, Registered, Ticked};
 //!
-//! /// Whether the reply to a GET of the slot with Observe 0, which found this serial, is to carry Observe too.
+//! /// Returns whether the response to a GET of the slot with Observe 0 has Observe too.
+//! ///
+//! /// The request found the revision `serial`.
 //! fn observe(
 //!     observers: &mut Observers,
 //!     now: u64,
@@ -26,7 +33,9 @@
 //!     observers.register(now, from, token, request, None, serial) != Registered::Full
 //! }
 //!
-//! /// Notifies the first observer that is due of what its request is answered: these bytes, at this serial. Gives whom they go to.
+//! /// Notifies the first observer with a pending notification, and returns its endpoint.
+//! ///
+//! /// The notification has these bytes, and is for the revision `serial`.
 //! fn notify(
 //!     observers: &mut Observers,
 //!     now: u64,
@@ -41,7 +50,7 @@
 //!     Some(endpoint)
 //! }
 //!
-//! /// The notification that is to be sent again at a moment, if one is.
+//! /// Returns the notification to retransmit at `now`, if there is one.
 //! fn late(observers: &mut Observers, now: u64) -> Option<Emission> {
 //!     match observers.tick(now) {
 //!         Ticked::Resend(emission) => Some(emission),
@@ -52,26 +61,32 @@
 //!
 //! # What is proved
 //!
-//! - A slot has at most 32 observers, and one of an endpoint and token: a registration is new, takes that one's place, or finds 32 others.
-//!   Where fewer than 32 observe a slot it is entered.
-//! - The first that is due gets the turn. An observer is due exactly where it was last sent less than the slot's noticed serial, none of
-//!   its confirmable notifications is outstanding, none of its turns is out and none was given up at this moment. So a change of readings
-//!   makes none due.
-//! - A turn is one observer's, and is no longer out once its notification is sent, its observer is removed or it is given up, which it is
-//!   after 247,000 ms. While it is out, a turn keeps that its taking found the slot empty.
-//! - Each entry after a call was there before it, as it is or changed as the call says, or is registered by it. Its message id is that of
-//!   its last notification.
-//! - A notification is confirmable exactly if the list's `confirm_after` has passed since its observer's registration or last confirmable one. A confirmable one
-//!   is sent again after t, 2t, 4t and 8t, the same bytes, t being 2,000 to 3,000 ms, and 16t later its observer is removed. A tick sends the first
-//!   that is late.
-//! - An acknowledgement ends the wait of just those whose last notification it answers; a reset removes just those. Who was removed hears
-//!   nothing before it registers again.
-//! - The serials that an observer is sent rise, where each notification's is at least the noticed serial of its turn.
-//! - A list is told to be quiet exactly where nothing is late and nobody is due, whatever it keeps of the last look. Before the moment that it
-//!   tells, nothing is late and nobody due unless it is called.
+//! - A slot has at most 32 observers, and one per endpoint and token. A registration is new,
+//!   replaces the one of its endpoint and token, or is refused because of 32 others. If fewer than
+//!   32 observe the slot, it is entered.
+//! - The first observer with a pending notification gets the lease. An observer has one exactly if
+//!   these conditions hold: the last revision sent to it is below the slot's noticed one; none of
+//!   its confirmable notifications is outstanding; none of its leases is active, and none was
+//!   released at this time. So a change of readings alone makes no notification pending.
+//! - A lease belongs to one observer. It is no longer active once its notification is sent, its
+//!   observer is removed, or it is released, which happens at the latest after 247,000 ms. While it
+//!   is active, it keeps the mark that its snapshot found the slot empty.
+//! - Each entry after a call was there before it, and is unchanged or changed as the call says, or
+//!   the call registered it. Its message ID is that of its last notification.
+//! - A notification is confirmable exactly if the list's `confirm_after` has passed since its
+//!   observer's registration or last confirmable one. A confirmable one is retransmitted after t,
+//!   2t, 4t and 8t with the same bytes, where t is 2,000 to 3,000 ms. 16t later its observer is
+//!   removed. A tick retransmits the first that timed out.
+//! - An Acknowledgement ends the wait of just the entries whose last notification it matches, and a
+//!   Reset removes just those. A removed observer gets nothing before it registers again.
+//! - The revisions sent to an observer increase, if each notification's is at least the noticed
+//!   revision of its lease.
+//! - `check_quiet` returns `true` exactly if no notification has timed out, and no observer has a
+//!   pending one, whatever it cached before. Before the time that `quiet_until` returns, that holds
+//!   unless the list is called.
 //!
-//! By the contracts of `Observers::register`, `next_due`, `check_quiet`, `quiet_until`, `out`, `miss`, `sent`, `end`, `give_up`, `reset`, `acked`, `tick`,
-//! `laws`.
+//! By the contracts of `Observers::register`, `next_due`, `check_quiet`, `quiet_until`, `out`,
+//! `miss`, `sent`, `end`, `give_up`, `reset`, `acked`, `tick`, `laws`.
 #![tactic(auto)]
 
 pub mod entry;

@@ -13,33 +13,37 @@ use fc_help::Request;
 use std::alloc::{AllocError, Global};
 use std::marker::Model;
 
-/// How many observers a slot has at most.
+/// Maximum number of observers of a slot.
 pub const OBSERVERS: usize = 32;
 
-/// What becomes of a registration.
+/// The result of a registration.
 #[derive(Clone, Copy, PartialEq, Eq)]
 pub enum Registered {
-    /// It is a new entry.
+    /// A new entry.
     Entered,
-    /// It is an entry in place of that of the same endpoint and token (RFC 7641, 4.1).
+    /// An entry in place of the one with the same endpoint and token.
+    ///
+    /// See RFC 7641, section 4.1.
     Replaced,
-    /// There are 32 others. No entry changed.
+    /// Refused: there are 32 others. No entry changed.
     Full,
 }
 
-/// What a tick did.
+/// The effect of a tick.
 #[derive(Drop)]
 pub enum Ticked {
-    /// A confirmable notification is to be sent again.
+    /// A confirmable notification, to be retransmitted.
     Resend(Emission),
     /// An observer that acknowledged no transmission was removed.
     Removed,
-    /// No notification was late.
+    /// No notification had timed out.
     Quiet,
 }
 
-/// The list of observers of a slot, in order of registration. Moments are in milliseconds, and never go back: an earlier one
-/// counts as the greatest handed in so far.
+/// The list of observers of a slot, in order of registration.
+///
+/// Times are in milliseconds, and never decrease: an earlier one counts as the greatest passed so
+/// far.
 #[derive(Drop)]
 pub struct Observers {
     slot: u8,
@@ -47,7 +51,8 @@ pub struct Observers {
     moment: u64,
     turns: u64,
     held: Vec<Entry>,
-    // Until when no entry is late, and none due where this serial is noticed, as was last looked.
+    // Cached: before this time no entry has timed out, and none has a pending notification about
+    // this revision.
     quiet_until: u64,
     quiet_for: u64,
 }
@@ -72,11 +77,14 @@ impl Model for Observers {
 }
 
 impl Observers {
-    /// Makes a slot's list of no observer, with room for 32 (RFC 7641, 4.1). A notification is confirmable if `confirm_after` milliseconds have passed
-    /// since its observer's registration or last confirmable one; RFC 7641, section 4.5 allows 24 hours at most.
+    /// Makes the empty list of a slot, with room for 32 observers.
+    ///
+    /// A notification is confirmable if `confirm_after` milliseconds have passed since its
+    /// observer's registration or last confirmable one. RFC 7641, section 4.5 allows at most 24
+    /// hours.
     ///
     /// # Errors
-    /// There was no memory for them.
+    /// Returns `AllocError` if memory for the entries can't be allocated.
     pub fn new(alloc: Global, slot: u8, confirm_after: u64) -> Result<Observers, AllocError>
         ensures { IfOk result (λ x. x ≡ no_observers slot confirm_after) }
     {
@@ -91,14 +99,16 @@ impl Observers {
         })
     }
 
-    /// Advances the clock, never backwards.
+    /// Advances the clock to `now`, never backwards.
     pub fn advance(&mut self, now: u64)
         ensures { self.new ≡ at_moment now self.old }
     {
         self.moment = self.moment.max(now);
     }
 
-    /// Registers an observer, whose request found this serial (RFC 7641, 4.1). Its entry is the last.
+    /// Registers an observer as the last entry (RFC 7641, section 4.1).
+    ///
+    /// `serial` is the revision that its request found.
     pub fn register(
         &mut self,
         now: u64,
@@ -136,15 +146,21 @@ impl Observers {
         }
     }
 
-    /// Removes the entry of this endpoint and token: its client is no longer interested (RFC 7641, 3.6).
+    /// Removes the entry of this endpoint and token (RFC 7641, section 3.6).
+    ///
+    /// Its client is no longer interested.
     pub fn cancel(&mut self, endpoint: Endpoint, token: &Token)
         ensures { self.new ≡ cancelled endpoint token.now.items self.old }
     {
         remove_of(&mut self.held, endpoint, token);
     }
 
-    /// Gives a turn to the first observer that is due, where this is the slot's noticed serial: it was last sent a lower one, none
-    /// of its confirmable notifications is outstanding, none of its turns is out, and none was given up at this moment.
+    /// Grants a lease to the first observer with a pending notification.
+    ///
+    /// `noticed` is the slot's noticed revision. An observer has a pending notification if these
+    /// conditions hold: the last revision sent to it is below `noticed`; none of its confirmable
+    /// notifications is outstanding; none of its leases is active, and none was released at this
+    /// time. Returns `None` if no observer has one, or if 2^64 - 1 leases were granted already.
     pub fn next_due(&mut self, now: u64, noticed: u64) -> Option<Turn>
         ensures turn { result ≡ next_turn noticed (at_moment now self.old) }
         ensures after { self.new ≡ turn_given noticed (at_moment now self.old) }
@@ -164,7 +180,7 @@ impl Observers {
         })
     }
 
-    /// Returns whether `next_due` would give a turn.
+    /// Returns whether `next_due` would grant a lease.
     pub fn is_due(&self, now: u64, noticed: u64) -> bool
         ensures { result ≡ is_some (next_turn noticed (at_moment now self.now)) }
     {
@@ -174,7 +190,10 @@ impl Observers {
         self.turns != u64::MAX && first_due(&self.held, self.moment.max(now), noticed).is_some()
     }
 
-    /// Finds the observer whose turn this is, unless the turn isn't out: it was ended, given up, or its entry is gone or replaced.
+    /// Returns the observer that has this lease.
+    ///
+    /// Returns `None` if the lease isn't active: it was ended or released, or its entry was removed
+    /// or replaced.
     pub fn out(&self, turn: Turn) -> Option<Observer<'_>>
         ensures observer { option_map interest result ≡ option_map interest_of (entry_out turn self.now) }
         ensures confirmable { IfSome result (λ o. o.confirmable ≡ must_confirm_turn turn self.now) }
@@ -182,7 +201,7 @@ impl Observers {
         self.observer_out(turn)
     }
 
-    // Lends it by its place.
+    // Borrows the observer from its place in the list.
     fn observer_out(&self, turn: Turn) -> Option<Observer<'_>>
         ensures observer { option_map interest result ≡ option_map interest_of (entry_out turn self.now) }
         ensures confirmable { IfSome result (λ o. o.confirmable ≡ must_confirm_turn turn self.now) }
@@ -191,7 +210,7 @@ impl Observers {
         Some(self.held[place].observer(self.confirm_after, self.moment))
     }
 
-    // The place of the entry whose turn this is, where it is out.
+    // Returns the place of the entry that has this lease, if the lease is active.
     fn at(&self, turn: Turn) -> Option<usize>
         ensures place { result ≡ position (is_out turn self.now) self.now.held }
         ensures within { IfSome result (λ i. i < length self.now.held) }
@@ -199,14 +218,14 @@ impl Observers {
         first_out(&self.held, self.slot, self.moment, turn)
     }
 
-    /// Returns whether this turn is out, so that `out` lends its observer.
+    /// Returns whether this lease is active, so that `out` returns its observer.
     pub fn is_out(&self, turn: Turn) -> bool
         ensures { result ≡ is_some (entry_out turn self.now) }
     {
         self.at(turn).is_some()
     }
 
-    /// Notes that the taking of a turn that is out found the slot empty.
+    /// Records that the snapshot of an active lease found the slot empty.
     pub fn miss(&mut self, turn: Turn)
         ensures { self.new ≡ turn_missed turn self.old }
     {
@@ -216,7 +235,9 @@ impl Observers {
         }
     }
 
-    /// Returns whether the taking of this turn found the slot empty. Not where the turn isn't out.
+    /// Returns whether the snapshot of this lease found the slot empty.
+    ///
+    /// Returns `false` if the lease isn't active.
     pub fn is_missing(&self, turn: Turn) -> bool
         ensures { result ≡ is_missing turn self.now }
     {
@@ -226,8 +247,10 @@ impl Observers {
         }
     }
 
-    /// Returns whether the notification of this turn is to be confirmable (RFC 7641, 4.5): `confirm_after` or more passed since the registration or the
-    /// last confirmable one. Not where the turn isn't out.
+    /// Returns whether the notification of this lease must be confirmable.
+    ///
+    /// It must if `confirm_after` or more passed since the registration or the last confirmable
+    /// notification (RFC 7641, section 4.5). Returns `false` if the lease isn't active.
     pub fn must_confirm(&self, turn: Turn) -> bool
         ensures { result ≡ must_confirm_turn turn self.now }
     {
@@ -237,7 +260,7 @@ impl Observers {
         }
     }
 
-    /// Decides that at a moment.
+    /// Advances the clock to `now`, and returns the result of `must_confirm`.
     pub fn confirmable(&mut self, now: u64, turn: Turn) -> bool
         ensures answer { result ≡ must_confirm_turn turn (at_moment now self.old) }
         ensures after { self.new ≡ at_moment now self.old }
@@ -246,8 +269,10 @@ impl Observers {
         self.must_confirm(turn)
     }
 
-    /// Ends a turn that is out by a notification of this message id, serial and bytes. A confirmable one is outstanding from now
-    /// on; the random word says how long its first transmission is waited for, 2,000 to 3,000 ms.
+    /// Ends an active lease with a notification.
+    ///
+    /// The notification has this message ID, revision and bytes. A confirmable one is outstanding
+    /// from now on. `random` determines the timeout of its first transmission, 2,000 to 3,000 ms.
     pub fn sent(
         &mut self,
         now: u64,
@@ -267,7 +292,9 @@ impl Observers {
         }
     }
 
-    /// Removes the observer whose turn is out, as after a notification that isn't a success (RFC 7641, 4.2).
+    /// Removes the observer that has this active lease.
+    ///
+    /// This is done after a notification that isn't a success (RFC 7641, section 4.2).
     pub fn end(&mut self, turn: Turn)
         ensures { self.new ≡ turn_ended turn self.old }
     {
@@ -277,7 +304,9 @@ impl Observers {
         }
     }
 
-    /// Gives up a turn that is out. Its observer is due again at a later moment.
+    /// Releases an active lease.
+    ///
+    /// Its observer has a pending notification again at a later time.
     pub fn give_up(&mut self, turn: Turn, now: u64)
         ensures { self.new ≡ turn_given_up turn (at_moment now self.old) }
     {
@@ -288,16 +317,19 @@ impl Observers {
         }
     }
 
-    /// Handles a Reset message (RFC 7641, 3.6): removes each entry whose last notification went to this endpoint with this message id
-    /// (RFC 7641, 3.6).
+    /// Handles a Reset message (RFC 7641, section 3.6).
+    ///
+    /// Removes each entry whose last notification went to this endpoint with this message ID.
     pub fn reset(&mut self, endpoint: Endpoint, id: u16)
         ensures { self.new ≡ after_reset endpoint id self.old }
     {
         remove_reset(&mut self.held, endpoint, id);
     }
 
-    /// Handles an Acknowledgement (RFC 7252, 4.2): what went to this endpoint with this message id, and was the last of an entry, is no longer
-    /// outstanding (RFC 7252, 4.2).
+    /// Handles an Acknowledgement (RFC 7252, section 4.2).
+    ///
+    /// Each entry whose last notification went to this endpoint with this message ID no longer
+    /// waits for its acknowledgement.
     pub fn acked(&mut self, endpoint: Endpoint, id: u16)
         ensures { self.new ≡ after_ack endpoint id self.old }
     {
@@ -307,8 +339,10 @@ impl Observers {
         }
     }
 
-    /// Sends the first outstanding notification whose timeout is over again, or removes its observer where it was sent again four
-    /// times (RFC 7252, 4.2; RFC 7641, 4.5).
+    /// Retransmits the first outstanding notification that timed out.
+    ///
+    /// If it was retransmitted four times already, removes its observer instead (RFC 7252, section
+    /// 4.2; RFC 7641, section 4.5).
     pub fn tick(&mut self, now: u64) -> Ticked
         ensures answer { result ≡ ticked (at_moment now self.old) }
         ensures after { self.new ≡ after_tick (at_moment now self.old) }
@@ -327,7 +361,7 @@ impl Observers {
         }
     }
 
-    /// Returns whether `tick` would do something.
+    /// Returns whether `tick` would retransmit a notification or remove an observer.
     pub fn is_late(&self, now: u64) -> bool
         ensures { result ≡ is_some (late_entry (at_moment now self.now)) }
     {
@@ -342,7 +376,7 @@ impl Observers {
         self.held.is_empty()
     }
 
-    /// Returns whether neither `tick` nor `next_due` would do anything.
+    /// Returns whether neither `tick` nor `next_due` has anything to do.
     pub fn is_quiet(&self, now: u64, noticed: u64) -> bool
         ensures { let w = at_moment now self.now in
             result ≡ (is_none (late_entry w) && is_none (next_turn noticed w)) }
@@ -350,7 +384,9 @@ impl Observers {
         self.is_at_rest(now, noticed) || (!self.is_late(now) && !self.is_due(now, noticed))
     }
 
-    /// Tells whether it is quiet, as `is_quiet` does, and remembers until when it stays so: the next look is short.
+    /// Returns the result of `is_quiet`, and caches until when it holds.
+    ///
+    /// So the next call is short.
     pub fn check_quiet(&mut self, now: u64, noticed: u64) -> bool
         ensures quiet { let w = at_moment now self.old in
             result ≡ (is_none (late_entry w) && is_none (next_turn noticed w)) }
@@ -364,14 +400,18 @@ impl Observers {
         quiet
     }
 
-    /// Returns a moment before which no entry is late, and none due where this serial is noticed: the first that is known, or 2^64 - 1.
+    /// Returns a time before which the list is idle for revision `noticed`.
+    ///
+    /// Before it no entry has timed out, and none has a pending notification. It needn't be the
+    /// latest such time. 2^64 - 1 means that neither is expected.
     pub fn quiet_until(&self, noticed: u64) -> u64
         ensures { AreQuietUntil result noticed self.now.held }
     {
         quiet_until(&self.held, noticed)
     }
 
-    // Whether it is known, without a look at the entries, that none is late at a moment, and none due where this serial is noticed.
+    // Returns whether the cache shows, without a look at the entries, that no entry has timed out
+    // at `now`, and none has a pending notification about revision `noticed`.
     fn is_at_rest(&self, now: u64, noticed: u64) -> bool
         ensures { result ≡ true → All (IsQuiet (max self.now.moment now) noticed) self.now.held }
     {
@@ -379,7 +419,7 @@ impl Observers {
     }
 }
 
-// The first observer that is due.
+// Returns the first observer with a pending notification.
 fn first_due(held: &[Entry], now: u64, noticed: u64) -> Option<usize>
     ensures place { result ≡ position (is_due now noticed) held.now }
     ensures within { IfSome result (λ i. i < length held.now) }
@@ -387,7 +427,7 @@ fn first_due(held: &[Entry], now: u64, noticed: u64) -> Option<usize>
     held.iter().position(|entry| entry.is_due(now, noticed))
 }
 
-// The first entry whose turn this is, where it is out.
+// Returns the first entry that has this lease, if the lease is active.
 fn first_out(held: &[Entry], slot: u8, now: u64, turn: Turn) -> Option<usize>
     ensures place { result ≡ position (has_turn slot now turn) held.now }
     ensures within { IfSome result (λ i. i < length held.now) }
@@ -396,7 +436,7 @@ fn first_out(held: &[Entry], slot: u8, now: u64, turn: Turn) -> Option<usize>
         .position(|entry| entry.has_turn(slot, now, turn))
 }
 
-// The first entry whose notification is late.
+// Returns the first entry whose notification timed out.
 fn first_late(held: &[Entry], now: u64) -> Option<usize>
     ensures place { result ≡ position (is_late now) held.now }
     ensures within { IfSome result (λ i. i < length held.now) }
@@ -404,7 +444,7 @@ fn first_late(held: &[Entry], now: u64) -> Option<usize>
     held.iter().position(|entry| entry.is_late(now))
 }
 
-// Whether there is an entry of this endpoint and token.
+// Returns whether there is an entry of this endpoint and token.
 fn is_known(held: &[Entry], endpoint: Endpoint, token: &Token) -> bool
     ensures { result ≡ list_any (is_entry_of endpoint token.now.items) held.now }
 {
@@ -423,7 +463,7 @@ fn remove_of(held: &mut Vec<Entry>, endpoint: Endpoint, token: &Token)
     held.retain(|entry| !entry.is_entry_of(endpoint, token));
 }
 
-// Removes each entry whose last notification went to this endpoint with this message id.
+// Removes each entry whose last notification went to this endpoint with this message ID.
 fn remove_reset(held: &mut Vec<Entry>, endpoint: Endpoint, id: u16)
     ensures held { held.new.items ≡ without_those (has_last_id endpoint id) held.old.items }
     ensures room { vec_capacity held.new ≡ vec_capacity held.old }
@@ -432,14 +472,15 @@ fn remove_reset(held: &mut Vec<Entry>, endpoint: Endpoint, id: u16)
     held.retain(|entry| !entry.has_last_id(endpoint, id));
 }
 
-// Whether there is an entry whose last notification went to this endpoint with this message id.
+// Returns whether there is an entry whose last notification went to this endpoint with this message
+// ID.
 fn is_last_sent(held: &[Entry], endpoint: Endpoint, id: u16) -> bool
     ensures { result ≡ list_any (has_last_id endpoint id) held.now }
 {
     held.iter().any(|entry| entry.has_last_id(endpoint, id))
 }
 
-// Ends the wait of each entry whose last notification went to this endpoint with this message id.
+// Ends the wait of each entry whose last notification went to this endpoint with this message ID.
 fn acknowledge_each(held: &mut [Entry], endpoint: Endpoint, id: u16)
     ensures { held.new ≡ at_each (has_last_id endpoint id) acknowledged held.old }
 {
@@ -448,7 +489,8 @@ fn acknowledge_each(held: &mut [Entry], endpoint: Endpoint, id: u16)
     }
 }
 
-// Until when none of these entries is late, or due where this serial is noticed.
+// Returns a time before which none of these entries has timed out, or has a pending notification
+// about revision `noticed`.
 fn quiet_until(held: &[Entry], noticed: u64) -> u64
     ensures { AreQuietUntil result noticed held.now }
 {

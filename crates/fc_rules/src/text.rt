@@ -1,11 +1,13 @@
-//! The text of each rule, and the rule of each number.
+//! The text of each rule, and the rule with each number.
 ghost use Rattle.std.specs.Prelude.{◌≡◌, MatchOption};
 ghost use Rattle.fc_isa.specs.Rules.{number_of};
 ghost use Rattle.fc_rules.specs.Numbers.{IsNoRule};
 
 use fc_isa::Rule;
 
-/// Returns the rule of a number, 1 to 17 or 20 to 28, or `None` if no rule has this number.
+/// Returns the rule with a number, 1 to 17 or 20 to 28.
+///
+/// Returns `None` if no rule has this number.
 pub fn rule_numbered(number: u32) -> Option<Rule>
     ensures { MatchOption result (IsNoRule number) (λ rule. number_of rule ≡ number) }
 {
@@ -40,7 +42,7 @@ pub fn rule_numbered(number: u32) -> Option<Rule>
     }
 }
 
-/// Returns what an image has done that breaks a rule.
+/// Returns the text of a rule: the fault of an image that breaks it.
 pub fn rule_text(rule: Rule) -> &'static str {
     match rule {
         Rule::Format =>

@@ -7,7 +7,8 @@ use Rattle.fc_store.specs.Stored.{StoredSlot, blank_slot, stored_in}
 use Rattle.fc_store.specs.Updates.{AreSameSlots, slot_after, slots_after}
 use Rattle.fc_store.specs.declared.store.SlotUpdate.{SlotUpdate}
 
--- Replacing the element of the updated slot by its state after the update gives all slots after the update.
+-- Replacing the element of the updated slot by its state after the update gives all slots after the
+-- update.
 pub places_written : (all : List StoredSlot) (k : ℕ) (p d : StoredSlot) (s : SlotUpdate) → k ≡ s.slot → k < length all → p ≡ slot_after s (get_or all k d) → AreSameSlots (stored_in (set all k p)) (slots_after s (stored_in all))
 places_written all k p d s at lt is n few = ⊎_elim
     (λ (e : n ≡ k). ap (λ (j : ℕ). get_or (set all k p) j blank_slot) e

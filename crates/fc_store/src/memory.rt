@@ -1,4 +1,6 @@
-//! A store in memory, for tests: it doesn't outlast the process, and can be made to refuse updates.
+//! A store in memory, for tests.
+//!
+//! It is lost when the process ends, and can be set to refuse updates.
 ghost use Rattle.std.specs.Prelude.{◌≡◌, ◌<◌, ℕ, true, false, length, replicate, IfOk};
 ghost use Rattle.fc_store.specs.Updates.{AreSameSlots};
 ghost use Rattle.fc_store.specs.Stored.{blank_slot, stored_in};

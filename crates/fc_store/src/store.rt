@@ -14,7 +14,9 @@ pub enum ProgramUpdate<'a> {
     Remove,
 }
 
-/// An update of a slot, 0 to 63, to be saved before it is made: the next serial and the change.
+/// An update of a slot, 0 to 63: the next serial and the change.
+///
+/// It must be saved before the change is made.
 #[derive(Clone, Copy)]
 pub struct SlotUpdate<'a> {
     pub slot: u8,
@@ -22,7 +24,7 @@ pub struct SlotUpdate<'a> {
     pub program: ProgramUpdate<'a>,
 }
 
-/// A store of the slots of a server, which may outlast the server.
+/// A store of a server's slots, which may be persistent.
 pub trait Store {
     // Whether it stores anything.
     ghost persistent: { Self → Bool };
@@ -30,7 +32,7 @@ pub trait Store {
     // The stored slots.
     ghost stored: { Self → StoredSlots };
 
-    // So far the medium has returned what was written to it.
+    // The medium has so far returned the data that was written to it.
     ghost is_clean: { Self → Type 0 } = { λ _. ⊤ };
 
     // The stored slots are those on the medium, and are committed there.
@@ -46,10 +48,12 @@ pub trait Store {
     fn is_persistent(&self) -> bool
         ensures { result ≡ persistent self.now };
 
-    /// Saves `update`. Returns `true` if it is stored, and so found after a later crash.
+    /// Saves `update`, and returns whether it is stored.
     ///
-    /// If it returns `false`, the stored slots are as before, and a start after a crash finds either
-    /// what it could have found before the call, or the slots with `update`.
+    /// If it returns `true`, a start after a later crash finds the update.
+    ///
+    /// If it returns `false`, the stored slots don't change. A start after a crash then finds
+    /// either slots that it could have found before the call, or the slots with `update`.
     fn save(&mut self, update: &SlotUpdate<'_>) -> bool
         requires persistent { persistent self.old ≡ true }
         requires slot { update.now.slot < 64 }
@@ -64,7 +68,7 @@ pub trait Store {
             → may_recover self.old found ⊎ AreSameSlots found (slots_after update.now (stored self.old)) };
 }
 
-/// An optional store: without one, nothing is stored and no update has to be saved.
+/// An optional store. Without one, nothing is stored and no update has to be saved.
 impl<S: Store> Store for Option<S> {
     ghost persistent = { persistent_if S.Store.persistent };
 

@@ -1,4 +1,4 @@
--- What the ways of an instruction hand on to the states of slots.
+-- The states on an instruction's branches, joined to those of slots.
 use Rattle.std.proofs.Common.{◌≡◌, ◌≢◌, ℕ, ◌<◌, ◌≤◌, nat_lt, true, false, Bool, if◌then◌else◌, Option, Some, None, List, [], ◌∷◌, ◌++◌, length, refl, sym, ap, ◌∙◌, subst, inl, inr, arith, length-set, get_or-set_same, get_or-set_other}
 use Rattle.std.specs.Prelude.{slice_set}
 use Rattle.std.proofs.lemmas.Bool.{cases_eq, cases_lt}
@@ -38,7 +38,7 @@ leads_wider states slot ks wider w l = record { state = l.state; state_is = l.st
 pub are_within_then : (a b c : States) → AreWithin a b → AreWithin b c → AreWithin a c
 are_within_then a b c p q = record { each = λ slot kinds e. leads_then b c slot kinds (p.each slot kinds e) q }
 
--- a slot's state is another's, where it isn't the one that is set
+-- a slot's state, if another slot's was set
 pub set_other : (states : States) (slot k : ℕ) (s : Option (List Kind)) → k ≢ slot → state_at (slice_set states slot s) k ≡ state_at states k
 set_other states slot k s n = get_or-set_other states slot k s None n
 
@@ -59,7 +59,7 @@ met_leads states slot kinds lt = go (state_at states slot) (met_here states slot
     go None e = leads_same (meet_at states slot kinds) slot kinds e
     go (Some state) e = record { state = joined state kinds; state_is = e; within = joined_right state kinds }
 
--- what holds of each state and of the kinds that are met holds of each state after, where joins keep it
+-- a property of each state and of the joined state holds for each state after, if joins keep it
 pub met_all : (P : ℕ → List Kind → Type 0) (states : States) (slot : ℕ) (kinds : List Kind) → ((k : ℕ) (a b : List Kind) → P k a → P k b → P k (joined a b))
     → ((k : ℕ) (ks : List Kind) → state_at states k ≡ Some ks → P k ks) → P slot kinds → (k : ℕ) (ks : List Kind)
     → state_at (meet_at states slot kinds) k ≡ Some ks → P k ks
@@ -94,7 +94,7 @@ leads_join wider k a b p q =
     let same : p.state ≡ q.state = cc (p.state_is, q.state_is) in
     record { state = q.state; state_is = q.state_is; within = joined_least a b q.state (subst (Within a) same p.within) q.within }
 
--- ---- ways
+-- ---- branches
 
 abbrev pub AllWays : (ℕ → List Kind → Type 0) → List Way → Type 0
 AllWays P [] = Unit {0}
@@ -158,7 +158,7 @@ all_to P (Forks taken next) insn before after a =
     (where_all P taken (kinds_when true insn after) r.0, where_all P next (kinds_when false insn after) r.1)
 all_to P (Enters start next) insn before after a = (a.0, a.1.0)
 
--- ---- what ways hand on
+-- ---- the states on branches
 
 abbrev pub one_led : ℕ → States → Way → States
 one_led slot states w = if nat_lt slot w.target then meet_at states w.target w.kinds else states

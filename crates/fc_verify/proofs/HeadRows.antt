@@ -1,4 +1,4 @@
--- Programs with counted loops: of which a typing exists or none does, and their costs, by computation.
+-- Programs with counted loops, with and without a typing, and their costs, by computation.
 use Rattle.std.proofs.Common.{◌≡◌, ℕ, pos, negsuc, true, false, Some, None, List, [], ◌∷◌, refl}
 use Rattle.fc_isa.specs.declared.insn.Width.TheVariants.{W64}
 use Rattle.fc_isa.specs.declared.insn.AluOp.TheVariants.{Add, Mov}
@@ -29,11 +29,12 @@ move r s = Alu Mov W64 r (Reg s)
 abbrev add : ℕ → ℕ → Insn
 add r n = Alu Add W64 r (Imm (pos n))
 
--- `jlt r, n` back over so many slots and itself
+-- `jlt r, n` back over this many slots and itself
 abbrev jump : ℕ → ℕ → ℕ → Insn
 jump r n over = JumpIf (record { width = W64; relation = Lt; left = r; right = Imm (pos n); offset = negsuc over })
 
--- the payload's first bytes added up, with the first slot and the fifth, the step and the bound, and a jump back over so many slots
+-- the sum of the payload's first bytes, with the first slot and the fifth, the step and the bound,
+-- and the number of slots that the jump goes back over
 abbrev sum_over : ℕ → Insn → Insn → ℕ → ℕ → List Insn
 sum_over over first fifth step bound =
     first ∷ put 7 0 ∷ move 1 6 ∷ CallHelper (pos 2) ∷ fifth ∷ add 6 step ∷ jump 6 bound over ∷ move 1 7 ∷ CallHelper (pos 6) ∷ put 0 0 ∷ Exit ∷ []
@@ -44,7 +45,7 @@ sum_with first fifth = sum_over 4 first fifth 1 4
 abbrev sum : ℕ → ℕ → List Insn
 sum step bound = sum_over 4 (put 6 0) (Alu Add W64 7 (Reg 0)) step bound
 
--- a loop of two turns in a loop of three
+-- a loop of two iterations in a loop of three
 abbrev nested : List Insn
 nested = put 6 0 ∷ put 7 0 ∷ put 0 0 ∷ add 7 1 ∷ jump 7 2 2 ∷ add 6 1 ∷ jump 6 3 5 ∷ Exit ∷ []
 
@@ -54,7 +55,8 @@ head version budget = record { version = version; vars_size = 0; count = 11; bud
 abbrev breaks_form : List Insn → Type 0
 breaks_form code = shape_fault (head Two 65536) code ≡ Some (6, BackwardJump)
 
--- the body counts as often as it turns: 2 + 4 * 5 + 4 steps; a bound of 8 turns it 8 times, a step of 3 twice
+-- the body counts once for each iteration: 2 + 4 * 5 + 4 steps; a bound of 8 gives 8 iterations,
+-- and a step of 3 gives two
 sum_costs : (longest Two (sum 1 4) ≡ 26) × (longest Two (sum 1 8) ≡ 46) × (longest Two (sum 3 4) ≡ 16)
 unfolding longest cost_in loops_of costs
 sum_costs = (refl, refl, refl)
@@ -68,12 +70,13 @@ form_of_jumps : breaks_form (sum 1 0) × breaks_form (sum 1 1025) × breaks_form
 unfolding shape_fault breaks_shape longest cost_in loops_of costs is_start frames
 form_of_jumps = (refl, refl, refl)
 
--- the counter is written, an exit stands in the body, and a jump skips the addition
+-- the counter is written, the body has an exit, and a jump skips the addition
 form_of_bodies : breaks_form (sum_with (put 6 0) (put 6 0)) × breaks_form (sum_with (put 6 0) Exit) × breaks_form (sum_with (put 6 0) (JumpAlways (pos 1)))
 unfolding shape_fault breaks_shape longest cost_in loops_of costs is_start frames
 form_of_bodies = (refl, refl, refl)
 
--- a sum has a typing; a pointer written in its body has none, and neither has a counter that begins at the bound
+-- a sum has a typing; with a pointer written in its body it has none, and with a counter that
+-- starts at the bound it has none
 sum_types : (is_typable Two 0 (sum 1 4) ≡ true) × (is_typable Two 0 (sum_with (put 6 0) (move 8 10)) ≡ false) × (is_typable Two 0 (sum_with (put 6 4) (Alu Add W64 7 (Reg 0))) ≡ false)
 unfolding is_written has_call settled pass_from loops_of transfer alu_kind when alu_interval interval_of refined
 sum_types = (refl, refl, refl)

@@ -1,4 +1,4 @@
--- What a head's kinds are, and what a body keeps of them.
+-- The state at a head, and the parts of it that a body keeps.
 use Rattle.std.proofs.Common.{◌≡◌, ◌≢◌, ◌⊎◌, ℕ, zero, suc, ◌+◌, ◌-◌, ◌==◌, ◌&&◌, ◌||◌, ◌<◌, ◌≤◌, nat_lt, nat_le, max, min, Bool, true, false, if◌then◌else◌, ℤ, pos, Option, Some, None, List, [], ◌∷◌, length, take, drop, refl, sym, ap, ◌∙◌, subst, inl, inr, arith, get_or-set_same, get_or-set_other}
 use Rattle.std.specs.Prelude.{slice_get, slice_set}
 use Rattle.std.specs.List.{list_any}
@@ -33,7 +33,7 @@ use Rattle.fc_verify.proofs.Rules.{IsUnder, Settles, SettlesIn, IsSound}
 use Rattle.fc_image.proofs.LoopLaws.{in_body}
 use Rattle.fc_kinds.proofs.WayLaws.{met_is}
 
--- ---- the formed kinds, one by one
+-- ---- the loop invariant, register by register
 
 formed_at : (code : List Insn) (l : Loop) (ks : List Kind) (r : ℕ) → r < 11 → kind_at (formed code l ks) r ≡ formed_kind code l r (kind_at ks r)
 formed_at code l ks zero lt = refl
@@ -49,7 +49,7 @@ formed_at code l ks (suc (suc (suc (suc (suc (suc (suc (suc (suc zero))))))))) l
 formed_at code l ks (suc (suc (suc (suc (suc (suc (suc (suc (suc (suc zero)))))))))) lt = refl
 formed_at code l ks (suc (suc (suc (suc (suc (suc (suc (suc (suc (suc (suc r))))))))))) lt = absurd (omega (arith, lt))
 
--- a fact of each formed kind
+-- a property of each register in the loop invariant
 pub formed_all : (P : ℕ → Kind → Type 0) (code : List Insn) (l : Loop) (ks : List Kind) → ((r : ℕ) → P r (formed_kind code l r (kind_at ks r))) → ((r : ℕ) → 11 ≤ r → P r Unset) → (r : ℕ) → P r (kind_at (formed code l ks) r)
 formed_all P code l ks p u r = elim (cases_lt r 11) [
   | inl lt ↦ subst (P r) (sym (formed_at code l ks r lt)) (p r)
@@ -208,7 +208,7 @@ inner_under code l m head ks hs s h a u e writes_in calls_in counts =
           (λ r ge d. subst (λ x. KindWithin x (kind_at head r)) (past_unset ks r len ge) (u.each r d));
     })
 
--- ---- what an instruction writes
+-- ---- the registers that an instruction writes
 
 abbrev Writes : Insn → ℕ → List Kind → List Kind → Type 0
 Writes insn r ks after =
@@ -280,7 +280,7 @@ written vars (CallHelper number) ks after r len e n = helped vars number (helper
 written vars (CallLocal offset) ks after r len e n = called (CallLocal offset) (num (all 64)) ks after r len (λ i. refl) refl refl (cc e)
 written vars Exit ks after r len e n = kept Exit _ ks after r refl e
 
--- in a body an instruction keeps kinds under the head's
+-- in a body an instruction keeps the state under the head's
 pub body_keeps : (vars : ℕ) (code : List Insn) (l : Loop) (slot : ℕ) (insn : Insn) (head ks after : List Kind) → l.head ≤ slot → slot ≤ l.last → slice_get code slot ≡ Some insn → IsInsn insn → IsHeadState code l head → AreKinds ks → AreKinds after → IsUnder l head ks
     → transfer vars insn ks ≡ Some after → gives_number (computes insn) after ≡ true → IsUnder l head after
 unfolding is_written has_call
@@ -291,7 +291,7 @@ body_keeps vars code l slot insn head ks after from upto stands i h a b u e n = 
     go r d (inr (w, inl x)) = number_any (kind_at after r) x (b.each r) (kind_at head r) (h.written r d (in_body (λ j. writes j r) code l slot insn from upto stands w))
     go r d (inr (w, inr c)) = subst (KindWithin (kind_at after r)) (sym (h.cleared (in_body is_call code l slot insn from upto stands c.0) r d c.1 c.2)) tt
 
--- ---- the jump back
+-- ---- the back jump
 
 counted : (ks k : List Kind) (c n lo hi : ℕ) → c < length ks → with_some (refined Lt (interval lo hi) (interval n n)) (λ pair. Some (slice_set ks c (num pair.0))) ≡ Some k → KindWithin (kind_at k c) (Num 0 (n - 1))
 unfolding refined

@@ -1,4 +1,4 @@
--- The judgement of an image, by what each step finds.
+-- The judgement of an image, from the result of each step.
 use Rattle.std.proofs.Common.{◌≡◌, ℕ, ◌<◌, ◌≤◌, ◌/◌, Bool, true, false, List, length, Option, Some, None, Result, Ok, Err, refl, sym, ap, ◌∙◌, subst, arith}
 use Rattle.std.proofs.lemmas.List.{length-drop}
 use Rattle.std.proofs.lemmas.Option.{slice_get_within, get_or_from_slice_get}
@@ -57,7 +57,7 @@ pub judged_accepts : (image : List ℕ) → head_fault image ≡ None → first_
 unfolding judged
 judged_accepts image e f s t = rw (e, f, s, t) refl
 
--- what an error's conversion leaves
+-- the result of an error's conversion
 pub err_is : {T : Type 0} (r : Result T Refusal) (e : Refusal) (P : Refusal → Type 0) → IsErrAnd r (λ x. x ≡ e) → P e → IfErr r P
 err_is (Ok x) e P h p = absurd h
 err_is (Err x) e P h p = subst P (sym h) p
@@ -68,7 +68,7 @@ fault_of image j f e h = subst (λ k. IsFaultOf image k f) (sym e) h
 pub refused_head : (image : List ℕ) (f : Fault) → head_fault image ≡ Some f.rule → f.slot ≡ 0 → IsRefusal image (Broken f)
 refused_head image f e z = fault_of image (Breaks f.rule 0) f (judged_head image f.rule e) (refl, z, head_rule_low image f.rule e)
 
--- an instruction for each eight bytes
+-- one instruction for each eight bytes
 pub code_count : (image : List ℕ) → length (code_in image) ≡ length (slots_of image) / 8
 unfolding decoded_program
 code_count image = length-insns_below (slots_of image) (length (slots_of image) / 8)
@@ -87,7 +87,7 @@ refused_decode image head (FaultAt f) h d =
     fault_of image (Breaks f.rule f.slot) f (judged_slots image f.rule f.slot h.fault (first_fault_is (slots_of image) f.rule f.slot d)) (refl, refl, low_fault_at (slots_of image) f.slot f.rule d.broken)
 refused_decode image head NoRoom h d = h.fault
 
--- ---- the program that the slots spell
+-- ---- the program that the slots encode
 
 insn_there : (code : List Insn) (slot : ℕ) (insn : Insn) → All IsInsn code → slice_get code slot ≡ Some insn → IsInsn insn
 insn_there code slot insn h e = subst IsInsn (get_or_from_slice_get code slot insn insn e) (h slot insn (slice_get_within code slot insn e))
@@ -113,7 +113,7 @@ untyped_of image head code h k s nested =
     untyped_program head.version (slots_of image) code (omega (arith, h.limits.some, c, k.count)) (omega (arith, few, c, k.count)) k.spelled s
     (few_frames head.version (frames code) nested)
 
--- the shape's fault of the program in the image, and its typing's judgement
+-- the control-flow fault of the program in the image, and its typing's judgement
 pub shape_of : (image : List ℕ) (head : Head) (code : List Insn) (o : Option (ℕ × Rule)) → IsHeadOf image head → IsCodeOf image code → shape_fault head code ≡ o → shape_fault (stated image) (code_in image) ≡ o
 shape_of image head code o h k e = ap (λ x. shape_fault x (code_in image)) (sym h.stated_is) ∙ ap (shape_fault head) (sym k.code_is) ∙ e
 

@@ -1,4 +1,4 @@
--- The levels of stack frames in a pass with heads: a settled state has no more of them.
+-- The levels of stack frames in a pass with heads: a loop invariant has no more of them.
 use Rattle.std.proofs.Common.{◌≡◌, ℕ, zero, suc, ◌+◌, ◌<◌, ◌≤◌, Bool, true, false, Option, Some, None, List, [], ◌∷◌, subst, arith}
 use Rattle.std.specs.Prelude.{slice_set}
 use Rattle.fc_isa.specs.declared.insn.Insn.{Insn}
@@ -45,7 +45,7 @@ settled_shallow top code (Some l) found kinds e h = go (enters l (kind_at found 
     go true g = let same : formed code l found ≡ kinds = cc g in subst (AreShallow top) same (formed_shallow top code l found h)
     go false g = absurd (cc g)
 
--- no state has a stack frame more than so many levels above
+-- no state has a stack frame more than `top` levels above
 abbrev pub AreLow : ℕ → States → Type 0
 AreLow top states = (slot : ℕ) (kinds : List Kind) → state_at states slot ≡ Some kinds → AreShallow top kinds
 
@@ -67,7 +67,7 @@ later_shallow : (top slot : ℕ) (ws : List Way) → AllShallow top ws → AllWa
 later_shallow top slot [] h = tt
 later_shallow top slot (w ∷ ws) h = (λ lt. h.0, later_shallow top slot ws h.1)
 
--- passing a slot raises the levels by one at most
+-- passing over a slot raises the levels by at most one
 pub low_passed : (top vars : ℕ) (code : List Insn) (loops : List Loop) (slot : ℕ) (insn : Insn) (found : List Kind) (states next : States) → AreLow top states → state_at states slot ≡ Some found
     → passed_with vars code loops slot insn (Some found) states ≡ Some next → AreLow (top + 1) next
 low_passed top vars code loops slot insn found states next low e p =

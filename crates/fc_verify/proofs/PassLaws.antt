@@ -1,4 +1,4 @@
--- The pass over the slots: what it leaves is a typing, and where it leaves nothing there is none.
+-- The pass over the slots: its result is a typing, and if it has no result there is none.
 use Rattle.std.proofs.Common.{◌≡◌, ◌≢◌, ◌⊎◌, ℕ, zero, suc, ◌+◌, ◌<◌, ◌≤◌, ◌&&◌, ◌||◌, not, nat_eq, true, false, Bool, if◌then◌else◌, Option, Some, None, List, [], ◌∷◌, length, map, refl, sym, ap, ◌∙◌, subst, inl, inr, arith, length-set, get_or-set_same}
 use Rattle.std.specs.Prelude.{is_some, slice_get, slice_set}
 use Rattle.std.proofs.lemmas.Int.{ints}
@@ -40,7 +40,7 @@ use Rattle.fc_verify.proofs.Narrow.{way_inside}
 use Rattle.fc_verify.proofs.HandedOn.{AreWithin, leads_same, leads_then, leads_wider, are_within_then, set_other, leads_join, AllWays, all_lead, lead_all, all_then, WaysBy, all_from, all_to, led_length, led_keeps, led_grows, led_brings, led_all}
 use Rattle.fc_image.proofs.Costs.{begins_is}
 
--- ---- kinds that hold values
+-- ---- well-formed abstract values
 
 pub effect_kinds : (vars : ℕ) (insn : Insn) (ks after : List Kind) → IsInsn insn → AreKinds ks → transfer vars insn ks ≡ Some after → AreKinds after
 effect_kinds vars insn ks after i a e =
@@ -72,7 +72,7 @@ entry_kinds version = record { count = refl; each = λ r. each_is (entry version
     each_is (k ∷ ks) h zero = h.0
     each_is (k ∷ ks) h (suc r) = each_is ks h.1 r
 
--- ---- shape
+-- ---- control flow
 
 pub inside_is : (loops : List Loop) (i slot : ℕ) (l : Loop) → slice_get loops i ≡ Some l → l.head ≤ slot → slot ≤ l.last → is_inside loops slot ≡ true
 inside_is [] i slot l e a b = absurd (cc e)
@@ -101,9 +101,9 @@ flow_below P count loops slot (Forks taken next) insn before after h o p = (λ k
     go (inr b) = subst (λ t. t < count) (sym b.head) (h b.index b.loop b.among)
 flow_below P count loops slot (Enters start next) insn before after h o p = (p start (enter before) o.0.1, p next after o.1.1)
 
--- ---- soundness: what the pass keeps
+-- ---- soundness: the invariants of the pass
 
--- the loop's head was passed, and these kinds are under its kinds
+-- the loop's head was passed, and this state is under its state
 record IsFound (slot : ℕ) (states : States) (l : Loop) (ks : List Kind) : Type 0 where
   passed : l.head < slot
   head : List Kind
@@ -140,7 +140,7 @@ under_same l ks = record { each = λ r n. kind_within_same (kind_at ks r) }
 under_then : (l : Loop) (head a b : List Kind) → Within a b → IsUnder l head b → IsUnder l head a
 under_then l head a b w u = record { each = λ r n. within_trans (kind_at a r) (kind_at b r) (kind_at head r) (w.each r) (u.each r n) }
 
--- the kinds that a slot is passed with
+-- the state with which a slot is passed
 pub record Passed (vars : ℕ) (code : List Insn) (loops : List Loop) (slot : ℕ) (insn : Insn) (found kinds after : List Kind) : Type 0 where
   pub settled_is : settled code (begins loops slot) found ≡ Some kinds
   pub effect : transfer vars insn kinds ≡ Some after
@@ -168,7 +168,7 @@ passed_parts vars code loops slot insn found states next e = one (settled code (
     one None s g = absurd (cc g)
     one (Some kinds) s g = two kinds (transfer vars insn kinds) refl s g
 
--- the settled kinds
+-- the state of a slot after its loop invariant is formed
 pub record IsSettled (code : List Insn) (loops : List Loop) (slot : ℕ) (found kinds : List Kind) : Type 0 where
   pub fit : AreKinds kinds
   pub within : Within found kinds
@@ -190,7 +190,7 @@ unfolding settled
 settled_fit code None found kinds l f e = let same : found ≡ kinds = cc e in subst AreKinds same f
 settled_fit code (Some m) found kinds l f e = (settles code m found kinds (sound_of code m l) f e).kinds
 
--- and under the heads round it
+-- it is under the heads around it
 settled_under : (code : List Insn) (loops : List Loop) (slot : ℕ) (found kinds head : List Kind) (i : ℕ) (l : Loop) → AreLoops code loops → AreKinds found → settled code (begins loops slot) found ≡ Some kinds
     → slice_get loops i ≡ Some l → l.head < slot → slot ≤ l.last → IsHeadState code l head → IsUnder l head found → IsUnder l head kinds
 unfolding settled
@@ -226,7 +226,7 @@ head_at loops slot base kinds here n i l g from le = elim (cases_lt l.head slot)
   | inr ge ↦ let same : slot ≡ l.head = omega (arith, from, ge) in record { passed = omega (arith, from); head = kinds; is = subst (λ k. state_at base k ≡ Some kinds) same here; under = under_same l kinds }
 ]
 
--- after the instruction they are under the head still
+-- after the instruction the state is still under the head's
 after_under : (vars : ℕ) (code : List Insn) (loops : List Loop) (slot : ℕ) (insn : Insn) (found kinds after : List Kind) (base : States) → IsInsn insn → slice_get code slot ≡ Some insn
     → Passed vars code loops slot insn found kinds after → AreKinds kinds → HeadsIn code loops (suc slot) base → (i : ℕ) (l : Loop) → slice_get loops i ≡ Some l → l.head ≤ slot → slot ≤ l.last → (h : IsFound (suc slot) base l kinds) → IsUnder l h.head after
 after_under vars code loops slot insn found kinds after base n stands p f heads i l g from le h =
@@ -281,7 +281,7 @@ sound_none version vars code loops slot states s e = record {
   ];
 }
 
--- the jump back of a loop leads to kinds that its head contains
+-- the back jump of a loop leads to a state that its head contains
 back_leads : (vars : ℕ) (code : List Insn) (loops : List Loop) (slot : ℕ) (insn : Insn) (found kinds after : List Kind) (base : States) → AreLoops code loops → IsInsn insn → slice_get code slot ≡ Some insn
     → Passed vars code loops slot insn found kinds after → AreKinds kinds → Inner loops (suc slot) base slot kinds → HeadsIn code loops (suc slot) base
     → (t : ℕ) → IsBack loops slot t → (k : List Kind) → kinds_when true insn after ≡ Some k → (head : List Kind) × (state_at base t ≡ Some head) × Within k head
@@ -305,7 +305,7 @@ back_leads vars code loops slot insn found kinds after base a n stands p f inner
           (way_inside true insn after k n (effect_kinds vars insn kinds after n f p.effect) e),
     )
 
--- each way leads to a state that contains it
+-- each branch leads to a state that contains it
 ways_lead : (next : States) (count : ℕ) (loops : List Loop) (slot : ℕ) (f : Flow) (insn : Insn) (before after : List Kind) → IsOnward count loops slot f → WaysBy (λ t ks. slot < t → Leads next t ks) f insn before after
     → ((t : ℕ) → IsBack loops slot t → (k : List Kind) → kinds_when true insn after ≡ Some k → Leads next t k) → WaysBy (Leads next) f insn before after
 ways_lead next count loops slot Halts insn before after o w b = tt
@@ -506,7 +506,7 @@ allowed false c h = refl
 allowed true true h = refl
 allowed true false h = absurd (cc (h refl))
 
--- ways from narrower kinds lead where those from wider ones do
+-- branches from narrower states lead to slots to which those from wider ones do
 ways_narrow : (typing : States) (f : Flow) (insn : Insn) (ks wider after wide : List Kind) → IsInsn insn → AreKinds after → AreNumbers insn wide → Within ks wider → Within after wide
     → WaysBy (Leads typing) f insn wider wide → WaysBy (Leads typing) f insn ks after
 ways_narrow typing Halts insn ks wider after wide n a m v w h = tt
@@ -523,7 +523,7 @@ fit_ways vars slot f insn ks after n m a b = by_flow (λ t k. slot < t → AreKi
 led_within : (typing : States) (slot : ℕ) (states : States) (ws : List Way) → AreWithin states typing → AllWays (Leads typing) ws → AreWithin (led slot states ws) typing
 led_within typing slot states ws w a = record { each = led_all (Leads typing) slot states ws (leads_join typing) w.each (all_then (Leads typing) (λ t ks. slot < t → Leads typing t ks) ws (λ t ks l lt. l) a) }
 
--- the kinds that a slot settles to are within the typing's
+-- a slot's state is within the typing's
 record SettlesWithin (code : List Insn) (loops : List Loop) (slot : ℕ) (found wider : List Kind) : Type 0 where
   kinds : List Kind
   is : settled code (begins loops slot) found ≡ Some kinds
@@ -593,7 +593,7 @@ bounded_from version vars code loops slot (insn ∷ rest) states typing a n at t
         let r = some found a i stands t b f in
         ih r.0 r.2 (rw r.1 at g)
 
--- what the pass leaves is a typing, and where it leaves nothing there is none
+-- the result of the pass is a typing, and if it has no result there is none
 abbrev pub IsExact : ImageVersion → ℕ → List Insn → List Loop → Option States → Type 0
 IsExact version vars code loops (Some states) = IsTypingWith version vars code loops states
 IsExact version vars code loops None = (t : States) → IsTypingWith version vars code loops t → ⊥
@@ -611,7 +611,7 @@ exact version vars code loops some n a = go (pass_with version vars code loops) 
     }) e
     go (Some last) e = sound_typing version vars code loops last a (sound_from version vars code loops 0 code (beginning version code) last a n all (omega arith) (sound_first version vars code loops some) e)
 
--- ---- the two answers
+-- ---- the two results
 
 pub typed_states : (version : ImageVersion) (vars : ℕ) (code : List Insn) → 0 < length code → AreInsns code → AreLoops code (loops_in version code) → is_typable version vars code ≡ true → (states : States) × IsTypingOf version vars code states
 typed_states version vars code some n a t = go (pass version vars code) (exact version vars code (loops_in version code) some n a) t

@@ -1,4 +1,4 @@
--- The pass on its way: the slots before one were passed.
+-- The pass in progress: the slots before one were passed.
 use Rattle.std.proofs.Common.{◌≡◌, ℕ, zero, suc, ◌+◌, ◌<◌, ◌≤◌, Option, Some, None, List, [], ◌∷◌, ◌++◌, length, take, refl, sym, ap, ◌∙◌, subst, arith, length-set}
 use Rattle.std.specs.Prelude.{slice_get, slice_set}
 use Rattle.std.proofs.lemmas.List.{take_all, take_more}
@@ -20,7 +20,7 @@ use Rattle.fc_verify.specs.Pass.{passed_with, passed, pass_from, beginning, pass
 use Rattle.fc_verify.proofs.PassLaws.{passed_parts, settled_now, set_all, fit_ways, effect_kinds, entry_kinds, first_is, none_at, nones}
 use Rattle.fc_verify.proofs.HandedOn.{led_all, led_length, all_from}
 
--- the kinds of each state hold some values
+-- each abstract value of each state contains some value
 abbrev pub AreProper : States → Type 0
 AreProper states = (slot : ℕ) (kinds : List Kind) → state_at states slot ≡ Some kinds → AreKinds kinds
 
@@ -82,7 +82,7 @@ pass_none vars whole loops from (x ∷ code) (suc n) states e = go (λ s. pass_n
     go ih None g = refl
     go ih (Some s) g = ih s g
 
--- the pass of one slot more
+-- the pass of one more slot
 pass_next : (version : ImageVersion) (vars : ℕ) (code : List Insn) (loops : List Loop) (slot : ℕ) (states : States) (insn : Insn) → Passing version vars code loops slot states → slice_get code slot ≡ Some insn → pass_from vars code loops 0 (take (slot + 1) code) (beginning version code) ≡ passed vars code loops slot insn states
 pass_next version vars code loops slot states insn p g =
     let m : slot + 1 ≡ suc slot = omega arith in
@@ -100,7 +100,7 @@ pub passing_none : (version : ImageVersion) (vars : ℕ) (code : List Insn) (loo
 passing_none version vars code loops slot states insn p g e =
     record { count = p.count; passed_is = pass_next version vars code loops slot states insn p g ∙ ap (λ o. passed_with vars code loops slot insn o states) e; proper = p.proper }
 
--- a demand that isn't met, or a head that isn't entered as it must be
+-- a precondition that doesn't hold, or a head that isn't entered as required
 pub passing_refused : (version : ImageVersion) (vars : ℕ) (code : List Insn) (loops : List Loop) (slot : ℕ) (states : States) (insn : Insn) (found : List Kind) → Passing version vars code loops slot states → slice_get code slot ≡ Some insn → state_at states slot ≡ Some found
     → passed_with vars code loops slot insn (Some found) states ≡ None → pass_with version vars code loops ≡ None
 passing_refused version vars code loops slot states insn found p g e f =

@@ -1,4 +1,4 @@
--- Programs of which a typing exists or none does, by computation.
+-- Programs with and without a typing, by computation.
 use Rattle.std.proofs.Common.{◌≡◌, ℕ, ℤ, pos, negsuc, Bool, true, false, List, [], ◌∷◌, refl}
 use Rattle.fc_isa.specs.declared.insn.Width.TheVariants.{W32, W64}
 use Rattle.fc_isa.specs.declared.insn.AluOp.TheVariants.{Add, Mov}
@@ -77,12 +77,12 @@ counter_row = (refl, refl)
 abbrev calling : List Insn → List Insn
 calling body = fixed 1 (pos 1) ∷ fixed 6 (pos 6) ∷ CallLocal (pos 2) ∷ moves 0 6 ∷ Exit ∷ body
 
--- the function finds R1, but not R6 or R0, and an exit of it wants a number too
+-- the function finds R1, but not R6 or R0, and its exit requires a number too
 functions_find : (types (calling (moves 0 1 ∷ Exit ∷ [])) ≡ true) × (types (calling (moves 0 6 ∷ Exit ∷ [])) ≡ false) × (types (calling (Exit ∷ [])) ≡ false) × (types (calling (moves 0 10 ∷ Exit ∷ [])) ≡ false)
 unfolding transfer when alu_kind interval_of alu_interval refined settled pass_from costs cost_in loops_of longest
 functions_find = (refl, refl, refl, refl)
 
--- after a call R1 is unset, and R6 is kept
+-- after a call R1 is unset, and R6 is saved
 abbrev after : ℕ → List Insn
 after r = fixed 1 (pos 1) ∷ fixed 6 (pos 6) ∷ CallLocal (pos 2) ∷ moves 0 r ∷ Exit ∷ fixed 0 (pos 0) ∷ Exit ∷ []
 
@@ -90,7 +90,7 @@ calls_keep : (types (after 6) ≡ true) × (types (after 1) ≡ false) × (types
 unfolding transfer when alu_kind interval_of alu_interval refined settled pass_from costs cost_in loops_of longest
 calls_keep = (refl, refl, refl)
 
--- a function called twice finds what both calls hand on: two numbers, or a number and a pointer
+-- a function called twice finds the join of both calls: two numbers, or a number and a pointer
 abbrev twice : Insn → List Insn
 twice second = fixed 1 (pos 1) ∷ CallLocal (pos 3) ∷ second ∷ CallLocal (pos 1) ∷ Exit ∷ moves 0 1 ∷ Exit ∷ []
 

@@ -1,4 +1,4 @@
--- Where the pass stops at an instruction, and a slot where no loop begins.
+-- The pass stops at an instruction; and a slot at which no loop begins.
 use Rattle.std.proofs.Common.{◌≡◌, ℕ, Bool, List, Option, Some, None, refl, sym, ap, subst}
 use Rattle.fc_isa.specs.declared.insn.Insn.{Insn}
 use Rattle.fc_image.specs.declared.loops.Loop.{Loop}
@@ -17,7 +17,7 @@ pub stops_at : (vars : ℕ) (code : List Insn) (beginning : Option Loop) (inside
 stops_at vars code beginning inside insn found kinds known demand e k f =
     subst (λ ks. Stops vars code beginning inside insn found ks demand) (sym k) (AtInsn e f)
 
--- where no loop begins the kinds are taken as they are found
+-- at a slot where no loop begins, the slot's state is the one found
 pub settled_none : (code : List Insn) (kinds : List Kind) → settled code None kinds ≡ Some kinds
 unfolding settled
 settled_none code kinds = refl

@@ -1,4 +1,4 @@
--- What the code asks of loops, by the loop that begins at each slot.
+-- Facts about loops that the code needs, from the loop that begins at each slot.
 use Rattle.std.proofs.Common.{◌≡◌, ℕ, suc, ◌+◌, ◌<◌, ◌≤◌, nat_lt, Bool, true, false, Option, Some, None, List, [], ◌∷◌, length, inl, inr, refl, sym, ap, ◌∙◌, subst, arith}
 use Rattle.std.specs.Prelude.{◌⊎◌, ◌||◌, slice_get}
 use Rattle.std.proofs.lemmas.Bool.{cases_lt}
@@ -29,7 +29,7 @@ taken_within code loops slot t a (inr back) =
     let head = back.head in
     omega (arith, order, within, head)
 
--- what a flow leads to is in the program
+-- the successors of a flow are in the program
 pub within_is : (code : List Insn) (loops : List Loop) (slot : ℕ) (f : Flow) → AreLoops code loops → IsOnward (length code) loops slot f → IsWithin (length code) f
 within_is code loops slot Halts a o = tt
 within_is code loops slot (Goes next) a o = o.1
@@ -46,7 +46,7 @@ inside_parts (m ∷ loops) slot e = go (is_in m slot) refl (inside_parts loops s
     go true b ih g = (0, m, refl, b)
     go false b ih g = let r = ih g in (suc r.0, r.1, r.2, r.3)
 
--- which slots are in bodies, by how far the bodies reach that begin before a slot
+-- the slots that are in bodies, from how far the bodies reach that begin before a slot
 pub record Reaches (loops : List Loop) (slot reach : ℕ) : Type 0 where
   pub all : (i : ℕ) (l : Loop) → slice_get loops i ≡ Some l → l.head < slot → l.last < reach
   pub some : (s : ℕ) → slot ≤ s → s < reach → is_inside loops s ≡ true
@@ -54,7 +54,7 @@ pub record Reaches (loops : List Loop) (slot reach : ℕ) : Type 0 where
 pub reaches_none : (loops : List Loop) → Reaches loops 0 0
 reaches_none loops = record { all = λ i l at lt. absurd (omega (arith, lt)); some = λ s le lt. absurd (omega (arith, lt)) }
 
--- with the loop that begins at the slot
+-- the same, including the loop that begins at the slot
 reached_some : (loops : List Loop) (slot reach s : ℕ) → Reaches loops slot reach → slot ≤ s → s < reached reach (begins loops slot) → is_inside loops s ≡ true
 reached_some loops slot reach s r le lt = go (begins loops slot) refl lt
   where
@@ -84,7 +84,7 @@ reaches_on code loops slot reach a r = record {
   some = λ s le lt. reached_some loops slot reach s r (omega (arith, le)) lt;
 }
 
--- a slot is in a body where it comes before what they reach
+-- a slot is in a body if it is before the end that they reach
 pub reached_is : (code : List Insn) (loops : List Loop) (slot reach : ℕ) → AreLoops code loops → Reaches loops slot reach → nat_lt slot (reached reach (begins loops slot)) ≡ is_inside loops slot
 reached_is code loops slot reach a r = go (is_inside loops slot) refl
   where

@@ -1,4 +1,4 @@
--- Which images are accepted, and what is wrong first with the others.
+-- The accepted images, and the first broken rule of the others.
 use Rattle.std.specs.Prelude.{◌≡◌, ℕ, ◌≤◌, List, drop, Some, None, ◌⊎◌}
 use Rattle.fc_isa.specs.declared.rule.Rule.{Rule}
 use Rattle.fc_isa.specs.Encoding.{Spells, IsFirstFault}
@@ -9,11 +9,11 @@ use Rattle.fc_image.specs.ShapeRules.{IsShapeFault, IsShaped}
 use Rattle.fc_kinds.specs.Meaning.{Program}
 use Rattle.fc_verify.specs.Typing.{States, IsTypingOf}
 
--- the slots of an image: what stands behind its header
+-- the slots of an image: the bytes after its header.
 abbrev pub slots_of : List ℕ → List ℕ
 slots_of image = drop 16 image
 
--- the image keeps the header's rules, and its slots spell this program
+-- the image keeps the header's rules, and its slots encode this program.
 pub record IsProgramOf (image : List ℕ) (p : Program) : Type 0 where
   pub head : head_fault image ≡ None
   pub version : p.version ≡ (stated image).version
@@ -21,7 +21,8 @@ pub record IsProgramOf (image : List ℕ) (p : Program) : Type 0 where
   pub vars_size : p.vars_size ≡ (stated image).vars_size
   pub budget : p.budget ≡ (stated image).budget
 
--- its shape is kept too, its frames are as many as the version allows at most, and its longest path is within the budget
+-- the program also passes the control-flow checks, has at most the frames of its version, and its
+-- longest path is within the budget.
 pub record IsShapely (image : List ℕ) (p : Program) : Type 0 where
   pub program : IsProgramOf image p
   pub shape : IsShaped p.version p.code
@@ -29,36 +30,36 @@ pub record IsShapely (image : List ℕ) (p : Program) : Type 0 where
   pub cost : IsLongest p.version p.code p.cost
   pub within : p.cost ≤ p.budget
 
--- an accepted image: some typing exists besides
+-- an accepted image: also some typing exists.
 pub record IsAccepted (image : List ℕ) (p : Program) : Type 0 where
   pub shapely : IsShapely image p
   pub states : States
   pub typing : IsTypingOf p.version p.vars_size p.code states
 
--- the program's shape breaks a rule, and this one first
+-- the control flow of the program breaks a rule, and this one first.
 pub record BreaksShape (image : List ℕ) (rule : Rule) (slot : ℕ) : Type 0 where
   pub p : Program
   pub program : IsProgramOf image p
   pub fault : IsShapeFault (stated image) p.code slot rule
 
--- a slot breaks a rule of the encoding
+-- a slot breaks a rule of the encoding.
 pub record BreaksSlot (image : List ℕ) (rule : Rule) (slot : ℕ) : Type 0 where
   pub head : head_fault image ≡ None
   pub fault : IsFirstFault (slots_of image) rule slot
 
--- the header breaks a rule, which names slot 0
+-- the header breaks a rule, which names slot 0.
 pub record BreaksHead (image : List ℕ) (rule : Rule) (slot : ℕ) : Type 0 where
   pub fault : head_fault image ≡ Some rule
   pub slot_is : slot ≡ 0
 
--- only the typing is missing
+-- only the typing is missing.
 pub record IsUntypable (image : List ℕ) : Type 0 where
   pub p : Program
   pub shapely : IsShapely image p
   pub untyped : (states : States) → IsTypingOf p.version p.vars_size p.code states → ⊥
 
--- what is to be said of an image: the program that it is accepted as, the rule that it breaks first with its slot,
--- or that only the typing is missing
+-- the judgement of an image: the accepted program, the first broken rule with its slot, or that
+-- only the typing is missing.
 pub data Judgement : Type 0 where
   Accepts : (program : Program) → Judgement
   Breaks : (rule : Rule) (slot : ℕ) → Judgement

@@ -1,4 +1,4 @@
--- The kinds at the heads of counted loops.
+-- The states at the heads of counted loops.
 use Rattle.std.specs.Prelude.{◌≡◌, ◌≢◌, ℕ, ◌+◌, ◌-◌, ◌≤◌, ◌==◌, ◌||◌, ◌&&◌, ◌⊎◌, Bool, true, false, nat_lt, nat_le, max, if◌then◌else◌, List, [], ◌∷◌, Option, Some, None}
 use Rattle.fc_isa.specs.declared.insn.Insn.{Insn}
 use Rattle.fc_image.specs.declared.loops.Loop.{Loop}
@@ -9,24 +9,24 @@ use Rattle.fc_kinds.specs.declared.kind.Kind.TheVariants.{Unset, Num}
 use Rattle.fc_kinds.specs.Kinds.{kind_at}
 use Rattle.fc_kinds.specs.Transfer.{is_number, where_met}
 
--- a loop of a program
+-- a loop of a program.
 abbrev pub IsLoopOf : List Insn → Option Loop → Type 0
 IsLoopOf code None = Unit {0}
 IsLoopOf code (Some l) = IsLoop code l
 
--- ---- the kinds at a head
+-- ---- the state at a head
 
 abbrev pub IsAnyNumber : Kind → Type 0
 IsAnyNumber k = (k ≡ Num 0 18446744073709551615) ⊎ (k ≡ Unset)
 
--- the counter is below the bound; of each other register that the body writes nothing is known, or that it is a number; where
--- the body calls, R1 to R5 are unset
+-- the counter is below the bound; each other register that the body writes is unset or any number;
+-- if the body has a call, R1 to R5 are unset.
 pub record IsHeadState (code : List Insn) (l : Loop) (kinds : List Kind) : Type 0 where
   pub counter : kind_at kinds l.counter ≡ Num 0 (l.bound - 1)
   pub written : (r : ℕ) → r ≢ l.counter → is_written code l r ≡ true → IsAnyNumber (kind_at kinds r)
   pub cleared : has_call code l ≡ true → (r : ℕ) → r ≢ l.counter → 1 ≤ r → r ≤ 5 → kind_at kinds r ≡ Unset
 
--- the least such kinds that contain those that enter
+-- `formed` is the least such state that contains the state on entry.
 abbrev pub any_number : Kind → Kind
 any_number (Num lo hi) = Num 0 18446744073709551615
 any_number k = Unset
@@ -44,17 +44,18 @@ formed code l kinds =
     ∷ formed_kind code l 6 (kind_at kinds 6) ∷ formed_kind code l 7 (kind_at kinds 7) ∷ formed_kind code l 8 (kind_at kinds 8)
     ∷ formed_kind code l 9 (kind_at kinds 9) ∷ formed_kind code l 10 (kind_at kinds 10) ∷ []
 
--- the counter enters below the bound
+-- the counter starts below the bound.
 abbrev pub enters : Loop → Kind → Bool
 enters l (Num lo hi) = nat_lt hi l.bound
 enters l k = false
 
--- a slot's kinds as the pass takes them: formed where a loop begins
+-- the state of a slot in the pass: at the head of a loop the loop invariant, or none if the loop's
+-- counter doesn't start below its bound.
 unfoldable pub settled : List Insn → Option Loop → List Kind → Option (List Kind)
 settled code None kinds = Some kinds
 settled code (Some l) kinds = where_met (enters l (kind_at kinds l.counter)) (formed code l kinds)
 
--- a register that an instruction computes is given a number
+-- the register that an instruction computes, if any, is a number.
 abbrev pub gives_number : Option ℕ → List Kind → Bool
 gives_number None after = true
 gives_number (Some dst) after = is_number (kind_at after dst)
@@ -63,7 +64,8 @@ abbrev pub is_inside : List Loop → ℕ → Bool
 is_inside [] slot = false
 is_inside (l ∷ loops) slot = is_in l slot || is_inside loops slot
 
--- the slot behind the last of the bodies that begin so far, with that of the loop that begins at a slot
+-- the slot after the last of the bodies that begin so far, including that of the loop that begins
+-- at a slot.
 abbrev pub reached : ℕ → Option Loop → ℕ
 reached reach None = reach
 reached reach (Some l) = max reach (l.last + 1)

@@ -1,4 +1,5 @@
--- The judgement of an image as a function. That it is right is a law of its own, by the relations of Accepted.
+-- The judgement of an image as a function. A law states that it is right, by the relations of
+-- Accepted.
 use Rattle.std.specs.Prelude.{ℕ, Bool, true, false, List, Option, Some, None}
 use Rattle.fc_isa.specs.declared.insn.Insn.{Insn}
 use Rattle.fc_isa.specs.declared.rule.Rule.{Rule}
@@ -10,11 +11,11 @@ use Rattle.fc_kinds.specs.Meaning.{Program}
 use Rattle.fc_verify.specs.Accepted.{Judgement, Accepts, Breaks, Untypable, slots_of}
 use Rattle.fc_verify.specs.Pass.{is_typable}
 
--- the program that an image's slots spell, where they spell one
+-- the program that an image's slots encode, if they encode one.
 abbrev pub code_in : List ℕ → List Insn
 code_in image = decoded_program (slots_of image)
 
--- the program of an image whose header and slots are right
+-- the program of an image with a right header and right slots.
 abbrev pub program_in : List ℕ → Program
 program_in image = record {
   version = (stated image).version;
@@ -40,6 +41,6 @@ abbrev pub by_head : Option Rule → List ℕ → Judgement
 by_head (Some rule) image = Breaks rule 0
 by_head None image = by_slots (first_fault (slots_of image)) image
 
--- the header's rules come first, then the slots', then the shape's, then the typing
+-- the header's rules come first, then those of the slots, of the control flow, and of the typing.
 unfoldable pub judged : List ℕ → Judgement
 judged image = by_head (head_fault image) image

@@ -1,5 +1,5 @@
--- What a refusal may say: the first broken rule, one below 20, and its slot; but where only the typing is missing any rule from 20 to 28,
--- and any slot of the program.
+-- The possible refusals: the first broken rule, with a number below 20, and its slot; or, if only
+-- the typing is missing, any rule from 20 to 28 and any slot of the program.
 use Rattle.std.specs.Prelude.{◌≡◌, ℕ, ◌<◌, ◌≤◌, List, None}
 use Rattle.fc_isa.specs.declared.rule.Fault.{Fault}
 use Rattle.fc_isa.specs.declared.decoder.DecodeError.{DecodeError}
@@ -16,12 +16,12 @@ IsFaultOf image (Accepts p) f = ⊥
 IsFaultOf image (Breaks rule slot) f = (f.rule ≡ rule) × (f.slot ≡ slot) × (number_of rule < 20)
 IsFaultOf image Untypable f = (20 ≤ number_of f.rule) × (number_of f.rule ≤ 28) × (f.slot < (stated image).count)
 
--- want of memory is told only of an image whose header is right
+-- a lack of memory is reported only for an image with a right header.
 abbrev pub IsRefusal : List ℕ → Refusal → Type 0
 IsRefusal image (Broken f) = IsFaultOf image (judged image) f
 IsRefusal image NoMemory = head_fault image ≡ None
 
--- a decoding's error as a refusal
+-- a decoding error as a refusal.
 abbrev pub refusal_of : DecodeError → Refusal
 refusal_of (FaultAt f) = Broken f
 refusal_of NoRoom = NoMemory

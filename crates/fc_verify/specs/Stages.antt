@@ -1,4 +1,4 @@
--- What the steps of a verification find of an image, one after the other.
+-- The results of the steps of a verification, in order.
 use Rattle.std.specs.Prelude.{◌≡◌, ℕ, ◌+◌, ◌*◌, ◌<◌, ◌≤◌, ◌&&◌, not, Bool, true, false, List, length, take, Option, None, Some, slice_get}
 use Rattle.fc_isa.specs.declared.insn.Insn.{Insn}
 use Rattle.fc_isa.specs.declared.version.ImageVersion.{ImageVersion}
@@ -24,27 +24,28 @@ use Rattle.fc_verify.specs.declared.untyped.Demand.{Demand}
 use Rattle.fc_verify.specs.declared.untyped.Demand.TheVariants.{Operands, Number, Counter}
 use Rattle.fc_verify.specs.declared.untyped.Untyped.{Untyped}
 
--- the header breaks no rule, and says this
+-- the header breaks no rule, and is this one.
 pub record IsHeadOf (image : List ℕ) (head : Head) : Type 0 where
   pub fault : head_fault image ≡ None
   pub stated_is : head ≡ stated image
   pub size : length image ≡ 16 + 8 * head.count
   pub limits : IsHead head
 
--- the slots break no rule, and spell this program
+-- the slots break no rule, and encode this program.
 pub record IsCodeOf (image : List ℕ) (code : List Insn) : Type 0 where
   pub fault : first_fault (slots_of image) ≡ None
   pub code_is : code ≡ code_in image
   pub spelled : Spells (slots_of image) code
   pub count : length code ≡ (stated image).count
 
--- a rule of typings, at a slot of the program
+-- a rule of typings, at a slot of the program.
 pub record IsTypingFault (code : List Insn) (f : Fault) : Type 0 where
   pub from : 20 ≤ number_of f.rule
   pub upto : number_of f.rule ≤ 28
   pub within : f.slot < length code
 
--- in a loop's body an instruction gives the register that it computes this kind, which is no number
+-- in a loop's body the register that the instruction computes has this abstract value, which isn't
+-- a number.
 pub record GivesNoNumber (inside : Bool) (insn : Insn) (after : List Kind) (demand : Demand) : Type 0 where
   pub inside_is : inside ≡ true
   pub register : ℕ
@@ -52,22 +53,23 @@ pub record GivesNoNumber (inside : Bool) (insn : Insn) (after : List Kind) (dema
   pub other : is_number (kind_at after register) ≡ false
   pub demand_is : demand ≡ Number register (kind_at after register)
 
--- outside of bodies, or where a number is given, nothing is demanded; else this
+-- outside of bodies, or if the register is a number, there is no demand; else it is this one.
 abbrev pub IsUnnumbered : Bool → Insn → List Kind → Option Demand → Type 0
 IsUnnumbered inside insn after None = (inside && not (gives_number (computes insn) after)) ≡ false
 IsUnnumbered inside insn after (Some demand) = GivesNoNumber inside insn after demand
 
--- the demand for which an instruction isn't passed with these kinds: it has none after them; or in a loop's body it gives the register
--- that it computes no number
+-- the demand that an instruction breaks in this state: it has no state after it; or in a loop's
+-- body the register that it computes isn't a number.
 pub data Fails (vars : ℕ) (inside : Bool) (insn : Insn) (kinds : List Kind) (demand : Demand) : Type 0 where
   Unmet : transfer vars insn kinds ≡ None → demand ≡ Operands → Fails vars inside insn kinds demand
   NoNumber :
       (after : List Kind) → transfer vars insn kinds ≡ Some after → GivesNoNumber inside insn after demand
       → Fails vars inside insn kinds demand
 
--- the demand for which the pass stops at a slot that is found with these kinds: the instruction isn't passed with the kinds that the slot
--- settles to; or it settles to none, since the counter of the loop that begins there doesn't enter below the bound, and then the
--- instruction's own demands aren't met in the loop's turns, or they are and the counter's isn't
+-- the demand at which the pass stops, at a slot found with this state: the instruction isn't passed
+-- in the slot's state; or there is no loop invariant, since the counter of the loop that begins at
+-- the slot doesn't start below the bound; then the instruction's own preconditions don't hold in
+-- the loop's iterations, or they do and the counter's demand isn't met.
 pub data Stops (vars : ℕ) (code : List Insn) (beginning : Option Loop) (inside : Bool) (insn : Insn) (found known : List Kind) (demand : Demand) : Type 0 where
   AtInsn :
       settled code beginning found ≡ Some known → Fails vars inside insn known demand
@@ -80,13 +82,13 @@ pub data Stops (vars : ℕ) (code : List Insn) (beginning : Option Loop) (inside
       → transfer vars insn (formed code l found) ≡ Some after → demand ≡ Counter l
       → Stops vars code beginning inside insn found known demand
 
--- the rules that tell of a demand
+-- the rules that report a demand.
 abbrev pub IsRuleOf : Demand → Rule → Type 0
 IsRuleOf Operands rule = (20 ≤ number_of rule) × (number_of rule ≤ 27)
 IsRuleOf (Number register given) rule = rule ≡ LoopState
 IsRuleOf (Counter l) rule = rule ≡ LoopState
 
--- the pass comes to the slot with some kinds, and stops there
+-- the pass reaches the slot with some state, and stops there.
 pub record IsUntyped (version : ImageVersion) (vars : ℕ) (code : List Insn) (u : Untyped) : Type 0 where
   pub rule : IsRuleOf u.demand u.fault.rule
   pub insn : Insn

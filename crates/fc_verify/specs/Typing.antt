@@ -1,5 +1,5 @@
--- Typings: kinds for slots of a program, such that what each instruction hands on is contained in its successors', and such that those at
--- the head of a counted loop are any that its turns may leave.
+-- Typings: states for the slots of a program. The state on each branch of an instruction is within
+-- that of the successor. The state at the head of a counted loop has the form of a loop invariant.
 use Rattle.std.specs.Prelude.{◌≡◌, ℕ, true, List, [], ◌∷◌, Option, Some, None, slice_get, slice_index_or}
 use Rattle.fc_isa.specs.declared.insn.Insn.{Insn}
 use Rattle.fc_isa.specs.declared.version.ImageVersion.{ImageVersion}
@@ -13,33 +13,34 @@ use Rattle.fc_kinds.specs.Transfer.{transfer}
 use Rattle.fc_kinds.specs.Ways.{Way, ways_after}
 use Rattle.fc_verify.specs.Heads.{IsHeadState, gives_number, is_inside}
 
--- a state for each slot, or none
+-- a state for each slot, or none.
 abbrev pub States : Type 0
 States = List (Option (List Kind))
 
 abbrev pub state_at : States → ℕ → Option (List Kind)
 state_at states slot = slice_index_or states slot None
 
--- these kinds are contained in a slot's state
+-- this state is within the state of the slot.
 pub record Leads (states : States) (slot : ℕ) (kinds : List Kind) : Type 0 where
   pub state : List Kind
   pub state_is : state_at states slot ≡ Some state
   pub within : Within kinds state
 
--- the kinds on each way are contained in the state of the slot that it leads to
+-- the state on each branch is within the state of its target.
 abbrev pub AllLead : States → List Way → Type 0
 AllLead states [] = Unit {0}
 AllLead states (w ∷ ws) = Leads states w.target w.kinds × AllLead states ws
 
--- at a slot with these kinds the instruction's demands are met, and each of its ways, also one back, leads to a state that contains
--- it; in a loop's body the register that it computes is given a number
+-- at a slot with this state the instruction's preconditions hold, and each of its branches, also
+-- one back, leads to a state that contains it; in a loop's body the register that the instruction
+-- computes is a number.
 pub record IsWellTypedAt (vars : ℕ) (loops : List Loop) (states : States) (slot : ℕ) (insn : Insn) (kinds : List Kind) : Type 0 where
   pub after : List Kind
   pub effect : transfer vars insn kinds ≡ Some after
   pub lead : AllLead states (ways_after slot insn kinds after)
   pub number : is_inside loops slot ≡ true → gives_number (computes insn) after ≡ true
 
--- the states are a typing of a program with these loops; a slot without a state is never reached
+-- the states are a typing of a program with these loops; a slot without a state is unreachable.
 pub record IsTypingWith (version : ImageVersion) (vars : ℕ) (code : List Insn) (loops : List Loop) (states : States) : Type 0 where
   pub entered : Leads states 0 (entry version)
   pub each :
@@ -49,6 +50,6 @@ pub record IsTypingWith (version : ImageVersion) (vars : ℕ) (code : List Insn)
       (i : ℕ) (l : Loop) (kinds : List Kind) → slice_get loops i ≡ Some l → state_at states l.head ≡ Some kinds
       → IsHeadState code l kinds
 
--- the states are a typing of the program, whose image has this version and whose variables have this size
+-- the states are a typing of the program, for an image of this version and variables of this size.
 abbrev pub IsTypingOf : ImageVersion → ℕ → List Insn → States → Type 0
 IsTypingOf version vars code states = IsTypingWith version vars code (loops_in version code) states

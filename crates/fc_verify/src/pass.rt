@@ -1,5 +1,6 @@
-//! The pass over the slots of a program that finds each one's kinds, by joins; a slot where a counted loop begins is settled when the pass
-//! comes to it.
+//! The verifier's pass over the slots of a program: computes their states by joins.
+//!
+//! At the head of a counted loop it forms the loop invariant when it reaches the slot.
 ghost use Rattle.std.specs.Prelude.{Bool, IfErr, IfOk, List, None, Some, [], false, length, not, true, ℕ, ◌&&◌, ◌<◌, ◌≡◌, ◌≤◌};
 ghost use Rattle.std.specs.Vec.{vec_capacity};
 ghost use Rattle.fc_isa.specs.Flow.{flow, landing};
@@ -29,12 +30,14 @@ use fc_isa::{Fault, ImageVersion, Insn, Jump, Rule};
 use fc_kinds::laws::effects_keep_kinds;
 use fc_kinds::{Regs, after, enter, entry, join, refine};
 
-/// Finds a typing of a program that keeps its shape, of an image of this version, whose variables have this many bytes; `room` has
-/// place for a state a slot.
+/// Finds a typing of a program that passes the control-flow checks.
+///
+/// The program's image has this version, and its variables have `vars_size` bytes. `room` must have
+/// space for a state for each slot.
 ///
 /// # Errors
-/// The first slot in order whose demands aren't met, with a rule, 20 to 28, that it breaks, and what is known of the registers
-/// before it: the program has no typing.
+/// Returns the first slot with a precondition that doesn't hold, a rule from 20 to 28 that it
+/// breaks, and the registers' abstract values before it. The program then has no typing.
 pub fn typed(
     version: ImageVersion,
     vars_size: u16,
@@ -57,7 +60,7 @@ pub fn typed(
     Ok(states)
 }
 
-/// At first the entry alone has a state.
+/// Returns the first states: only the entry has one.
 fn first_states(version: ImageVersion, code: &[Insn], room: Vec<Option<Regs>>) -> Vec<Option<Regs>>
     requires empty { room.items ≡ [] }
     requires room { length code.now ≤ vec_capacity room }
@@ -70,7 +73,7 @@ fn first_states(version: ImageVersion, code: &[Insn], room: Vec<Option<Regs>>) -
     states
 }
 
-/// The first state of a slot: the entry's at slot 0, else none.
+/// Returns the first state of a slot: the entry state for slot 0, else none.
 fn first_state(version: ImageVersion, slot: usize) -> Option<Regs>
     ensures first { slot ≡ 0 → result ≡ Some (entry version) }
     ensures later { 1 ≤ slot → result ≡ None }
@@ -82,10 +85,10 @@ fn first_state(version: ImageVersion, slot: usize) -> Option<Regs>
     }
 }
 
-/// Passes all slots in order.
+/// Passes over all slots in order.
 ///
 /// # Errors
-/// The first slot whose demands aren't met.
+/// Returns the first slot with a precondition that doesn't hold.
 fn pass_slots(
     version: ImageVersion,
     vars_size: u16,
@@ -124,8 +127,9 @@ fn pass_slots(
     Ok(())
 }
 
-/// The slot behind the last body that begins up to here, where that of a loop which begins here ends later: a slot is in a body where it
-/// comes before that.
+/// Returns the slot after the last body among those that begin so far.
+///
+/// The loop that begins here counts too. A slot is in a body if it is before the result.
 fn reached(reach: usize, beginning: &Option<Loop>) -> usize
     requires { AreLow 1024 beginning.now }
     ensures { result ≡ reached reach beginning.now }
@@ -136,9 +140,12 @@ fn reached(reach: usize, beginning: &Option<Loop>) -> usize
     }
 }
 
-/// Passes a slot whose state is these kinds: where a loop begins it is settled, its demands are met, and what its ways hand on is joined
-/// to the states of the later slots that they lead to. Returns whether its counter enters below its bound and its demands are met; where
-/// not, the states stay. `regs` is room from then on.
+/// Passes over a slot that is found with the state `regs`.
+///
+/// At the head of a loop the loop invariant is formed. If the preconditions hold, the states on the
+/// slot's branches are joined to those of the later slots to which they lead. Returns whether the
+/// loop's counter starts below its bound and the preconditions hold; if not, the states don't
+/// change. `regs` is scratch space after the call.
 fn pass(
     vars_size: u16,
     code: &[Insn],
@@ -166,7 +173,9 @@ fn pass(
     }
 }
 
-/// Passes a slot whose state is these kinds and where this loop begins: whether its counter enters below its bound and its demands are met.
+/// Passes over a slot that is the head of this loop.
+///
+/// Returns whether the loop's counter starts below its bound and the preconditions hold.
 fn pass_head(
     vars_size: u16,
     code: &[Insn],
@@ -202,7 +211,9 @@ fn pass_head(
     }
 }
 
-/// Passes a slot whose state is these kinds and where no loop begins: whether its demands are met.
+/// Passes over a slot at which no loop begins.
+///
+/// Returns whether its preconditions hold.
 fn pass_on(
     vars_size: u16,
     slot: usize,
@@ -228,8 +239,10 @@ fn pass_on(
     true
 }
 
-/// Makes the kinds before a slot, in place, those after it, where its demands are met: whether they are, and whether in a loop's body a
-/// number is given to the register that it computes.
+/// Updates the state before a slot to that after it, if its preconditions hold.
+///
+/// Returns whether they do, and whether in a loop's body the register that the instruction computes
+/// is a number.
 fn meet_demands(vars_size: u16, insn: &Insn, inside: bool, regs: &mut Regs) -> bool
     requires kinds { AreKinds regs.old }
     requires insn { IsInsn insn.now }
@@ -245,7 +258,7 @@ fn meet_demands(vars_size: u16, insn: &Insn, inside: bool, regs: &mut Regs) -> b
     }
 }
 
-/// Why a slot whose state is these kinds isn't passed.
+/// Returns why a slot with this state isn't passed.
 fn untyped(
     vars_size: u16,
     code: &[Insn],
@@ -272,7 +285,7 @@ fn untyped(
     }
 }
 
-/// Why an instruction isn't passed at a slot that settled to these kinds.
+/// Returns why an instruction isn't passed with this state of its slot.
 fn at_insn(vars_size: u16, slot: usize, insn: &Insn, inside: bool, kinds: &Regs) -> Untyped
     requires kinds { AreKinds kinds.now }
     requires insn { IsInsn insn.now }
@@ -292,7 +305,10 @@ fn at_insn(vars_size: u16, slot: usize, insn: &Insn, inside: bool, kinds: &Regs)
     }
 }
 
-/// A demand of a loop's first instruction that isn't met in its turns, or else that its counter doesn't enter below the bound.
+/// Returns why a loop's head isn't passed.
+///
+/// A precondition of the loop's first instruction doesn't hold in its iterations, or else its
+/// counter doesn't start below the bound.
 fn at_head(
     vars_size: u16,
     code: &[Insn],
@@ -316,7 +332,7 @@ fn at_head(
     }
 }
 
-/// That a slot breaks the rule of loops, by this demand.
+/// Returns that a slot breaks the rule of loops, with this demand.
 fn against_loop(slot: usize, known: &Regs, demand: Demand) -> Untyped
     ensures rule { result.fault.rule ≡ LoopState }
     ensures slot { result.fault.slot ≡ slot }
@@ -333,10 +349,10 @@ fn against_loop(slot: usize, known: &Regs, demand: Demand) -> Untyped
     }
 }
 
-/// Makes the kinds before a slot, in place, those after it.
+/// Updates the state before a slot to that after it.
 ///
 /// # Errors
-/// A demand that isn't met.
+/// Returns the precondition that doesn't hold.
 fn checked(vars_size: u16, slot: usize, insn: Insn, regs: &mut Regs) -> Result<(), Untyped>
     requires kinds { AreKinds regs.old }
     requires insn { IsInsn insn }
@@ -359,8 +375,10 @@ fn checked(vars_size: u16, slot: usize, insn: Insn, regs: &mut Regs) -> Result<(
     }
 }
 
-/// Joins what the ways of an instruction hand on, which leaves these kinds, to the states of the later slots that they lead to; what was
-/// before it is its slot's state. `after` is room from then on.
+/// Joins the states on an instruction's branches to those of later slots.
+///
+/// `after` is the state after the instruction; the state before it is that of its slot. `after` is
+/// scratch space after the call.
 fn spread(slot: usize, insn: Insn, after: &mut Regs, states: &mut [Option<Regs>])
     requires kinds { AreKinds after.old }
     requires levels { (ks : List What) → state_at states.old slot ≡ Some ks → AreShallow 1023 ks }
@@ -392,7 +410,9 @@ fn spread(slot: usize, insn: Insn, after: &mut Regs, states: &mut [Option<Regs>]
     }
 }
 
-/// Joins what a conditional jump's ways hand on: a way that no values take hands nothing.
+/// Joins the states on a conditional jump's branches to those of later slots.
+///
+/// A branch that no values take has none.
 fn branch(slot: usize, jump: &Jump, regs: &mut Regs, states: &mut [Option<Regs>])
     requires kinds { AreKinds regs.old }
     requires slot { slot < 1024 }
@@ -408,7 +428,7 @@ fn branch(slot: usize, jump: &Jump, regs: &mut Regs, states: &mut [Option<Regs>]
     }
 }
 
-/// The slot that a jump's offset leads to.
+/// Returns the slot to which a jump's offset leads.
 fn landing(slot: usize, offset: i32) -> usize
     requires { slot < 1024 }
     ensures { result ≡ landing slot offset }
@@ -417,7 +437,7 @@ fn landing(slot: usize, offset: i32) -> usize
     if at >= 0 { at as usize } else { slot }
 }
 
-/// Joins kinds to the state of a slot that is later.
+/// Joins a state to that of a slot, if the slot is later.
 fn lead(from: usize, states: &mut [Option<Regs>], slot: usize, regs: &Regs)
     requires { slot < length states.old }
     ensures { states.new ≡ met_later from states.old slot regs.now }
@@ -427,7 +447,7 @@ fn lead(from: usize, states: &mut [Option<Regs>], slot: usize, regs: &Regs)
     }
 }
 
-/// Joins kinds to a slot's state.
+/// Joins a state to that of a slot.
 fn meet(states: &mut [Option<Regs>], slot: usize, regs: &Regs)
     requires { slot < length states.old }
     ensures { states.new ≡ meet_at states.old slot regs.now }
@@ -435,7 +455,7 @@ fn meet(states: &mut [Option<Regs>], slot: usize, regs: &Regs)
     join_in(&mut states[slot], regs);
 }
 
-/// Joins kinds to a state, or makes them one.
+/// Joins a state to another, or sets it if there is none.
 fn join_in(state: &mut Option<Regs>, regs: &Regs)
     ensures { state.new ≡ joined_in state.old regs.now }
 {

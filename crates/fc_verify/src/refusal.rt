@@ -1,16 +1,18 @@
-//! Why an image is refused.
+//! Refusals of images.
 use crate::untyped::Untyped;
 use fc_isa::{DecodeError, Fault};
 use std::alloc::AllocError;
 use thiserror::Error;
 
-/// Why an image is refused. Nothing is kept of it.
+/// The reason why an image is refused; nothing of the image is stored.
 #[derive(Clone, Copy, Debug, PartialEq, Eq, Error)]
 pub enum Refusal {
-    /// The first rule that it breaks, with its slot; where only the typing is missing, some rule from 20 to 28.
+    /// The first rule that the image breaks, with its slot.
+    ///
+    /// If only the typing is missing, it is some rule from 20 to 28.
     #[error("{0}")]
     Broken(Fault),
-    /// There was no memory for the program.
+    /// Memory for the program can't be allocated.
     #[error("out of memory")]
     NoMemory,
 }

@@ -1,4 +1,4 @@
-//! The kinds at the heads of counted loops.
+//! The states at the heads of counted loops: loop invariants.
 ghost use Rattle.std.specs.Prelude.{Some, ◌<◌, ◌≡◌};
 ghost use Rattle.fc_isa.specs.Writes.{computes};
 ghost use Rattle.fc_image.specs.Loops.{body, has_call, is_written};
@@ -11,8 +11,10 @@ use fc_image::loops::{Loop, computes, is_call, writes};
 use fc_isa::Insn;
 use fc_kinds::{Kind, Regs};
 
-/// The kinds of a slot where a loop begins as the pass takes them: the least that a head may have and that contain these, or `None`
-/// where its counter doesn't enter below the bound.
+/// Returns the loop invariant for a head that is found with the state `regs`.
+///
+/// It is the least state that a head may have and that contains `regs`. Returns `None` if the
+/// loop's counter doesn't start below the bound.
 #[tactic(auto, unfolding(crate::specs::Heads::settled))]
 pub(crate) fn settled(code: &[Insn], counted: &Loop, regs: &Regs) -> Option<Regs>
     requires { IsLoopOf code.now (Some counted.now) }
@@ -25,7 +27,7 @@ pub(crate) fn settled(code: &[Insn], counted: &Loop, regs: &Regs) -> Option<Regs
     }
 }
 
-/// Whether a kind enters below the bound.
+/// Returns whether an abstract value is a number below the bound.
 fn enters(counted: &Loop, kind: &Kind) -> bool
     ensures { result ≡ enters counted.now kind.now }
 {
@@ -87,7 +89,7 @@ fn any_number(kind: &Kind) -> Kind
     }
 }
 
-/// Whether an instruction of the body writes a register.
+/// Returns whether an instruction of the body writes a register.
 #[tactic(auto, unfolding(fc_image::specs::Loops::is_written))]
 fn is_written(code: &[Insn], counted: &Loop, register: usize) -> bool
     requires { IsLoopOf code.now (Some counted.now) }
@@ -98,7 +100,7 @@ fn is_written(code: &[Insn], counted: &Loop, register: usize) -> bool
         .any(|insn| writes(insn, register))
 }
 
-/// Whether an instruction of the body is a call.
+/// Returns whether an instruction of the body is a call.
 #[tactic(auto, unfolding(fc_image::specs::Loops::has_call))]
 fn has_call(code: &[Insn], counted: &Loop) -> bool
     requires { IsLoopOf code.now (Some counted.now) }
@@ -107,7 +109,7 @@ fn has_call(code: &[Insn], counted: &Loop) -> bool
     code[counted.head..counted.last + 1].iter().any(is_call)
 }
 
-/// Whether the register that an instruction computes, where it computes one, is given a number.
+/// Returns whether the register that an instruction computes, if any, is a number.
 pub(crate) fn gives_number(insn: &Insn, after: &Regs) -> bool
     ensures { result ≡ gives_number (computes insn.now) after.now }
 {
@@ -117,7 +119,9 @@ pub(crate) fn gives_number(insn: &Insn, after: &Regs) -> bool
     }
 }
 
-/// In a loop's body the demand of an instruction that gives the register that it computes no number.
+/// Returns the demand that an instruction breaks in a loop's body, if any.
+///
+/// There the register that it computes must be a number.
 pub(crate) fn unnumbered(inside: bool, insn: &Insn, after: &Regs) -> Option<Demand>
     ensures { IsUnnumbered inside insn.now after.now result }
 {

@@ -1,27 +1,31 @@
-//! Why a program has no typing.
+//! The reason why a program has no typing.
 use fc_image::loops::Loop;
 use fc_isa::{Fault, Target};
 use fc_kinds::{Kind, Regs};
 
-/// The first slot whose demands aren't met, and the registers there.
+/// The first slot with a demand that isn't met, and its abstract state.
 #[derive(Clone, Copy)]
 pub struct Untyped {
-    /// A rule, 20 to 28, that the slot breaks.
+    /// A rule from 20 to 28 that the slot breaks.
     pub fault: Fault,
-    /// What is known of each register before the slot's instruction: where a loop begins, what that is in each of its turns, but what
-    /// enters the loop where its counter doesn't enter below the bound.
+    /// The abstract value of each register before the slot's instruction.
+    ///
+    /// At the head of a loop it holds for every iteration. If the demand is on the loop's counter,
+    /// it is the value on entry to the loop instead.
     pub known: Regs,
     /// The demand that isn't met.
     pub demand: Demand,
 }
 
-/// What a slot demands of the kinds that it is found with.
+/// A demand of a slot on its abstract state.
 #[derive(Clone, Copy)]
 pub enum Demand {
-    /// Its instruction's own demands, by a rule from 20 to 27.
+    /// The preconditions of its instruction, with a rule from 20 to 27.
     Operands,
-    /// In a loop's body the register that the instruction computes is a number after it; but this register is given this kind.
+    /// A number in the register that the instruction in a loop's body computes.
+    ///
+    /// After the instruction this register has this abstract value instead.
     Number { register: Target, given: Kind },
-    /// The counter of the loop that begins there enters below its bound.
+    /// A counter below its bound, on entry to the loop that begins at the slot.
     Counter(Loop),
 }

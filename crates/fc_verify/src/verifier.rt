@@ -1,4 +1,4 @@
-//! From an image to a program that may run.
+//! Verification: from an image to a program that can be run.
 ghost use Rattle.std.specs.Prelude.{◌≡◌, ◌≤◌, length, IfOk, IfErr};
 ghost use Rattle.fc_kinds.specs.Runnable.{IsRunnable};
 ghost use Rattle.fc_verify.specs.Accepted.{Accepts, IsAccepted, slots_of};
@@ -16,11 +16,14 @@ use fc_isa::laws::faultless_bytes_spell;
 use fc_isa::{Insn, decode};
 use std::alloc::Global;
 
-/// Verifies an image: the sixteen bytes of its header, and its slots of eight bytes each.
+/// Verifies an image.
+///
+/// It is the sixteen bytes of its header, and its slots of eight bytes each.
 ///
 /// # Errors
-/// The first rule that the image breaks, with its slot, or some rule from 20 to 28 and a slot of the program where only the
-/// typing is missing; or that memory was refused, which comes before all but the header's rules.
+/// Returns the first rule that the image breaks, with its slot. If only the typing is missing,
+/// returns some rule from 20 to 28 and a slot of the program. Returns `NoMemory` if memory can't be
+/// allocated; it does so only for an image whose header keeps its rules.
 pub fn verify(alloc: Global, image: &[u8]) -> Result<Verified, Refusal>
     ensures accepted { IfOk result (IsAccepted image.now) }
     ensures judged { IfOk result (λ v. judged image.now ≡ Accepts v) }
@@ -39,7 +42,7 @@ pub fn verify(alloc: Global, image: &[u8]) -> Result<Verified, Refusal>
     Ok(Verified::new(&head, code, ops, slots, cost, &states))
 }
 
-/// What the header says.
+/// Returns the image's header.
 fn read_head(image: &[u8]) -> Result<Head, Refusal>
     ensures head { IfOk result (IsHeadOf image.now) }
     ensures refused { IfErr result (IsRefusal image.now) }
@@ -50,7 +53,7 @@ fn read_head(image: &[u8]) -> Result<Head, Refusal>
     }
 }
 
-/// The program that the slots spell.
+/// Returns the program that the slots encode.
 fn read_code(alloc: Global, image: &[u8], head: &Head) -> Result<Vec<Insn>, Refusal>
     requires { IsHeadOf image.now head.now }
     ensures code { IfOk result (λ code. IsCodeOf image.now code.items) }
@@ -61,7 +64,7 @@ fn read_code(alloc: Global, image: &[u8], head: &Head) -> Result<Vec<Insn>, Refu
     Ok(decode(alloc, slots)?)
 }
 
-/// The bytes behind the header.
+/// Returns the bytes after the header.
 pub(crate) fn slots(image: &[u8]) -> &[u8]
     requires { 16 ≤ length image.now }
     ensures { result.now ≡ slots_of image.now }

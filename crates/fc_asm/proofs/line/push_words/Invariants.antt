@@ -3,7 +3,7 @@ use Rattle.std.specs.Prelude.{◌==◌, nat_lt}
 use Rattle.std.specs.List.{slice_split}
 use Rattle.fc_asm.proofs.line.push_words.Given as goal
 
--- the words so far are behind those that were there
+-- the words so far are appended to those before the loop
 abbrev pub invariant-loop-word : goal.invariant-loop-word
 invariant-loop-word l =
     map (λ word. word.now) l.words.items

@@ -3,7 +3,7 @@ use Rattle.fc_fetch.specs.Observing.{IsShowing}
 use Rattle.fc_fetch.proofs.Timing.{HasObserved}
 use Rattle.fc_fetch.proofs.observer.print_notes.Given as goal
 
--- so many lines were printed
+-- the lines so far were printed, as many as `l.counter`
 abbrev pub invariant-loop : goal.invariant-loop
 invariant-loop g l =
     IsShowing g.P.Peer.went g.P.Peer.came g.P.Peer.is_moment l.observer l.shown (g.W.Write.contents l.fn.out) (g.W.Write.contents l.out) l.counter l.watch

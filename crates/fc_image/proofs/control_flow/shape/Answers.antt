@@ -13,7 +13,7 @@ none_found c = c.in-None.ensures
 kept : (c : goal.In-None) → KeepsLimits c.args.head.now c.args.code.now
 kept c = faultless c.args.head.now c.args.code.now (none_found c) (omega (arith, c.requires.count, c.count-slots.ensures.value, c.count-slots.ensures.some))
 
--- within the budget the cost isn't cut off
+-- within the budget the cost isn't capped
 cost_is : (c : goal.In-None) → c.of-tables.result.cost ≡ longest c.args.head.now.version c.args.code.now
 cost_is c =
     let k = kept c in

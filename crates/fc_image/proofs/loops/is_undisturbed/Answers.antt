@@ -10,7 +10,7 @@ use Rattle.fc_image.specs.Spans.{is_jumped_into}
 use Rattle.fc_image.proofs.Spanned.{default_in, found, none_found}
 use Rattle.fc_image.proofs.loops.is_undisturbed.Goals as goal
 
--- what was found at a slot, by the table's span there
+-- the result at a slot, from the table's span of the slot
 told : (l : Loop) (slot : ℕ) (insn : Insn) (spans : List (Option Span)) (o : Option Span) (b result : Bool) → result ≡ (disturbs l slot insn || is_jumped_into l slot o) → result ≡ b → o ≡ get_or spans slot None
     → (disturbs l slot insn || is_jumped_into l slot (get_or spans slot None)) ≡ b
 told l slot insn spans o b result e f same = ap (λ s. disturbs l slot insn || is_jumped_into l slot s) (sym same) ∙ sym e ∙ f
