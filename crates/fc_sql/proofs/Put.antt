@@ -12,7 +12,7 @@ use Rattle.sqlite.specs.Kind.TheVariants.{Integer}
 use Rattle.sqlite.specs.Cast.{cast}
 use Rattle.sqlite.specs.Tree.{Trees}
 use Rattle.sqlite.specs.Effect.{Database}
-use Rattle.sqlite.specs.Does.{Tally, Does}
+use Rattle.sqlite.specs.Does.{Tally, Does, lacks_sequence}
 use Rattle.sqlite.specs.Rows.{Written, Task, Puts, Clears, Judged, Tries, TriesEach, count_of, mended, nothing}
 use Rattle.sqlite.specs.declared.run.Mode.{Mode}
 use Rattle.sqlite_schema.specs.declared.command.Command.TheVariants.{InsertOr}
@@ -27,7 +27,9 @@ use Rattle.sqlite_rules.specs.declared.error.Refusal.{Refusal}
 use Rattle.sqlite_schema.specs.declared.schema.Keys.{Keys}
 use Rattle.sqlite_tied.specs.Compute.{everything}
 use Rattle.sqlite.specs.Listing.{understood}
-use Rattle.sqlite.proofs.Callers.{IsPlain, command_of, statement_of, one_step}
+use Rattle.sqlite.specs.Change.{created, next_tree}
+use Rattle.sqlite.specs.State.{State, Executes, Writes}
+use Rattle.sqlite.proofs.Callers.{IsPlain, command_of, statement_of, runs_as, one_step}
 use Rattle.fc_sql.specs.Table.{slot_table, slot_schema, no_schema, create_text, put_text}
 
 abbrev pub put_terms : List Term
@@ -36,6 +38,10 @@ put_terms = col 0 0 ∷ lit Null ∷ col 0 1 ∷ col 0 2 ∷ col 0 3 ∷ col 0 4
 create_is : (command_of (understood no_schema create_text) ≡ CreateTable) × (statement_of create_text (understood no_schema create_text) ≡ create_text) × (table_defined_by create_text ≡ Ok slot_table)
 unfolding understood everything
 create_is = (refl, refl, refl)
+
+create_plain : IsPlain (understood no_schema create_text)
+unfolding understood everything
+create_plain = (refl, refl)
 
 pub put_is : command_of (understood slot_schema put_text) ≡ InsertOr 0 Replace (Values put_terms 6) []
 unfolding understood everything
@@ -57,7 +63,7 @@ pub cast_int : (z : ℤ) → cast Integer (Int z) ≡ Int z
 unfolding unary
 cast_int z = either _ (Int z)
 
--- a part that gave a value did not stop on the way
+-- a part that gave a value did not stop on the way.
 went : {B E R : Type 0} {b : B} {Stops : E → Type 0} → ((stop : E) × Stops stop × (Ok b ≡ Err stop)) ⊎ R → R
 went (inl stopped) = absurd (let e = stopped.2 in cc)
 went (inr on) = on
@@ -65,11 +71,26 @@ went (inr on) = on
 same_value : {B E : Type 0} {a b : B} → ◌≡◌ {A = Result B E} (Ok a) (Ok b) → a ≡ b
 same_value e = cc
 
--- the row as it is stored
+-- An empty database gets the table, which has no row.
+pub creates : (old new : State) (count : ℕ) → old.now.schema ≡ no_schema → Executes create_text [] old new (Ok count) → (new.now.schema ≡ slot_schema) × (new.now.trees 0 ≡ [])
+creates old new count has h =
+    let w = subst (λ t. Writes old new None CreateTable t [] count) create_is.1 (runs_as create_text [] old new no_schema has CreateTable create_is.0 create_plain count h) in
+    let all = went w.changed in
+    let first = went all.1 in
+    let made = first.1 in
+    let both : Ok made.table ≡ Ok slot_table = sym made.defined ∙ create_is.2 in
+    let same : made.table ≡ slot_table = cc in
+    let schema : first.0.schema ≡ slot_schema = made.is ∙ ap (λ s. created s made.table) has ∙ ap (created no_schema) same in
+    let plain : lacks_sequence first.0.schema ≡ false = ap lacks_sequence schema in
+    let now : new.now ≡ first.0 = ap (λ (p : Tally × Database). p.1) (same_value all.2) ∙ same_value (rw plain at first.2) in
+    (ap (λ (d : Database). d.schema) now ∙ schema, ap (λ (d : Database). d.trees 0) now ∙ subst (λ s. first.0.trees (next_tree s) ≡ []) has made.empty)
+
+-- the row as it is stored.
 abbrev pub row_with : ℕ → ℕ → Value → Value → Value → Row
 row_with n s a b c = Int (pos n) ∷ Null ∷ Int (pos s) ∷ a ∷ b ∷ c ∷ []
 
--- The rows are what is left of the others once those with the new row's rowid are taken out, with the new row in its place.
+-- The rows are the others without those that have the new row's rowid, with the new row in its
+-- place.
 pub record IsPutOver (row : Row) (old new : List Row) : Type 0 where
   pub found : List Row
   pub conflicting : AreConflicts None [] slot_table old row found

@@ -17,7 +17,7 @@ use Rattle.sqlite.specs.Table.{Table}
 use Rattle.sqlite.specs.Schema.{Schema}
 use Rattle.sqlite.specs.Kind.TheVariants as kinds
 
--- the table that `create_text` defines
+-- the table that `create_text` defines.
 abbrev pub slot_table : Table
 slot_table = record {
   name = codes "slot";
@@ -38,11 +38,11 @@ slot_table = record {
   is_counted = false;
 }
 
--- a database with the table of slots alone
+-- a database with the table of slots alone.
 abbrev pub slot_schema : Schema
 slot_schema = record { tables = slot_table ∷ []; indexes = []; views = [] }
 
--- a database without any table
+-- a database without any table.
 abbrev pub no_schema : Schema
 no_schema = record { tables = []; indexes = []; views = [] }
 
@@ -54,20 +54,20 @@ put_text = codes "INSERT OR REPLACE INTO slot (number, serial, version, image, v
 
 -- ---- rows
 
--- the version, the image and the variables of a program
+-- the version, the image and the variables of a program.
 abbrev pub values_of : Option StoredProgram → Row
 values_of None = Null ∷ Null ∷ Null ∷ []
 values_of (Some p) = Int (pos p.version) ∷ Blob p.image ∷ Blob p.vars ∷ []
 
--- the parameters of `put_text` for a slot
+-- the parameters of `put_text` for a slot.
 abbrev pub row_values : ℕ → StoredSlot → Row
 row_values n s = Int (pos n) ∷ Int (pos s.serial) ∷ values_of s.program
 
--- the row in the table: the rowid, and NULL in the column of the primary key
+-- the row in the table: the rowid, and NULL in the column of the primary key.
 abbrev pub stored_of : ℕ → StoredSlot → Row
 stored_of n s = Int (pos n) ∷ Null ∷ Int (pos s.serial) ∷ values_of s.program
 
--- the numbers are integers of SQLite
+-- the numbers are integers of SQLite.
 abbrev pub AreStorable : StoredSlot → Type 0
 AreStorable s = (s.serial < 2 ^ 63) × IfSome s.program (λ (p : StoredProgram). p.version < 2 ^ 63)
 
@@ -89,15 +89,15 @@ abbrev pub program_if : Value → Value → Value → Option StoredProgram
 program_if (Int (pos v)) image vars = Some (record { version = v; image = bytes_in image; vars = bytes_in vars })
 program_if _ image vars = None
 
--- the slot that a row stores; without a row it is blank
+-- the slot that a row stores; without a row it is blank.
 abbrev pub slot_in_row : Row → StoredSlot
 slot_in_row row = record { serial = nat_in (column row 2); program = program_if (column row 3) (column row 4) (column row 5) }
 
--- the slots that the rows of the table store
+-- the slots that the rows of the table store.
 abbrev pub slots_of : List Row → StoredSlots
 slots_of rows n = slot_in_row (row_at rows (pos n))
 
--- each rowid is an integer
+-- each rowid is an integer.
 abbrev pub AreNumbered : List Row → Type 0
 AreNumbered = AllByRecursion (λ (r : Row). is_int (rowid r) ≡ true)
 
@@ -109,10 +109,10 @@ pub record Mirrors (s : State) (stored : StoredSlots) : Type 0 where
   pub numbered : AreNumbered (s.now.trees 0)
   pub same : AreSameSlots (slots_of (s.now.trees 0)) stored
 
--- the same, as long as the medium is clean and the connection open
+-- the same, as long as the medium is clean and the connection open.
 abbrev pub IsMirrored : State → StoredSlots → Type 0
 IsMirrored s stored = HasCleanDisk s → IsTrue s.is_open → Mirrors s stored
 
--- the slots, with another state of slot n
+-- the slots, with another state of slot n.
 abbrev pub with_stored_slot : ℕ → StoredSlot → StoredSlots → StoredSlots
 with_stored_slot n s before m = if m == n then s else before m

@@ -1,7 +1,8 @@
 //! A store of slots in an SQLite database file.
 //!
-//! The database has one table, with a row for each slot that was ever updated. A save writes the slot's
-//! row by one statement, which commits. The store keeps a copy of the stored slots in memory.
+//! The database has one table, with a row for each slot that was ever updated. A save writes the
+//! slot's row by one statement, which commits. The store keeps a copy of the stored slots in
+//! memory.
 //!
 //! ```rust
 //! use fc_sql::{OpenError, open};
@@ -19,15 +20,20 @@
 //!
 //! # What is proved
 //!
-//! - `SqlStore` meets the clauses of `Store` over any store of the `sqlite` crate. The rows are just the
-//!   stored slots. A save that returns `true` is committed, so no crash undoes it. One that returns `false`
-//!   leaves the database as before, or with the update.
-//! - These clauses hold if the rows were the stored slots at first (`IsMirrored`). That `open` returns such
-//!   a store isn't proved, and no test tries it.
+//! - `SqlStore` meets the clauses of `Store` over any store of the `sqlite` crate. The rows are
+//!   just the stored slots. A save that returns `true` is committed, so no crash undoes it. One
+//!   that returns `false` leaves the database as before, or with the update.
+//! - `open` returns such a store. Its slots are just those that the database stores: a slot has one
+//!   row with its state, or none and is blank, and there is no other row. An empty database gets
+//!   the table.
+//! - Any other database is refused and is left as it was. The error names the row that is no slot's
+//!   state, and the reason.
 //!
-//! By the contracts of `SqlStore::save`, `table::write`.
+//! By the contracts of `SqlStore::save`, `SqlStore::over`, `open_from`, `load::load`,
+//! `table::write`.
 #![tactic(auto)]
 
+mod columns;
 pub mod error;
 pub mod file;
 pub mod load;
@@ -35,6 +41,6 @@ mod schema;
 pub mod sql;
 pub mod table;
 
-pub use error::OpenError;
-pub use file::{FileOfSlots, open};
+pub use error::{BadRow, OpenError};
+pub use file::{FileOfSlots, open, open_from};
 pub use sql::SqlStore;

@@ -1,11 +1,22 @@
 //! Reading the stored slots of a database.
-ghost use Rattle.std.specs.Prelude.{◌≡◌, length, IfOk};
+ghost use Rattle.std.specs.Prelude.{◌≡◌, ◌⊎◌, ◌<◌, ℤ, pos, [], length, ◌∷◌, ℕ, IsTrue, IfOk, IfErr, OnOk};
+ghost use Rattle.std.specs.List.{All};
+ghost use Rattle.std.specs.List.Sorted.{IsPermutation};
+ghost use Rattle.sqlite.specs.State.{CommitsBy, HasCleanDisk, Survives};
+ghost use Rattle.sqlite.specs.Held.{state};
+ghost use Rattle.sqlite_trees.specs.Tree.{rowid};
+ghost use Rattle.sqlite.specs.declared.types.Value.TheVariants.{Int};
+ghost use Rattle.fc_store.specs.Stored.{stored_in};
+ghost use Rattle.fc_sql.specs.Table.{IsMirrored, create_text, no_schema, slot_schema};
+ghost use Rattle.fc_sql.specs.Found.{AreBad, AreOfSlot, AreWide, AreSlotNumbers, HasOther, HasTable, IsFailure, IsKept, IsMade, IsRefused, IsSlotNumber, Makes, RefusesForeign, RefusesRow, StoresIn, StoresSlots, numbers_of, rows_of};
 
-use crate::error::OpenError;
+use crate::columns::{Unread, stored_in};
+use crate::error::{BadRow, OpenError};
 use crate::schema::{has_slots, is_empty};
 use crate::table::TABLE;
-use fc_store::{SLOTS, StoredProgram, StoredSlot};
-use sqlite::{Alter, Connection, Error, ErrorCode, Row, params};
+use fc_store::{SLOTS, StoredSlot};
+use sqlite::types::ToSql;
+use sqlite::{Alter, Connection, Error, ErrorCode, Row};
 use std::alloc::Global;
 
 /// Reads the row of a slot.
@@ -17,45 +28,119 @@ pub const NUMBERS: &str = "SELECT number FROM slot";
 /// Reads the stored slots of a database, and creates the table in an empty one.
 ///
 /// # Errors
-/// Returns `Foreign` if the database has another table, and `Row` if a row isn't the state of a slot.
-/// Any other error is that of the statement that failed.
+/// Returns `Foreign` if the database has another table, and `Row` if a row isn't the state of a
+/// slot. Then nothing was changed. Any other error is that of the statement that failed, or of a
+/// transaction that is open.
 pub fn load<S: Alter + Drop>(
     alloc: Global,
     conn: &mut Connection<S>,
 ) -> Result<Vec<StoredSlot>, OpenError>
     ensures size { IfOk result (λ v. length v.items ≡ 64) }
+    ensures ready { IfOk result (λ v. IsMirrored (state S.Store conn.new) (stored_in v.items)) }
+    ensures open { HasCleanDisk (state S.Store conn.new) → OnOk result (IsTrue (state S.Store conn.new).is_open) }
+    ensures found { HasCleanDisk (state S.Store conn.new) → IfOk result (λ v. StoresIn (state S.Store conn.old).now (stored_in v.items)) }
+    ensures refused { HasCleanDisk (state S.Store conn.new) → IfErr result (IsRefused (state S.Store conn.old) (state S.Store conn.new)) }
+    ensures survives { Survives (state S.Store conn.old) (state S.Store conn.new) (Makes (state S.Store conn.old)) }
 {
-    make_table(conn)?;
-    let slots = read_slots(alloc, conn)?;
-    check_numbers(conn)?;
-    if conn.is_autocommit() {
-        Ok(slots)
-    } else {
-        Err(OpenError::Failed(Error::SqliteFailure(ErrorCode::TransactionState)))
+    match make_table(conn) {
+        Ok(()) => read_made(alloc, conn),
+        Err(error) => Err(error),
+    }
+}
+
+// Reads the stored slots of the table, outside a transaction.
+fn read_made<S: Alter + Drop>(
+    alloc: Global,
+    conn: &mut Connection<S>,
+) -> Result<Vec<StoredSlot>, OpenError>
+    requires table { HasTable (state S.Store conn.old) }
+    ensures size { IfOk result (λ v. length v.items ≡ 64) }
+    ensures ready { IfOk result (λ v. IsMirrored (state S.Store conn.new) (stored_in v.items)) }
+    ensures open { HasCleanDisk (state S.Store conn.new) → OnOk result (IsTrue (state S.Store conn.new).is_open) }
+    ensures found { HasCleanDisk (state S.Store conn.new) → IfOk result (λ v. StoresSlots ((state S.Store conn.old).now.trees 0) (stored_in v.items)) }
+    ensures refused { HasCleanDisk (state S.Store conn.new) → IfErr result (λ e. RefusesRow (state S.Store conn.old) (state S.Store conn.new) e ⊎ IsFailure e) }
+    ensures survives { Survives (state S.Store conn.old) (state S.Store conn.new) (λ _. ⊥) }
+{
+    match read_table(alloc, conn) {
+        Ok(slots) => {
+            if conn.is_autocommit() {
+                Ok(slots)
+            } else {
+                Err(OpenError::from(Error::SqliteFailure(ErrorCode::TransactionState)))
+            }
+        }
+        Err(error) => Err(error),
     }
 }
 
 // Creates the table in an empty database.
-fn make_table<S: Alter + Drop>(conn: &mut Connection<S>) -> Result<(), OpenError> {
+fn make_table<S: Alter + Drop>(conn: &mut Connection<S>) -> Result<(), OpenError>
+    ensures made { HasCleanDisk (state S.Store conn.new) → OnOk result (IsMade (state S.Store conn.old) (state S.Store conn.new)) }
+    ensures refused { HasCleanDisk (state S.Store conn.new) → IfErr result (λ e. RefusesForeign (state S.Store conn.old) (state S.Store conn.new) e ⊎ IsFailure e) }
+    ensures survives { Survives (state S.Store conn.old) (state S.Store conn.new) (Makes (state S.Store conn.old)) }
+{
     if has_slots(conn.schema()) {
         return Ok(());
     }
     if !is_empty(conn.schema()) {
         return Err(OpenError::Foreign);
     }
-    conn.execute(TABLE, &[])?;
-    Ok(())
+    create(conn)
+}
+
+fn create<S: Alter + Drop>(conn: &mut Connection<S>) -> Result<(), OpenError>
+    requires empty { (state S.Store conn.old).now.schema ≡ no_schema }
+    ensures made { HasCleanDisk (state S.Store conn.new) → OnOk result (((state S.Store conn.new).now.schema ≡ slot_schema) × ((state S.Store conn.new).now.trees 0 ≡ [])) }
+    ensures failure { IfErr result IsFailure }
+    ensures survives { Survives (state S.Store conn.old) (state S.Store conn.new) (CommitsBy create_text [] (state S.Store conn.old)) }
+{
+    match conn.execute(TABLE, &[]) {
+        Ok(_) => Ok(()),
+        Err(error) => Err(OpenError::from(error)),
+    }
+}
+
+// Reads the stored slots of the table.
+fn read_table<S: Alter + Drop>(
+    alloc: Global,
+    conn: &mut Connection<S>,
+) -> Result<Vec<StoredSlot>, OpenError>
+    requires table { HasTable (state S.Store conn.old) }
+    ensures size { IfOk result (λ v. length v.items ≡ 64) }
+    ensures found { HasCleanDisk (state S.Store conn.new) → IfOk result (λ v. StoresSlots ((state S.Store conn.old).now.trees 0) (stored_in v.items)) }
+    ensures kept { HasCleanDisk (state S.Store conn.new) → OnOk result (IsKept (state S.Store conn.old) (state S.Store conn.new)) }
+    ensures open { HasCleanDisk (state S.Store conn.new) → OnOk result (IsTrue (state S.Store conn.new).is_open) }
+    ensures refused { HasCleanDisk (state S.Store conn.new) → IfErr result (λ e. RefusesRow (state S.Store conn.old) (state S.Store conn.new) e ⊎ IsFailure e) }
+    ensures survives { Survives (state S.Store conn.old) (state S.Store conn.new) (λ _. ⊥) }
+{
+    match read_slots(alloc, conn) {
+        Ok(slots) => match check_rows(conn) {
+            Ok(()) => Ok(slots),
+            Err(error) => Err(error),
+        },
+        Err(error) => Err(error),
+    }
 }
 
 fn read_slots<S: Alter + Drop>(
     alloc: Global,
     conn: &mut Connection<S>,
 ) -> Result<Vec<StoredSlot>, OpenError>
+    requires table { HasTable (state S.Store conn.old) }
     ensures size { IfOk result (λ v. length v.items ≡ 64) }
+    ensures found { HasCleanDisk (state S.Store conn.new) → IfOk result (λ v. (n : ℕ) → n < 64 → AreOfSlot (rows_of ((state S.Store conn.old).now.trees 0) n) (stored_in v.items n)) }
+    ensures kept { HasCleanDisk (state S.Store conn.new) → OnOk result (IsKept (state S.Store conn.old) (state S.Store conn.new)) }
+    ensures refused { HasCleanDisk (state S.Store conn.new) → IfErr result (λ e. RefusesRow (state S.Store conn.old) (state S.Store conn.new) e ⊎ IsFailure e) }
+    ensures survives { Survives (state S.Store conn.old) (state S.Store conn.new) (λ _. ⊥) }
 {
-    let mut slots = Vec::with_capacity(alloc, SLOTS)?;
+    let Ok(mut slots) = Vec::with_capacity(alloc, SLOTS) else {
+        return Err(OpenError::Memory);
+    };
     for slot in 0..64u8 {
-        let stored = read_slot(conn, slot)?;
+        let stored = match read_slot(conn, slot) {
+            Ok(stored) => stored,
+            Err(error) => return Err(error),
+        };
         if slots.push(stored).is_err() {
             return Err(OpenError::Memory);
         }
@@ -64,55 +149,117 @@ fn read_slots<S: Alter + Drop>(
 }
 
 // Reads a slot: without a row it is blank.
-fn read_slot<S: Alter + Drop>(conn: &mut Connection<S>, slot: u8) -> Result<StoredSlot, OpenError> {
-    let number = i64::from(slot);
-    let rows = conn.query_all(GET, params![number])?;
-    match rows.as_slice() {
+fn read_slot<S: Alter + Drop>(conn: &mut Connection<S>, slot: u8) -> Result<StoredSlot, OpenError>
+    requires table { HasTable (state S.Store conn.old) }
+    ensures found { HasCleanDisk (state S.Store conn.new) → IfOk result (AreOfSlot (rows_of ((state S.Store conn.old).now.trees 0) slot)) }
+    ensures kept { HasCleanDisk (state S.Store conn.new) → OnOk result (IsKept (state S.Store conn.old) (state S.Store conn.new)) }
+    ensures refused { HasCleanDisk (state S.Store conn.new) → IfErr result (λ e.
+        ((why : BadRow) × (e ≡ OpenError.Row (pos slot) why) × AreBad why (rows_of ((state S.Store conn.old).now.trees 0) slot) × IsKept (state S.Store conn.old) (state S.Store conn.new)) ⊎ IsFailure e) }
+    ensures survives { Survives (state S.Store conn.old) (state S.Store conn.new) (λ _. ⊥) }
+{
+    match rows_of_slot(conn, slot) {
+        Ok(rows) => slot_of(rows.as_slice(), slot),
+        Err(error) => Err(error),
+    }
+}
+
+fn number_of(slot: u8) -> i64
+    ensures { result ≡ pos slot }
+{
+    i64::from(slot)
+}
+
+// Reads the rows with the number of a slot.
+fn rows_of_slot<S: Alter + Drop>(conn: &mut Connection<S>, slot: u8) -> Result<Vec<Row>, OpenError>
+    requires table { HasTable (state S.Store conn.old) }
+    ensures rows { HasCleanDisk (state S.Store conn.new) → IfOk result (λ v. IsPermutation (rows_of ((state S.Store conn.old).now.trees 0) slot) v.items) }
+    ensures kept { HasCleanDisk (state S.Store conn.new) → OnOk result (IsKept (state S.Store conn.old) (state S.Store conn.new)) }
+    ensures failure { IfErr result IsFailure }
+    ensures survives { Survives (state S.Store conn.old) (state S.Store conn.new) (λ _. ⊥) }
+{
+    let number = u32::from(slot).to_sql();
+    match conn.query_all(GET, &[number]) {
+        Ok(rows) => Ok(rows),
+        Err(error) => Err(OpenError::from(error)),
+    }
+}
+
+// Returns the slot that its rows store.
+fn slot_of(rows: &[Row], slot: u8) -> Result<StoredSlot, OpenError>
+    ensures ok { IfOk result (λ s. AreWide 4 rows.now → AreOfSlot rows.now s) }
+    ensures bad { IfErr result (λ e. ((why : BadRow) × (e ≡ OpenError.Row (pos slot) why) × (AreWide 4 rows.now → AreBad why rows.now)) ⊎ (e ≡ OpenError.Memory)) }
+{
+    match rows {
         [] => Ok(StoredSlot::blank()),
-        [row] => read_row(row, number),
-        _ => Err(OpenError::Row(number)),
+        [row] => read_row(row, slot),
+        _ => Err(OpenError::Row(number_of(slot), BadRow::Twice)),
     }
 }
 
-fn read_row(row: &Row, number: i64) -> Result<StoredSlot, OpenError> {
+fn read_row(row: &Row, slot: u8) -> Result<StoredSlot, OpenError>
+    ensures ok { IfOk result (λ s. length row.now ≡ 4 → AreOfSlot (row.now ∷ []) s) }
+    ensures bad { IfErr result (λ e. ((why : BadRow) × (e ≡ OpenError.Row (pos slot) why) × (length row.now ≡ 4 → AreBad why (row.now ∷ []))) ⊎ (e ≡ OpenError.Memory)) }
+{
     match stored_in(row) {
-        Ok(Some(stored)) => Ok(stored),
-        Err(Error::SqliteFailure(ErrorCode::OutOfMemory)) => Err(OpenError::Memory),
-        Ok(None) | Err(_) => Err(OpenError::Row(number)),
-    }
-}
-
-// Returns the slot that a row stores, if it stores one: a program has all of its values or none.
-fn stored_in(row: &Row) -> Result<Option<StoredSlot>, Error> {
-    let serial = row.get::<u64>(0)?;
-    let version = row.get::<Option<u64>>(1)?;
-    let image = row.get::<Option<Vec<u8>>>(2)?;
-    let vars = row.get::<Option<Vec<u8>>>(3)?;
-    match (version, image, vars) {
-        (Some(version), Some(image), Some(vars)) if version <= serial => Ok(Some(StoredSlot {
-            serial,
-            program: Some(StoredProgram {
-                version,
-                image,
-                vars,
-            }),
-        })),
-        (None, None, None) => Ok(Some(StoredSlot {
-            serial,
-            program: None,
-        })),
-        _ => Ok(None),
+        Ok(stored) => Ok(stored),
+        Err(Unread::Memory) => Err(OpenError::Memory),
+        Err(Unread::Bad(why)) => Err(OpenError::Row(number_of(slot), why)),
     }
 }
 
 // Checks that each row is that of a slot, 0 to 63.
-fn check_numbers<S: Alter + Drop>(conn: &mut Connection<S>) -> Result<(), OpenError> {
-    let rows = conn.query_all(NUMBERS, &[])?;
-    for row in rows.iter() {
-        let number = row.get::<i64>(0)?;
-        if !(0..64).contains(&number) {
-            return Err(OpenError::Row(number));
+fn check_rows<S: Alter + Drop>(conn: &mut Connection<S>) -> Result<(), OpenError>
+    requires table { HasTable (state S.Store conn.old) }
+    ensures numbers { HasCleanDisk (state S.Store conn.new) → OnOk result (AreSlotNumbers ((state S.Store conn.old).now.trees 0)) }
+    ensures kept { HasCleanDisk (state S.Store conn.new) → OnOk result (IsKept (state S.Store conn.old) (state S.Store conn.new)) }
+    ensures open { HasCleanDisk (state S.Store conn.new) → OnOk result (IsTrue (state S.Store conn.new).is_open) }
+    ensures refused { HasCleanDisk (state S.Store conn.new) → IfErr result (λ e. RefusesRow (state S.Store conn.old) (state S.Store conn.new) e ⊎ IsFailure e) }
+    ensures survives { Survives (state S.Store conn.old) (state S.Store conn.new) (λ _. ⊥) }
+{
+    match numbers(conn) {
+        Ok(rows) => check_numbers(rows.as_slice()),
+        Err(error) => Err(error),
+    }
+}
+
+// Reads the number of each row.
+fn numbers<S: Alter + Drop>(conn: &mut Connection<S>) -> Result<Vec<Row>, OpenError>
+    requires table { HasTable (state S.Store conn.old) }
+    ensures rows { HasCleanDisk (state S.Store conn.new) → IfOk result (λ v. IsPermutation (numbers_of ((state S.Store conn.old).now.trees 0)) v.items) }
+    ensures kept { HasCleanDisk (state S.Store conn.new) → OnOk result (IsKept (state S.Store conn.old) (state S.Store conn.new)) }
+    ensures open { HasCleanDisk (state S.Store conn.new) → OnOk result (IsTrue (state S.Store conn.new).is_open) }
+    ensures failure { IfErr result IsFailure }
+    ensures survives { Survives (state S.Store conn.old) (state S.Store conn.new) (λ _. ⊥) }
+{
+    match conn.query_all(NUMBERS, &[]) {
+        Ok(rows) => Ok(rows),
+        Err(error) => Err(OpenError::from(error)),
+    }
+}
+
+fn check_numbers(rows: &[Row]) -> Result<(), OpenError>
+    ensures ok { OnOk result (AreSlotNumbers rows.now) }
+    ensures bad { IfErr result (λ e. ((z : ℤ) × (e ≡ OpenError.Row z BadRow.Number) × HasOther rows.now z) ⊎ IsFailure e) }
+{
+    for row in rows {
+        if let Err(error) = check_number(row) {
+            return Err(error);
         }
     }
     Ok(())
+}
+
+fn check_number(row: &Row) -> Result<(), OpenError>
+    ensures ok { OnOk result (IsSlotNumber (rowid row.now)) }
+    ensures bad { IfErr result (λ e. ((z : ℤ) × (e ≡ OpenError.Row z BadRow.Number) × ¬ IsSlotNumber (Int z) × (rowid row.now ≡ Int z)) ⊎ IsFailure e) }
+{
+    let number = match row.get::<i64>(0) {
+        Ok(number) => number,
+        Err(error) => return Err(OpenError::from(error)),
+    };
+    if (0..64).contains(&number) {
+        Ok(())
+    } else {
+        Err(OpenError::Row(number, BadRow::Number))
+    }
 }

@@ -10,7 +10,8 @@ use sqlite_value::value::Value;
 
 // Returns whether the database has no table, index or view.
 pub(crate) fn is_empty(schema: &Schema) -> bool
-    ensures { result ≡ true → schema.now ≡ no_schema }
+    ensures sound { result ≡ true → schema.now ≡ no_schema }
+    ensures complete { schema.now ≡ no_schema → result ≡ true }
 {
     schema.tables.as_slice().is_empty()
         && schema.indexes.as_slice().is_empty()
@@ -19,7 +20,8 @@ pub(crate) fn is_empty(schema: &Schema) -> bool
 
 // Returns whether the database has just the table of slots.
 pub(crate) fn has_slots(schema: &Schema) -> bool
-    ensures { result ≡ true → schema.now ≡ slot_schema }
+    ensures sound { result ≡ true → schema.now ≡ slot_schema }
+    ensures complete { schema.now ≡ slot_schema → result ≡ true }
 {
     match schema.tables.as_slice() {
         [table] => schema.indexes.as_slice().is_empty()
@@ -30,7 +32,8 @@ pub(crate) fn has_slots(schema: &Schema) -> bool
 }
 
 fn is_slot_table(table: &Table) -> bool
-    ensures { result ≡ true → table.now ≡ slot_table }
+    ensures sound { result ≡ true → table.now ≡ slot_table }
+    ensures complete { table.now ≡ slot_table → result ≡ true }
 {
     table.name.as_slice() == b"slot".as_slice()
         && table.tree == 0
@@ -42,7 +45,8 @@ fn is_slot_table(table: &Table) -> bool
 }
 
 fn has_slot_columns(columns: &[Column]) -> bool
-    ensures { result ≡ true → columns.now ≡ slot_table.columns }
+    ensures sound { result ≡ true → columns.now ≡ slot_table.columns }
+    ensures complete { columns.now ≡ slot_table.columns → result ≡ true }
 {
     match columns {
         [number, serial, version, image, vars] => is_column(number, b"number", Kind::Integer, false)
@@ -55,7 +59,8 @@ fn has_slot_columns(columns: &[Column]) -> bool
 }
 
 fn is_column(column: &Column, name: &[u8], kind: Kind, not_null: bool) -> bool
-    ensures { result ≡ true → column.now ≡ record { name = name.now; kind = kind; is_strict = true; not_null = not_null; default = Null; collation = Binary } }
+    ensures sound { result ≡ true → column.now ≡ record { name = name.now; kind = kind; is_strict = true; not_null = not_null; default = Null; collation = Binary } }
+    ensures complete { column.now ≡ record { name = name.now; kind = kind; is_strict = true; not_null = not_null; default = Null; collation = Binary } → result ≡ true }
 {
     column.name.as_slice() == name
         && column.kind == kind
@@ -67,7 +72,8 @@ fn is_column(column: &Column, name: &[u8], kind: Kind, not_null: bool) -> bool
 
 // Returns whether the table has no other key, check, reference or default.
 fn has_no_rules(table: &Table) -> bool
-    ensures { result ≡ true → table.now ≡ record table.now { uniques = []; orders = []; checks = []; references = []; computed = []; stamps = record { places = []; terms = []; formats = [] } } }
+    ensures sound { result ≡ true → table.now ≡ record table.now { uniques = []; orders = []; checks = []; references = []; computed = []; stamps = record { places = []; terms = []; formats = [] } } }
+    ensures complete { table.now ≡ record table.now { uniques = []; orders = []; checks = []; references = []; computed = []; stamps = record { places = []; terms = []; formats = [] } } → result ≡ true }
 {
     table.uniques.as_slice().is_empty()
         && table.orders.as_slice().is_empty()

@@ -1,11 +1,12 @@
 //! A store in a database.
-ghost use Rattle.std.specs.Prelude.{◌≡◌, true, length, IsTrue};
-ghost use Rattle.sqlite.specs.State.{HasCleanDisk};
+ghost use Rattle.std.specs.Prelude.{◌≡◌, true, length, IsTrue, IfOk, IfErr, MatchResult};
+ghost use Rattle.sqlite.specs.State.{HasCleanDisk, Survives};
 ghost use Rattle.sqlite.specs.Held.{state};
 ghost use Rattle.sqlite.specs.Tree.{Trees};
 ghost use Rattle.fc_store.specs.Updates.{AreSameSlots};
 ghost use Rattle.fc_store.specs.Stored.{stored_in};
 ghost use Rattle.fc_sql.specs.Table.{IsMirrored, slots_of};
+ghost use Rattle.fc_sql.specs.Found.{IsRefused, Makes, StoresIn};
 
 use crate::error::OpenError;
 use crate::load::load;
@@ -27,10 +28,30 @@ impl<S: Alter + Drop> SqlStore<S> {
     /// Makes a store of a database: an empty one gets the table of slots.
     ///
     /// # Errors
-    /// Returns why the database isn't a store of slots. See [`load`].
-    pub fn over(alloc: Global, mut conn: Connection<S>) -> Result<SqlStore<S>, OpenError> {
-        let slots = load(alloc, &mut conn)?;
-        Ok(SqlStore { alloc, conn, slots })
+    /// Returns why the database isn't a store of slots, and its connection. See [`load`].
+    pub fn over(
+        alloc: Global,
+        mut conn: Connection<S>,
+    ) -> Result<SqlStore<S>, (OpenError, Connection<S>)>
+        ensures ready { IfOk result (λ s. IsMirrored (state S.Store s.conn) (stored_in s.slots.items)) }
+        ensures open { IfOk result (λ s. HasCleanDisk (state S.Store s.conn) → IsTrue (state S.Store s.conn).is_open) }
+        ensures found { IfOk result (λ s. HasCleanDisk (state S.Store s.conn) → StoresIn (state S.Store conn).now (stored_in s.slots.items)) }
+        ensures refused { IfErr result (λ e. HasCleanDisk (state S.Store e.1) → IsRefused (state S.Store conn) (state S.Store e.1) e.0) }
+        ensures crash { MatchResult result
+            (λ s. Survives (state S.Store conn) (state S.Store s.conn) (Makes (state S.Store conn)))
+            (λ e. Survives (state S.Store conn) (state S.Store e.1) (Makes (state S.Store conn))) }
+    {
+        match load(alloc, &mut conn) {
+            Ok(slots) => Ok(SqlStore { alloc, conn, slots }),
+            Err(error) => Err((error, conn)),
+        }
+    }
+
+    /// Returns the connection.
+    pub fn into_connection(self) -> Connection<S>
+        ensures { result ≡ self.conn }
+    {
+        self.conn
     }
 
     /// Returns the stored slots, by their numbers.

@@ -17,17 +17,17 @@ use sqlite::{Alter, Connection, params};
 pub const TABLE: &str =
     "CREATE TABLE slot (number INTEGER PRIMARY KEY, serial INTEGER NOT NULL, version INTEGER, image BLOB, vars BLOB) STRICT";
 
-/// Writes the row of a slot, in place of the one that it has.
+/// Writes the row of a slot, and replaces the one that it has.
 pub const PUT: &str =
     "INSERT OR REPLACE INTO slot (number, serial, version, image, vars) VALUES (?1, ?2, ?3, ?4, ?5)";
 
 // The greatest integer of the table.
 const GREATEST: u64 = 9_223_372_036_854_775_807;
 
-/// Writes the row of `slot`. Returns whether the row is written and committed.
+/// Writes the row of `slot`, and returns whether it is written and committed.
 ///
-/// Returns `false` if the serial or the version is above the greatest integer of SQLite, 2^63 - 1, or
-/// if the statement fails.
+/// Returns `false` if the serial or the version is above the greatest integer of SQLite, 2^63 - 1,
+/// or if the statement fails.
 pub fn write<S: Alter>(conn: &mut Connection<S>, slot: u8, stored: &StoredSlot) -> bool
     ensures stored { (before : StoredSlots) → IsMirrored (state S.Store conn.old) before → IsTrue (state S.Store conn.old).is_open
         → IsMirrored (state S.Store conn.new) (if result then with_stored_slot slot stored.now before else before) }

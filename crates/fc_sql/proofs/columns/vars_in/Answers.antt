@@ -1,0 +1,5 @@
+use Rattle.fc_sql.proofs.Found.{if_err, vars_bad}
+use Rattle.fc_sql.proofs.columns.vars_in.Goals as goal
+
+pub returns-clause-bad : goal.returns-clause-bad
+returns-clause-bad c = if_err c.column.result _ _ (vars_bad c.args.row.now) c.column.ensures.bad
