@@ -1,5 +1,5 @@
--- Rows by one column: an event that is a call is a step, with what the event and the stage that needs it hold; any other event leaves its
--- job where it is.
+-- Transitions by one column: an event that is a call is a step, with the data of the event and of
+-- the stage that needs it; any other event doesn't change its job.
 use Rattle.std.proofs.Common.{◌≡◌, ℕ, Bool, true, false, Option, Some, None, List, [], refl, ap, length, max}
 use Rattle.std.specs.Prelude.{◌==◌, not}
 use Rattle.arrayvec.specs.ArrayVec.{ArrayVec}
@@ -7,7 +7,7 @@ use Rattle.fc_observe.specs.declared.entry.Turn.{Turn}
 use Rattle.fc_registry.specs.declared.job.Job.{Job}
 use Rattle.fc_registry.specs.Changes.{Change}
 use Rattle.fc_registry.specs.declared.commit.CommitOutcome.{CommitOutcome}
-use Rattle.fc_registry.specs.Calls.{commit_calls, commits, is_out_at, outcome, readings_if, receipt_at, remove_from, taking, turn_taking}
+use Rattle.fc_registry.specs.Calls.{commit_calls, commits, is_out_at, outcome, readings_if, receipt_at, remove_from, taking, turn_taking, initial_vars_of}
 use Rattle.fc_registry.specs.Slots.{Slot, Ticket}
 use Rattle.fc_verify.specs.Judged.{judged}
 use Rattle.fc_core.specs.declared.event.Event.{Event}
@@ -28,12 +28,12 @@ use Rattle.fc_core.specs.Steps as calls
 abbrev at : Job → Slot → Around → Stage → Scene
 at job slot ws stage = record { job = job; slot = slot; around = ws; stage = stage }
 
--- an event at a stage that needs it, with what both hold
+-- an event at a stage that needs it, with the data of both.
 pub data Step : Type 0 where
-  -- looks at the head word of slot n: a run's, and that of who lists them
+  -- reads of the head word of slot n: by a run, and by a list.
   Matches : (n : ℕ) → Step
   Lists : (n : ℕ) (seen : ArrayVec ℕ) → Step
-  -- takings, a run's and a turn's
+  -- snapshots of a run and of a lease.
   Takes : (memory : Bool) (readings : List ℕ) (count : ℕ) → Step
   TakesTurn : (memory : Bool) (readings : List ℕ) (turn : Turn) → Step
   Commits : (now count : ℕ) (t : Ticket) → Step
@@ -45,7 +45,7 @@ pub data Step : Type 0 where
   Draws : (now : ℕ) (turn : Turn) (found : Option Ticket) → Step
   Notes : (now random : ℕ) (turn : Turn) (found : Option Ticket) (id : ℕ) → Step
   GivesUp : (now : ℕ) (turn : Turn) (needs : TurnStage) → Step
-  -- of a worker, whatever its job needs
+  -- of a worker, whatever its job needs.
   Loses : (needs : Stage) → Step
 
 -- the event, of job k
@@ -82,20 +82,20 @@ stage_by (Notes now random turn found id) = ToTell turn (turns.ToNote found id)
 stage_by (GivesUp now turn needs) = ToTell turn needs
 stage_by (Loses needs) = needs
 
--- a look is at the head word that the stage needs
+-- the head word that is read is the one that the stage needs.
 abbrev pub IsAsked : Step → Job → Type 0
 IsAsked (Matches n) job = (n == job.origin.slot) ≡ true
 IsAsked (Lists n seen) job = (n == length seen.items) ≡ true
 IsAsked other job = Unit {0}
 
--- the call that it is, answered by the job's slot and what is around it
+-- its call, with the result by the job's slot and its surroundings.
 abbrev pub call_by : Step → Job → Slot → Around → Call
 call_by (Matches n) job slot ws = calls.Matches job.etags.items (word_at ws.common.words n)
 call_by (Lists n seen) job slot ws = calls.Lists seen (word_at ws.common.words n)
 call_by (Takes memory readings count) job slot ws = calls.Takes count (taking (readings_if memory readings) job slot.serial slot.present)
 call_by (TakesTurn memory readings turn) job slot ws = calls.TakesTurn turn (turn_taking (is_out_at turn ws.moment ws.watch) (readings_if memory readings) job slot.serial slot.present)
 call_by (Commits now count t) job slot ws = calls.Commits count t (commits (outcome t slot) t slot.serial ws.watch).answer
-call_by (Installs memory) job slot ws = install_if memory (judged (image_of job.ask)) slot
+call_by (Installs memory) job slot ws = install_if memory (initial_vars_of job.ask) (judged (image_of job.ask)) slot
 call_by Removes job slot ws = calls.Removes (remove_from slot).answer
 call_by Describes job slot ws = calls.Describes (receipt_at slot.present)
 call_by (Raises word content) job slot ws = calls.Raises word content
@@ -110,11 +110,11 @@ pub names_job : (k : ℕ) (c : Step) → names (event_by k c) ≡ Some k
 names_job k (Matches n) = refl
 names_job k other = refl
 
--- the move of a step
+-- transition of a step.
 abbrev pub move_by : Step → Job → Slot → Around → Move
 move_by c job slot ws = move_of (event_by 0 c) (at job slot ws (stage_by c)) (Some (call_by c job slot ws))
 
--- the move of a commit, by what it comes to at a slot of this serial
+-- transition of a commit, by its outcome at a slot of this serial.
 abbrev pub committed : CommitOutcome → ℕ → Ticket → ℕ → ℕ → Around → Move
 committed o count t now serial ws = record {
   stage = after_commit count t (commits o t serial ws.watch).answer;
@@ -126,7 +126,8 @@ committed o count t now serial ws = record {
 
 -- ---- an event that is no step
 
--- what is true of an event that is no call for a job: it is a stray, answers nothing, hands on no moment and gives no ticket
+-- properties of an event that is no call for a job: it is a stray, answers nothing, passes no time
+-- and gives no ticket.
 pub record Rests (e : Event) (job : Job) (s : Stage) : Type 0 where
   pub none : (slot : Slot) (ws : Around) → call_at e (at job slot ws s) (at job slot ws s).stage ≡ None
   pub stray : (k : ℕ) → names e ≡ Some k → is_stray_at e job.origin.slot s ≡ true
@@ -151,7 +152,8 @@ module _ (P : Event → Stage → Move → Type 0) (job : Job) (slot : Slot) (ws
   lists k n seen true is = step k (Lists n seen) is
   lists k n seen false is = rest (Peek k n) (ToList seen) (rests (λ slot ws. ap (λ (b : Bool). call_if b (call_by (Lists n seen) job slot ws)) is) (λ j named. ap not is) refl refl (λ slot ws cs. refl))
 
-  -- what holds of each step and its move, and of each event that is none and moves nothing, holds of each row
+  -- a property of each step with its transition, and of each event that is none and changes
+  -- nothing, holds for each transition.
   pub by_step : (e : Event) (s : Stage) → P e s (row e (at job slot ws s))
   by_step (Peek k n) ToMatch = matches k n (n == job.origin.slot) refl
   by_step (Peek k n) (ToList seen) = lists k n seen (n == length seen.items) refl
@@ -181,6 +183,6 @@ module _ (P : Event → Stage → Move → Type 0) (job : Job) (slot : Slot) (ws
   by_step (Lose k) s = step k (Loses s) tt
   by_step other s = rest other s (rests (λ slot ws. refl) (λ j is. no_job is) refl refl (λ slot ws cs. refl))
 
--- the same of what speaks of no event
+-- the same for a property that doesn't mention the event.
 pub by_move : (P : Stage → Move → Type 0) (job : Job) (slot : Slot) (ws : Around) → ((c : Step) → IsAsked c job → P (stage_by c) (move_by c job slot ws)) → ((s : Stage) → P s (moves s)) → (e : Event) (s : Stage) → P s (row e (at job slot ws s))
 by_move P job slot ws step rest e s = by_step (λ d st m. P st m) job slot ws (λ k c asked. step c asked) (λ d st w. rest st) e s

@@ -20,7 +20,8 @@ use Rattle.fc_registry.specs.declared.commit.CommitOutcome.TheVariants.{Writes, 
 use Rattle.fc_registry.specs.declared.job.Ask.{Ask}
 use Rattle.fc_registry.specs.declared.job.Ask.TheVariants.{Run}
 use Rattle.fc_registry.specs.declared.job.Job.{Job}
-use Rattle.fc_registry.specs.Calls.{is_cancellation, observe_calls, observe_calls_by, outcome, is_registration, request_of, is_out_at, miss_calls, turn_calls}
+use Rattle.fc_registry.specs.declared.job.InitialVars.{InitialVars}
+use Rattle.fc_registry.specs.Calls.{is_cancellation, observe_calls, observe_calls_by, outcome, is_registration, request_of, is_out_at, miss_calls, turn_calls, initial_vars_of}
 use Rattle.fc_registry.specs.Notes.{keeps_observer, note_at, note_calls, serial_told, told_call}
 use Rattle.fc_registry.specs.Slots.{Present, Slot, Ticket}
 use Rattle.fc_registry.specs.Turns.{job_of_turn, turn_given_to, turn_job}
@@ -46,7 +47,8 @@ use Rattle.fc_core.proofs.Watches.{after_append}
 
 -- ---- the calls of an event of a job
 
--- none, those of a commit that has nothing to write, of the taking of a turn, of its notification, or that of a turn that is given up
+-- no calls; or those of a commit that has nothing to write, of the snapshot of a lease, of its
+-- notification, or of the release of a lease.
 pub data CallsBy (e : Event) (ws : Around) (at : Stage) (cs : List ObserverCall) : Type 0 where
   NoCall : (is : cs ≡ []) → CallsBy e ws at cs
   OfCommit : (k now n moment : ℕ) (t : Ticket) (event : e ≡ Commit k now) (stands : at ≡ ToCommit n t) (is : cs ≡ observe_calls moment t) → CallsBy e ws at cs
@@ -63,13 +65,13 @@ committed_calls k now n t serial ws Writes = NoCall refl
 committed_calls k now n t serial ws Overtakes = NoCall refl
 committed_calls k now n t serial ws Ends = NoCall refl
 
-installed_calls : (at random : ℕ) (x : Scene) (j : Judgement) → calls_told at random x (install_call j x.slot) ≡ []
-installed_calls at random x (Accepts p) = refl
-installed_calls at random x (Breaks rule k) = refl
-installed_calls at random x Untypable = refl
+installed_calls : (at random : ℕ) (x : Scene) (v : InitialVars) (j : Judgement) → calls_told at random x (install_call v j x.slot) ≡ []
+installed_calls at random x v (Accepts p) = refl
+installed_calls at random x v (Breaks rule k) = refl
+installed_calls at random x v Untypable = refl
 
-pub verified_calls : (at random : ℕ) (memory : Bool) (x : Scene) → calls_told at random x (install_if memory (judged (image_of x.job.ask)) x.slot) ≡ []
-verified_calls at random true x = installed_calls at random x (judged (image_of x.job.ask))
+pub verified_calls : (at random : ℕ) (memory : Bool) (x : Scene) → calls_told at random x (install_if memory (initial_vars_of x.job.ask) (judged (image_of x.job.ask)) x.slot) ≡ []
+verified_calls at random true x = installed_calls at random x (initial_vars_of x.job.ask) (judged (image_of x.job.ask))
 verified_calls at random false x = refl
 
 step_calls : (k : ℕ) (c : Step) (job : Job) (slot : Slot) (ws : Around) → CallsBy (event_by k c) ws (stage_by c) (move_by c job slot ws).calls
@@ -88,7 +90,7 @@ row_calls e job slot ws s = by_step (λ d st m. CallsBy d ws st m.calls) job slo
 abbrev pub EntryWithin : Entry → Type 0
 EntryWithin o = RequestWithin o.request
 
--- a registration's request is within
+-- the request of a registration is within the limits.
 abbrev CallWithin : ObserverCall → Type 0
 CallWithin (Register now to token request szx serial) = RequestWithin request
 CallWithin other = Unit {0}
@@ -181,7 +183,7 @@ module _ (s : Seen) (a : IsSoundlySeen s) where
       let is = after_append n s.policy.confirm_after named (of_shard ++ s.calls n) ∙ ap (after_calls named) (after_append n s.policy.confirm_after of_shard (s.calls n)) in
       subst (λ (t : ObserverList). All EntryWithin t.held) (sym is) (calls_within named (after_calls of_shard (watch s n)) (named_within e (names e) n) (calls_within of_shard (watch s n) (shard_within (at_shard e) n) (a.watched n)))
 
--- ---- the job of a turn
+-- ---- the job of a lease
 
 found_by : (p : Entry → Bool) (o : Entry) (os : List Entry) (b : Bool) → EntryWithin o → IfSome (find p os) EntryWithin → IfSome (cond b (Some o) (find p os)) EntryWithin
 found_by p o os true here rest = here

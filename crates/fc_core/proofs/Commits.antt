@@ -1,4 +1,4 @@
--- A commit that a shard carries out is the row of its table.
+-- The effect of a commit on a shard is its transition.
 use Rattle.std.proofs.Common.{◌≡◌, ℕ, ◌/◌, refl, sym, ap, ◌∙◌, subst, max, arith, None}
 use Rattle.fc_machine.specs.Ran.{Ran}
 use Rattle.fc_observe.specs.Observers.{ObserverList}
@@ -14,7 +14,7 @@ use Rattle.fc_registry.proofs.Outcomes.{by_serials, own_run}
 use Rattle.fc_core.specs.Contents.{AreDone}
 use Rattle.fc_core.specs.Steps.{Commits, changes_told}
 
--- the mark of a commit that is done is of the outcome and the ticket
+-- the mark of a commit that was done belongs to the outcome and the ticket.
 done_by : (ran : Ran) (t : Ticket) (slot : Slot) (v : ObserverList) (o : CommitOutcome) → IsOwn ran t slot → ComesTo t slot o → AreDone ran t (commits o t slot.serial v).answer
 done_by ran t slot v Writes own is = (record { run = own_run ran t slot.serial own.run; origin = refl; serial = refl }, λ e. let below = is.2 in omega (arith, below))
 done_by ran t slot v Keeps own is = (record { run = own_run ran t slot.serial own.run; origin = refl; serial = refl }, λ e. absurd (cc e))
@@ -30,7 +30,7 @@ commit_done ran t slot v (Done m) after w = own_done ran t slot v (Done m) after
 commit_done ran t slot v Overtaken after w = tt
 commit_done ran t slot v Ended after w = tt
 
--- what is committed to the slot that gave the ticket, which has these observers
+-- a commit to the slot that gave the ticket, with these observers.
 pub record IsRow (t : Ticket) (slot : Slot) (v : ObserverList) (c : Committed) (after : Slot) : Type 0 where
   pub answer : c ≡ (commits (outcome t slot) t slot.serial v).answer
   pub after_is : after ≡ after_changes slot (commits (outcome t slot) t slot.serial v).changes
@@ -49,11 +49,11 @@ commit_row ran t slot v (Done m) after p r vars readings given none w = own_row 
 commit_row ran t slot v Overtaken after p r vars readings given none w = own_row ran t slot v Overtaken after given w
 commit_row ran t slot v Ended after p r vars readings given none w = own_row ran t slot v Ended after given w
 
--- a shard after a commit that is done at a slot, which left this there
+-- a shard after a commit at a slot, which has this state then.
 abbrev pub left_by : Ticket → ℕ → Shard → Committed → Slot → Shard
 left_by t now shard c after = with_calls (commit_calls c (max shard.now now) t) t.origin.slot (with_slot (record shard { now = max shard.now now }) t.origin.slot after)
 
--- is that of the row
+-- it is the shard of the transition.
 pub shard_of_row : (o : CommitOutcome) (n : ℕ) (t : Ticket) (now : ℕ) (shard : Shard) → (let called = commits o t (slot_in shard t.origin.slot).serial (watch_at shard (t.origin.slot / 8)) in left_by t now shard called.answer (after_changes (slot_in shard t.origin.slot) called.changes) ≡ left_by t now shard called.answer (after_changes (slot_in shard t.origin.slot) (changes_told (Commits n t called.answer))))
 shard_of_row Writes n t now shard = refl
 shard_of_row Keeps n t now shard = refl

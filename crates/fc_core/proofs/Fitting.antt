@@ -1,6 +1,5 @@
--- Each row keeps what is true of jobs and slots.
+-- Each transition keeps the invariants of jobs and slots.
 use Rattle.std.proofs.Common.{◌≡◌, ℕ, ◌<◌, ◌≤◌, List, [], ◌∷◌, ◌++◌, Bool, true, false, Option, Some, None, length, refl, sym, ap, subst, arith, if◌then◌else◌}
-use Rattle.std.proofs.lemmas.List.{length-replicate}
 use Rattle.std.specs.Prelude.{nat_lt, ◌==◌, ◌&&◌}
 use Rattle.std.proofs.lemmas.Bool.{eqb-true}
 use borrow.Author.Tests.{ltb-true}
@@ -16,13 +15,14 @@ use Rattle.fc_observe.specs.declared.entry.Turn.{Turn}
 use Rattle.fc_registry.specs.declared.job.Ask.{Ask}
 use Rattle.fc_registry.specs.declared.job.Ask.TheVariants.{Run, Discover}
 use Rattle.fc_registry.specs.declared.job.Job.{Job}
+use Rattle.fc_registry.specs.declared.job.InitialVars.{InitialVars}
 use Rattle.fc_registry.specs.declared.commit.CommitOutcome.{CommitOutcome}
 use Rattle.fc_registry.specs.declared.commit.CommitOutcome.TheVariants.{Writes, Keeps, Overtakes, Ends}
-use Rattle.fc_registry.specs.Slots.{Slot, Present, Ticket, last_serial}
+use Rattle.fc_registry.specs.Slots.{Slot, Present, Ticket, last_serial, vars_in}
 use Rattle.fc_registry.specs.Changes.{Change, Installed, Committed, Removed, changed, after_changes, with_vars}
 use Rattle.fc_registry.specs.Record.{IsChain, IsLink, code_class}
 use Rattle.fc_registry.specs.declared.receipt.Receipt.{Receipt as Facts}
-use Rattle.fc_registry.specs.Calls.{HasGiven, clear_by, commit_of, input_of, is_post, meaning_at, outcome, outcome_by, put_by, receipt_at, receipt_of, request_of, taking, wants, is_out_at, turn_taking, readings_if}
+use Rattle.fc_registry.specs.Calls.{HasGiven, clear_by, commit_of, input_of, is_post, meaning_at, outcome, outcome_by, put_by, receipt_at, receipt_of, request_of, taking, wants, is_out_at, turn_taking, readings_if, initial_vars_of}
 use Rattle.fc_core.specs.declared.event.Event.{Event}
 use Rattle.fc_core.specs.Stage.{Stage}
 use Rattle.fc_core.specs.Stage.{ToTake, ToCommit, ToInstall, ToList, ToAnswer, ToTell}
@@ -35,6 +35,7 @@ use Rattle.fc_core.specs.Receiving.{AskWithin}
 use Rattle.fc_core.specs.Sound.{AllSafe}
 use Rattle.fc_core.specs.Stages.{first_by, first_or_turn, first_stage, image_of, made, matched_by, removed, told, took, turn_took, with_id}
 use Rattle.fc_core.specs.Rows.{Around, Scene, row, install_call, install_if}
+use Rattle.fc_registry.proofs.Installs.{installed_size}
 use Rattle.fc_core.specs.Steps.{Installs, Removes, changes_told, next_stage}
 use Rattle.fc_core.proofs.ByStep.{Step, by_move, move_by, stage_by, committed}
 use Rattle.fc_core.proofs.ByStep as steps
@@ -42,7 +43,7 @@ use Rattle.fc_core.proofs.ByStep as steps
 -- ---- slots
 
 changed_rises : (slot : Slot) (c : Change) → slot.serial < (changed slot c).serial
-changed_rises slot (Installed p) = omega arith
+changed_rises slot (Installed p v) = omega arith
 changed_rises slot (Committed c) = omega arith
 changed_rises slot Removed = omega arith
 
@@ -79,7 +80,7 @@ fits_changed job slot (ToCommit n t) cs f = (f.0, ticket_changed job slot t cs f
 fits_changed job slot (ToTell turn needs) cs f = (f.0, f.1, turn_changed job slot needs cs f.2)
 fits_changed job slot other cs f = f
 
--- a job that lists head words has yet one to read
+-- a job that lists head words has at least one left to read.
 pub fits_next : (job : Job) (slot : Slot) (s : Stage) → FitsStage job slot s → HasNext s
 fits_next job slot (ToList seen) f = f
 fits_next job slot other f = tt
@@ -118,17 +119,17 @@ committed_fits job slot n t Keeps now ws own none = own
 committed_fits job slot n t Overtakes now ws own none = retaken_fits job slot n (nat_lt n 8) none refl
 committed_fits job slot n t Ends now ws own none = tt
 
-made_fits : (job : Job) (slot : Slot) (b : Bool) (p : Program) → FitsStage job slot (made (receipt_of p 0) (put_by b slot p).answer)
-made_fits job slot true p = tt
-made_fits job slot false p = tt
+made_fits : (job : Job) (slot : Slot) (b : Bool) (p : Program) (v : InitialVars) → FitsStage job slot (made (receipt_of p 0) (put_by b slot p v).answer)
+made_fits job slot true p v = tt
+made_fits job slot false p v = tt
 
-installed_fits : (job : Job) (slot : Slot) (j : Judgement) → FitsStage job slot (next_stage (install_call j slot))
-installed_fits job slot (Accepts p) = made_fits job slot (nat_lt slot.serial last_serial) p
-installed_fits job slot (Breaks rule k) = tt
-installed_fits job slot Untypable = tt
+installed_fits : (job : Job) (slot : Slot) (v : InitialVars) (j : Judgement) → FitsStage job slot (next_stage (install_call v j slot))
+installed_fits job slot v (Accepts p) = made_fits job slot (nat_lt slot.serial last_serial) p v
+installed_fits job slot v (Breaks rule k) = tt
+installed_fits job slot v Untypable = tt
 
-verified_fits : (memory : Bool) (s : Scene) → FitsStage s.job s.slot (next_stage (install_if memory (judged (image_of s.job.ask)) s.slot))
-verified_fits true s = installed_fits s.job s.slot (judged (image_of s.job.ask))
+verified_fits : (memory : Bool) (s : Scene) → FitsStage s.job s.slot (next_stage (install_if memory (initial_vars_of s.job.ask) (judged (image_of s.job.ask)) s.slot))
+verified_fits true s = installed_fits s.job s.slot (initial_vars_of s.job.ask) (judged (image_of s.job.ask))
 verified_fits false s = tt
 
 abbrev at : Job → Slot → Around → Stage → Scene
@@ -170,7 +171,7 @@ step_fits (steps.Raises word content) job slot ws f = f
 step_fits (steps.Draws now turn found) job slot ws f = (f.0, f.1, drawn_fits job slot found (ws.common.free now) f.2)
 step_fits other job slot ws f = tt
 
--- a job that an event moved fits its slot as it was
+-- a job that an event changed fits its slot as before.
 pub row_fits : (e : Event) (job : Job) (slot : Slot) (ws : Around) (s : Stage) → FitsStage job slot s → FitsStage job slot (row e (at job slot ws s)).stage
 row_fits e job slot ws s =
     by_move (λ st m. FitsStage job slot st → FitsStage job slot m.stage) job slot ws
@@ -188,7 +189,7 @@ outcome_tests true false below e = absurd (cc)
 outcome_tests true true false e = absurd (cc)
 outcome_tests true true true e = (refl, refl)
 
--- a commit that writes finds what its ticket found
+-- a commit that writes finds the state of its ticket.
 pub writes_found : (slot : Slot) (t : Ticket) → HasGiven slot t → outcome t slot ≡ Writes → slot.present ≡ Some t.found
 writes_found slot t g e =
     let tests = outcome_tests (wants t) (slot.serial == t.serial) (nat_lt slot.serial last_serial) e in
@@ -215,17 +216,17 @@ commit_chain first cs n t now ws Keeps e g chain = chain
 commit_chain first cs n t now ws Overtakes e g chain = chain
 commit_chain first cs n t now ws Ends e g chain = chain
 
-put_chain : (first : Slot) (cs : List Change) (b : Bool) (slot : Slot) (p : Program) → IsChain first cs → IsChain first (changes_told (Installs p (put_by b slot p).answer) ++ cs)
-put_chain first cs true slot p chain = chain
-put_chain first cs false slot p chain = chain
+put_chain : (first : Slot) (cs : List Change) (b : Bool) (slot : Slot) (p : Program) (v : InitialVars) → IsChain first cs → IsChain first (changes_told (Installs p v (put_by b slot p v).answer) ++ cs)
+put_chain first cs true slot p v chain = chain
+put_chain first cs false slot p v chain = chain
 
-installed_chain : (first : Slot) (cs : List Change) (j : Judgement) (slot : Slot) → IsChain first cs → IsChain first (changes_told (install_call j slot) ++ cs)
-installed_chain first cs (Accepts p) slot chain = put_chain first cs (nat_lt slot.serial last_serial) slot p chain
-installed_chain first cs (Breaks rule k) slot chain = chain
-installed_chain first cs Untypable slot chain = chain
+installed_chain : (first : Slot) (cs : List Change) (v : InitialVars) (j : Judgement) (slot : Slot) → IsChain first cs → IsChain first (changes_told (install_call v j slot) ++ cs)
+installed_chain first cs v (Accepts p) slot chain = put_chain first cs (nat_lt slot.serial last_serial) slot p v chain
+installed_chain first cs v (Breaks rule k) slot chain = chain
+installed_chain first cs v Untypable slot chain = chain
 
-verified_chain : (memory : Bool) (first : Slot) (cs : List Change) (s : Scene) → IsChain first cs → IsChain first (changes_told (install_if memory (judged (image_of s.job.ask)) s.slot) ++ cs)
-verified_chain true first cs s chain = installed_chain first cs (judged (image_of s.job.ask)) s.slot chain
+verified_chain : (memory : Bool) (first : Slot) (cs : List Change) (s : Scene) → IsChain first cs → IsChain first (changes_told (install_if memory (initial_vars_of s.job.ask) (judged (image_of s.job.ask)) s.slot) ++ cs)
+verified_chain true first cs s chain = installed_chain first cs (initial_vars_of s.job.ask) (judged (image_of s.job.ask)) s.slot chain
 verified_chain false first cs s chain = chain
 
 clear_chain : (first : Slot) (cs : List Change) (below : Bool) (serial : ℕ) (p : Option Present) → IsChain first cs → IsChain first (changes_told (Removes (clear_by below serial p).answer) ++ cs)
@@ -250,7 +251,7 @@ request_fits : (ask : Ask) → AskWithin ask → FitsRegion (request_of ask)
 request_fits (Run request) f = record { query = f.0; payload = f.1 }
 request_fits other f = record { query = omega arith; payload = omega arith }
 
--- what a slot that fits gives to a job within its limits is an input of its program
+-- a slot that fits gives a job within its limits an input of its program.
 pub is_input : (job : Job) (p : Present) (request : Request) (readings : List ℕ) → AskWithin job.ask → request ≡ request_of job.ask → FitsPresent p → IsInput p.program (input_with request p.vars readings)
 is_input job p request readings within is fits = record { fits = subst FitsRegion (sym is) (request_fits job.ask within); vars = fits.vars }
 
@@ -267,17 +268,18 @@ commit_safe job slot n t now ws Keeps e within own fits = fits
 commit_safe job slot n t now ws Overtakes e within own fits = fits
 commit_safe job slot n t now ws Ends e within own fits = fits
 
-put_safe : (slot : Slot) (b : Bool) (p : Program) → AllSafe (changes_told (Installs p (put_by b slot p).answer)) → FitsSlot slot.present → FitsSlot (after_changes slot (changes_told (Installs p (put_by b slot p).answer))).present
-put_safe slot true p safe fits = record { safe = safe.0; vars = length-replicate p.vars_size 0 }
-put_safe slot false p safe fits = fits
+put_safe : (slot : Slot) (b : Bool) (p : Program) (v : InitialVars) → AllSafe (changes_told (Installs p v (put_by b slot p v).answer)) → FitsSlot slot.present
+    → FitsSlot (after_changes slot (changes_told (Installs p v (put_by b slot p v).answer))).present
+put_safe slot true p v safe fits = record { safe = safe.0; vars = installed_size v p (vars_in slot.present) }
+put_safe slot false p v safe fits = fits
 
-installed_safe : (slot : Slot) (j : Judgement) → AllSafe (changes_told (install_call j slot)) → FitsSlot slot.present → FitsSlot (after_changes slot (changes_told (install_call j slot))).present
-installed_safe slot (Accepts p) safe fits = put_safe slot (nat_lt slot.serial last_serial) p safe fits
-installed_safe slot (Breaks rule k) safe fits = fits
-installed_safe slot Untypable safe fits = fits
+installed_safe : (slot : Slot) (v : InitialVars) (j : Judgement) → AllSafe (changes_told (install_call v j slot)) → FitsSlot slot.present → FitsSlot (after_changes slot (changes_told (install_call v j slot))).present
+installed_safe slot v (Accepts p) safe fits = put_safe slot (nat_lt slot.serial last_serial) p v safe fits
+installed_safe slot v (Breaks rule k) safe fits = fits
+installed_safe slot v Untypable safe fits = fits
 
-verified_safe : (memory : Bool) (s : Scene) → AllSafe (changes_told (install_if memory (judged (image_of s.job.ask)) s.slot)) → FitsSlot s.slot.present → FitsSlot (after_changes s.slot (changes_told (install_if memory (judged (image_of s.job.ask)) s.slot))).present
-verified_safe true s safe fits = installed_safe s.slot (judged (image_of s.job.ask)) safe fits
+verified_safe : (memory : Bool) (s : Scene) → AllSafe (changes_told (install_if memory (initial_vars_of s.job.ask) (judged (image_of s.job.ask)) s.slot)) → FitsSlot s.slot.present → FitsSlot (after_changes s.slot (changes_told (install_if memory (initial_vars_of s.job.ask) (judged (image_of s.job.ask)) s.slot))).present
+verified_safe true s safe fits = installed_safe s.slot (initial_vars_of s.job.ask) (judged (image_of s.job.ask)) safe fits
 verified_safe false s safe fits = fits
 
 clear_safe : (slot : Slot) (below : Bool) (serial : ℕ) (p : Option Present) → FitsSlot slot.present → FitsSlot (after_changes slot (changes_told (Removes (clear_by below serial p).answer))).present

@@ -1,4 +1,4 @@
--- Whatever the event, what is seen of a history stays sound.
+-- For any event, the summary of a history stays sound.
 use Rattle.std.proofs.Common.{◌≡◌, ℕ, ◌<◌, ◌≤◌, List, [], ◌∷◌, ◌++◌, Bool, true, false, Option, Some, None, Result, Ok, Err, length, map, refl, sym, ap, ◌∙◌, subst, arith, max, if◌then◌else◌}
 use Rattle.std.specs.Prelude.{◌==◌}
 use Rattle.std.proofs.lemmas.Bool.{eqb-true}
@@ -40,7 +40,7 @@ use Rattle.fc_core.proofs.Calling.{turns_within, watched_after}
 use Rattle.fc_core.proofs.Lists.{Each, appended_all, written_all}
 use Rattle.fc_core.proofs.Fitting.{after_changes-append, first_fits, fits_changed, row_chain, row_fits, row_safe}
 
--- ---- what a delivery brings is within its limits
+-- ---- the job of a delivery is within its limits
 
 ask_within : (r : Asked) (action : Action) (body : List ℕ) → length r.query ≤ 64 → length r.payload ≤ 1024 → AskWithin (ask_by action r body)
 ask_within r (actions.Get n) body q p = (q, p)
@@ -184,7 +184,7 @@ safe_if s e k n true is a made f =
     (row_safe e (job s k) (slot_at s m) (around s (job s k).origin.slot) (stage s k) (a.within k).1 (a.stages k) made (f.slots m)))
 safe_if s e k n false is a made f = f.slots n
 
--- what the event that names a job installs is safe
+-- the install by the event that names a job is safe.
 abbrev pub IsSafeMove : Option ℕ → Event → Seen → Type 0
 IsSafeMove None e s = Unit {0}
 IsSafeMove (Some k) e s = AllSafe (row e (scene s k)).changes

@@ -9,7 +9,7 @@ abbrev pub Each : {X : Type 0} → (X → Type 0) → List X → Type 0
 Each P [] = Unit {0}
 Each P (x ∷ xs) = P x × Each P xs
 
--- what holds of each element and of one that is pushed, with the same default past the end
+-- a property of each element and of a pushed one, with the same default past the end.
 pub pushed_all : {X : Type 0} (P : X → Type 0) (xs : List X) (x d : X) → ((k : ℕ) → P (get_or xs k d)) → P x → (k : ℕ) → P (get_or (xs ++ x ∷ []) k d)
 pushed_all P xs x d all here k =
     let len : length (xs ++ x ∷ []) ≡ length xs + 1 = length-append xs (x ∷ []) in
@@ -21,14 +21,14 @@ pushed_all P xs x d all here k =
     (cases_eq k (length xs)))
     (cases_lt k (length xs))
 
--- and of several
+-- and of several.
 pub appended_all : {X : Type 0} (P : X → Type 0) (xs ys : List X) (d : X) → ((k : ℕ) → P (get_or xs k d)) → Each P ys → (k : ℕ) → P (get_or (xs ++ ys) k d)
 appended_all P xs [] d all each k = subst (λ l. P (get_or l k d)) (sym (append-nil xs)) (all k)
 appended_all P xs (y ∷ ys) d all each k =
     subst (λ l. P (get_or l k d)) (append_assoc xs (y ∷ []) ys)
     (appended_all P (xs ++ y ∷ []) ys d (pushed_all P xs y d all each.0) each.1 k)
 
--- what holds of each element and of one that is written, wherever that is
+-- a property of each element and of a written one, at any place.
 pub written_all : {X : Type 0} (P : X → Type 0) (xs : List X) (j : ℕ) (x d : X) → ((k : ℕ) → P (get_or xs k d)) → P x → (k : ℕ) → P (get_or (set xs j x) k d)
 written_all P xs j x d all here k = ⊎_elim
     (λ (e : k ≡ j). subst (λ (i : ℕ). P (get_or (set xs j x) i d)) (sym e) (⊎_elim

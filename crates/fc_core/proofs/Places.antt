@@ -1,4 +1,4 @@
--- What a search of places finds.
+-- Result of a search of places.
 use Rattle.std.proofs.Common.{◌≡◌, ℕ, zero, suc, ◌+◌, ◌*◌, ◌<◌, ◌≤◌, arith, Bool, true, false, Option, Some, None, refl, sym, ap, ◌∙◌, ⊎_elim, if◌then◌else◌}
 use Rattle.std.proofs.lemmas.Bool.{cases_lt, eqb-true}
 use Rattle.fc_registry.specs.Watches.{place_from}
@@ -41,7 +41,7 @@ none_by p n k m false here later e le lt = ⊎_elim
     (λ (above : k + 1 ≤ m). later e above (omega (arith, lt)))
     (cases_lt m (k + 1))
 
--- where none is found, none passes
+-- if none is found, none passes.
 pub none_passes : (p : ℕ → Bool) (n k m : ℕ) → place_from p n k ≡ None → k ≤ m → m < k + n → p m ≡ false
 none_passes p zero k m e le lt = absurd (omega (arith, le, lt))
 none_passes p (suc n) k m e le lt = none_by p n k m (p k) refl (none_passes p n (k + 1) m) e le lt

@@ -1,4 +1,4 @@
--- The taking of a turn's job at its shard is the row of its turn.
+-- The snapshot of a lease's job at its shard is the transition of its lease.
 use Rattle.std.proofs.Common.{◌≡◌, ℕ, ◌/◌, List, Bool, true, false, Option, Some, None, refl, sym, ap, ◌∙◌}
 use Rattle.fc_observe.specs.declared.entry.Turn.{Turn}
 use Rattle.fc_observe.specs.Calls.{ObserverCall}
@@ -19,7 +19,7 @@ use Rattle.fc_core.specs.Rows.{Common, Scene, around_of, row, scene_of, shard_af
 use Rattle.fc_core.proofs.Rejections.{same_slot}
 use Rattle.std.proofs.Common.{subst}
 
--- the answer tells whether there was memory
+-- the result says whether memory could be allocated.
 had : (out memory : Bool) (readings : List ℕ) (job : Job) (serial : ℕ) (p : Option Present)
     → let x = turn_taking out (readings_if memory readings) job serial p in x ≡ turn_taking out (readings_if (had_memory x) readings) job serial p
 had false memory readings job serial p = refl

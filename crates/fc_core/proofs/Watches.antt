@@ -1,4 +1,4 @@
--- What signals and ticks call on the observers of a slot.
+-- Calls of signals and ticks on the observers of a slot.
 use Rattle.std.proofs.Common.{◌≡◌, ℕ, ◌+◌, ◌*◌, ◌%◌, List, [], ◌∷◌, ◌++◌, Bool, true, false, Option, Some, None, max, refl, ap, ◌∙◌, sym, if◌then◌else◌}
 use Rattle.std.specs.Prelude.{◌==◌}
 use Rattle.std.proofs.lemmas.Bool.{eq-eqb, ne_eqb}
@@ -28,7 +28,7 @@ acknowledged_here s i n id to o is = called s n (signal_call false to id) ((n % 
 pub signalled_elsewhere : (s : Seen) (i n id : ℕ) (to : Endpoint) (o : Option Emission) (reset : Bool) → (n % 8 ≡ i → ⊥) → watch (and_then (did (Signal i to id reset) o) s) n ≡ watch s n
 signalled_elsewhere s i n id to o reset ne = called s n (signal_call reset to id) ((n % 8) == i) false (ne_eqb (n % 8) i ne)
 
--- by the place that is late
+-- by the place with a notification that has timed out.
 ticked_by : (s : Seen) (i n now : ℕ) (o p : Option ℕ) → o ≡ p → observers n s.policy.confirm_after ((if is_place_of o i n then TickObservers now ∷ [] else []) ++ s.calls n) ≡ observers n s.policy.confirm_after ((if is_place_of p i n then TickObservers now ∷ [] else []) ++ s.calls n)
 ticked_by s i n now o p is = ap (λ (x : Option ℕ). observers n s.policy.confirm_after ((if is_place_of x i n then TickObservers now ∷ [] else []) ++ s.calls n)) is
 

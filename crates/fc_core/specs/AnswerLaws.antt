@@ -1,4 +1,4 @@
--- What the laws of answers and moments speak of.
+-- Definitions for the laws of answers and times.
 use Rattle.std.specs.Prelude.{◌≡◌, ℕ, ◌+◌, ◌%◌, ◌==◌, ◌&&◌, ◌<◌, ◌≤◌, ◌⊎◌, nat_lt, Bool, true, false, if◌then◌else◌, List, [], ◌∷◌, ◌++◌, Option, Some, None, is_none, length, max}
 use Rattle.fc_kinds.specs.Meaning.{Program}
 use Rattle.fc_verify.specs.Accepted.{Judgement, Accepts, Breaks, Untypable}
@@ -21,11 +21,11 @@ use Rattle.fc_core.specs.Laws.{slot_of, stage_named, takings_of}
 use Rattle.fc_core.specs.Stages.{image_of}
 use Rattle.fc_core.specs.Rows.{names}
 
--- ---- where an answer comes from
+-- ---- the origin of an answer
 
--- the event, which names job k, finds the job at a stage and its slot, after so many tickets that the job took. It makes the
--- job's answer 5.03: memory was refused for a ticket or an install, the slot changed under the eighth ticket, or the slot is
--- at its last serial and is to change
+-- the event, which names job k, finds the job at a stage and its slot, after this many tickets of
+-- the job. It makes the job's answer 5.03: memory for a ticket or an install can't be allocated,
+-- the slot changed under the eighth ticket, or the slot is at its last serial and has to change.
 pub data IsUnavailable (e : Event) (k : ℕ) (j : Job) (slot : Slot) (at : Stage) (taken : ℕ) : Type 0 where
   NoTicket : (count : ℕ) (readings : List ℕ) (p : Present) (event : e ≡ Take k false readings) (is : at ≡ ToTake count) (found : slot.present ≡ Some p) → IsUnavailable e k j slot at taken
   NoMemory : (event : e ≡ Install k false) (is : at ≡ ToInstall) → IsUnavailable e k j slot at taken
@@ -34,13 +34,14 @@ pub data IsUnavailable (e : Event) (k : ℕ) (j : Job) (slot : Slot) (at : Stage
   LastInstall : (p : Program) (event : e ≡ Install k true) (is : at ≡ ToInstall) (accepted : judged (image_of j.ask) ≡ Accepts p) (last : 9223372036854775807 ≤ slot.serial) → IsUnavailable e k j slot at taken
   LastRemoval : (p : Present) (event : e ≡ Remove k) (is : at ≡ ToRemove) (found : slot.present ≡ Some p) (last : 9223372036854775807 ≤ slot.serial) → IsUnavailable e k j slot at taken
 
--- it makes the answer 4.04: the job's taking finds the slot empty, or there is nothing to describe
+-- it makes the answer 4.04: the job's snapshot finds the slot empty, or there is nothing to
+-- describe.
 pub data IsMissing (e : Event) (k : ℕ) (slot : Slot) (at : Stage) : Type 0 where
   NothingTaken : (memory : Bool) (readings : List ℕ) (count : ℕ) (event : e ≡ Take k memory readings) (is : at ≡ ToTake count) (empty : slot.present ≡ None) → IsMissing e k slot at
   NothingDescribed : (event : e ≡ Receipt k) (is : at ≡ ToDescribe) (empty : slot.present ≡ None) → IsMissing e k slot at
 
--- it installs a program: the receipt is the program's and has the slot's new serial as its version, and the program is
--- created where the slot was empty
+-- it installs a program: the receipt is the program's, with the slot's new serial as its version.
+-- The program is created exactly if the slot was empty.
 pub record IsMade (e : Event) (k : ℕ) (j : Job) (slot : Slot) (at : Stage) (receipt : Facts) (created : Bool) : Type 0 where
   pub program : Program
   pub event : e ≡ Install k true
@@ -53,14 +54,15 @@ pub record IsMade (e : Event) (k : ℕ) (j : Job) (slot : Slot) (at : Stage) (re
   pub vars : receipt.vars ≡ program.vars_size
   pub empty : created ≡ is_none slot.present
 
--- it refuses the job's image, which is judged so
+-- it refuses the job's image, with this judgement.
 pub record IsRefused (e : Event) (k : ℕ) (j : Job) (at : Stage) (judgement : Judgement) : Type 0 where
   pub event : e ≡ Install k true
   pub is : at ≡ ToInstall
   pub judged_as : judged (image_of j.ask) ≡ judgement
 
--- it commits a run, whose code, block of the reply and ticket's serial the answer has: a run that wants to write is
--- answered so only where the slot is still at its ticket's serial, below the last one
+-- it commits a run: the answer has the run's code, its block of the reply and its ticket's serial.
+-- A run that wants to write is answered only if the slot is still at its ticket's serial, below the
+-- last one.
 pub record IsRan (e : Event) (k : ℕ) (slot : Slot) (at : Stage) (run : RunAnswer) : Type 0 where
   pub now : ℕ
   pub count : ℕ
@@ -72,13 +74,14 @@ pub record IsRan (e : Event) (k : ℕ) (slot : Slot) (at : Stage) (run : RunAnsw
   pub serial : run.serial ≡ ticket.serial
   pub writes : wants ticket ≡ true → (slot.serial ≡ ticket.serial) × (slot.serial < 9223372036854775807)
 
--- it removes the slot's program, or finds none: below the last serial, or the slot is empty
+-- it removes the slot's program, or finds none: the slot is below the last serial, or empty.
 pub record IsDeleted (e : Event) (k : ℕ) (slot : Slot) (at : Stage) : Type 0 where
   pub event : e ≡ Remove k
   pub is : at ≡ ToRemove
   pub may : (slot.present ≡ None) ⊎ (slot.serial < 9223372036854775807)
 
--- it tells what the slot's program is: its version is that of its install, whatever the slot's serial
+-- it returns the receipt of the slot's program: its version is that of its install, whatever the
+-- slot's serial.
 pub record IsDescribed (e : Event) (k : ℕ) (slot : Slot) (at : Stage) (receipt : Facts) : Type 0 where
   pub found : Present
   pub event : e ≡ Receipt k
@@ -89,20 +92,20 @@ pub record IsDescribed (e : Event) (k : ℕ) (slot : Slot) (at : Stage) (receipt
   pub budget : receipt.budget ≡ found.program.budget
   pub vars : receipt.vars ≡ found.program.vars_size
 
--- one of these serials is this
+-- this serial is one of these.
 pub record HasSerial (serials : List ℕ) (serial : ℕ) : Type 0 where
   pub before : List ℕ
   pub after : List ℕ
   pub is : serials ≡ before ++ serial ∷ after
 
--- it finds the slot's head word to be that of a program at this serial, which is one of the request's ETags
+-- the slot's head word is that of a program at this serial, which is one of the request's ETags.
 pub record IsValid (e : Event) (k : ℕ) (j : Job) (words : List ℕ) (at : Stage) (serial : ℕ) : Type 0 where
   pub event : e ≡ Peek k j.origin.slot
   pub is : at ≡ ToMatch
   pub word : word_at words j.origin.slot ≡ head_word serial true
   pub asked : HasSerial j.etags.items serial
 
--- it reads the last of the 64 head words, which the job has read in the order of the slots
+-- it reads the last of the 64 head words, which the job has read in the order of the slots.
 pub record IsListed (e : Event) (k : ℕ) (words : List ℕ) (at : Stage) (list : List ℕ) : Type 0 where
   pub seen : ArrayVec ℕ
   pub event : e ≡ Peek k 63
@@ -110,7 +113,7 @@ pub record IsListed (e : Event) (k : ℕ) (words : List ℕ) (at : Stage) (list 
   pub list_is : list ≡ seen.items ++ word_at words 63 ∷ []
   pub count : length list ≡ 64
 
--- why an event makes this a job's answer
+-- the reason why an event makes this a job's answer.
 abbrev pub IsCause : Event → ℕ → Job → Slot → List ℕ → Stage → ℕ → Content → Type 0
 IsCause e k j slot words at taken (Ran run) = IsRan e k slot at run
 IsCause e k j slot words at taken Missing = IsMissing e k slot at
@@ -123,28 +126,28 @@ IsCause e k j slot words at taken Deleted = IsDeleted e k slot at
 IsCause e k j slot words at taken (Described receipt) = IsDescribed e k slot at receipt
 IsCause e k j slot words at taken (Listed list) = IsListed e k words at list
 
--- why an event after a history makes this the answer of the job that it names
+-- the reason why an event after a history makes this the answer of the job that it names.
 abbrev pub Causes : History → Entry → ℕ → Content → Type 0
 Causes h r k c = IsCause r.event k (job (seen h) k) (slot_at (seen h) (slot_of (seen h) k)) (seen h).words (stage (seen h) k) (length (takings_of h k)) c
 
--- ---- moments
+-- ---- times
 
 abbrev pub greatest : List ℕ → ℕ
 greatest [] = 0
 greatest (n ∷ ns) = max (greatest ns) n
 
--- the moment of an answer at its stage
+-- time of an answer at its stage.
 abbrev pub answer_moment : Stage → ℕ → List ℕ
 answer_moment (ToAnswer content) now = now ∷ []
 answer_moment other now = []
 
--- the moment of a turn that draws a message id
+-- time of a lease that draws a message ID.
 abbrev pub draw_moment : Stage → ℕ → List ℕ
 draw_moment (ToTell turn (turns.ToDraw found)) now = now ∷ []
 draw_moment other now = []
 
--- the moment that an event hands to the front: that of a delivery, of a tick, of an answer at its stage, or of a turn that draws a
--- message id, given or not
+-- time that an event passes to the front: that of a delivery, of a tick, of an answer at its stage,
+-- or of a lease that draws a message ID, whether or not one is available.
 abbrev pub moments_in : Event → Seen → List ℕ
 moments_in (Deliver now to bytes) s = now ∷ []
 moments_in (Tick now) s = now ∷ []
@@ -152,31 +155,31 @@ moments_in (Answer k now) s = answer_moment (stage s k) now
 moments_in (Fresh k now) s = draw_moment (stage s k) now
 moments_in other s = []
 
--- the moments that were handed to the front, the newest first
+-- times that were passed to the front, the newest first.
 abbrev pub moments_of : History → List ℕ
 moments_of (Begins serial id policy) = []
 moments_of (Then h r) = moments_in r.event (seen h) ++ moments_of h
 
--- the moment of a commit at its stage, of a turn that notifies, or of giving one up
+-- time of a commit at its stage, of a lease that notifies, or of the release of a lease.
 abbrev pub row_moment : Event → Stage → List ℕ
 row_moment (Commit k now) (ToCommit count t) = now ∷ []
 row_moment (Note k now random) (ToTell turn (turns.ToNote found id)) = now ∷ []
 row_moment (GiveUp k now) (ToTell turn needs) = now ∷ []
 row_moment other at = []
 
--- the job that is named, if one is, is of a slot of this shard
+-- whether the job that is named, if one is, belongs to a slot of this shard.
 abbrev pub is_of_shard : ℕ → Seen → Option ℕ → Bool
 is_of_shard i s None = false
 is_of_shard i s (Some k) = slot_of s k % 8 == i
 
--- the moment of an event of this shard itself, one of the eight that there are
+-- time of an event of this shard itself, one of eight.
 abbrev pub own_moment : Event → ℕ → List ℕ
 own_moment (Due shard now) i = if (shard == i) && nat_lt i 8 then now ∷ [] else []
 own_moment (ShardTick shard now) i = if (shard == i) && nat_lt i 8 then now ∷ [] else []
 own_moment other i = []
 
--- the moments that were handed to a shard, the newest first: by its own events, and by the commits, the notifications and the givings up
--- of its slots' jobs
+-- times that were passed to a shard, the newest first: by its own events, and by the commits,
+-- notifications and releases of its slots' jobs.
 abbrev pub shard_moments_of : ℕ → History → List ℕ
 shard_moments_of i (Begins serial id policy) = []
 shard_moments_of i (Then h r) =

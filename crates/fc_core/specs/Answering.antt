@@ -1,4 +1,5 @@
--- What an answer is to be: sent while the exchange is live and a message id is free, and late after that.
+-- Conditions on an answer: it is sent while the exchange is live and a message ID is available, and
+-- is too late after that.
 use Rattle.std.specs.Prelude.{ℕ, Bool, true, false, Option, Some, None}
 use Rattle.coap_msg.specs.declared.types.Emission.{Emission}
 use Rattle.fc_registry.specs.declared.job.Job.{Job}
@@ -18,11 +19,11 @@ Answers true None job content NoId = Unit {0}
 Answers false id job content Late = Unit {0}
 Answers live id job content other = ⊥
 
--- of a front that has advanced to the moment
+-- for a front that has advanced to the time.
 abbrev pub AnswersIn : FrontState → Job → Content → Answered → Type 0
 AnswersIn f job content answered = Answers (opening_is_live f.now job.origin.opening) (id_in f job.confirmable job.origin.id) job content answered
 
--- an answer whose emission was written
+-- an answer whose emission was written.
 abbrev pub responded : Responded → Emission → Answered
 responded responds.Sent emission = Sent emission
 responded responds.Late emission = Late
@@ -32,7 +33,7 @@ abbrev pub emission_of : Answered → Option Emission
 emission_of (Sent emission) = Some emission
 emission_of other = None
 
--- what it holds after an answer that was to be live or not, and that sent this
+-- the front after an answer, within the exchange's lifetime or not, that sent this.
 abbrev pub after_answered_by : Bool → Job → Option Emission → FrontState → FrontState
 after_answered_by true job emitted f = keeping job.origin.opening.number emitted (record f { ids = drawn_for job.confirmable f.ids f.now })
 after_answered_by false job emitted f = f

@@ -1,4 +1,4 @@
--- What is done about a request that is new, as it is seen.
+-- The handling of a new request.
 use Rattle.std.specs.Prelude.{◌≤◌, length, Bool, true, false}
 use Rattle.coap_msg.specs.Wire.{Message}
 use Rattle.coap_msg.specs.declared.code.TheConstants.Code as registered
@@ -18,22 +18,24 @@ new_request f to m (Serve done) request = request_received f to m (asked_by requ
 new_request f to m (Refuse answer) request = Refused m answer.byte
 new_request f to m Silent request = Silenced m
 
--- what a request is to a front that has advanced to the moment
+-- classification of a request by a front that has advanced to the time.
 abbrev pub asked_in : FrontState → Endpoint → Message → Asking (Unit {0}) → Request → Received
 asked_in f to m asking request = looked (look_in f to m) m (new_request f to m asking request)
 
--- a request that would be served is refused by 4.03 Forbidden instead where its endpoint isn't allowed to send it
+-- a request that would be served is refused by 4.03 (Forbidden) instead if its endpoint isn't
+-- allowed to send it.
 abbrev pub authorized : Bool → Asking (Unit {0}) → Asking (Unit {0})
 authorized false (Serve done) = Refuse registered.FORBIDDEN
 authorized allowed asking = asking
 
--- a request that is carried out names a resource that there is, and is within the limits of its query and its payload
+-- a request that is served names an existing resource, and is within the limits of its query and
+-- its payload.
 pub record IsServable (asked : Asked) : Type 0 where
   pub resource : IsResource (resource_in asked.action)
   pub query : length asked.query ≤ 64
   pub payload : length asked.payload ≤ 1024
 
--- a refusal has the code of a reply
+-- a refusal has the code of a response.
 abbrev pub IsAsking : Asking (Unit {0}) → Request → Type 0
 IsAsking (Serve done) request = IsServable (asked_by request)
 IsAsking (Refuse answer) request = 64 ≤ answer.byte

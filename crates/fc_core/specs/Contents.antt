@@ -1,4 +1,4 @@
--- What an answer says. What a refusal by typing names is left free.
+-- Content of an answer. The rule and the slot that a refusal by typing names are left open.
 use Rattle.std.specs.Prelude.{◌≡◌, ◌≤◌, ℕ, Bool, true, List, Option}
 use Rattle.fc_isa.specs.declared.rule.Rule.{Rule}
 use Rattle.fc_registry.specs.declared.receipt.Receipt.{Receipt}
@@ -17,8 +17,8 @@ use Rattle.fc_kinds.specs.Meaning.{Meaning}
 use Rattle.coap_block.specs.Cuts.{Part}
 use Rattle.coap_reply.specs.Blocks.{cut_for}
 
--- the answer of a run: the job that it is of, its code, the block that its request asks of the reply, if there is one, and the
--- serial that its taking found, and whether the client observes the slot from now on
+-- answer of a run: its job, its code, the requested block of the reply, if there is one, the serial
+-- of its snapshot, and whether the client observes the slot from now on.
 pub record RunAnswer : Type 0 where
   pub by : Origin
   pub code : ℕ
@@ -26,53 +26,56 @@ pub record RunAnswer : Type 0 where
   pub serial : ℕ
   pub observed : Bool
 
--- that of a run of this meaning
+-- answer of a run with this meaning.
 abbrev pub run_answer : Ticket → Meaning → Bool → RunAnswer
 run_answer t m observed = record { by = t.origin; code = m.code; cut = cut_for t.block m.reply; serial = t.serial; observed = observed }
 
 pub data Content : Type 0 where
-  -- a program ran
+  -- a program ran.
   Ran : (run : RunAnswer) → Content
-  -- the slot was empty
+  -- the slot was empty.
   Missing : Content
-  -- serials at their end, memory refused, or the eighth overtaking
+  -- the slot is at its last serial, memory can't be allocated, or the slot changed under the eighth
+  -- ticket.
   Unavailable : Content
-  -- an install, in a slot that was empty or wasn't
+  -- an install, and whether its slot was empty.
   Made : (receipt : Receipt) (created : Bool) → Content
-  -- the first rule that an image breaks, and its slot
+  -- the first rule that an image breaks, and its slot.
   Rejected : (rule : Rule) (slot : ℕ) → Content
-  -- only the typing was missing
+  -- only the typing was missing.
   Untyped : Content
-  -- the slot has this serial, of which the client has an answer
+  -- the client already has the response of the slot at this serial.
   Valid : (serial : ℕ) → Content
-  -- the slot is empty, whether or not it was before
+  -- the slot is empty, whether or not it was before.
   Deleted : Content
-  -- what the slot's program is
+  -- receipt of the slot's program.
   Described : (receipt : Receipt) → Content
-  -- the head words of all slots
+  -- the head words of all slots.
   Listed : (words : List ℕ) → Content
 
--- an outcome, a ticket and a mark are of one run: the ticket's
+-- the outcome, the ticket and the mark belong to one run, the ticket's.
 pub record AreOne (ran : Run) (t : Ticket) (m : Mark) : Type 0 where
   pub run : ran ≡ run_of t
   pub origin : m.origin ≡ t.origin
   pub serial : m.found ≡ t.serial
 
--- the mark of a commit that is done is of the outcome and the ticket, and one that wrote isn't above the last serial
+-- the mark of a commit that was done belongs to the outcome and the ticket; if it wrote, its serial
+-- isn't above the last one.
 abbrev pub AreDone : Run → Ticket → Committed → Type 0
 AreDone ran t (Done m) = AreOne ran t m × (m.changed ≡ true → m.serial ≤ last_serial)
 AreDone ran t other = Unit {0}
 
--- an install, or a removal, isn't above the last serial
+-- an install isn't above the last serial.
 abbrev pub IsMadeBelow : Install → Type 0
 IsMadeBelow (Raised serial created) = serial ≤ last_serial
 IsMadeBelow AtEnd = Unit {0}
 
+-- the same for a removal.
 abbrev pub IsRemovedBelow : Removal → Type 0
 IsRemovedBelow (removals.Removed serial) = serial ≤ last_serial
 IsRemovedBelow other = Unit {0}
 
--- what a run gave is of this job
+-- the answer of a run belongs to this job.
 abbrev pub IsOf : Job → Content → Type 0
 IsOf job (Ran run) = run.by ≡ job.origin
 IsOf job other = Unit {0}

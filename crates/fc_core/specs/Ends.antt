@@ -1,4 +1,4 @@
--- What the calls' ends say.
+-- Content of the ends of calls.
 use Rattle.std.specs.Prelude.{◌≤◌, ℕ, Bool, true, false, nat_lt, List, Option, Some, None}
 use Rattle.fc_isa.specs.Rules.{number_of}
 use Rattle.fc_isa.specs.declared.rule.Fault.{Fault}
@@ -12,7 +12,7 @@ use Rattle.fc_core.specs.declared.answer.Said.{Said}
 use Rattle.fc_core.specs.declared.answer.Said.TheVariants.{Ran, Other}
 use Rattle.fc_core.specs.Contents.{Content, Ran as Runs, Missing as Misses, Unavailable as NotNow, Made as Makes, Rejected as Rejects, Untyped, Valid, Deleted, Described, Listed}
 
--- a refusal by a rule below 20 is told as it is, one by typing without its rule and slot
+-- a refusal by a rule below 20 has its rule and slot, a refusal by typing has neither.
 abbrev pub refused_by : Bool → Fault → Content
 refused_by true f = Rejects f.rule f.slot
 refused_by false f = Untyped
@@ -32,7 +32,7 @@ content_of (Told None) = Misses
 content_of (Told (Some receipt)) = Described receipt
 content_of (Core words) = Listed words.items
 
--- the block of these bytes, if there is one
+-- block of these bytes, if there is one.
 abbrev pub part_in : Option (Option Place) → List ℕ → Option Part
 part_in None bytes = None
 part_in (Some place) bytes = Some (record { bytes = bytes; place = place })
@@ -42,7 +42,7 @@ said_of (Ran by code block serial observed) bytes =
     Runs (record { by = by; code = code.byte; cut = part_in block bytes; serial = serial; observed = observed })
 said_of (Other end) bytes = content_of end
 
--- a run's code is that of a reply, of class 2 or above
+-- the code of a run is that of a response, with class 2 or above.
 abbrev pub IsTold : Said → Type 0
 IsTold (Ran by code block serial observed) = 64 ≤ code.byte
 IsTold (Other end) = Unit {0}

@@ -1,4 +1,4 @@
--- What a front holds.
+-- State of a front.
 use Rattle.std.specs.Prelude.{ℕ, ◌+◌, Bool, nat_lt, List, [], filter, max}
 use Rattle.coap_dedup.specs.Exchanges.{Exchange}
 use Rattle.coap_dedup.specs.declared.exchange.Limits.{Limits}
@@ -10,11 +10,12 @@ use Rattle.fc_core.specs.Ids.{Ids, first_ids}
 use Rattle.fc_core.specs.declared.policy.Network.{Network}
 use Rattle.fc_core.specs.declared.policy.Policy.{Policy}
 
--- an exchange was opened less than a window before
+-- whether an exchange was opened less than EXCHANGE_LIFETIME before.
 abbrev pub opening_is_live : ℕ → Opening → Bool
 opening_is_live now opening = nat_lt now (opening.at + window)
 
--- what a front holds: the managers of its server, its limits, its moment, how many exchanges it opened, those that are live, the transfers, and the message ids of its own
+-- state of a front: the managers of its server, its limits, its time, the number of exchanges that
+-- it opened, the live exchanges, the transfers, and the message IDs that it draws.
 pub record FrontState : Type 0 where
   pub managers : List Network
   pub limits : Limits
@@ -24,18 +25,18 @@ pub record FrontState : Type 0 where
   pub transfers : List Transfer
   pub ids : Ids
 
--- a front with no exchange and no transfer, which will draw this message id first
+-- a front without exchanges and transfers, which will draw this message ID first.
 abbrev pub first_front : Policy → ℕ → FrontState
 first_front policy id = record { managers = policy.managers; limits = policy.limits; now = 0; opened = 0; held = []; transfers = []; ids = first_ids id }
 
--- a front that was handed a moment, never an earlier one
+-- a front whose clock was advanced to a time, never backwards.
 abbrev pub handed : FrontState → ℕ → FrontState
 handed f now = record f { now = max f.now now }
 
--- a front that expired the exchanges past the window
+-- a front without the exchanges whose lifetime has passed.
 abbrev pub front_expired : FrontState → FrontState
 front_expired f = record f { held = filter (is_held f.now) f.held }
 
--- a front that advanced to a moment
+-- a front that advanced to a time.
 abbrev pub advanced : FrontState → ℕ → FrontState
 advanced f now = front_expired (handed f now)

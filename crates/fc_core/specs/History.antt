@@ -1,5 +1,5 @@
--- The history of a server, and what is seen of it. A history is its beginning and the events since, each with what it emitted.
--- All that can be asked of it is one fold over its entries.
+-- History of a server, and its summary. A history is a beginning and the events since, each with
+-- its emissions. All facts about a history come from one fold over its entries.
 use Rattle.std.specs.Prelude.{ℕ, ◌+◌, ◌*◌, ◌%◌, ◌==◌, ◌&&◌, nat_lt, Bool, true, false, if◌then◌else◌, Option, Some, None, is_some, List, [], ◌∷◌, ◌++◌, length, map, filter, max, slice_index_or, slice_set}
 use Rattle.std.specs.Option.{option_to_list}
 use Rattle.coap_msg.specs.declared.types.Endpoint.{Endpoint}
@@ -11,6 +11,7 @@ use Rattle.fc_observe.specs.Calls.{ObserverCall, NextDue, Tick as TickObservers,
 use Rattle.fc_observe.specs.Observers.{ObserverList, at_moment, late_entry, next_turn}
 use Rattle.fc_registry.specs.declared.job.Ask.TheVariants.{Install as Installs}
 use Rattle.fc_registry.specs.declared.job.Job.{Job}
+use Rattle.fc_registry.specs.declared.job.InitialVars.TheVariants.{Zeros}
 use Rattle.fc_registry.specs.Slots.{Slot, new_slot}
 use Rattle.fc_registry.specs.Changes.{Change, after_changes}
 use Rattle.fc_registry.specs.Turns.{turn_given_to}
@@ -30,20 +31,23 @@ use Rattle.fc_core.specs.Heads.{no_words}
 use Rattle.fc_core.specs.Stages.{needs_id, new_task, content_at}
 use Rattle.fc_core.specs.Rows.{Around, Common, Scene, names, scene_at, row, task_moved, handed, words_after}
 
--- an event, and what it emitted
+-- an event and its emission.
 pub record Entry : Type 0 where
   pub event : Event
   pub emitted : Option Emission
 
--- a server begins with empty slots at a serial, with a message id of its own that it will draw first, and with a policy
+-- a server begins with empty slots at a serial, with the first message ID that it draws, and with a
+-- policy.
 pub data History : Type 0 where
   Begins : (serial : ℕ) (id : ℕ) (policy : Policy) → History
   Then : (before : History) (entry : Entry) → History
 
--- all that can be asked of a history: the policy, the serial at which the slots began, the greatest moment handed to the front, the
--- exchanges that were opened, the payloads of new requests, the newest first, the message ids of the server's own,
--- the jobs that came, each at its stage, the changes of each slot, the newest first, the greatest moment handed to each shard,
--- the calls on the observers of each slot, the newest first, and the head words. Exchanges and jobs are listed oldest first, since their places are their numbers.
+-- summary of a history: the policy, the first serial of the slots, and the latest time that the
+-- front was passed; the opened exchanges, the payloads of new requests, and the message IDs that
+-- the server draws; the jobs, each at its stage; of each slot its changes and the calls on its
+-- observers; the latest time that each shard was passed; and the head words. Exchanges and jobs are
+-- listed oldest first, since their positions are their numbers. Payloads, changes and calls are
+-- listed newest first.
 pub record Seen : Type 0 where
   pub policy : Policy
   pub first_serial : ℕ
@@ -65,7 +69,7 @@ begun serial id policy = record { policy = policy; first_serial = serial; moment
 abbrev pub slot_at : Seen → ℕ → Slot
 slot_at s n = after_changes (new_slot s.first_serial) (s.changes n)
 
--- the task of a number that never came
+-- task with a number that no job has.
 abbrev pub no_task : Task
 no_task = record {
   job = record {
@@ -76,7 +80,7 @@ no_task = record {
     etags = record { items = [] };
     block = None;
     observe = None;
-    ask = Installs (record { items = [] });
+    ask = Installs (record { items = [] }) Zeros;
   };
   stage = Gone;
 }
@@ -90,42 +94,42 @@ job s k = (task_at s.tasks k).job
 abbrev pub stage : Seen → ℕ → Stage
 stage s k = (task_at s.tasks k).stage
 
--- the observers of slot n
+-- observers of slot n.
 abbrev pub watch : Seen → ℕ → ObserverList
 watch s n = observers n s.policy.confirm_after (s.calls n)
 
--- what is common to the jobs of all slots
+-- inputs shared by the jobs of all slots.
 abbrev pub common : Seen → Common
 common s = record { words = s.words; free = λ now. free_id s.ids (max s.moment now) }
 
--- what there is around slot n
+-- surroundings of slot n.
 abbrev pub around : Seen → ℕ → Around
 around s n = record { common = common s; moment = s.shard_moment (n % 8); watch = watch s n }
 
--- what an event that names a job finds of it
+-- inputs of an event for the job that it names.
 abbrev pub scene : Seen → ℕ → Scene
 scene s k = scene_at (task_at s.tasks k) (slot_at s (job s k).origin.slot) (around s (job s k).origin.slot)
 
 -- ---- the front
 
--- the front at a moment: it holds the exchanges that were opened less than a window before
+-- the front at a time: it has the exchanges that were opened less than EXCHANGE_LIFETIME before.
 abbrev pub front_in : Seen → ℕ → FrontState
 front_in s at = record { managers = s.policy.managers; limits = s.policy.limits; now = at; opened = length s.exchanges; held = filter (is_held at) s.exchanges; transfers = transfers s.additions; ids = s.ids }
 
--- the front that is handed a moment: it never goes back
+-- the front after it was passed a time, which never moves it back.
 abbrev pub front_at : Seen → ℕ → FrontState
 front_at s now = front_in s (max s.moment now)
 
 abbrev pub received_at : Seen → ℕ → Endpoint → List ℕ → Received
 received_at s now to bytes = received (front_at s now) to bytes
 
--- the exchange of this number was answered by these bytes
+-- the exchange with this number was answered by these bytes.
 abbrev pub answered_in : ℕ → Option Emission → List Exchange → List Exchange
 answered_in number None exchanges = exchanges
 answered_in number (Some emission) exchanges = map (λ e. answered_if (e.number == number) emission.bytes e) exchanges
 
--- what an event does at the front: it receives a datagram there, answers a job, draws a message id for a turn, lets time pass, or
--- does nothing there
+-- effect of an event on the front: it receives a datagram, answers a job, draws a message ID for a
+-- lease, lets time pass, or has no effect there.
 pub data AtFront : Type 0 where
   Receives : (now : ℕ) (to : Endpoint) (bytes : List ℕ) → AtFront
   Answers : (job now : ℕ) → AtFront
@@ -147,7 +151,8 @@ moment_by (Draws k now) s = if needs_id (stage s k) then max s.moment now else s
 moment_by (Passes now) s = max s.moment now
 moment_by Rests s = s.moment
 
--- an exchange is opened by a delivery, which answers a refusal at once, or is answered at its job's stage
+-- a delivery opens an exchange, and answers a refusal immediately; other exchanges are answered at
+-- their job's stage.
 abbrev pub exchanges_received : Received → Endpoint → Option Emission → Seen → ℕ → List Exchange
 exchanges_received x to emitted s now = answered_in (length s.exchanges) (kept_of x emitted) (s.exchanges ++ opened_by x (next_opening (front_at s now)) to)
 
@@ -158,12 +163,12 @@ exchanges_by (Draws k now) emitted s = s.exchanges
 exchanges_by (Passes now) emitted s = s.exchanges
 exchanges_by Rests emitted s = s.exchanges
 
--- the payload of a new request, which begins or goes on with a transfer where it has a block
+-- payload of a new request, which begins or continues a transfer if it has a block.
 abbrev pub additions_by : AtFront → Seen → List Addition
 additions_by (Receives now to bytes) s = added_by (received_at s now to bytes) (max s.moment now) to
 additions_by other s = []
 
--- an answer in time to a request that isn't confirmable draws a message id
+-- an answer within the lifetime to a request that isn't confirmable draws a message ID.
 abbrev pub ids_answered : Option Content → Bool → Bool → Ids → ℕ → Ids
 ids_answered (Some content) true confirmable ids at = drawn_for confirmable ids at
 ids_answered content live confirmable ids at = ids
@@ -175,7 +180,7 @@ ids_by (Draws k now) s = if needs_id (stage s k) then drawn s.ids (max s.moment 
 ids_by (Passes now) s = s.ids
 ids_by Rests s = s.ids
 
--- the jobs that the front hands out
+-- jobs that the front produces.
 abbrev pub tasks_by : AtFront → Seen → List Task
 tasks_by (Receives now to bytes) s = map new_task (brought (received_at s now to bytes) (next_opening (front_at s now)) to)
 tasks_by other s = []
@@ -194,8 +199,9 @@ abbrev pub shard_moment_after : Option ℕ → Event → Seen → ℕ → ℕ
 shard_moment_after None e s i = s.shard_moment i
 shard_moment_after (Some k) e s i = if (job s k).origin.slot % 8 == i then handed (row e (scene s k)).hands (s.shard_moment i) else s.shard_moment i
 
--- what an event does at a shard of its own, rather than at that of a job's slot: it asks for the turn of an observer of its slots,
--- carries a signal to them all, lets time pass there, or does nothing there
+-- effect of an event on its own shard, rather than on that of a job's slot: it requests the lease
+-- of an observer of its slots, passes a signal to them all, lets time pass there, or has no effect
+-- there.
 pub data AtShard : Type 0 where
   AsksTurn : (shard now : ℕ) → AtShard
   Signals : (shard : ℕ) (to : Endpoint) (id : ℕ) (reset : Bool) → AtShard
@@ -208,42 +214,44 @@ at_shard (Signal shard to id reset) = Signals shard to id reset
 at_shard (ShardTick shard now) = Ticks shard now
 at_shard other = Calm
 
--- the moment that it hands to a shard, of the eight that there are
+-- time that it passes to a shard, one of eight.
 abbrev pub hands_by : AtShard → ℕ → Option ℕ
 hands_by (AsksTurn shard now) i = if (shard == i) && nat_lt i 8 then Some now else None
 hands_by (Ticks shard now) i = if (shard == i) && nat_lt i 8 then Some now else None
 hands_by other i = None
 
--- the greatest word raised for each slot
+-- the greatest head word raised for each slot.
 abbrev pub words_seen : Option ℕ → Event → Seen → List ℕ
 words_seen None e s = s.words
 words_seen (Some k) e s = words_after (row e (scene s k)) (task_at s.tasks k) s.words
 
 -- ---- calls on the observers
 
--- the slot at a place of shard i, 8 k + i, has a notification that is late at a moment
+-- whether the slot at a place of shard i, 8 k + i, has a notification that has timed out at this
+-- time.
 abbrev pub is_late_at : Seen → ℕ → ℕ → ℕ → Bool
 is_late_at s i at k = is_some (late_entry (at_moment at (watch s (8 * k + i))))
 
--- the first such place; a shard above 7 has none
+-- the first such place; a shard above 7 has none.
 unfoldable pub late_in : Seen → ℕ → ℕ → Option ℕ
 late_in s i at = if nat_lt i 8 then place_from (is_late_at s i at) 8 0 else None
 
--- the slot at a place of shard i has an observer that is due at a moment
+-- whether the slot at a place of shard i has an observer with a pending notification at this time.
 abbrev pub is_due_at : Seen → ℕ → ℕ → ℕ → Bool
 is_due_at s i at k = is_some (next_turn (slot_at s (8 * k + i)).noticed (at_moment at (watch s (8 * k + i))))
 
--- the first such place
+-- the first such place.
 unfoldable pub due_in : Seen → ℕ → ℕ → Option ℕ
 due_in s i at = if nat_lt i 8 then place_from (is_due_at s i at) 8 0 else None
 
--- the place, if there is one, is that of slot n
+-- whether the place, if there is one, is that of slot n.
 abbrev pub is_place_of : Option ℕ → ℕ → ℕ → Bool
 is_place_of None i n = false
 is_place_of (Some k) i n = (8 * k + i) == n
 
--- what it calls on the observers of slot n: a turn is the first observer's that is due, a signal is for all of its shard, a tick for
--- the first with a late notification
+-- its calls on the observers of slot n: a lease goes to the first observer with a pending
+-- notification, and a signal to all slots of its shard; a tick goes to the first with a
+-- notification that has timed out.
 abbrev pub calls_by : AtShard → Seen → ℕ → List ObserverCall
 calls_by (AsksTurn shard now) s n =
     if is_place_of (due_in s shard (max (s.shard_moment shard) now)) shard n
@@ -256,21 +264,21 @@ calls_by (Ticks shard now) s n =
     else []
 calls_by Calm s n = []
 
--- the job of the turn that is given at a place of shard i, if there is one
+-- job of the lease that is granted at a place of shard i, if there is one.
 abbrev pub turn_at : Option ℕ → Seen → ℕ → ℕ → Option Job
 turn_at None s i at = None
 turn_at (Some k) s i at = turn_given_to (8 * k + i) at (slot_at s (8 * k + i)).noticed (watch s (8 * k + i))
 
--- the jobs that it brings
+-- jobs that it produces.
 abbrev pub turns_by : AtShard → Seen → List Task
 turns_by (AsksTurn shard now) s = map new_task (option_to_list (turn_at (due_in s shard (max (s.shard_moment shard) now)) s shard (max (s.shard_moment shard) now)))
 turns_by other s = []
 
--- the jobs that an event brings: a turn, or a request
+-- jobs that an event produces: a lease, or a request.
 abbrev pub tasks_brought : Event → Seen → List Task
 tasks_brought e s = turns_by (at_shard e) s ++ tasks_by (at_front e) s
 
--- what an event calls on the observers of the slot of the job that it names
+-- calls of an event on the observers of the slot of the job that it names.
 abbrev pub calls_named : Option ℕ → Event → Seen → ℕ → List ObserverCall
 calls_named None e s n = []
 calls_named (Some k) e s n = if (job s k).origin.slot == n then (row e (scene s k)).calls else []
@@ -299,12 +307,12 @@ seen (Then h r) = and_then r (seen h)
 abbrev pub did : Event → Option Emission → Entry
 did event emitted = record { event = event; emitted = emitted }
 
--- the history of these events, which emitted these, after h
+-- history h continued by these events with these emissions.
 abbrev pub history_after : History → List Event → List (Option Emission) → History
 history_after h [] os = h
 history_after h (e ∷ es) [] = h
 history_after h (e ∷ es) (o ∷ os) = history_after (Then h (did e o)) es os
 
--- of a server that begins at serial 0 and message id 0, with the default policy
+-- for a server that begins at serial 0 and message ID 0, with the default policy.
 abbrev pub history_of : List Event → List (Option Emission) → History
 history_of events emissions = history_after (Begins 0 0 default_policy) events emissions

@@ -1,4 +1,4 @@
--- What the laws of jobs speak of.
+-- Definitions for the laws of jobs.
 use Rattle.std.specs.Prelude.{◌≡◌, ℕ, ◌+◌, ◌-◌, ◌<◌, ◌==◌, Bool, true, false, not, if◌then◌else◌, Option, Some, None, List, [], ◌∷◌, ◌++◌, length}
 use Rattle.fc_registry.specs.declared.job.Job.{Job}
 use Rattle.fc_registry.specs.Slots.{Present, Ticket}
@@ -16,13 +16,14 @@ use Rattle.fc_core.specs.History.{Entry, History, Begins, Then, Seen, seen, job,
 
 -- ---- strays
 
--- a job of slot own needs a look at the head word of slot n: of its own, or of the one after those that it has seen
+-- whether a job of slot `own` needs the head word of slot n: that of its own slot, or of the slot
+-- after those that it has read.
 abbrev pub needs_word : ℕ → ℕ → Stage → Bool
 needs_word own n ToMatch = n == own
 needs_word own n (ToList seen) = n == length seen.items
 needs_word own n other = false
 
--- the job that the event names, which is of slot own, isn't at the stage that the event needs
+-- whether the job that the event names, of slot `own`, isn't at the stage that the event needs.
 abbrev pub is_stray_at : Event → ℕ → Stage → Bool
 is_stray_at (Peek k n) own at = not (needs_word own n at)
 is_stray_at (Take k memory readings) own (ToTake count) = false
@@ -45,7 +46,7 @@ is_stray_at (Signal shard to id reset) own at = false
 is_stray_at (ShardTick shard now) own at = false
 is_stray_at other own at = true
 
--- the stage of the job that is named, if one is, and its slot
+-- stage of the job that is named, if one is, and its slot.
 abbrev pub stage_named : Seen → Option ℕ → Stage
 stage_named s None = Gone
 stage_named s (Some k) = stage s k
@@ -59,11 +60,11 @@ is_stray s e = is_stray_at e (own_of_named s (names e)) (stage_named s (names e)
 
 -- ---- jobs
 
--- the job of this number came
+-- the job with this number has arrived.
 abbrev pub HasCome : Seen → ℕ → Type 0
 HasCome s k = k < length s.tasks
 
--- the event names the job of this number
+-- whether the event names the job with this number.
 abbrev pub is_job : ℕ → Option ℕ → Bool
 is_job k None = false
 is_job k (Some j) = j == k
@@ -71,23 +72,23 @@ is_job k (Some j) = j == k
 abbrev pub is_named : ℕ → Event → Bool
 is_named k e = is_job k (names e)
 
--- the slot of the job of this number
+-- slot of the job with this number.
 abbrev pub slot_of : Seen → ℕ → ℕ
 slot_of s k = (job s k).origin.slot
 
--- ---- takings
+-- ---- snapshots
 
--- a taking that gave a ticket, and the changes of the slot before it, the newest first
+-- a snapshot that gave a ticket, and the earlier changes of the slot, the newest first.
 pub record Taking : Type 0 where
   pub ticket : Ticket
   pub changes : List Change
 
--- a ticket of what the slot holds, if it holds a program, with the readings that are handed in
+-- a ticket of the slot's state, if it has a program, with these readings.
 abbrev pub finds : Job → List ℕ → ℕ → Option Present → List Change → List Taking
 finds j readings serial None changes = []
 finds j readings serial (Some found) changes = record { ticket = ticket_of j readings serial found; changes = changes } ∷ []
 
--- a turn that is out no longer takes none
+-- a lease that isn't out any more takes no snapshot.
 abbrev pub finds_if : Bool → Job → List ℕ → ℕ → Option Present → List Change → List Taking
 finds_if true j readings serial present changes = finds j readings serial present changes
 finds_if false j readings serial present changes = []
@@ -97,12 +98,13 @@ gives_at readings s (ToTake count) changes = finds s.job readings s.slot.serial 
 gives_at readings s (ToTell turn turns.ToTake) changes = finds_if (is_out_at turn s.around.moment s.around.watch) s.job readings s.slot.serial s.slot.present changes
 gives_at readings s other changes = []
 
--- what an event gives to the job that it names: a taking at its stage gives a ticket, where there is memory for it
+-- snapshots that an event gives to the job that it names: a take at its stage gives a ticket if
+-- memory for it can be allocated.
 abbrev pub gives : Event → Scene → List Change → List Taking
 gives (Take k true readings) s changes = gives_at readings s s.stage changes
 gives other s changes = []
 
--- the takings that gave a ticket to the job of this number, the newest first
+-- snapshots that gave a ticket to the job with this number, the newest first.
 abbrev pub takings_of : History → ℕ → List Taking
 takings_of (Begins serial id policy) k = []
 takings_of (Then h r) k =
@@ -110,24 +112,24 @@ takings_of (Then h r) k =
     then gives r.event (scene (seen h) k) ((seen h).changes (slot_of (seen h) k)) ++ takings_of h k
     else takings_of h k
 
--- the newest of these takings gave this ticket
+-- the newest of these snapshots gave this ticket.
 abbrev pub IsNewest : List Taking → Ticket → Type 0
 IsNewest [] t = ⊥
 IsNewest (x ∷ xs) t = x.ticket ≡ t
 
--- a run's answer is of the newest of these takings: the code that its program means, the block of the reply that its request asks,
--- and the serial that the taking found
+-- a run's answer comes from the newest of these snapshots: the code that its program means, the
+-- block of the reply that its request names, and the serial of the snapshot.
 abbrev pub IsOfNewest : List Taking → RunAnswer → Type 0
 IsOfNewest [] run = ⊥
 IsOfNewest (t ∷ ts) run = (run.code ≡ (meaning_at t.ticket).code) × (run.cut ≡ cut_for t.ticket.block (meaning_at t.ticket).reply) × (run.serial ≡ t.ticket.serial)
 
--- the answer that a job is about to give, once its slot's new head word is published
+-- the answer that a job is about to give, after its slot's new head word is published.
 abbrev pub answer_at : Stage → Option Content
 answer_at (ToRaise word content) = Some content
 answer_at (ToAnswer content) = Some content
 answer_at other = None
 
--- at the commit of a run that wants to write, the slot is at another serial than the job's ticket
+-- at the commit of a run that wants to write, the slot is at another serial than the job's ticket.
 pub record IsOvertaken (s : Seen) (k : ℕ) : Type 0 where
   pub count : ℕ
   pub ticket : Ticket
@@ -135,19 +137,19 @@ pub record IsOvertaken (s : Seen) (k : ℕ) : Type 0 where
   pub wants : wants ticket ≡ true
   pub other : (slot_at s (slot_of s k)).serial ≡ ticket.serial → ⊥
 
--- a job that is to take a ticket
+-- a job that needs a snapshot.
 abbrev pub TakesAgain : Stage → Type 0
 TakesAgain (ToTake count) = Unit {0}
 TakesAgain other = ⊥
 
 -- ---- answers
 
--- the job that the event names is answered
+-- whether the event answers the job that it names.
 abbrev pub is_answered : Event → Stage → Bool
 is_answered (Answer k now) (ToAnswer content) = true
 is_answered other at = false
 
--- how many times a job was answered
+-- number of answers to a job.
 abbrev pub answers_of : History → ℕ → ℕ
 answers_of (Begins serial id policy) k = 0
 answers_of (Then h r) k =
@@ -157,7 +159,7 @@ answers_of (Then h r) k =
 
 -- ---- changes
 
--- how many times an event that named the job changed its slot
+-- number of changes of the job's slot by events that named the job.
 abbrev pub changes_by : History → ℕ → ℕ
 changes_by (Begins serial id policy) k = 0
 changes_by (Then h r) k =
@@ -165,9 +167,9 @@ changes_by (Then h r) k =
     then changes_by h k + (length ((seen (Then h r)).changes (slot_of (seen h) k)) - length ((seen h).changes (slot_of (seen h) k)))
     else changes_by h k
 
--- ---- what follows
+-- ---- continuations
 
--- a history and what happened after it
+-- a history and the later entries.
 abbrev pub followed_by : History → List Entry → History
 followed_by h [] = h
 followed_by h (r ∷ rs) = followed_by (Then h r) rs

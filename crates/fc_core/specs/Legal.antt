@@ -1,4 +1,4 @@
--- What each event may emit: exactly this, and nothing else. And what a taking finds has a meaning.
+-- The permitted emissions of each event, and no other. And the meaning of each snapshot.
 use Rattle.std.specs.Prelude.{◌≡◌, ℕ, ◌+◌, ◌*◌, ◌≤◌, Bool, true, false, List, Option, Some, None, max}
 use Rattle.coap_msg.specs.declared.types.Emission.{Emission}
 use Rattle.fc_image.specs.Paths.{IsLongest}
@@ -22,7 +22,8 @@ use Rattle.fc_core.specs.Stages.{content_at}
 use Rattle.fc_core.specs.Rows.{Scene, names, sends}
 use Rattle.fc_core.specs.History.{AtFront, Receives, Answers, Draws, Passes, Rests, AtShard, Ticks, History, Begins, Then, Seen, seen, at_front, at_shard, front_at, received_at, job, late_in, stage, scene, watch}
 
--- a job's answer goes out while its exchange is live and a message id is free, and not after
+-- a job's answer is sent while its exchange is live and a message ID is available, and not
+-- otherwise.
 abbrev pub IsAnswered : Bool → Option ℕ → Job → Content → Option Emission → Type 0
 IsAnswered true (Some id) j content None = ⊥
 IsAnswered true (Some id) j content (Some emission) = IsReplyTo j id content emission
@@ -33,28 +34,28 @@ abbrev pub AnswerEmits : Option Content → Job → FrontState → Option Emissi
 AnswerEmits None j f emitted = emitted ≡ None
 AnswerEmits (Some content) j f emitted = IsAnswered (opening_is_live f.now j.origin.opening) (id_in f j.confirmable j.origin.id) j content emitted
 
--- what a tick sends again
+-- retransmission of a tick.
 abbrev pub resent : Ticked → Option Emission
 resent (Resend emission) = Some emission
 resent other = None
 
--- at a place of shard i, at a moment
+-- retransmission of a tick at a place of shard i, at this time; none without a place.
 abbrev pub resent_at : Option ℕ → Seen → ℕ → ℕ → Option Emission
 resent_at None s i at = None
 resent_at (Some k) s i at = resent (ticked (at_moment at (watch s (8 * k + i))))
 
--- what an event sends again at a shard of its own
+-- retransmission of an event at its own shard.
 abbrev pub resent_in : AtShard → Seen → Option Emission
 resent_in (Ticks i now) s = resent_at (late_in s i (max (s.shard_moment i) now)) s i (max (s.shard_moment i) now)
 resent_in other s = None
 
--- what an event sends that does nothing at the front: the notification of the job that it names, or what is sent again at its own
--- shard
+-- emission of an event without an effect on the front: the notification of the job that it names,
+-- or a retransmission of its own shard.
 abbrev pub sends_in : Option ℕ → Event → Seen → Option Emission
 sends_in None e s = resent_in (at_shard e) s
 sends_in (Some k) e s = sends e (scene s k)
 
--- what an event may emit, by what it does at the front
+-- permitted emissions of an event, by its effect on the front.
 abbrev pub EmitsBy : AtFront → Event → Seen → Option Emission → Type 0
 EmitsBy (Receives now to bytes) e s emitted = emitted ≡ sent (received_at s now to bytes) (front_at s now) to
 EmitsBy (Answers k now) e s emitted = AnswerEmits (content_at (stage s k)) (job s k) (front_at s now) emitted
@@ -65,19 +66,20 @@ EmitsBy Rests e s emitted = emitted ≡ sends_in (names e) e s
 abbrev pub Emits : Seen → Event → Option Emission → Type 0
 Emits s e emitted = EmitsBy (at_front e) e s emitted
 
--- each event emitted what it may
+-- each event emitted only permitted datagrams.
 abbrev pub IsLegal : History → Type 0
 IsLegal (Begins serial id policy) = Unit {0}
 IsLegal (Then h r) = Emits (seen h) r.event r.emitted × IsLegal h
 
--- a ticket's program has a meaning for its request, and the variables and readings that were found: the run reaches its exit, in at most
--- the steps of the longest path, which are at most the budget
+-- a ticket's program has a meaning for its request and the variables and readings of the snapshot:
+-- the run reaches its exit, in at most the steps of the longest path, which are at most the budget.
 pub record IsMeant (t : Ticket) : Type 0 where
   pub run : IsRun t.found.program (input_of t)
   pub longest : IsLongest t.found.program.version t.found.program.code t.found.program.cost
   pub cost : t.found.program.cost ≤ t.found.program.budget
 
--- what a job finds in its slot at this serial, if it is a program, has a meaning for the job's request and these readings
+-- the program that a job finds in its slot at this serial, if there is one, has a meaning for the
+-- job's request and these readings.
 abbrev pub FoundMeans : Job → List ℕ → ℕ → Option Present → Type 0
 FoundMeans j readings serial None = Unit {0}
 FoundMeans j readings serial (Some found) = IsMeant (ticket_of j readings serial found)
@@ -87,7 +89,8 @@ FindsMeaning readings s (ToTake count) = FoundMeans s.job readings s.slot.serial
 FindsMeaning readings s (ToTell turn turns.ToTake) = FoundMeans s.job readings s.slot.serial s.slot.present
 FindsMeaning readings s other = Unit {0}
 
--- a taking at its stage that finds a program finds one with a meaning, whether or not there is memory for a ticket
+-- a snapshot at its stage that finds a program finds one with a meaning, whether or not memory for
+-- a ticket can be allocated.
 abbrev pub TakesMeaning : Seen → Event → Type 0
 TakesMeaning s (Take k memory readings) = FindsMeaning readings (scene s k) (stage s k)
 TakesMeaning s other = Unit {0}

@@ -1,17 +1,17 @@
--- The list of the slots that have a program, as links (RFC 6690, 2).
+-- List of the slots that have a program, as links (RFC 6690, section 2).
 use Rattle.std.specs.Prelude.{ℕ, ◌+◌, if◌then◌else◌, List, [], ◌∷◌, ◌++◌, codes, drop}
 use Rattle.std.specs.Fmt.{decimal}
 use Rattle.fc_core.specs.Heads.{is_present}
 
--- the link of slot n's resource, which may be observed (RFC 7641, 6), after a comma
+-- link to slot n's resource, which may be observed (RFC 7641, section 6), after a comma.
 abbrev pub link : ℕ → List ℕ
 link n = codes ",</r/" ++ (decimal n ++ codes ">;obs")
 
--- the links of the slots that have a program, by their head words, from slot n on
+-- links to the slots that have a program, by their head words, from slot n on.
 abbrev pub links_from : ℕ → List ℕ → List ℕ
 links_from n [] = []
 links_from n (word ∷ words) = (if is_present word then link n else []) ++ links_from (n + 1) words
 
--- those of all slots, parted by commas
+-- links of all slots, separated by commas.
 abbrev pub links_text : List ℕ → List ℕ
 links_text words = drop 1 (links_from 0 words)

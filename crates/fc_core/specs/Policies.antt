@@ -1,4 +1,4 @@
--- A server's allow list and table limits.
+-- Allow list and table limits of a server.
 use Rattle.std.specs.Prelude.{ℕ, ◌-◌, ◌/◌, ◌^◌, ◌==◌, ◌||◌, not, Bool, true, false, List, [], ◌∷◌}
 use Rattle.std.specs.List.{list_any}
 use Rattle.coap_msg.specs.declared.types.Endpoint.{Endpoint}
@@ -8,30 +8,31 @@ use Rattle.coap_dedup.specs.Keys.{address_number}
 use Rattle.fc_core.specs.declared.policy.Network.{Network}
 use Rattle.fc_core.specs.declared.policy.Policy.{Policy}
 
--- the address begins with the network's bits
+-- whether the address begins with the network's bits.
 abbrev pub is_in : List ℕ → Network → Bool
 is_in ip n = address_number ip / 2 ^ (32 - n.bits) == address_number n.ip / 2 ^ (32 - n.bits)
 
--- its address is in one of these networks
+-- whether its address is in one of these networks.
 abbrev pub is_manager : List Network → Endpoint → Bool
 is_manager managers to = list_any (is_in to.ip) managers
 
--- a PUT or a DELETE on /p/N changes which program slot N holds
+-- whether the action changes slot N's program: a PUT or a DELETE on /p/N.
 abbrev pub changes_program : Action → Bool
 changes_program (actions.Install n) = true
 changes_program (actions.Remove n) = true
 changes_program other = false
 
--- an endpoint is allowed an action: a manager each, the others what changes no program
+-- whether an endpoint is allowed an action: managers are allowed each action, others those that
+-- change no program.
 abbrev pub is_allowed : List Network → Endpoint → Action → Bool
 is_allowed managers to action = not (changes_program action) || is_manager managers to
 
--- the network of all addresses
+-- the network of all addresses.
 abbrev pub any_address : Network
 any_address = record { ip = 0 ∷ 0 ∷ 0 ∷ 0 ∷ []; bits = 0 }
 
--- any address is a manager's, 1,024 exchanges are held, which may all be of one address, and a notification is confirmable after
--- 24 hours, in ms
+-- each address is a manager's; up to 1,024 exchanges are stored, and all of them may belong to one
+-- address; a notification is confirmable after 24 hours, in ms.
 abbrev pub default_policy : Policy
 default_policy = record {
   managers = any_address ∷ any_address ∷ any_address ∷ any_address ∷ [];

@@ -1,5 +1,7 @@
--- What a datagram is to a front: it is classified once, and what it opens, brings, draws and sends follow from that.
-use Rattle.std.specs.Prelude.{ℕ, ◌+◌, ◌<◌, ◌≤◌, ◌||◌, Bool, true, false, List, [], ◌∷◌, ◌++◌, length, map, Option, Some, None, Result, Ok, Err}
+-- Handling of a datagram by a front: it is classified once, and this determines the exchange that
+-- it opens, its job, the message ID that is drawn, and the response.
+use Rattle.std.specs.Prelude.{ℕ, ◌+◌, ◌<◌, ◌≤◌, ◌||◌, Bool, true, false, if◌then◌else◌, List, [], ◌∷◌, ◌++◌, length, map, codes, Option, Some, None, Result, Ok, Err}
+use Rattle.std.specs.Str.{bytes_eq}
 use Rattle.coap_msg.specs.declared.types.Bad.{Bad}
 use Rattle.coap_msg.specs.declared.types.Bad.TheVariants as bad
 use Rattle.coap_msg.specs.declared.types.Endpoint.{Endpoint}
@@ -29,6 +31,8 @@ use Rattle.fc_registry.specs.declared.job.Opening.{Opening}
 use Rattle.fc_registry.specs.declared.job.Ask.{Ask}
 use Rattle.fc_registry.specs.declared.job.Ask.TheVariants.{Run, Install, Remove, Describe, Discover}
 use Rattle.fc_registry.specs.declared.job.Job.{Job}
+use Rattle.fc_registry.specs.declared.job.InitialVars.{InitialVars}
+use Rattle.fc_registry.specs.declared.job.InitialVars.TheVariants.{Zeros, Kept}
 use Rattle.fc_registry.specs.declared.observe.TheConstants as observe
 use Rattle.fc_registry.specs.Calls.{has_observe}
 use Rattle.fc_core.specs.declared.front.Delivered.{Delivered}
@@ -44,26 +48,28 @@ use Rattle.fc_core.specs.Policies.{is_allowed}
 
 pub data Received : Type 0 where
   Ignored : Received
-  -- rejected by a Reset message with this id (RFC 7252, 4.2 and 4.3)
+  -- rejected by a Reset message with this message ID (RFC 7252, sections 4.2 and 4.3).
   Rejected : (id : ℕ) → Received
-  -- an acknowledgement or a reset of the message that was sent with this id
+  -- an acknowledgement or a reset of the message that was sent with this message ID.
   Signals : (id : ℕ) (reset : Bool) → Received
-  -- a request that gets no reply: a repeat of one in progress, or of a non-confirmable one that was answered; or a non-confirmable one above
-  -- its address' share
+  -- a request without a response: a duplicate of one in progress, or of an answered non-confirmable
+  -- one; or a non-confirmable one above its address's share.
   Unanswered : Received
-  -- a repeat of a confirmable request that was answered by these bytes
+  -- a duplicate of a confirmable request that was answered by these bytes.
   Again : (bytes : List ℕ) → Received
-  -- a new request, without room for its exchange, that is answered 5.03
+  -- a new request without space for its exchange, which is answered 5.03.
   Full : (m : Message) → Received
-  -- a new request that gets no answer, or that is refused by a code
+  -- a new request that gets no response, or that is refused by a code.
   Silenced : (m : Message) → Received
   Refused : (m : Message) (answer : ℕ) → Received
-  -- a block that is answered at once: it is refused, or more are to follow (RFC 7959, 2.9)
+  -- a block that is answered immediately: it is refused, or isn't the last one (RFC 7959, section
+  -- 2.9).
   Settled : (m : Message) (asked : Asked) (response : Response) → Received
-  -- a new request that is carried out, with its whole body (RFC 7959, 2.5)
+  -- a new request that is served, with its complete body (RFC 7959, section 2.5).
   Opened : (m : Message) (asked : Asked) (body : List ℕ) → Received
 
--- the slot of a resource; the list of what is there is of no slot, and its job stands at slot 0, which it reads no more than the others
+-- slot of a resource; the list of slots belongs to no slot, and its job has slot 0, which it reads
+-- like the others.
 abbrev pub slot_of_resource : Resource → ℕ
 slot_of_resource (resources.Run n) = n
 slot_of_resource (resources.Program n) = n
@@ -72,8 +78,9 @@ slot_of_resource resources.Core = 0
 abbrev pub slot_asked : Action → ℕ
 slot_asked action = slot_of_resource (resource_in action)
 
--- a request by what becomes of its payload: 2.31 Continue with its Block1, 4.08 Request Entity Incomplete, 4.00 Bad Request, 4.13
--- Request Entity Too Large, 5.03 Service Unavailable
+-- classification of a request by the result for its payload: 2.31 (Continue) with its Block1, 4.08
+-- (Request Entity Incomplete), 4.00 (Bad Request), 4.13 (Request Entity Too Large), 5.03 (Service
+-- Unavailable).
 abbrev pub received_added : Add → Message → Asked → Received
 received_added (IsWhole body) m r = Opened m r body
 received_added Continues m r = Settled m r (settled_by (code 2 31) r.block1)
@@ -82,11 +89,12 @@ received_added IsBadLength m r = Settled m r (bare (code 4 0))
 received_added IsTooLarge m r = Settled m r (bare (code 4 13))
 received_added IsFull m r = Settled m r (bare (code 5 3))
 
--- what becomes of the payload of a request; without Block1 it is the whole body
+-- result for the payload of a request; without Block1 it is the complete body.
 abbrev pub add_in : FrontState → Endpoint → Asked → Add
 add_in f to r = add_of f.transfers f.now to (slot_asked r.action) r.block1 r.payload
 
--- a request that its endpoint isn't allowed to send is refused by 4.03 Forbidden, and its payload is added to no transfer
+-- a request that its endpoint isn't allowed to send is refused by 4.03 (Forbidden), and its payload
+-- is added to no transfer.
 abbrev pub received_if : Bool → FrontState → Endpoint → Message → Asked → Received
 received_if true f to m r = received_added (add_in f to r) m r
 received_if false f to m r = Refused m (code 4 3)
@@ -98,13 +106,14 @@ abbrev pub is_confirmable : MessageType → Bool
 is_confirmable Confirmable = true
 is_confirmable other = false
 
--- a new request of an address that has its whole share: a reply to a non-confirmable one would take a message id of the server's own, so it is
--- ignored (RFC 7252, 4.3)
+-- a new request from an address that has used its share: the response to a non-confirmable one
+-- would need a message ID of the server, so it is ignored (RFC 7252, section 4.3).
 abbrev pub over_share : Bool → Message → Received
 over_share true m = Full m
 over_share false m = Unanswered
 
--- a request by what it is to the exchanges that are held; the last argument is what it is where it is new
+-- classification of a request by the stored exchanges; the last argument is the classification of a
+-- new request.
 abbrev pub looked : Look → Message → Received → Received
 looked IsNew m new = new
 looked IsBusy m new = Unanswered
@@ -129,36 +138,41 @@ received_read f to (Ok m) = received_as f to m (verdict m)
 received_read f to (Err bad.Ignore) = Ignored
 received_read f to (Err (bad.Reset id)) = Rejected id
 
--- what a datagram from an endpoint is to a front that has advanced to the moment
+-- classification of a datagram from an endpoint by a front that has advanced to the time.
 unfoldable pub received : FrontState → Endpoint → List ℕ → Received
 received f to bytes = received_read f to (reading_of bytes)
 
--- ---- the job that a request brings
+-- ---- the job of a request
 
--- the request that slot N's program is to answer
+-- request to slot N's program.
 abbrev pub request_asked : Verb → ℕ → Asked → Request
 request_asked method n r = record { method = method; slot = n; content_format = r.content_format; query = r.query; payload = r.payload }
 
--- a GET or POST on /r/N asks slot N's program; on /p/N a PUT installs its body, a DELETE removes slot N's program, and a GET
--- tells what it is; a GET on /.well-known/core lists the slots that have one
+-- an install keeps the variables if `keep` is its whole query; any other query has no effect.
+abbrev pub initial_vars_by : List ℕ → InitialVars
+initial_vars_by query = if bytes_eq query (codes "keep") then Kept else Zeros
+
+-- a GET or POST on /r/N runs slot N's program; on /p/N a PUT installs its body, a DELETE removes
+-- slot N's program, and a GET reads its receipt; a GET on /.well-known/core lists the slots that
+-- have a program.
 abbrev pub ask_by : Action → Asked → List ℕ → Ask
 ask_by (actions.Get n) r body = Run (request_asked Get n r)
 ask_by (actions.Post n) r body = Run (request_asked Post n r)
-ask_by (actions.Install n) r body = Install (record { items = body })
+ask_by (actions.Install n) r body = Install (record { items = body }) (initial_vars_by r.query)
 ask_by (actions.Remove n) r body = Remove
 ask_by (actions.Describe n) r body = Describe
 ask_by actions.Discover r body = Discover
 
--- the block that a request names: a PUT's Block1, or a GET's Block2
+-- block that a request names: the Block1 of a PUT, or the Block2 of a GET.
 abbrev pub named_block : Option Place → Option Place → Option Place
 named_block (Some sent) asked = Some sent
 named_block None asked = asked
 
--- a request that registers or cancels (RFC 7641, 2)
+-- whether a request registers or cancels an observation (RFC 7641, section 2).
 abbrev pub observes : Option ℕ → Bool
 observes option = has_observe observe.REGISTER option || has_observe observe.CANCEL option
 
--- it is answered by a run, whatever its client has
+-- such a request is answered by a run, even if its client has the response.
 abbrev pub etags_by : Bool → List ℕ → List ℕ
 etags_by true etags = []
 etags_by false etags = etags
@@ -175,11 +189,11 @@ job_of opening to m r body = record {
   ask = ask_by r.action r body;
 }
 
--- a request has at most 64 bytes of query and 1,024 of payload
+-- a request has at most 64 bytes of query and 1,024 of payload.
 abbrev pub RequestWithin : Request → Type 0
 RequestWithin request = (length request.query ≤ 64) × (length request.payload ≤ 1024)
 
--- a job's slot is one of 64, and its request is within these limits
+-- a job's slot is one of 64, and its request is within these limits.
 abbrev pub AskWithin : Ask → Type 0
 AskWithin (Run request) = RequestWithin request
 AskWithin other = Unit {0}
@@ -187,9 +201,9 @@ AskWithin other = Unit {0}
 abbrev pub JobWithin : Job → Type 0
 JobWithin job = (job.origin.slot < 64) × AskWithin job.ask
 
--- ---- what it sends
+-- ---- the response
 
--- a reply; nothing where it gets no message id
+-- response; none if there is no message ID for it.
 abbrev pub told_by : Option ℕ → Endpoint → Message → Response → Option Emission
 told_by None to m response = None
 told_by (Some id) to m response = Some (sent_in (record { to = to; kind = reply_kind (is_confirmable m.kind); id = id; token = m.token }) response)
@@ -208,7 +222,7 @@ sent (Refused m answer) f to = told f to m (bare answer)
 sent (Settled m asked response) f to = told f to m response
 sent other f to = None
 
--- ---- what it opens, draws and brings
+-- ---- the exchange, message ID and job
 
 abbrev pub next_opening : FrontState → Opening
 next_opening f = record { number = f.opened; at = f.now }
@@ -216,11 +230,11 @@ next_opening f = record { number = f.opened; at = f.now }
 abbrev pub exchange_of : Opening → Endpoint → Message → Exchange
 exchange_of o to m = record { endpoint = to; id = m.id; confirmable = is_confirmable m.kind; number = o.number; at = o.at; answer = None }
 
--- a front that opened an exchange for a request
+-- a front that opened an exchange for a request.
 abbrev pub opening_for : FrontState → Endpoint → Message → FrontState
 opening_for f to m = record f { opened = f.opened + 1; held = f.held ++ (exchange_of (next_opening f) to m ∷ []) }
 
--- the exchange that is opened
+-- exchange that is opened.
 abbrev pub opened_by : Received → Opening → Endpoint → List Exchange
 opened_by (Opened m asked body) o to = exchange_of o to m ∷ []
 opened_by (Settled m asked response) o to = exchange_of o to m ∷ []
@@ -228,13 +242,13 @@ opened_by (Silenced m) o to = exchange_of o to m ∷ []
 opened_by (Refused m answer) o to = exchange_of o to m ∷ []
 opened_by other o to = []
 
--- what is kept as its answer, of what is sent
+-- emission that is stored as its answer, if any.
 abbrev pub kept_of : Received → Option Emission → Option Emission
 kept_of (Refused m answer) emitted = emitted
 kept_of (Settled m asked response) emitted = emitted
 kept_of other emitted = None
 
--- a reply at once to a request that isn't confirmable draws a message id
+-- an immediate response to a request that isn't confirmable draws a message ID.
 abbrev pub drawn_by : Received → Ids → ℕ → Ids
 drawn_by (Full m) ids at = drawn_for (is_confirmable m.kind) ids at
 drawn_by (Refused m answer) ids at = drawn_for (is_confirmable m.kind) ids at
@@ -245,7 +259,7 @@ abbrev pub brought : Received → Opening → Endpoint → List Job
 brought (Opened m asked body) o to = job_of o to m asked body ∷ []
 brought other o to = []
 
--- the payload of a request, with its block if it has one
+-- payload of a request, with its block if it has one.
 abbrev pub addition_of : ℕ → Endpoint → Asked → Addition
 addition_of at to r = record { at = at; endpoint = to; slot = slot_asked r.action; block = r.block1; payload = r.payload }
 
@@ -254,7 +268,7 @@ added_by (Opened m asked body) at to = addition_of at to asked ∷ []
 added_by (Settled m asked response) at to = addition_of at to asked ∷ []
 added_by other at to = []
 
--- the transfers after that
+-- transfers after that.
 abbrev pub after_added : List Addition → List Transfer → List Transfer
 after_added [] held = held
 after_added (a ∷ more) held = after_addition a (after_added more held)
@@ -265,7 +279,7 @@ abbrev pub reply_or_nothing : Option Emission → Delivered
 reply_or_nothing None = Nothing
 reply_or_nothing (Some emission) = Reply emission
 
--- a delivery whose job and reply were written
+-- a delivery whose job and response were written.
 abbrev pub heard : Heard → Job → Emission → Delivered
 heard hearing.Nothing job emission = Nothing
 heard hearing.Reply job emission = Reply emission
@@ -276,31 +290,31 @@ abbrev pub heard_if : Bool → Heard
 heard_if true = hearing.Reply
 heard_if false = hearing.Nothing
 
--- what is sent, where something is
+-- the datagram, if there is one to send.
 abbrev pub emission_if : Bool → Emission → Option Emission
 emission_if true emission = Some emission
 emission_if false emission = None
 
--- what is handed on: a job, a signal for the observers, or what is sent at once
+-- result: a job, a signal for the observers, or the response to send immediately.
 abbrev pub handed_on : Received → FrontState → Endpoint → Delivered
 handed_on (Opened m asked body) f to = Brings (job_of (next_opening f) to m asked body)
 handed_on (Signals id reset) f to = Signal id reset
 handed_on other f to = reply_or_nothing (sent other f to)
 
--- what a front that has advanced to the moment hands on
+-- result of a front that has advanced to the time.
 abbrev pub delivered : FrontState → Endpoint → List ℕ → Delivered
 delivered f to bytes = handed_on (received f to bytes) f to
 
--- a front that keeps this as the answer of the exchange of this number
+-- a front that stores this as the answer of the exchange with this number.
 abbrev pub keeping : ℕ → Option Emission → FrontState → FrontState
 keeping number None f = f
 keeping number (Some emission) f = record f { held = map (answered f.now number emission.bytes) f.held }
 
--- a front that opened an exchange for a request, and answered it at once
+-- a front that opened an exchange for a request and answered it immediately.
 abbrev pub settled_front : FrontState → Endpoint → Message → Response → FrontState
 settled_front f to m response = keeping f.opened (told f to m response) (record (opening_for f to m) { ids = drawn_for (is_confirmable m.kind) f.ids f.now })
 
--- what a front holds after a datagram
+-- state of a front after a datagram.
 abbrev pub after_received : Received → FrontState → Endpoint → FrontState
 after_received x f to =
     let new = opened_by x (next_opening f) to in

@@ -1,4 +1,4 @@
--- What the answer of a job becomes on the wire (RFC 7252, 5.2).
+-- The response for a job's answer (RFC 7252, section 5.2).
 use Rattle.std.specs.Prelude.{◌≡◌, ℕ, ◌≤◌, true, false, List, [], ◌∷◌}
 use Rattle.arrayvec.specs.ArrayVec.{ArrayVec}
 use Rattle.coap_msg.specs.declared.types.Emission.{Emission}
@@ -13,16 +13,17 @@ use Rattle.fc_registry.specs.declared.receipt.Receipt.{Receipt}
 use Rattle.fc_core.specs.Contents.{Content, Ran, Missing, Unavailable, Made, Rejected, Untyped, Valid, Deleted, Described, Listed}
 use Rattle.fc_core.specs.Links.{links_text}
 
--- an install's: its receipt, and the last block of its image, where it came in blocks
+-- an install's response: its receipt, and the last block of its image if it came in blocks.
 abbrev pub made_response : ℕ → Job → Receipt → Response
 made_response answer j receipt = record { code = answer; options = block1 j.block; payload = receipt_text receipt }
 
--- the Content-Format of links (RFC 7252, 12.3)
+-- Content-Format of `application/link-format` (RFC 7252, section 12.3).
 abbrev pub link_format : List (ℕ × List ℕ)
 link_format = (option.CONTENT_FORMAT, 40 ∷ []) ∷ []
 
--- what a job's response is, by its answer: 2.01 Created, 2.02 Deleted, 2.03 Valid, 2.04 Changed, 2.05 Content, 4.00 Bad Request,
--- 4.04 Not Found, 5.03 Service Unavailable. A refusal by typing names any rule from 20 to 28, and any slot
+-- a job's response, by its answer: 2.01 (Created), 2.02 (Deleted), 2.03 (Valid), 2.04 (Changed),
+-- 2.05 (Content), 4.00 (Bad Request), 4.04 (Not Found), 5.03 (Service Unavailable). A refusal by
+-- typing names any rule from 20 to 28, and any slot.
 abbrev pub Says : Job → Content → Response → Type 0
 Says j (Ran run) r = r ≡ ran_response run.code run.cut run.serial run.observed
 Says j Missing r = r ≡ bare (code 4 4)
@@ -36,15 +37,15 @@ Says j Deleted r = r ≡ bare (code 2 2)
 Says j (Described receipt) r = r ≡ content [] (cut_for j.block (receipt_text receipt))
 Says j (Listed words) r = r ≡ content link_format (cut_for j.block (links_text words))
 
--- the envelope of a job's reply by this message id
+-- header data of a job's response with this message ID.
 abbrev pub envelope_of : Job → ℕ → Envelope
 envelope_of job id = record { to = job.origin.endpoint; kind = reply_kind job.confirmable; id = id; token = job.token.items }
 
--- a datagram to the endpoint of a job
+-- a datagram to the endpoint of a job.
 abbrev pub to_job : Job → ArrayVec ℕ → Emission
 to_job job bytes = record { to = job.origin.endpoint; bytes = bytes }
 
--- the emission, of this message id, answers the job by this content
+-- the emission, with this message ID, answers the job with this content.
 pub record IsReplyTo (job : Job) (id : ℕ) (content : Content) (emission : Emission) : Type 0 where
   pub response : Response
   pub says : Says job content response

@@ -1,4 +1,5 @@
--- A job's step as its stage, with the room beside it: what its taking wrote down, the head words that it has listed, and what it is answered.
+-- A job's next action as its stage, with the data beside it: its snapshot, the head words that it
+-- has listed, and its answer.
 use Rattle.std.specs.Prelude.{◌≡◌, ℕ, Some, None}
 use Rattle.arrayvec.specs.ArrayVec.{ArrayVec}
 use Rattle.fc_registry.specs.Taken.{Found, IsSized, ticket_with}
@@ -34,7 +35,7 @@ stage_of steps.ToAnswer f seen content = ToAnswer content
 stage_of (steps.ToTell turn needs) f seen content = ToTell turn (turn_stage_of needs f)
 stage_of steps.Gone f seen content = Gone
 
--- the variables that were written down are the step's program's in number
+-- the snapshot has as many variables as the action's program.
 abbrev pub FitsTurnStep : TurnStep → Found → Type 0
 FitsTurnStep (turn_steps.ToDraw (Some program)) f = IsSized program.value f
 FitsTurnStep (turn_steps.ToNote (Some program) id) f = IsSized program.value f
@@ -45,11 +46,11 @@ FitsStep (steps.ToCommit count program) f = IsSized program.value f
 FitsStep (steps.ToTell turn needs) f = FitsTurnStep needs f
 FitsStep other f = Unit {0}
 
--- the step is this stage, beside this answer, whatever else the room holds
+-- the action is this stage, with this answer and any other data.
 abbrev pub StandsAt : Step → Content → Stage → Type 0
 StandsAt step content stage = (f : Found) (seen : ArrayVec ℕ) → (stage_of step f seen content ≡ stage) × FitsStep step f
 
--- the step is the one that a taking leads to by a row, beside this answer and what it wrote down
+-- the action is the one after a snapshot by this transition, with this answer and this snapshot.
 abbrev pub LeadsTo : Taken → (spec.Taken → Stage) → Step → Content → Type 0
 LeadsTo taken row step content =
     (f : Found) (seen : ArrayVec ℕ) → HasSize taken f → (stage_of step f seen content ≡ row (taken_with taken f)) × FitsStep step f

@@ -1,5 +1,7 @@
--- The rows of a history: what each event does to the job that it names, and to that job's slot and shard. An event is a call for its
--- job, answered by the slot and what is around it, and its row is the move of that call; an event that is none leaves the job where it is.
+-- The transitions of a history: the effect of each event on the job that it names, and on that
+-- job's slot and shard. An event is a call for its job, whose result depends on the slot and its
+-- surroundings. Its transition is the effect of that call. An event that is no call leaves the job
+-- as it is.
 use Rattle.std.specs.Prelude.{◌≡◌, ℕ, ◌/◌, ◌==◌, Bool, true, false, Option, Some, None, List, [], ◌∷◌, length, max}
 use Rattle.coap_msg.specs.declared.types.Emission.{Emission}
 use Rattle.fc_verify.specs.Accepted.{Judgement, Accepts, Breaks, Untypable}
@@ -8,10 +10,11 @@ use Rattle.fc_observe.specs.Calls.{ObserverCall, GiveUp as GiveUpTurn}
 use Rattle.fc_observe.specs.declared.entry.Turn.{Turn}
 use Rattle.fc_observe.specs.Observers.{ObserverList}
 use Rattle.fc_registry.specs.declared.job.Job.{Job}
+use Rattle.fc_registry.specs.declared.job.InitialVars.{InitialVars}
 use Rattle.fc_registry.specs.Slots.{Slot, Shard, Ticket, slot_in, with_slot}
 use Rattle.fc_registry.specs.Changes.{Change, after_changes}
 use Rattle.fc_registry.specs.Watches.{watch_at, with_calls}
-use Rattle.fc_registry.specs.Calls.{commit_calls, commits, install_in, is_out_at, outcome, readings_if, receipt_at, remove_from, taking, turn_calls, turn_taking}
+use Rattle.fc_registry.specs.Calls.{commit_calls, commits, install_in, is_out_at, outcome, readings_if, receipt_at, remove_from, taking, turn_calls, turn_taking, initial_vars_of}
 use Rattle.fc_registry.specs.Notes.{note_at, note_calls}
 use Rattle.fc_core.specs.Contents.{Rejected, Untyped}
 use Rattle.fc_core.specs.Heads.{published, word_at}
@@ -24,7 +27,7 @@ use Rattle.fc_core.specs.declared.stage.Task.{Task}
 use Rattle.fc_core.specs.Stages.{image_of}
 use Rattle.fc_core.specs.Steps.{Call, Matches, Lists, Takes, Commits, Installs, Rejects, Refuses, Removes, Describes, Raises, Answers, TakesTurn, Draws, Notes, GivesUp, Loses, changes_told, next_stage, word_told}
 
--- the job that an event names
+-- job that an event names.
 abbrev pub names : Event → Option ℕ
 names (Peek job slot) = Some job
 names (Take job memory readings) = Some job
@@ -40,20 +43,21 @@ names (GiveUp job now) = Some job
 names (Lose job) = Some job
 names other = None
 
--- ---- what an event finds
+-- ---- inputs of an event
 
--- what is common to the jobs of all slots: the head words, and the message id of the server's own that is free at a moment
+-- inputs shared by the jobs of all slots: the head words, and the message ID that is available at a
+-- time.
 pub record Common : Type 0 where
   pub words : List ℕ
   pub free : ℕ → Option ℕ
 
--- what there is around a job's slot: what is common to all, and its shard's moment and its observers
+-- surroundings of a job's slot: the shared inputs, its shard's time, and its observers.
 pub record Around : Type 0 where
   pub common : Common
   pub moment : ℕ
   pub watch : ObserverList
 
--- what an event finds of the job that it names
+-- inputs of an event for the job that it names.
 pub record Scene : Type 0 where
   pub job : Job
   pub slot : Slot
@@ -62,22 +66,24 @@ pub record Scene : Type 0 where
 
 -- ---- its call
 
--- a look at the head word of the slot that is to be looked at; at another's it is none
+-- the call that reads the head word of the right slot; for another slot there is none.
 abbrev pub call_if : Bool → Call → Option Call
 call_if true call = Some call
 call_if false call = None
 
--- the install of an image by what it is judged, where memory isn't refused
-abbrev pub install_call : Judgement → Slot → Call
-install_call (Accepts p) slot = Installs p (install_in slot p).answer
-install_call (Breaks rule k) slot = Rejects (Rejected rule k)
-install_call Untypable slot = Rejects Untyped
+-- the install of an image by its judgement, if memory isn't refused.
+abbrev pub install_call : InitialVars → Judgement → Slot → Call
+install_call initial (Accepts p) slot = Installs p initial (install_in slot p initial).answer
+install_call initial (Breaks rule k) slot = Rejects (Rejected rule k)
+install_call initial Untypable slot = Rejects Untyped
 
-abbrev pub install_if : Bool → Judgement → Slot → Call
-install_if true judgement slot = install_call judgement slot
-install_if false judgement slot = Refuses
+-- the same, with memory or without.
+abbrev pub install_if : Bool → InitialVars → Judgement → Slot → Call
+install_if true initial judgement slot = install_call initial judgement slot
+install_if false initial judgement slot = Refuses
 
--- the call that an event is for the job that it names, with what it is answered; none where the job's stage needs another
+-- call of an event for the job that it names, with its result; none if the job's stage needs
+-- another call.
 abbrev pub call_at : Event → Scene → Stage → Option Call
 call_at (Peek job n) s ToMatch = call_if (n == s.job.origin.slot) (Matches s.job.etags.items (word_at s.around.common.words n))
 call_at (Peek job n) s (ToList seen) = call_if (n == length seen.items) (Lists seen (word_at s.around.common.words n))
@@ -85,7 +91,7 @@ call_at (Take job memory readings) s (ToTake count) = Some (Takes count (taking 
 call_at (Take job memory readings) s (ToTell turn turns.ToTake) =
     Some (TakesTurn turn (turn_taking (is_out_at turn s.around.moment s.around.watch) (readings_if memory readings) s.job s.slot.serial s.slot.present))
 call_at (Commit job now) s (ToCommit count t) = Some (Commits count t (commits (outcome t s.slot) t s.slot.serial s.around.watch).answer)
-call_at (Install job memory) s ToInstall = Some (install_if memory (judged (image_of s.job.ask)) s.slot)
+call_at (Install job memory) s ToInstall = Some (install_if memory (initial_vars_of s.job.ask) (judged (image_of s.job.ask)) s.slot)
 call_at (Remove job) s ToRemove = Some (Removes (remove_from s.slot).answer)
 call_at (Receipt job) s ToDescribe = Some (Describes (receipt_at s.slot.present))
 call_at (Raise job) s (ToRaise word content) = Some (Raises word content)
@@ -98,8 +104,9 @@ call_at other s needs = None
 
 -- ---- its move
 
--- where it leaves the job, the changes of the job's slot and the calls on the slot's observers, the newest first, the moment
--- that it hands to the slot's shard, and the head word that it raises the slot's to
+-- transition of a job: its new stage, and the changes of its slot and the calls on the slot's
+-- observers, both the newest first; the time that the slot's shard is passed, and the head word
+-- that is raised for the slot.
 pub record Move : Type 0 where
   pub stage : Stage
   pub changes : List Change
@@ -107,11 +114,11 @@ pub record Move : Type 0 where
   pub hands : Option ℕ
   pub raises : Option ℕ
 
--- no more than to this stage
+-- the transition to this stage, with no other effect.
 abbrev pub moves : Stage → Move
 moves stage = record { stage = stage; changes = []; calls = []; hands = None; raises = None }
 
--- the moment that an event hands to the shard of its job's slot, and the random word of a notification
+-- time that an event passes to the shard of its job's slot, and the random word of a notification.
 abbrev pub handed_in : Event → Option ℕ
 handed_in (Commit job now) = Some now
 handed_in (Note job now random) = Some now
@@ -126,7 +133,7 @@ abbrev pub handed : Option ℕ → ℕ → ℕ
 handed None before = before
 handed (Some now) before = max before now
 
--- the calls on the slot's observers, at the moment that the shard is at then, and with this random word
+-- calls on the slot's observers, at the shard's time after the event, with this random word.
 abbrev pub calls_told : ℕ → ℕ → Scene → Call → List ObserverCall
 calls_told at random s (TakesTurn turn taken) = turn_calls turn at s.slot.present s.around.watch
 calls_told at random s (Commits count t committed) = commit_calls committed at t
@@ -144,16 +151,16 @@ move_of e s (Some c) = record {
   raises = word_told c;
 }
 
--- the row of an event: the move of its call
+-- transition of an event: the effect of its call.
 abbrev pub row : Event → Scene → Move
 row e s = move_of e s (call_at e s s.stage)
 
--- the notification that a turn sends at this stage
+-- notification that a lease sends at this stage.
 abbrev pub notification : ℕ → Scene → Stage → Option Emission
 notification now s (ToTell turn (turns.ToNote found id)) = note_at turn id (max s.around.moment now) found s.around.watch
 notification now s other = None
 
--- what an event sends of the job that it names, beside its answer
+-- emission of an event for the job that it names, apart from its answer.
 abbrev pub sends : Event → Scene → Option Emission
 sends (Note job now random) s = notification now s s.stage
 sends other s = None
@@ -163,26 +170,26 @@ sends other s = None
 abbrev pub scene_at : Task → Slot → Around → Scene
 scene_at task slot around = record { job = task.job; slot = slot; around = around; stage = task.stage }
 
--- what there is around slot n at a shard
+-- surroundings of slot n at a shard.
 abbrev pub around_of : Shard → Common → ℕ → Around
 around_of shard common n = record { common = common; moment = shard.now; watch = watch_at shard (n / 8) }
 
--- what an event on a task finds at a shard
+-- inputs of an event on a task at a shard.
 abbrev pub scene_of : Shard → Common → Task → Scene
 scene_of shard common task = scene_at task (slot_in shard task.job.origin.slot) (around_of shard common task.job.origin.slot)
 
 abbrev pub task_moved : Task → Move → Task
 task_moved task m = record { job = task.job; stage = m.stage }
 
--- the shard after a move of a job of slot n
+-- the shard after a transition of a job of slot n.
 abbrev pub shard_moved : Move → ℕ → Shard → Shard
 shard_moved m n shard = with_calls m.calls n (with_slot (record shard { now = handed m.hands shard.now }) n (after_changes (slot_in shard n) m.changes))
 
--- the notification of what a taking found that a turn sends at a shard, which is handed the moment
+-- notification that a lease sends for its snapshot at a shard that is passed this time.
 abbrev pub note_on : Shard → ℕ → Turn → ℕ → Option Ticket → Option Emission
 note_on shard now turn id found = note_at turn id (max shard.now now) found (watch_at shard (turn.slot / 8))
 
--- the move of a commit of this ticket at a shard
+-- call for a commit of this ticket at a shard.
 abbrev pub commit_call : Shard → ℕ → Ticket → Call
 commit_call shard count t =
     let slot = slot_in shard t.origin.slot in
@@ -199,21 +206,22 @@ commit_move shard count t now =
       raises = None;
     }
 
--- the move of an install, where memory isn't refused, by what the image is judged
-abbrev pub install_move : Judgement → Scene → Move
-install_move judgement s = move_of (Install 0 true) s (Some (install_call judgement s.slot))
+-- the transition of an install by the judgement of its image, if memory isn't refused.
+abbrev pub install_move : InitialVars → Judgement → Scene → Move
+install_move initial judgement s = move_of (Install 0 true) s (Some (install_call initial judgement s.slot))
 
--- a shard after a move of this task
+-- a shard after a transition of this task.
 abbrev pub shard_after : Move → Task → Shard → Shard
 shard_after m task shard = shard_moved m task.job.origin.slot shard
 
--- the task, and the shard of its slot, after an event: whatever is common to all jobs, which the rows of slots don't look at
+-- the task, and the shard of its slot, after an event: for any shared inputs, since transitions of
+-- slots don't depend on them.
 abbrev pub TaskMoves : Event → Shard → Task → Task → Type 0
 TaskMoves e shard old new = (common : Common) → new ≡ task_moved old (row e (scene_of shard common old))
 
 abbrev pub ShardMoves : Event → Shard → Task → Shard → Type 0
 ShardMoves e old task new = (common : Common) → new ≡ shard_after (row e (scene_of old common task)) task old
 
--- the head words after a move of this task
+-- the head words after a transition of this task.
 abbrev pub words_after : Move → Task → List ℕ → List ℕ
 words_after m task words = published m.raises task.job.origin.slot words

@@ -1,4 +1,4 @@
--- What is true of all that is seen of a history, whatever the events.
+-- Invariants of a history's summary, for all events.
 use Rattle.std.specs.Prelude.{ℕ, List, [], ◌∷◌}
 use Rattle.std.specs.List.{All}
 use Rattle.fc_registry.specs.Changes.{Change, Installed, Committed, Removed}
@@ -8,20 +8,21 @@ use Rattle.fc_core.specs.Fits.{FitsSlot, FitsStage, IsSafe}
 use Rattle.fc_core.specs.History.{Seen, job, slot_at, stage, watch}
 use Rattle.fc_core.specs.Receiving.{JobWithin, RequestWithin}
 
--- the commits of each slot are a chain, each job is within its limits and fits its slot, and so are the observers' requests
+-- the commits of each slot are a chain, and each job is within its limits and fits its slot, and so
+-- are the observers' requests.
 pub record IsSoundlySeen (s : Seen) : Type 0 where
   pub chain : (n : ℕ) → IsChain (new_slot s.first_serial) (s.changes n)
   pub within : (k : ℕ) → JobWithin (job s k)
   pub stages : (k : ℕ) → FitsStage (job s k) (slot_at s (job s k).origin.slot) (stage s k)
   pub watched : (n : ℕ) → All (λ o. RequestWithin o.request) (watch s n).held
 
--- each program in a slot may be run
+-- each program in a slot may be run.
 pub record IsSafelySeen (s : Seen) : Type 0 where
   pub slots : (n : ℕ) → FitsSlot (slot_at s n).present
 
--- each program that is installed is safe
+-- each program that is installed is safe.
 abbrev pub AllSafe : List Change → Type 0
 AllSafe [] = Unit {0}
-AllSafe (Installed p ∷ cs) = IsSafe p × AllSafe cs
+AllSafe (Installed p initial ∷ cs) = IsSafe p × AllSafe cs
 AllSafe (Committed c ∷ cs) = AllSafe cs
 AllSafe (Removed ∷ cs) = AllSafe cs

@@ -1,4 +1,4 @@
--- Where a job stands: what it needs next.
+-- The stage of a job: its next action.
 use Rattle.std.specs.Prelude.{ℕ}
 use Rattle.arrayvec.specs.ArrayVec.{ArrayVec}
 use Rattle.fc_observe.specs.declared.entry.Turn.{Turn}
@@ -7,25 +7,25 @@ use Rattle.fc_core.specs.Contents.{Content}
 use Rattle.fc_core.specs.TurnStage.{TurnStage}
 
 pub data Stage : Type 0 where
-  -- a look at its slot's head word, which may answer it without a run
+  -- read its slot's head word, which may answer it without a run.
   ToMatch : Stage
-  -- a taking, after this many before it
+  -- take a snapshot, after this many before it.
   ToTake : (count : ℕ) → Stage
-  -- the commit of this ticket; the number counts the takings so far
+  -- commit this ticket's run; the number counts the snapshots so far.
   ToCommit : (count : ℕ) (ticket : Ticket) → Stage
-  -- the install of its image
+  -- install the program of its image.
   ToInstall : Stage
-  -- the removal of its slot's program
+  -- remove its slot's program.
   ToRemove : Stage
-  -- the receipt of its slot's program
+  -- read the receipt of its slot's program.
   ToDescribe : Stage
-  -- a look at the head word of the slot after those of these words
+  -- read the head word of the slot after those of these words.
   ToList : (seen : ArrayVec ℕ) → Stage
-  -- raise the head word of its slot to this one, then send this answer
+  -- raise the head word of its slot to this one, then send this answer.
   ToRaise : (word : ℕ) (content : Content) → Stage
-  -- this answer
+  -- send this answer.
   ToAnswer : (content : Content) → Stage
-  -- the notification of the observer that has this turn, for which it needs this next
+  -- notify the observer that has this lease, which needs this next.
   ToTell : (turn : Turn) (needs : TurnStage) → Stage
-  -- nothing: it was answered, given up or lost, or it never came
+  -- nothing: it was answered, released or lost, or it never arrived.
   Gone : Stage

@@ -1,4 +1,4 @@
--- Where a job stands: what it needs first, and what each answer of a call leaves it at.
+-- The stages of a job: its first one, and the stage after the result of each call.
 use Rattle.std.specs.Prelude.{ℕ, ◌+◌, Bool, true, false, nat_lt, if◌then◌else◌, Option, Some, None, List, [], ◌∷◌, length}
 use Rattle.fc_observe.specs.declared.entry.Turn.{Turn}
 use Rattle.fc_registry.specs.declared.job.Ask.{Ask}
@@ -23,24 +23,24 @@ use Rattle.fc_core.specs.TurnStage.{TurnStage}
 use Rattle.fc_core.specs.TurnStage as turns
 use Rattle.fc_core.specs.declared.stage.Task.{Task}
 
--- how many times a job may take
+-- greatest number of snapshots of a job.
 abbrev pub takings : ℕ
 takings = 8
 
--- what a job needs first; a run whose client has answers looks at its slot's head word
+-- first action of a job; a run whose client has responses reads its slot's head word.
 abbrev pub first_by : Ask → List ℕ → Stage
 first_by (Run request) [] = ToTake 0
 first_by (Run request) (serial ∷ serials) = ToMatch
-first_by (Installs image) serials = ToInstall
+first_by (Installs image initial) serials = ToInstall
 first_by Removes serials = ToRemove
 first_by Describe serials = ToDescribe
 first_by Discover serials = ToList (record { items = [] })
 
--- what a request's job needs first
+-- first stage of a request's job.
 abbrev pub asked_stage : Job → Stage
 asked_stage job = first_by job.ask job.etags.items
 
--- a turn needs a taking, whatever its request asks
+-- a lease needs a snapshot, whatever its request.
 abbrev pub first_or_turn : Option ℕ → Job → Stage
 first_or_turn None job = asked_stage job
 first_or_turn (Some number) job = ToTell (turn_of job number) turns.ToTake
@@ -51,7 +51,7 @@ first_stage job = first_or_turn job.turn job
 abbrev pub new_task : Job → Task
 new_task job = record { job = job; stage = first_stage job }
 
--- ---- by what a call answered
+-- ---- by the result of a call
 
 abbrev pub took : ℕ → Taken → Stage
 took count (Given t) = ToCommit (count + 1) t
@@ -59,24 +59,25 @@ took count Missing = ToAnswer Misses
 took count Refused = ToAnswer Unavailable
 took count Stale = ToAnswer Unavailable
 
--- a turn whose taking found it stale is gone, and one without memory takes again
+-- a lease that isn't out any more at its snapshot has ended, and one without memory still needs a
+-- snapshot.
 abbrev pub turn_took : Turn → Taken → Stage
 turn_took turn (Given t) = ToTell turn (turns.ToDraw (Some t))
 turn_took turn Missing = ToTell turn (turns.ToDraw None)
 turn_took turn Stale = Gone
 turn_took turn Refused = ToTell turn turns.ToTake
 
--- the turn that is to take, if one is
+-- lease that needs a snapshot, if there is one.
 abbrev pub turn_to_take : Stage → Option Turn
 turn_to_take (ToTell turn turns.ToTake) = Some turn
 turn_to_take other = None
 
--- the stage needs a message id of the server's own
+-- whether the stage needs a message ID of the server.
 abbrev pub needs_id : Stage → Bool
 needs_id (ToTell turn (turns.ToDraw found)) = true
 needs_id other = false
 
--- a turn has the id that is free; where none is, it needs one still
+-- a lease gets the available message ID; if none is available, it still needs one.
 abbrev pub with_id : Option Ticket → Option ℕ → TurnStage
 with_id found (Some id) = turns.ToNote found id
 with_id found None = turns.ToDraw found
@@ -85,7 +86,8 @@ abbrev pub drew : Option ℕ → Stage → Stage
 drew free (ToTell turn (turns.ToDraw found)) = ToTell turn (with_id found free)
 drew free other = other
 
--- there was memory, or none was asked; and what a taking is without
+-- whether memory could be allocated, or none was needed; and the result of a snapshot without
+-- memory.
 abbrev pub had_memory : Taken → Bool
 had_memory Refused = false
 had_memory other = true
@@ -94,11 +96,11 @@ abbrev pub without_memory : Taken → Taken
 without_memory (Given t) = Refused
 without_memory other = other
 
--- the answer of a ticket's run, whose client observes the slot from now on or doesn't
+-- answer of a ticket's run, whose client observes the slot from now on or doesn't.
 abbrev pub run_content : Ticket → Bool → Content
 run_content t observed = Ran (run_answer t (meaning_at t) observed)
 
--- a run that was overtaken is taken again, eight times at most
+-- a run whose slot has changed takes another snapshot, at most eight in all.
 abbrev pub retaken : ℕ → Stage
 retaken count = if nat_lt count takings then ToTake count else ToAnswer Unavailable
 
@@ -121,7 +123,7 @@ abbrev pub told : Option Facts → Content
 told None = Misses
 told (Some receipt) = Described receipt
 
--- a client that has the answer of the slot's serial needs no run
+-- a client that has the response of the slot's serial needs no run.
 abbrev pub matched_by : Bool → ℕ → Stage
 matched_by true word = ToAnswer (Valid (serial_in word))
 matched_by false word = ToTake 0
@@ -129,7 +131,7 @@ matched_by false word = ToTake 0
 abbrev pub matched : ℕ → List ℕ → Stage
 matched word serials = matched_by (is_match word serials) word
 
--- after the words of so many slots
+-- after the head words of this many slots.
 abbrev pub listed : List ℕ → Stage
 listed words = if nat_lt (length words) 64 then ToList (record { items = words }) else ToAnswer (Listed words)
 
@@ -137,22 +139,22 @@ abbrev pub after_list : Stage → Stage
 after_list (ToList seen) = listed seen.items
 after_list other = other
 
--- the image that is to be installed; a job that asks for something else has none
+-- image to be installed; a job with another request has none.
 abbrev pub image_of : Ask → List ℕ
-image_of (Installs image) = image.items
+image_of (Installs image initial) = image.items
 image_of other = []
 
--- after the head word of a job's slot was raised
+-- after the head word of a job's slot was raised.
 abbrev pub word_raised : Stage → Stage
 word_raised (ToRaise word content) = ToAnswer content
 word_raised other = other
 
--- what the job at this stage is answered
+-- answer of the job at this stage.
 abbrev pub content_at : Stage → Option Content
 content_at (ToAnswer content) = Some content
 content_at other = None
 
--- and where it is left when it is answered
+-- its stage after it is answered.
 abbrev pub ended : Stage → Stage
 ended (ToAnswer content) = Gone
 ended other = other

@@ -1,10 +1,12 @@
--- A job's way by its calls: each call with what the stage that needs it holds, and with what it answered.
+-- A job's transitions by its calls: each call with the data of the stage that needs it, and with
+-- its result.
 use Rattle.std.specs.Prelude.{ℕ, Option, Some, None, List, [], ◌∷◌, ◌++◌, if◌then◌else◌}
 use Rattle.arrayvec.specs.ArrayVec.{ArrayVec}
 use Rattle.fc_kinds.specs.Meaning.{Program}
 use Rattle.fc_observe.specs.declared.entry.Turn.{Turn}
 use Rattle.fc_registry.specs.declared.commit.Committed.{Committed}
 use Rattle.fc_registry.specs.declared.commit.Committed.TheVariants.{Done}
+use Rattle.fc_registry.specs.declared.job.InitialVars.{InitialVars}
 use Rattle.fc_registry.specs.declared.receipt.Receipt.{Receipt}
 use Rattle.fc_registry.specs.declared.shard.Made.{Made}
 use Rattle.fc_registry.specs.declared.shard.Made.TheVariants.{Raised}
@@ -21,41 +23,41 @@ use Rattle.fc_core.specs.TurnStage.{TurnStage}
 use Rattle.fc_core.specs.TurnStage as turns
 use Rattle.fc_core.specs.Stages.{after_commit, listed, made, matched, removed, told, took, turn_took, with_id}
 
--- a call for a job
+-- a call for a job.
 pub data Call : Type 0 where
-  -- a look at the head word of the job's slot, whose client has the answers of these serials
+  -- read the head word of the job's slot, whose client has the responses of these serials.
   Matches : (serials : List ℕ) (word : ℕ) → Call
-  -- a look at the head word of the slot after those that were seen
+  -- read the head word of the slot after those already read.
   Lists : (seen : ArrayVec ℕ) (word : ℕ) → Call
   Takes : (count : ℕ) (taken : Taken) → Call
   Commits : (count : ℕ) (ticket : Ticket) (committed : Committed) → Call
-  Installs : (program : Program) (answer : Made) → Call
-  -- no install: the image breaks a rule, which is answered so
+  Installs : (program : Program) (initial : InitialVars) (answer : Made) → Call
+  -- no install: the image breaks a rule, and this is the answer.
   Rejects : (content : Content) → Call
-  -- no install: memory was refused
+  -- no install: memory was refused.
   Refuses : Call
   Removes : (removal : Removal) → Call
   Describes : (receipt : Option Receipt) → Call
-  -- the head word of the job's slot is raised, and then this is to be answered
+  -- raise the head word of the job's slot; this answer follows.
   Raises : (word : ℕ) (content : Content) → Call
   Answers : (content : Content) → Call
-  -- the taking of a turn
+  -- the snapshot of a lease.
   TakesTurn : (turn : Turn) (taken : Taken) → Call
-  -- a message id for a turn, or none that is free
+  -- a message ID for a lease, or none.
   Draws : (turn : Turn) (found : Option Ticket) (free : Option ℕ) → Call
   Notes : (turn : Turn) (found : Option Ticket) (id : ℕ) → Call
-  -- a turn is given up, whatever it needs
+  -- a lease is released, whatever it needs.
   GivesUp : (turn : Turn) (needs : TurnStage) → Call
-  -- its worker is lost, whatever the job needs
+  -- its worker is lost, whatever the job needs.
   Loses : (needs : Stage) → Call
 
--- the stage that needs it
+-- stage that needs it.
 abbrev pub called_at : Call → Stage
 called_at (Matches serials word) = ToMatch
 called_at (Lists seen word) = ToList seen
 called_at (Takes count taken) = ToTake count
 called_at (Commits count ticket committed) = ToCommit count ticket
-called_at (Installs program answer) = ToInstall
+called_at (Installs program initial answer) = ToInstall
 called_at (Rejects content) = ToInstall
 called_at Refuses = ToInstall
 called_at (Removes removal) = ToRemove
@@ -68,13 +70,13 @@ called_at (Notes turn found id) = ToTell turn (turns.ToNote found id)
 called_at (GivesUp turn needs) = ToTell turn needs
 called_at (Loses needs) = needs
 
--- the stage that it leaves the job at: the row of its answer
+-- stage of the job after it: the transition by its result.
 abbrev pub next_stage : Call → Stage
 next_stage (Matches serials word) = matched word serials
 next_stage (Lists seen word) = listed (seen.items ++ word ∷ [])
 next_stage (Takes count taken) = took count taken
 next_stage (Commits count ticket committed) = after_commit count ticket committed
-next_stage (Installs program answer) = made (receipt_of program 0) answer
+next_stage (Installs program initial answer) = made (receipt_of program 0) answer
 next_stage (Rejects content) = ToAnswer content
 next_stage Refuses = ToAnswer Unavailable
 next_stage (Removes removal) = removed removal
@@ -84,14 +86,14 @@ next_stage (TakesTurn turn taken) = turn_took turn taken
 next_stage (Draws turn found free) = ToTell turn (with_id found free)
 next_stage other = Gone
 
--- the change of the job's slot that its answer tells
+-- change of the job's slot by its result.
 abbrev pub changes_told : Call → List Change
 changes_told (Commits count t (Done m)) = if m.changed then Wrote (commit_of t) ∷ [] else []
-changes_told (Installs p (Raised serial created)) = Installed p ∷ []
+changes_told (Installs p initial (Raised serial created)) = Installed p initial ∷ []
 changes_told (Removes (removals.Removed serial)) = Removed ∷ []
 changes_told other = []
 
--- the head word that it raises the job's slot to
+-- head word that it raises for the job's slot.
 abbrev pub word_told : Call → Option ℕ
 word_told (Raises word content) = Some word
 word_told other = None

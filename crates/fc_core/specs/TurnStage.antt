@@ -1,11 +1,11 @@
--- What a turn needs next.
+-- The next action of a lease.
 use Rattle.std.specs.Prelude.{ℕ, Option}
 use Rattle.fc_registry.specs.Slots.{Ticket}
 
 pub data TurnStage : Type 0 where
-  -- a taking
+  -- take a snapshot.
   ToTake : TurnStage
-  -- a message id, to tell of this ticket; none where the slot was found empty
+  -- draw a message ID for the notification of this ticket; none if the slot was empty.
   ToDraw : (found : Option Ticket) → TurnStage
-  -- its notification, of this ticket, or none where the slot was found empty, by this message id
+  -- send its notification of this ticket, or of none if the slot was empty, with this message ID.
   ToNote : (found : Option Ticket) (id : ℕ) → TurnStage

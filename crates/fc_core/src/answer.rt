@@ -1,4 +1,4 @@
-//! What a job is answered.
+//! The answer of a job.
 ghost use Rattle.std.specs.Prelude.{◌≡◌, ◌≤◌, length};
 ghost use Rattle.fc_machine.specs.Ran.{meaning_of};
 ghost use Rattle.fc_core.specs.Contents.{Ran, AreOne, run_answer};
@@ -14,14 +14,17 @@ use fc_registry::{Mark, Origin, Receipt, Ticket};
 use fc_verify::Refusal;
 use std::marker::Model;
 
-/// What a job's last call gave, where it wasn't a run.
+/// The result of a job's last call, if that wasn't a run.
 #[derive(Drop)]
 pub enum End {
-    /// The slot has this serial, of which the client has an answer.
+    /// The client already has the response of the slot at this serial.
     Match(u64),
     /// The slot was empty.
     Missing,
-    /// The service was unavailable: the serials are at their end, memory was refused, or the job was overtaken eight times.
+    /// The service is unavailable.
+    ///
+    /// The slot is at its last serial, memory couldn't be allocated, or the slot changed since the
+    /// job's eighth snapshot.
     Unavailable,
     /// A program was installed; the slot was empty before, or it wasn't.
     Made(Receipt, bool),
@@ -29,7 +32,7 @@ pub enum End {
     Rejected(Refusal),
     /// A program was removed, or the slot was empty.
     Removed,
-    /// What the slot's program is; none where it is empty.
+    /// The receipt of the slot's program; `None` if the slot is empty.
     Told(Option<Receipt>),
     /// The head words of all slots.
     Core(Words),
@@ -43,7 +46,7 @@ pub(crate) enum Said {
     Ran {
         by: Origin,
         code: Code,
-        // Which block of the reply there is, if there is one.
+        // The block of the reply, if there is one.
         block: Option<Option<Block>>,
         serial: u64,
         observed: bool,
@@ -51,9 +54,11 @@ pub(crate) enum Said {
     Other(End),
 }
 
-/// What a job is answered. A run's answer is made of its outcome, and spends the mark of its commit: none is made
-/// without one. A clause sees what the answer says, but for the rule and the slot that a refusal by typing names. It is written over another in its
-/// place, with room for a block.
+/// The answer of a job.
+///
+/// The answer of a run is made from its outcome and consumes the mark of its commit: without a mark
+/// none can be made. A clause sees the answer's content, except for the rule and the slot that a
+/// refusal by typing names. An answer has memory for a block, and is overwritten in place.
 #[derive(Drop)]
 pub struct Answer {
     said: Said,
@@ -73,8 +78,10 @@ impl Model for Answer {
 }
 
 impl Answer {
-    /// Makes the answer of a run, with its outcome's code, the block of its reply that is asked, and its ticket's serial. It spends the mark of
-    /// the run's commit.
+    /// Makes the answer of a run from its outcome and ticket, and consumes `mark`.
+    ///
+    /// It has the outcome's code, the requested block of the reply, and the ticket's serial. `mark`
+    /// shows that the run's commit was done.
     pub fn ran(outcome: &Outcome<'_>, ticket: &Ticket<'_>, mark: Mark) -> Answer
         requires { AreOne outcome.now ticket.now mark }
         ensures { result ≡ Ran (run_answer ticket.now (meaning_of outcome.now) mark.observed) }
@@ -84,7 +91,7 @@ impl Answer {
         answer
     }
 
-    /// Makes the answer of a job whose last call was no run.
+    /// Makes the answer of a job whose last call wasn't a run.
     pub fn other(end: End) -> Answer
         ensures { result ≡ content_of end }
     {
@@ -94,7 +101,7 @@ impl Answer {
         }
     }
 
-    /// Writes the answer of a run over this, as `ran` makes one.
+    /// Writes the answer of a run over this answer. See [`Answer::ran`].
     pub fn write_run(&mut self, outcome: &Outcome<'_>, ticket: &Ticket<'_>, mark: Mark)
         requires { AreOne outcome.now ticket.now mark }
         ensures { self.new ≡ Ran (run_answer ticket.now (meaning_of outcome.now) mark.observed) }
@@ -116,14 +123,14 @@ impl Answer {
         };
     }
 
-    /// Writes the answer of a job whose last call was no run over this, as `other` makes one.
+    /// Writes the answer of a job whose last call wasn't a run. See [`Answer::other`].
     pub fn write_other(&mut self, end: End)
         ensures { self.new ≡ content_of end }
     {
         self.said = Said::Other(end);
     }
 
-    // What it says, beside the bytes of its block.
+    // The body of the answer, and the bytes of its block.
     pub(crate) fn said(&self) -> (&Said, &[u8])
         ensures said { said_of result.0.now result.1.now ≡ self.now }
         ensures told { IsTold result.0.now }
@@ -133,7 +140,7 @@ impl Answer {
     }
 }
 
-// Writes the bytes of a block over others. Tells which block it is, if there is one.
+// Writes the bytes of a block over `bytes`. Returns the block, if there is one.
 fn write_block(
     block: Option<BodyBlock<'_>>,
     bytes: &mut ArrayVec<u8, BLOCK>,

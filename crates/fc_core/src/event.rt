@@ -1,14 +1,15 @@
-//! Events: all that can happen to a server.
+//! The events of a server.
 use coap_msg::Endpoint;
 use fc_help::Readings;
 
-/// What happens to a server. Jobs are numbered from 0 in the order in which they come, and shards from 0 to 7; moments
-/// are in milliseconds.
+/// An event of a server.
 ///
-/// An event whose job isn't at the stage that the event needs changes nothing, nor does one whose shard is above 7.
+/// Jobs are numbered from 0 in the order of their arrival, and shards from 0 to 7. Times are in
+/// milliseconds. An event has no effect if its job isn't at the stage that the event needs, or if
+/// its shard is above 7.
 #[derive(Clone, Copy)]
 pub enum Event<'a> {
-    /// A datagram comes.
+    /// A datagram is received.
     Deliver {
         now: u64,
         endpoint: Endpoint,
@@ -19,18 +20,20 @@ pub enum Event<'a> {
         job: usize,
         slot: u8,
     },
-    /// A job takes a ticket, with the readings of this moment; memory for it is there or refused.
+    /// A job takes a snapshot with these readings; memory can be allocated or not.
     Take {
         job: usize,
         memory: bool,
         readings: Readings,
     },
-    /// A job has run its ticket's program, and commits.
+    /// A job has run its snapshot's program, and commits.
     Commit {
         job: usize,
         now: u64,
     },
-    /// A job verifies its image and installs the program; memory for it is there or refused.
+    /// A job verifies its image and installs the program.
+    ///
+    /// Memory can be allocated or not.
     Install {
         job: usize,
         memory: bool,
@@ -39,7 +42,7 @@ pub enum Event<'a> {
     Remove {
         job: usize,
     },
-    /// A job asks for a receipt.
+    /// A job reads a receipt.
     Receipt {
         job: usize,
     },
@@ -52,23 +55,23 @@ pub enum Event<'a> {
         job: usize,
         now: u64,
     },
-    /// A shard is asked for an observer's turn.
+    /// A shard is asked for an observer's lease.
     Due {
         shard: u8,
         now: u64,
     },
-    /// A turn draws a message id.
+    /// A lease draws a message ID.
     Fresh {
         job: usize,
         now: u64,
     },
-    /// A turn's notification is sent.
+    /// A lease's notification is sent.
     Note {
         job: usize,
         now: u64,
         random: u16,
     },
-    /// A turn is given up.
+    /// A lease is released.
     GiveUp {
         job: usize,
         now: u64,
@@ -99,7 +102,7 @@ impl Event<'_> {
     ghost use Rattle.std.specs.Prelude.{◌≡◌};
     ghost use Rattle.fc_core.specs.Rows.{names};
 
-    /// Returns the number of the job that it names, if it names one.
+    /// Returns the number of the job that the event names, if it names one.
     pub fn job(&self) -> Option<usize>
         ensures { result ≡ names self.now }
     {

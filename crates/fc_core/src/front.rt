@@ -1,4 +1,4 @@
-//! The front: exchanges, and the way in and out.
+//! The protocol front end: exchanges, message IDs, and uploads.
 ghost use Rattle.std.specs.Prelude.{◌≡◌, ◌≤◌, [], false, true, IfOk, Some, length};
 ghost use Rattle.coap_opts.specs.Verdict.{verdict};
 ghost use Rattle.coap_opts.specs.Classified.{asked_by};
@@ -12,7 +12,7 @@ ghost use Rattle.fc_core.specs.Ids.{drawn_for, free_id};
 ghost use Rattle.fc_core.specs.Policies.{is_allowed};
 ghost use Rattle.coap_block.specs.Transfers.{after_addition};
 ghost use Rattle.coap_block.specs.Views.{add_seen};
-ghost use Rattle.fc_core.specs.Receiving.{add_in, addition_of, after_delivered, after_received, ask_by, emission_if, etags_by, handed_on, heard, heard_if, id_in, is_confirmable, job_of, look_in, next_opening, observes, opening_for, received_as, reply_or_nothing, request_asked, request_received, settled_front, told};
+ghost use Rattle.fc_core.specs.Receiving.{add_in, addition_of, after_delivered, after_received, ask_by, emission_if, etags_by, handed_on, heard, heard_if, id_in, is_confirmable, job_of, look_in, next_opening, observes, opening_for, received_as, reply_or_nothing, request_asked, request_received, settled_front, told, initial_vars_by};
 ghost use Rattle.fc_core.specs.Receiving as receiving;
 ghost use Rattle.coap_reply.specs.Responses.{reset_of, settled_by};
 
@@ -32,60 +32,68 @@ use coap_opts::request::ETAGS;
 use coap_opts::{Action, Asking, Block, Classified, Request, classify_over};
 use coap_reply::reset;
 use fc_help::Method;
-use fc_registry::{Ask, CANCEL, Job, Opening, Origin, REGISTER, SlotNumber, has_observe};
+use fc_registry::{
+    Ask, CANCEL, InitialVars, Job, Opening, Origin, REGISTER, SlotNumber, has_observe,
+};
 use std::alloc::{AllocError, Global};
 use std::marker::Model;
 
-/// What a delivery brings.
+/// The result of the delivery of a datagram.
 #[derive(Drop)]
 pub enum Delivered {
     /// Nothing: the datagram is ignored.
     Nothing,
-    /// A datagram that is sent at once.
+    /// A datagram to send immediately.
     Reply(Emission),
     /// A job.
     Job(Job),
-    /// An acknowledgement or a reset, which is for the observers.
+    /// An acknowledgement or a reset, for the observers.
     Signal { mid: u16, reset: bool },
 }
 
-/// What a delivery comes to, where job and reply are written over others of the caller's.
+/// The result of a delivery, with the job or the response written separately.
+///
+/// They are written over the caller's job and emission.
 #[derive(Clone, Copy, PartialEq, Eq)]
 pub enum Heard {
     /// Nothing: the datagram is ignored.
     Nothing,
-    /// A datagram that is sent at once, which was written.
+    /// A datagram to send immediately, which was written.
     Reply,
     /// A job, which was written.
     Job,
-    /// An acknowledgement or a reset, which is for the observers.
+    /// An acknowledgement or a reset, for the observers.
     Signal { mid: u16, reset: bool },
 }
 
-/// What becomes of an answer.
+/// The result of answering a job.
 #[derive(Drop)]
 pub enum Answered {
-    /// It is sent.
+    /// The response to send.
     Sent(Emission),
-    /// Its exchange was opened a whole window before or earlier: nothing is sent.
+    /// The exchange's lifetime has passed: nothing is sent.
     Late,
-    /// No message id was free for it: nothing is sent.
+    /// No message ID is available: nothing is sent.
     NoId,
 }
 
-/// What becomes of an answer, where what is sent is written over another emission.
+/// The result of answering a job, with the response written separately.
+///
+/// It is written over the caller's emission.
 #[derive(Clone, Copy, PartialEq, Eq)]
 pub enum Responded {
-    /// It is sent, and was written.
+    /// The response is to be sent, and was written.
     Sent,
-    /// Its exchange was opened a whole window before or earlier: nothing is sent.
+    /// The exchange's lifetime has passed: nothing is sent.
     Late,
-    /// No message id was free for it: nothing is sent.
+    /// No message ID is available: nothing is sent.
     NoId,
 }
 
-/// The managers' networks, the exchanges that are less than a window old, the transfers that are under way, the message ids of the server's own, and the
-/// greatest moment handed in.
+/// The protocol front end.
+///
+/// It has the managers' networks, the exchanges younger than EXCHANGE_LIFETIME, the transfers in
+/// progress, the message IDs that the server draws, and the latest time that it was passed.
 #[derive(Drop)]
 pub struct Front {
     managers: Managers,
@@ -107,10 +115,11 @@ impl Model for Front {
 }
 
 impl Front {
-    /// Makes a front that has this policy, no exchange, and `first_id` as the message id that it draws first.
+    /// Makes a front with this policy and no exchange, which draws `first_id` first.
     ///
     /// # Errors
-    /// There was no memory for its exchanges, transfers and message ids.
+    /// Returns `AllocError` if memory for its exchanges, transfers or message IDs can't be
+    /// allocated.
     pub fn new(alloc: Global, policy: &Policy, first_id: u16) -> Result<Front, AllocError>
         ensures { IfOk result (λ f. f ≡ first_front policy.now first_id) }
     {
@@ -123,7 +132,9 @@ impl Front {
         })
     }
 
-    /// Takes a datagram in, at a moment in milliseconds: it is read, classified, and looked up among the exchanges.
+    /// Handles a datagram: parses and classifies it, and searches the exchanges for it.
+    ///
+    /// `now` is in milliseconds.
     pub fn deliver(&mut self, now: u64, endpoint: Endpoint, bytes: &[u8]) -> Delivered
         ensures delivered { result ≡ receiving.delivered (advanced self.old now) endpoint bytes.now }
         ensures after { self.new ≡ after_delivered (advanced self.old now) endpoint bytes.now }
@@ -138,7 +149,9 @@ impl Front {
         }
     }
 
-    /// Takes a datagram in as `deliver` does, and writes the job that it brings, or the reply, over another: none is moved.
+    /// Handles a datagram, and writes its job or response over the caller's.
+    ///
+    /// See [`Front::deliver`]. Neither the job nor the response is moved.
     #[tactic(auto, unfolding(crate::specs::Receiving::received))]
     pub fn hear(
         &mut self,
@@ -159,7 +172,9 @@ impl Front {
         }
     }
 
-    /// Advances the clock, never backwards, and expires the exchanges past the window. Moments are in milliseconds.
+    /// Advances the clock, never backwards, and expires old exchanges.
+    ///
+    /// `now` is in milliseconds. An exchange expires after EXCHANGE_LIFETIME.
     pub fn tick(&mut self, now: u64)
         ensures { self.new ≡ advanced self.old now }
     {
@@ -167,7 +182,10 @@ impl Front {
         self.exchanges.expire(self.now);
     }
 
-    /// Allocates a message id of the server's own (RFC 7252, 4.4), unless the next one was drawn less than a window before.
+    /// Draws a message ID for a message of the server (RFC 7252, section 4.4).
+    ///
+    /// `now` is in milliseconds, and the clock is advanced to it. Returns `None` if the next
+    /// message ID was last drawn less than EXCHANGE_LIFETIME before.
     pub fn fresh_id(&mut self, now: u64) -> Option<u16>
         ensures id { result ≡ free_id (advanced self.old now).ids (advanced self.old now).now }
         ensures after { let f = advanced self.old now in self.new ≡ record f { ids = drawn_for false f.ids f.now } }
@@ -176,8 +194,10 @@ impl Front {
         self.ids.draw(self.now)
     }
 
-    /// Answers a job, at a moment in milliseconds: nothing is sent where its exchange is past the window by then, or no
-    /// message id is free. The answer is the job's own.
+    /// Answers a job with its own answer.
+    ///
+    /// `now` is in milliseconds. Nothing is sent if the exchange's lifetime has passed by then, or
+    /// if no message ID is available.
     pub fn answer(&mut self, now: u64, job: &Job, answer: &Answer) -> Answered
         requires { IsOf job.now answer.now }
         ensures answered { AnswersIn (advanced self.old now) job.now answer.now result }
@@ -191,7 +211,7 @@ impl Front {
         }
     }
 
-    /// Answers a job as `answer` does, and writes what is sent over another emission.
+    /// Answers a job, and writes the response over `reply`. See [`Front::answer`].
     pub fn respond(
         &mut self,
         now: u64,
@@ -217,7 +237,8 @@ impl Front {
         Responded::Sent
     }
 
-    // The message id of a reply: an acknowledgement has the request's, another message one of the server's own.
+    // Returns the message ID of a response: that of the request for an acknowledgement, otherwise
+    // the next one that the server draws.
     fn reply_id(&mut self, confirmable: bool, id: u16) -> Option<u16>
         ensures id { result ≡ id_in self.old confirmable id }
         ensures after { self.new ≡ record self.old { ids = drawn_for confirmable self.old.ids self.old.now } }
@@ -245,7 +266,7 @@ impl Front {
         Heard::Nothing
     }
 
-    // Rejects a message by its id.
+    // Rejects a message by its message ID.
     fn reject(&mut self, endpoint: Endpoint, id: u16, reply: &mut Emission) -> Heard
         ensures heard { result ≡ Heard.Reply }
         ensures reply { reply.new ≡ reset_of endpoint id }
@@ -256,7 +277,7 @@ impl Front {
         Heard::Reply
     }
 
-    // Takes a message in.
+    // Handles a message.
     fn receive(
         &mut self,
         endpoint: Endpoint,
@@ -287,7 +308,7 @@ impl Front {
         }
     }
 
-    // Takes a request in.
+    // Handles a request.
     fn request(
         &mut self,
         endpoint: Endpoint,
@@ -320,7 +341,7 @@ impl Front {
         }
     }
 
-    // Opens an exchange for a request that is new.
+    // Opens an exchange for a new request.
     fn open(
         &mut self,
         endpoint: Endpoint,
@@ -347,7 +368,7 @@ impl Front {
         }
     }
 
-    // Opens an exchange for a request, and tells its opening.
+    // Opens an exchange for a request, and returns its opening.
     fn open_exchange(&mut self, endpoint: Endpoint, message: &Message<'_>) -> Opening
         requires { look_in self.old endpoint message.now ≡ IsNew }
         ensures opening { result ≡ next_opening self.old }
@@ -363,7 +384,8 @@ impl Front {
         }
     }
 
-    // Carries out a new request that its endpoint is allowed to send, or answers the block that it sends at once: its payload is joined to its transfer.
+    // Serves a new request that its endpoint is allowed to send. The payload of a block is added to
+    // its transfer; if that doesn't complete the body, the request is answered immediately.
     fn serve(
         &mut self,
         endpoint: Endpoint,
@@ -390,7 +412,8 @@ impl Front {
         }
     }
 
-    // Replaces a request that would be served by a refusal if its endpoint isn't allowed to send it.
+    // Replaces a request that would be served by a refusal if its endpoint isn't allowed to send
+    // it.
     fn authorize(&self, endpoint: Endpoint, asking: Asking<()>, action: Action) -> Asking<()>
         ensures { result ≡ authorized (is_allowed self.entry.now.managers endpoint action) asking }
     {
@@ -402,15 +425,17 @@ impl Front {
         }
     }
 
-    // Whether an endpoint is allowed an action: a manager each, the others what changes no program.
+    // Returns whether an endpoint is allowed an action. Managers are allowed each action, others
+    // those that change no program.
     fn is_allowed(&self, endpoint: Endpoint, action: Action) -> bool
         ensures { result ≡ is_allowed self.entry.now.managers endpoint action }
     {
         !changes_program(action) || is_manager(&self.managers, endpoint)
     }
 
-    // Joins the payload of a new request, which sends this block, to its transfer: carries the request out, or answers it at once.
-    // It isn't made a part of its caller, which would zero the room of a body for each request.
+    // Adds the payload of a new request with this block to its transfer. Serves the request if its
+    // body is complete; otherwise answers it immediately. It isn't inlined into its caller, which
+    // would then zero the memory of a body for each request.
     #[inline(never)]
     fn serve_block(
         &mut self,
@@ -460,7 +485,7 @@ impl Front {
         }
     }
 
-    // Joins a request's payload to its transfer.
+    // Adds a request's payload to its transfer.
     fn add(&mut self, endpoint: Endpoint, request: &Request<'_>, block: Block) -> Added
         requires { request.now.block1 ≡ Some block }
         ensures added { add_seen result ≡ add_in self.old endpoint (asked_by request.now) }
@@ -473,7 +498,8 @@ impl Front {
             .add(self.now, endpoint, slot, Some(block), request.payload)
     }
 
-    // Answers a request by a code, and by the block that it sent. Tells whether there was a message id for it.
+    // Answers a request with a code and the block that it sent. Returns whether a message ID was
+    // available.
     fn tell(
         &mut self,
         endpoint: Endpoint,
@@ -497,7 +523,7 @@ impl Front {
         true
     }
 
-    // Opens an exchange for a request, and answers it at once.
+    // Opens an exchange for a request, and answers it immediately.
     fn settle(
         &mut self,
         endpoint: Endpoint,
@@ -521,7 +547,9 @@ impl Front {
     }
 }
 
-/// Returns whether an exchange was opened less than a window before (EXCHANGE_LIFETIME, RFC 7252, 4.8.2).
+/// Returns whether an exchange is live at `now`, in milliseconds.
+///
+/// It is live for less than EXCHANGE_LIFETIME after it was opened (RFC 7252, section 4.8.2).
 pub fn is_live(now: u64, opening: &Opening) -> bool
     ensures { result ≡ spec.opening_is_live now opening.now }
 {
@@ -534,7 +562,7 @@ fn replied(sent: bool) -> Heard
     if sent { Heard::Reply } else { Heard::Nothing }
 }
 
-/// Makes an emission that says nothing, to be written over.
+/// Makes an empty emission, to be overwritten.
 pub fn blank_emission() -> Emission
     ensures { result.bytes.items ≡ [] }
 {
@@ -544,7 +572,7 @@ pub fn blank_emission() -> Emission
     }
 }
 
-/// Makes a job that says nothing, to be written over.
+/// Makes a blank job, to be overwritten.
 pub fn blank_job() -> Job {
     Job {
         origin: Origin::default(),
@@ -558,7 +586,7 @@ pub fn blank_job() -> Job {
     }
 }
 
-// Writes the job that a request brings.
+// Writes the job of a request.
 fn write_job(
     job: &mut Job,
     opening: Opening,
@@ -586,7 +614,7 @@ fn write_job(
     write_ask(&mut job.ask, request, body);
 }
 
-// The block that a request names: a PUT's, or the one that a GET asks.
+// Returns the block that a request names: that of a PUT, or the one that a GET requests.
 fn named_block(request: &Request<'_>) -> Option<Block>
     ensures { result ≡ receiving.named_block (asked_by request.now).block1 (asked_by request.now).block2 }
 {
@@ -603,7 +631,8 @@ fn write_token(token: &mut Token, message: &Message<'_>)
     let _fits = token.try_extend_from_slice(message.token());
 }
 
-// A request that registers or cancels needs its run.
+// Writes a request's ETags. A request that registers or cancels an observation gets none, since it
+// needs a run.
 fn write_etags(etags: &mut ArrayVec<u64, ETAGS>, request: &Request<'_>)
     ensures { etags.new.items ≡ etags_by (observes request.now.observe) request.now.etags.items }
 {
@@ -619,7 +648,7 @@ fn observes(option: Option<u32>) -> bool
     has_observe(REGISTER, option) || has_observe(CANCEL, option)
 }
 
-// The list of what is there is of no slot; slot 0 stands in its job.
+// Returns the slot of an action. A list of the slots belongs to none, and its job has slot 0.
 fn slot_asked(action: Action) -> u8
     ensures { result ≡ receiving.slot_asked action }
 {
@@ -641,14 +670,14 @@ fn write_ask(ask: &mut Ask, request: &Request<'_>, body: &[u8])
     match request.action {
         Action::Get(slot) => write_run(ask, Method::Get, slot, request),
         Action::Post(slot) => write_run(ask, Method::Post, slot, request),
-        Action::Install(_) => write_image(ask, body),
+        Action::Install(_) => write_image(ask, body, initial_vars_by(request.query.as_slice())),
         Action::Remove(_) => *ask = Ask::Remove,
         Action::Describe(_) => *ask = Ask::Describe,
         Action::Discover => *ask = Ask::Discover,
     }
 }
 
-// Writes a request over what was asked. The room of an image isn't touched, unless there was one.
+// Writes a request over `ask`. The memory of an image isn't touched unless `ask` had one.
 fn write_run(ask: &mut Ask, method: Method, slot: u8, request: &Request<'_>)
     requires { IsServable (asked_by request.now) }
     ensures { ask.new ≡ Ask.Run (request_asked method slot (asked_by request.now)) }
@@ -668,11 +697,22 @@ fn write_run_anew(ask: &mut Ask, method: Method, slot: u8, request: &Request<'_>
     *ask = Ask::Run(run);
 }
 
-fn write_image(ask: &mut Ask, image: &[u8])
+fn write_image(ask: &mut Ask, image: &[u8], initial: InitialVars)
     requires { length image.now ≤ 8208 }
-    ensures { ask.new ≡ Ask.Install (record { items = image.now }) }
+    ensures { ask.new ≡ Ask.Install (record { items = image.now }) initial }
 {
-    *ask = Ask::Install(image_of(image));
+    *ask = Ask::Install(image_of(image), initial);
+}
+
+// What an install does with the variables, by its request's query.
+fn initial_vars_by(query: &[u8]) -> InitialVars
+    ensures { result ≡ initial_vars_by query.now }
+{
+    if query == b"keep".as_slice() {
+        InitialVars::Kept
+    } else {
+        InitialVars::Zeros
+    }
 }
 
 fn image_of(bytes: &[u8]) -> Body
@@ -697,7 +737,7 @@ fn write_request(run: &mut fc_help::Request, method: Method, slot: u8, request: 
     );
 }
 
-// A request that says nothing, to be written over.
+// Makes a blank request, to be overwritten.
 fn blank_request() -> fc_help::Request {
     fc_help::Request::new(Method::Get, 0, None, &[], &[])
 }

@@ -1,4 +1,4 @@
-//! Head words: what is published of the slots.
+//! Head words: the published states of the slots.
 ghost use Rattle.std.specs.Prelude.{◌≡◌, ◌≤◌, ◌<◌};
 ghost use Rattle.fc_registry.specs.Slots.{last_serial};
 ghost use Rattle.fc_core.specs.Heads as spec;
@@ -6,11 +6,12 @@ ghost use Rattle.fc_core.specs.Heads as spec;
 use fc_registry::SlotNumber;
 use std::marker::Model;
 
-/// How many slots there are.
+/// The number of slots.
 pub const WORDS: usize = 64;
 
-/// Computes the head word of a slot at a serial: twice the serial, and one more where it has a program. A later state of a slot has
-/// a greater word.
+/// Computes a slot's head word: twice its serial, plus one if it has a program.
+///
+/// A later state of a slot has a greater word.
 pub fn head_word(serial: u64, present: bool) -> u64
     requires { serial ≤ last_serial }
     ensures { result ≡ spec.head_word serial present }
@@ -18,7 +19,7 @@ pub fn head_word(serial: u64, present: bool) -> u64
     if present { 2 * serial + 1 } else { 2 * serial }
 }
 
-/// Returns the serial of a head word.
+/// Returns the serial in a head word.
 pub fn serial_in(word: u64) -> u64
     ensures { result ≡ spec.serial_in word }
 {
@@ -32,7 +33,9 @@ pub fn is_present(word: u64) -> bool
     word % 2 == 1
 }
 
-/// The greatest head word raised for each of the 64 slots, and 0 for one for which none was. A clause sees the words.
+/// The greatest head word raised for each of the 64 slots.
+///
+/// It is 0 for a slot for which none was raised. A clause sees the words.
 #[derive(Drop)]
 pub struct Heads {
     words: [u64; WORDS],
@@ -47,21 +50,21 @@ impl Model for Heads {
 }
 
 impl Heads {
-    /// Makes words of which none was raised.
+    /// Makes the head words before any was raised.
     pub fn new() -> Heads
         ensures { result ≡ spec.no_words }
     {
         Heads { words: [0; WORDS] }
     }
 
-    /// Loads the published word of a slot.
+    /// Loads the head word of a slot.
     pub fn peek(&self, slot: SlotNumber) -> u64
         ensures { result ≡ spec.word_at self.now slot }
     {
         self.words[usize::from(slot.number())]
     }
 
-    /// Raises the word of a slot; a lower one leaves it.
+    /// Raises the head word of a slot; a lower word has no effect.
     pub fn raise(&mut self, slot: SlotNumber, word: u64)
         ensures { self.new ≡ spec.word_raised slot word self.old }
     {

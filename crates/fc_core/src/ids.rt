@@ -1,4 +1,4 @@
-//! The message ids of the server's own.
+//! The message IDs that the server draws.
 ghost use Rattle.std.specs.Prelude.{◌≡◌, ◌<◌, IfOk, length};
 ghost use Rattle.fc_core.specs.Ids.{first_ids, free_id, drawn, is_recent};
 
@@ -6,10 +6,10 @@ use coap_msg::WINDOW;
 use std::alloc::{AllocError, Global};
 use std::marker::Model;
 
-/// How many message ids there are.
+/// The number of message IDs.
 const IDS: usize = 65_536;
 
-/// The id that is next, and when each was last drawn.
+/// The next message ID, and the time when each was last drawn.
 #[derive(Drop)]
 pub(crate) struct MessageIds {
     next: u16,
@@ -29,7 +29,7 @@ impl Model for MessageIds {
 
 impl MessageIds {
     #[tactic(auto, unfolding(crate::specs::Ids::no_draws))]
-    // None was drawn; the first is the argument.
+    // Makes message IDs of which none was drawn; the next one is `first`.
     pub(crate) fn new(alloc: Global, first: u16) -> Result<MessageIds, AllocError>
         ensures { IfOk result (λ x. x ≡ first_ids first) }
     {
@@ -40,7 +40,7 @@ impl MessageIds {
         Ok(MessageIds { next: first, last })
     }
 
-    // Draws the next id, unless it was drawn less than a window before.
+    // Draws the next message ID, unless it was last drawn less than EXCHANGE_LIFETIME before.
     pub(crate) fn draw(&mut self, now: u64) -> Option<u16>
         ensures id { result ≡ free_id self.old now }
         ensures after { self.new ≡ drawn self.old now }
@@ -55,7 +55,8 @@ impl MessageIds {
     }
 }
 
-// Whether an id that was last drawn then was drawn less than a window before.
+// Returns whether a message ID that was last drawn at `last` was drawn less than EXCHANGE_LIFETIME
+// before `now`.
 fn is_recent(now: u64, last: Option<u64>) -> bool
     ensures { result ≡ is_recent now last }
 {

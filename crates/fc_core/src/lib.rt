@@ -1,14 +1,16 @@
-//! The core of the server: the front (exchanges, message ids), answers, events, stages, tasks; the definitions of history and legality.
+//! The core of the server: the protocol front end, answers, events and jobs.
 //!
-//! [`Front`] keeps the exchanges: it reads datagrams, hands out jobs, and writes replies. Every moment and every byte is
-//! an argument: there is no clock and no socket here. `specs/` has the definitions that the list of all events is judged
-//! by: the history, the stages of jobs, the changes of slots, and what each event may emit.
+//! It also has the definitions of histories and of their legality. [`Front`] stores the exchanges:
+//! it parses datagrams, makes jobs, and writes responses. Each time and each byte is an argument;
+//! the crate has no clock and no socket. `specs/` defines the history, the stages of jobs, the
+//! changes of slots, and the permitted emissions of each event. A list of all events is judged by
+//! these definitions.
 //!
 //! ```rust
 //! use coap_msg::{Emission, Endpoint};
 //! use fc_core::{Answer, Answered, Delivered, End, Front};
 //!
-//! /// What is sent where each job is answered 4.04.
+//! /// Returns the datagram to send if each job is answered 4.04.
 //! fn reply(front: &mut Front, now: u64, from: Endpoint, bytes: &[u8]) -> Option<Emission> {
 //!     match front.deliver(now, from, bytes) {
 //!         Delivered::Reply(emission) => Some(emission),
@@ -23,13 +25,15 @@
 //!
 //! # What is proved
 //!
-//! - Each delivery and answer is as the definitions say, repeats and message ids among them. A job is moved by each event as its stage
-//!   says.
-//! - A run's answer can't be made without the mark of its commit, and answers its own job alone. The block of its reply that is asked goes
-//!   with a success alone.
-//! - A PUT in blocks is carried out exactly where its last block fits, with the payloads since block number 0, joined.
+//! - Each delivery and each answer is as defined, including duplicates and message IDs. Each event
+//!   changes a job as the job's stage defines.
+//! - A run's answer can't be made without the mark of its commit, and answers its own job alone.
+//!   Only a success contains the requested block of its reply.
+//! - A PUT in blocks is executed exactly if its last block fits, with the joined payloads since
+//!   block number 0.
 //!
-//! By the contracts of `Front::deliver`, `hear`, `answer`, `respond`, `tick`, `fresh_id`, `Heads`, `Task`, `Answer::ran`.
+//! By the contracts of `Front::deliver`, `hear`, `answer`, `respond`, `tick`, `fresh_id`, `Heads`,
+//! `Task`, `Answer::ran`.
 #![tactic(auto)]
 
 pub mod answer;

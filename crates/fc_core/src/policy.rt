@@ -1,4 +1,7 @@
-//! A server's policy: its allow list, by which addresses may change programs, its table limits, and how often notifications are confirmable.
+//! A server's policy: allow list, table limits, and confirmable notifications.
+//!
+//! The allow list names the addresses that may change programs. The policy also determines how
+//! often notifications are confirmable.
 ghost use Rattle.std.specs.Prelude.{◌≡◌, ◌/◌, ◌^◌, ◌-◌};
 ghost use Rattle.fc_core.specs.Policies as spec;
 ghost use Rattle.coap_dedup.specs.Keys.{address_number};
@@ -9,10 +12,12 @@ use coap_msg::Endpoint;
 use coap_opts::Action;
 use fc_observe::CONFIRM_AFTER;
 
-/// The most networks of managers.
+/// The greatest number of managers' networks.
 pub const MOST_NETWORKS: usize = 4;
 
-/// The IPv4 addresses that begin with the first `bits` bits of `ip`, 0 to 32 of them. More than 32 count as 32.
+/// The IPv4 addresses that begin with the first `bits` bits of `ip`.
+///
+/// `bits` is 0 to 32; a greater number counts as 32.
 #[derive(Clone, Copy, Debug, PartialEq, Eq)]
 pub struct Network {
     pub ip: [u8; 4],
@@ -25,21 +30,27 @@ pub const ANY_ADDRESS: Network = Network {
     bits: 0,
 };
 
-/// The allow list: the networks of the endpoints that may change which program a slot holds. If there are fewer than four, one is repeated.
+/// The allow list: networks of the endpoints that may change a slot's program.
+///
+/// If there are fewer than four networks, one is repeated.
 pub type Managers = [Network; MOST_NETWORKS];
 
-/// The managers' networks, the limits of the exchanges that are held, and the time after which a notification is confirmable.
+/// The managers' networks, the limits of the exchanges, and `confirm_after`.
 #[derive(Clone, Copy, Debug, PartialEq, Eq)]
 pub struct Policy {
     pub managers: Managers,
     pub limits: Limits,
-    /// The time in milliseconds since an observer's registration or last confirmable notification, after which its next one is confirmable. RFC 7641,
-    /// section 4.5 allows 24 hours at most. At 0 each notification is confirmable.
+    /// The time in milliseconds after which a notification is confirmable.
+    ///
+    /// It begins with an observer's registration or last confirmable notification. RFC 7641,
+    /// section 4.5 allows at most 24 hours. At 0 each notification is confirmable.
     pub confirm_after: u64,
 }
 
-/// The default policy: any address may change programs, 1,024 exchanges are held, which may all be of one address, and a notification is confirmable
-/// after 24 hours.
+/// The default policy.
+///
+/// Any address may change programs; up to 1,024 exchanges are stored, and all of them may belong to
+/// one address; a notification is confirmable after 24 hours.
 pub const DEFAULT_POLICY: Policy = Policy {
     managers: [ANY_ADDRESS; MOST_NETWORKS],
     limits: DEFAULT_LIMITS,
@@ -54,7 +65,7 @@ impl Network {
         self.first_bits(ip) == self.first_bits(self.ip)
     }
 
-    // The first bits of an address, as many as the network has.
+    // Returns the first bits of an address, as many as the network has.
     fn first_bits(&self, ip: [u8; 4]) -> u64
         ensures { result ≡ address_number ip / 2 ^ (32 - self.now.bits) }
     {
@@ -62,14 +73,14 @@ impl Network {
     }
 }
 
-/// Returns whether an endpoint may change which program a slot holds.
+/// Returns whether an endpoint may change a slot's program.
 pub fn is_manager(managers: &Managers, endpoint: Endpoint) -> bool
     ensures { result ≡ spec.is_manager managers.now endpoint }
 {
     managers.iter().any(|network| network.contains(endpoint.ip))
 }
 
-/// Returns whether an action changes which program a slot holds.
+/// Returns whether an action changes a slot's program.
 pub fn changes_program(action: Action) -> bool
     ensures { result ≡ spec.changes_program action }
 {

@@ -1,4 +1,4 @@
-//! From answers to datagrams.
+//! Responses: from answers to datagrams.
 ghost use Rattle.std.specs.Prelude.{◌≡◌, ◌≤◌, [], Some, drop, length};
 ghost use Rattle.coap_msg.specs.Codes.{code};
 ghost use Rattle.coap_opts.specs.Replies.{reply_options};
@@ -19,7 +19,7 @@ use coap_reply::{BodyBlock, Envelope, content, ran, reply_kind, respond, text};
 use fc_registry::{Job, Receipt};
 use fc_verify::Refusal;
 
-// Writes the datagram of this message id that answers a job, over another. Nothing is observed yet.
+// Writes the response to a job, with this message ID, over `bytes`. It has no Observe option yet.
 pub(crate) fn answer(job: &Job, id: u16, answer: &Answer, bytes: &mut Datagram)
     ensures { IsReplyTo job.now id answer.now (to_job job.now bytes.new) }
 {
@@ -43,7 +43,7 @@ pub(crate) fn answer(job: &Job, id: u16, answer: &Answer, bytes: &mut Datagram)
     }
 }
 
-// The block of these bytes, if there is one.
+// Returns the block of these bytes, if there is one.
 fn block_in(block: Option<Option<Block>>, bytes: &[u8]) -> Option<BodyBlock<'_>>
     requires { length bytes.now ≤ 1024 }
     ensures { result ≡ part_in block bytes.now }
@@ -52,7 +52,7 @@ fn block_in(block: Option<Option<Block>>, bytes: &[u8]) -> Option<BodyBlock<'_>>
     Some(BodyBlock { bytes, block })
 }
 
-// The envelope of a job's reply by this message id.
+// Returns the header data of a job's response with this message ID.
 fn envelope_of(job: &Job, id: u16) -> Envelope<'_>
     ensures { result ≡ spec.envelope_of job.entry.now id }
 {
@@ -64,7 +64,7 @@ fn envelope_of(job: &Job, id: u16) -> Envelope<'_>
     }
 }
 
-// That of a job that ran no program.
+// Writes the response to a job that ran no program.
 fn ended(job: &Job, id: u16, end: &End, bytes: &mut Datagram)
     ensures { IsReplyTo job.now id (content_of end.now) (to_job job.now bytes.new) }
 {
@@ -91,7 +91,8 @@ fn ended(job: &Job, id: u16, end: &End, bytes: &mut Datagram)
     }
 }
 
-// A 2.03 Valid: the serial of the slot, as the ETag of the answer that the client has.
+// Writes a 2.03 (Valid) response; its ETag is the slot's serial, of which the client has the
+// response.
 fn valid(envelope: &Envelope<'_>, serial: u64, bytes: &mut Datagram)
     ensures { to_peer envelope.now bytes.new ≡ sent_in envelope.now
         (record { code = code 2 3; options = etag serial; payload = [] }) }
@@ -103,10 +104,11 @@ fn valid(envelope: &Envelope<'_>, serial: u64, bytes: &mut Datagram)
     respond(envelope, Code::VALID, options, &[], bytes);
 }
 
-// The Content-Format of links (RFC 7252, 12.3).
+// Content-Format of `application/link-format` (RFC 7252, section 12.3).
 const LINK_FORMAT: u16 = 40;
 
-// A 2.05 Content: the links of the slots that have a program, by their head words.
+// Writes a 2.05 (Content) response with links to the slots that have a program, by their head
+// words.
 fn links(job: &Job, id: u16, words: &[u64], bytes: &mut Datagram)
     requires { length words.now ≤ 64 }
     ensures { IsReplyTo job.now id (Listed words.now) (to_job job.now bytes.new) }
@@ -141,7 +143,7 @@ fn link_options() -> ReplyOptions
     }
 }
 
-// All but the first byte.
+// Returns all bytes but the first.
 fn after_first(bytes: &[u8]) -> &[u8]
     ensures { result.now ≡ drop 1 bytes.now }
 {
@@ -151,7 +153,8 @@ fn after_first(bytes: &[u8]) -> &[u8]
     }
 }
 
-// Writes the datagram of this message id that answers a request at once, by a code and the block that it sent.
+// Writes the response to a request that is answered immediately, with this message ID, a code, and
+// the block that the request sent.
 pub(crate) fn settled(
     id: u16,
     to: Endpoint,

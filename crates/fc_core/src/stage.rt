@@ -1,4 +1,4 @@
-//! Where jobs stand, and where each call's answer leaves one.
+//! The stages of jobs, and the stage after the result of each call.
 ghost use Rattle.std.specs.Prelude.{◌≡◌, ◌<◌, option_copied};
 ghost use Rattle.fc_core.specs.Contents.{AreDone, Content, IsMadeBelow, IsRemovedBelow, Unavailable};
 ghost use Rattle.fc_core.specs.Ends.{refused};
@@ -18,49 +18,54 @@ use fc_verify::{Refusal, Verified};
 use std::marker::Model;
 use std::sync::Arc;
 
-/// How many times a job may take.
+/// The greatest number of snapshots of a job.
 const TAKINGS: u8 = 8;
 
-/// What a job needs next.
+/// The next action that a job needs.
 #[derive(Drop)]
 pub enum Step {
-    /// A look at its slot's head word, which may answer it without a run.
+    /// Read its slot's head word, which may answer it without a run.
     ToMatch,
-    /// A taking, after this many before it.
+    /// Take a snapshot; the number counts the snapshots before it.
     ToTake(u8),
-    /// The commit of the ticket that this program is of; the number counts the takings so far.
+    /// Commit the run of this program; the number counts the snapshots so far.
     ToCommit(u8, Arc<Verified>),
-    /// The install of its image.
+    /// Install the program of its image.
     ToInstall,
-    /// The removal of its slot's program.
+    /// Remove its slot's program.
     ToRemove,
-    /// The receipt of its slot's program.
+    /// Read the receipt of its slot's program.
     ToDescribe,
-    /// A look at the head word of the slot after those of the words that it has listed.
+    /// Read the head word of the slot after those whose words it has listed.
     ToList,
     /// Raise the head word of its slot to this one, then send its answer.
     ToRaise(u64),
-    /// Its answer.
+    /// Send its answer.
     ToAnswer,
-    /// The notification of the observer that has this turn, for which it needs this next.
+    /// Notify the observer that has this lease, which needs this next.
     ToTell(Turn, TurnStep),
-    /// Nothing: it was answered, given up or lost, or it never came.
+    /// Nothing: it was answered, released or lost, or it never arrived.
     Gone,
 }
 
-/// What a turn needs next.
+/// The next action that a lease needs.
 #[derive(Drop)]
 pub enum TurnStep {
-    /// A taking.
+    /// Take a snapshot.
     ToTake,
-    /// A message id, to tell of the ticket that this program is of; none where the slot was found empty.
+    /// Draw a message ID for this program's snapshot; `None` if the slot was empty.
     ToDraw(Option<Arc<Verified>>),
-    /// Its notification, of that ticket, or none where the slot was found empty, by this message id.
+    /// Send the notification of that snapshot, with this message ID.
+    ///
+    /// It is `None` if the slot was empty.
     ToNote(Option<Arc<Verified>>, u16),
 }
 
-/// Where a job stands: its step, and room for what its taking finds, for the head words that it lists, and for its answer. Each is written in
-/// its place over what the job before left. A clause sees the step with what it has of the room.
+/// The stage of a job.
+///
+/// It has the job's next action, and memory for its snapshot, for the head words that it lists, and
+/// for its answer. Each is written over the data of an earlier job. A clause sees the action with
+/// the data that belongs to it.
 #[derive(Drop)]
 pub struct Stage {
     pub step: Step,
@@ -81,16 +86,16 @@ impl Model for Stage {
     ghost invariant = { λ s. FitsStep s.step s.found };
 }
 
-/// A job, and where it stands.
+/// A job and its stage.
 #[derive(Drop)]
 pub struct Task {
     pub job: Job,
     pub stage: Stage,
 }
 
-/// Where each call's answer leaves a job, whoever works it.
+/// The stage after the result of each call, on any thread.
 impl Stage {
-    /// That of a job that never came.
+    /// Returns the stage of a job that never arrived.
     pub fn blank() -> Stage
         ensures { result ≡ Gone }
     {
@@ -102,7 +107,7 @@ impl Stage {
         }
     }
 
-    /// Begins with what a job needs first.
+    /// Sets the first stage of a job.
     pub fn begin(&mut self, job: &Job)
         ensures { self.new ≡ first_stage job.now }
     {
@@ -115,14 +120,14 @@ impl Stage {
         }
     }
 
-    /// Begins with what a request's job needs first.
+    /// Sets the first stage of a request's job.
     pub fn ask(&mut self, job: &Job)
         ensures { self.new ≡ asked_stage job.now }
     {
         match &job.ask {
             Ask::Run(_) if job.etags.is_empty() => self.step = Step::ToTake(0),
             Ask::Run(_) => self.step = Step::ToMatch,
-            Ask::Install(_) => self.step = Step::ToInstall,
+            Ask::Install(..) => self.step = Step::ToInstall,
             Ask::Remove => self.step = Step::ToRemove,
             Ask::Describe => self.step = Step::ToDescribe,
             Ask::Discover => {
@@ -132,8 +137,10 @@ impl Stage {
         }
     }
 
-    /// Goes on after a look at the head word of a run's slot: where it is that of a program at a serial of which the client has the
-    /// answer, that is said, and there is no run.
+    /// Continues after reading the head word of a run's slot.
+    ///
+    /// If the word belongs to a program at a serial of which the client has the response, this is
+    /// the answer, and there is no run.
     pub fn matched(&mut self, job: &Job, word: u64)
         ensures { self.new ≡ rows.matched word job.now.etags.items }
     {
@@ -146,7 +153,7 @@ impl Stage {
         }
     }
 
-    /// Goes on after a taking, and so many takings before it.
+    /// Continues after a snapshot; `count` is the number of snapshots before it.
     pub fn took(&mut self, count: u8, given: Took)
         requires { count < 8 }
         ensures { self.new ≡ rows.took count given }
@@ -156,7 +163,7 @@ impl Stage {
         self.step = Step::took(count, taken, &mut self.answer);
     }
 
-    /// Goes on after an install, whose receipt is still without its version.
+    /// Continues after an install, whose receipt has no version yet.
     pub fn made(&mut self, receipt: Receipt, made: Made)
         requires { IsMadeBelow made }
         ensures { self.new ≡ rows.made receipt made }
@@ -174,7 +181,7 @@ impl Stage {
         }
     }
 
-    /// Goes on after a removal.
+    /// Continues after a removal.
     pub fn removed(&mut self, removal: Removal)
         requires { IsRemovedBelow removal }
         ensures { self.new ≡ rows.removed removal }
@@ -192,7 +199,7 @@ impl Stage {
         }
     }
 
-    /// Goes on after a receipt, or none.
+    /// Continues after a receipt was read; `None` if the slot is empty.
     pub fn told(&mut self, receipt: Option<Receipt>)
         ensures { self.new ≡ ToAnswer (rows.told receipt) }
     {
@@ -200,7 +207,7 @@ impl Stage {
         self.step = Step::ToAnswer;
     }
 
-    /// Goes on after an image was refused by a rule.
+    /// Continues after an image was refused by a rule.
     pub fn rejected(&mut self, fault: Fault)
         ensures { self.new ≡ ToAnswer (refused (Refusal.Broken fault)) }
     {
@@ -209,7 +216,7 @@ impl Stage {
         self.step = Step::ToAnswer;
     }
 
-    /// Goes on after memory was refused, or where serials are at their end.
+    /// Continues after a failed allocation, or if the slot is at its last serial.
     pub fn unavailable(&mut self)
         ensures { self.new ≡ ToAnswer Unavailable }
     {
@@ -217,7 +224,7 @@ impl Stage {
         self.step = Step::ToAnswer;
     }
 
-    /// After the head words of all slots were listed: it answers by them.
+    /// Continues after the head words of all slots were listed: they are the answer.
     pub fn listed(&mut self)
         requires { HasListed self.old }
         ensures { self.new ≡ after_list self.old }
@@ -230,7 +237,7 @@ impl Stage {
         }
     }
 
-    /// After its slot's head word was raised.
+    /// Continues after its slot's head word was raised.
     pub fn raised(&mut self)
         ensures { self.new ≡ rows.word_raised self.old }
     {
@@ -239,7 +246,7 @@ impl Stage {
         }
     }
 
-    /// Returns what the job is to be answered, where it stands there.
+    /// Returns the job's answer if the job is to be answered next.
     pub fn content(&self) -> Option<&Answer>
         ensures { option_copied result ≡ rows.content_at self.now }
     {
@@ -249,7 +256,7 @@ impl Stage {
         }
     }
 
-    // The turn that is to take, if one is.
+    // Returns the lease that needs a snapshot, if there is one.
     pub(crate) fn turn_to_take(&self) -> Option<Turn>
         ensures { result ≡ rows.turn_to_take self.now }
     {
@@ -260,9 +267,9 @@ impl Stage {
     }
 }
 
-/// Steps, beside the answer that is written in its place.
+/// The next actions, with the answer written separately.
 impl Step {
-    /// Goes on after a taking, and so many takings before it.
+    /// Continues after a snapshot; `count` is the number of snapshots before it.
     pub fn took(count: u8, taken: Taken, answer: &mut Answer) -> Step
         requires { count < 8 }
         ensures { LeadsTo taken (rows.took count) result answer.new }
@@ -278,7 +285,7 @@ impl Step {
         }
     }
 
-    /// Goes on after the taking of a turn.
+    /// Continues after the snapshot of a lease.
     pub fn turn_took(turn: Turn, taken: Taken) -> Step
         ensures { (content : Content) → LeadsTo taken (rows.turn_took turn) result content }
     {
@@ -290,8 +297,11 @@ impl Step {
         }
     }
 
-    /// Goes on after a commit: a run that was overtaken is taken again, eight times at most. An outcome that isn't the ticket's is
-    /// no outcome of this job, which is then unavailable.
+    /// Continues after a commit.
+    ///
+    /// A run whose slot changed since its snapshot takes another one, at most eight in all. An
+    /// outcome that doesn't belong to the ticket is no outcome of this job, which is then
+    /// unavailable.
     pub fn committed(
         count: u8,
         outcome: &Outcome<'_>,
@@ -319,7 +329,7 @@ impl Step {
         }
     }
 
-    // After its run was overtaken, and so many takings.
+    // Continues after the slot changed since the snapshot; `count` is the number of snapshots.
     fn overtaken(count: u8, answer: &mut Answer) -> Step
         ensures { StandsAt result answer.new (rows.retaken count) }
     {
@@ -330,7 +340,7 @@ impl Step {
         Step::ToAnswer
     }
 
-    // After memory was refused, or where serials are at their end.
+    // Continues after a failed allocation, or if the slot is at its last serial.
     fn unavailable(answer: &mut Answer) -> Step
         ensures { StandsAt result answer.new (ToAnswer Unavailable) }
     {

@@ -1,4 +1,4 @@
-//! Jobs at work: what each event does to a job, its slot and its shard.
+//! Tasks: the effect of each event on a job, its slot and its shard.
 ghost use Rattle.std.specs.Prelude.{◌≡◌, ℕ, ◌<◌, List, None, Option, Some, false, option_copied, max, OnOk, IsErr};
 ghost use Rattle.fc_verify.specs.Accepted.{Accepts};
 ghost use Rattle.fc_verify.specs.Judged.{judged};
@@ -28,7 +28,8 @@ use fc_help::{NO_READINGS, Readings};
 use fc_machine::{Frame, run};
 use fc_observe::Turn;
 use fc_registry::{
-    Ask, Found, Job, NoteOutcome, Notification, Receipt, Shard, SlotNumber, Taken, Ticket,
+    Ask, Found, InitialVars, Job, NoteOutcome, Notification, Receipt, Shard, SlotNumber, Taken,
+    Ticket,
 };
 use fc_verify::{Refusal, Verified, verify};
 use std::alloc::{AllocError, Global};
@@ -45,21 +46,21 @@ impl Task {
         Task { job, stage }
     }
 
-    /// Makes a task to be begun with a job that is written to it.
+    /// Makes a task without a job; [`Task::begin`] starts one that is written to it.
     pub fn blank() -> Task
         ensures { result ≡ new_task result.job }
     {
         Task::new(blank_job())
     }
 
-    /// Puts its job at its first stage.
+    /// Sets the first stage of its job.
     pub fn begin(&mut self)
         ensures { self.new ≡ new_task self.old.job }
     {
         self.stage.begin(&self.job);
     }
 
-    /// Looks at the head word of a slot.
+    /// Reads the head word of a slot.
     pub fn peek(&mut self, slot: u8, heads: &Heads)
         requires { HasNext self.old.stage }
         ensures { (k : ℕ) (shard : Shard) (free : ℕ → Option ℕ) → let common : Common = record { words = heads.now; free = free } in
@@ -82,8 +83,10 @@ impl Task {
         }
     }
 
-    /// Takes its slot at its shard, with these readings. Tells whether there was memory: where there was none a request is answered 5.03, and a turn is
-    /// still to take.
+    /// Takes a snapshot of its slot in its shard, with these readings.
+    ///
+    /// Returns whether memory could be allocated. If not, a request is answered 5.03, and a lease
+    /// still needs its snapshot.
     pub fn take(&mut self, shard: &mut Shard, readings: &Readings) -> bool
         requires owned { IsOwned shard.old self.old.job.origin.slot }
         requires fits { FitsStage self.old.job (slot_in shard.old self.old.job.origin.slot) self.old.stage }
@@ -103,7 +106,7 @@ impl Task {
         memory
     }
 
-    // Takes its turn.
+    // Takes the snapshot of its lease.
     fn take_turn(&mut self, turn: Turn, shard: &mut Shard, readings: &Readings) -> bool
         requires owned { IsOwned shard.old self.old.job.origin.slot }
         requires fits { FitsStage self.old.job (slot_in shard.old self.old.job.origin.slot) self.old.stage }
@@ -118,7 +121,9 @@ impl Task {
         memory
     }
 
-    /// Takes without memory: only an empty slot, and a turn that is out no longer, need none.
+    /// Takes a snapshot without memory.
+    ///
+    /// Only an empty slot, and a lease that isn't out any more, need no memory.
     pub fn refuse_take(&mut self, shard: &mut Shard)
         requires owned { IsOwned shard.old self.old.job.origin.slot }
         requires fits { FitsStage self.old.job (slot_in shard.old self.old.job.origin.slot) self.old.stage }
@@ -139,7 +144,7 @@ impl Task {
         }
     }
 
-    // Takes its turn without memory.
+    // Takes the snapshot of its lease without memory.
     fn refuse_turn(&mut self, turn: Turn, shard: &mut Shard)
         requires owned { IsOwned shard.old self.old.job.origin.slot }
         requires fits { FitsStage self.old.job (slot_in shard.old self.old.job.origin.slot) self.old.stage }
@@ -152,7 +157,7 @@ impl Task {
         stage.step = Step::turn_took(turn, taken);
     }
 
-    /// Runs its ticket's program, and commits at its shard, at a moment in milliseconds.
+    /// Runs its snapshot's program, and commits in its shard at `now`, in milliseconds.
     pub fn commit(&mut self, frame: &mut Frame, shard: &mut Shard, now: u64)
         requires owned { IsOwned shard.old self.old.job.origin.slot }
         requires fits { FitsStage self.old.job (slot_in shard.old self.old.job.origin.slot) self.old.stage }
@@ -167,7 +172,7 @@ impl Task {
         stage.step = run_and_commit(frame, *count, &ticket, shard, now, &mut stage.answer);
     }
 
-    /// Removes its slot's program at its shard.
+    /// Removes its slot's program in its shard.
     pub fn remove(&mut self, shard: &mut Shard)
         requires { IsOwned shard.old self.old.job.origin.slot }
         ensures task { (k : ℕ) → TaskMoves (Event.Remove k) shard.old self.old self.new }
@@ -179,7 +184,7 @@ impl Task {
         }
     }
 
-    /// Asks its shard what its slot's program is.
+    /// Reads the receipt of its slot's program in its shard.
     pub fn describe(&mut self, shard: &Shard)
         ensures { (k : ℕ) → TaskMoves (Event.Receipt k) shard.entry.now self.old self.new }
     {
@@ -189,8 +194,10 @@ impl Task {
         }
     }
 
-    /// Verifies its image, and installs the program at its shard. Tells whether there was memory: where there was none, no
-    /// slot changes, and it is answered 5.03.
+    /// Verifies its image, and installs the program in its slot in its shard.
+    ///
+    /// Returns whether memory could be allocated. If not, no slot changes, and the job is answered
+    /// 5.03.
     pub fn install(&mut self, alloc: Global, shard: &mut Shard) -> bool
         requires { IsOwned shard.old self.old.job.origin.slot }
         ensures task { (k : ℕ) → TaskMoves (Event.Install k result) shard.old self.old self.new }
@@ -202,7 +209,8 @@ impl Task {
             return true;
         };
         let slot = self.job.origin.slot;
-        match verify_and_install(alloc, image(&self.job.ask), shard, slot, stage) {
+        let initial = self.job.ask.initial_vars();
+        match verify_and_install(alloc, image(&self.job.ask), initial, shard, slot, stage) {
             Ok(()) => true,
             Err(_) => {
                 stage.unavailable();
@@ -234,14 +242,14 @@ impl Task {
         }
     }
 
-    /// Returns what it is to be answered, where it stands there.
+    /// Returns its answer if it is to be answered next.
     pub fn content(&self) -> Option<&Answer>
         ensures { option_copied result ≡ content_at self.now.stage }
     {
         self.stage.content()
     }
 
-    /// Ends it, where it was to be answered: it is answered once.
+    /// Ends a task that was to be answered, so that it is answered once.
     pub fn end(&mut self)
         ensures { self.new ≡ task_moved self.old (moves (ended self.old.stage)) }
     {
@@ -251,7 +259,7 @@ impl Task {
         }
     }
 
-    /// Returns whether it needs a message id of the server's own, for the notification of its turn.
+    /// Returns whether it needs a message ID for the notification of its lease.
     pub fn needs_id(&self) -> bool
         ensures { result ≡ needs_id self.now.stage }
     {
@@ -259,7 +267,9 @@ impl Task {
         matches!(stage.step, Step::ToTell(_, TurnStep::ToDraw(_)))
     }
 
-    /// Takes the message id that was free for the notification of its turn. Where none was it needs one still.
+    /// Takes the message ID for the notification of its lease.
+    ///
+    /// If `free` is `None`, it still needs one.
     pub fn draw(&mut self, free: Option<u16>)
         ensures { self.new ≡ task_moved self.old (moves (drew free self.old.stage)) }
     {
@@ -272,8 +282,11 @@ impl Task {
         }
     }
 
-    /// Runs the program of its turn's ticket, if it has one, and notifies the turn's observer at its shard, at a moment in milliseconds,
-    /// where the turn is out still: what is sent is written over another emission. Tells whether anything is. With that it is over.
+    /// Runs the program in its lease's snapshot, and notifies the lease's observer.
+    ///
+    /// `now` is in milliseconds. No program runs if the slot was empty. The observer is notified if
+    /// the lease is still out. The datagram is written over `emission`. Returns whether there is
+    /// one to send. The task has then ended.
     pub fn note(
         &mut self,
         frame: &mut Frame,
@@ -299,7 +312,7 @@ impl Task {
         sent
     }
 
-    /// Gives up its turn at its shard, at a moment in milliseconds, and so ends it.
+    /// Ends the task: releases its lease in its shard at `now`, in milliseconds.
     pub fn give_up(&mut self, shard: &mut Shard, now: u64)
         requires owned { IsOwned shard.old self.old.job.origin.slot }
         requires fits { FitsStage self.old.job (slot_in shard.old self.old.job.origin.slot) self.old.stage }
@@ -313,7 +326,7 @@ impl Task {
         }
     }
 
-    /// Ends it: its worker is lost.
+    /// Ends it, since its worker is lost.
     pub fn lose(&mut self)
         ensures { self.new ≡ task_moved self.old (moves Gone) }
     {
@@ -322,14 +335,14 @@ impl Task {
     }
 }
 
-// Whether there was memory for what was found.
+// Returns whether memory for a snapshot could be allocated.
 fn had_memory(taken: &Taken) -> bool
     ensures { (f : Found) → result ≡ had_memory (taken_with taken.now f) }
 {
     !matches!(taken, Taken::Refused)
 }
 
-// A taking where memory is refused.
+// Returns the result of a snapshot if memory can't be allocated.
 fn without_memory(taken: Taken) -> Taken
     ensures { (f : Found) → (taken_with result f ≡ without_memory (taken_with taken f)) × HasSize result f }
 {
@@ -339,12 +352,12 @@ fn without_memory(taken: Taken) -> Taken
     }
 }
 
-/// Returns the image that a job asks to install; no bytes where it asks for something else.
+/// Returns the image that a job is to install; no bytes for any other job.
 pub fn image(ask: &Ask) -> &[u8]
     ensures { result.now ≡ image_of ask.now }
 {
     match ask {
-        Ask::Install(image) => image.as_slice(),
+        Ask::Install(image, _) => image.as_slice(),
         _ => &[],
     }
 }
@@ -374,7 +387,7 @@ fn run_and_commit(
     Step::committed(count, &outcome, ticket, committed, answer)
 }
 
-// The ticket of a program, if there is one, and of what was written down.
+// Returns the ticket of a program, if there is one, and of the written snapshot.
 fn ticket_if<'a>(program: &'a Option<Arc<Verified>>, found: &'a Found) -> Option<Ticket<'a>>
     requires { FitsTurnStep (ToDraw program.now) found.now }
     ensures { turn_stage_of (ToDraw program.now) found.now ≡ turns.ToDraw result }
@@ -385,7 +398,8 @@ fn ticket_if<'a>(program: &'a Option<Arc<Verified>>, found: &'a Found) -> Option
     }
 }
 
-// Notifies the observer of a turn of what its taking found: what is sent is written over another emission. Tells whether anything is.
+// Notifies the observer of a lease, by its snapshot. The datagram is written over `emission`.
+// Returns whether there is one to send.
 fn note(
     frame: &mut Frame,
     shard: &mut Shard,
@@ -422,23 +436,24 @@ fn note(
     }
 }
 
-// Installs an accepted program, or tells which rule an image breaks.
+// Installs an accepted program, or records the rule that its image breaks.
 fn verify_and_install(
     alloc: Global,
     image: &[u8],
+    initial: InitialVars,
     shard: &mut Shard,
     slot: SlotNumber,
     stage: &mut Stage,
 ) -> Result<(), AllocError>
     requires { IsOwned shard.old slot }
-    ensures stage { OnOk result (stage.new ≡ next_stage (install_call (judged image.now) (slot_in shard.old slot))) }
+    ensures stage { OnOk result (stage.new ≡ next_stage (install_call initial (judged image.now) (slot_in shard.old slot))) }
     ensures shard { OnOk result ((s : Scene) →
-        shard.new ≡ shard_moved (install_move (judged image.now) (record s { slot = slot_in shard.old slot })) slot shard.old) }
-    ensures safe { OnOk result (AllSafe (changes_told (install_call (judged image.now) (slot_in shard.old slot)))) }
+        shard.new ≡ shard_moved (install_move initial (judged image.now) (record s { slot = slot_in shard.old slot })) slot shard.old) }
+    ensures safe { OnOk result (AllSafe (changes_told (install_call initial (judged image.now) (slot_in shard.old slot)))) }
     ensures refused { IsErr result → shard.new ≡ shard.old }
 {
     match verify(alloc, image) {
-        Ok(program) => install_program(alloc, program, shard, slot, stage),
+        Ok(program) => install_program(alloc, program, initial, shard, slot, stage),
         Err(Refusal::NoMemory) => Err(AllocError),
         Err(Refusal::Broken(fault)) => {
             stage.rejected(fault);
@@ -447,21 +462,23 @@ fn verify_and_install(
     }
 }
 
+// Installs a verified program.
 fn install_program(
     alloc: Global,
     program: Verified,
+    initial: InitialVars,
     shard: &mut Shard,
     slot: SlotNumber,
     stage: &mut Stage,
 ) -> Result<(), AllocError>
     requires { IsOwned shard.old slot }
-    ensures stage { OnOk result (stage.new ≡ next_stage (install_call (Accepts program) (slot_in shard.old slot))) }
+    ensures stage { OnOk result (stage.new ≡ next_stage (install_call initial (Accepts program) (slot_in shard.old slot))) }
     ensures shard { OnOk result ((s : Scene) →
-        shard.new ≡ shard_moved (install_move (Accepts program) (record s { slot = slot_in shard.old slot })) slot shard.old) }
+        shard.new ≡ shard_moved (install_move initial (Accepts program) (record s { slot = slot_in shard.old slot })) slot shard.old) }
     ensures refused { IsErr result → shard.new ≡ shard.old }
 {
     let receipt = Receipt::of(&program, 0);
     let program = Arc::new(alloc, program)?;
-    stage.made(receipt, shard.install(slot, program));
+    stage.made(receipt, shard.install(slot, program, initial));
     Ok(())
 }

@@ -6,17 +6,17 @@ use Rattle.crossbeam_channel.specs.declared.flavors.array.Key.{Key}
 use Rattle.fc_registry.specs.declared.job.Job.{Job}
 use Rattle.fc_jobs.specs.declared.protocol.Numbered.{Numbered}
 
--- which channel it is: no other has these tables
+-- identity of a channel: no other has these tables.
 pub record Channel : Type 0 where
   pub stamps : TableId
   pub messages : Badge (Key Numbered)
 
--- the end that sends, and what was sent, each job under its place in the list
+-- the sending end, and the jobs that were sent, each under its position in the list.
 pub record Sent : Type 0 where
   pub channel : Channel
   pub sent : List Numbered
 
--- a worker's end, and what the worker got
+-- a worker's end, and the jobs that the worker received.
 pub record Got : Type 0 where
   pub channel : Channel
   pub got : List Numbered
@@ -27,10 +27,10 @@ nothing_sent channel = record { channel = channel; sent = [] }
 abbrev pub nothing_got : Channel → Got
 nothing_got channel = record { channel = channel; got = [] }
 
--- one more job is sent, under the next number
+-- one more job is sent, under the next number.
 abbrev pub with_sent : Sent → Job → Sent
 with_sent s job = record s { sent = s.sent ++ record { number = length s.sent; job = job } ∷ [] }
 
--- one more job is got, under this number
+-- one more job is received, under this number.
 abbrev pub with_got : Got → ℕ → Job → Got
 with_got g number job = record g { got = g.got ++ record { number = number; job = job } ∷ [] }

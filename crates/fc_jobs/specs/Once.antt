@@ -1,28 +1,28 @@
--- Which jobs were sent, and who got which.
+-- The jobs that were sent, and the worker that received each.
 use Rattle.std.specs.Prelude.{◌≡◌, ℕ, ◌+◌, ◌≤◌, ◌==◌, nat_lt, true, false, cond, List, [], ◌∷◌, length, drop, slice_get, Some}
 use mathlib.Core.Option.{some}
 use lib.ListN.{get_elem?}
 use Rattle.fc_jobs.specs.declared.protocol.Hand.{Hand}
 use Rattle.fc_jobs.specs.declared.protocol.Numbered.{Numbered}
 
--- the sender's view, and a worker's
+-- the sender's view, and a worker's.
 abbrev pub sends_view : List Numbered → Hand
 sends_view sent = record { sends = true; sent = sent; got = [] }
 
 abbrev pub gets_view : List Numbered → Hand
 gets_view got = record { sends = false; sent = []; got = got }
 
--- how often a number stands in the list
+-- number of occurrences of a number in the list.
 abbrev pub times : ℕ → List Numbered → ℕ
 times x [] = 0
 times x (i ∷ is) = cond (i.number == x) 1 0 + times x is
 
--- how often a number stands in all lists of what was got
+-- number of occurrences of a number in all lists of received jobs.
 abbrev pub in_all : ℕ → List Hand → ℕ
 in_all x [] = 0
 in_all x (v ∷ vs) = times x v.got + in_all x vs
 
--- the item stands in the log under its number
+-- the item is in the log under its number.
 abbrev pub StandsIn : List Numbered → Numbered → Type 0
 StandsIn log i = slice_get log i.number ≡ Some i
 
@@ -30,7 +30,8 @@ abbrev pub AllStandIn : List Numbered → List Numbered → Type 0
 AllStandIn log [] = Unit {0}
 AllStandIn log (i ∷ is) = StandsIn log i × AllStandIn log is
 
--- Of what was sent, the first ones were got, each number once over all views, and the rest lies in the channel in order
+-- the first jobs of the log were received, each number once over all views, and the rest is in the
+-- channel in order.
 pub record Once (items : List Numbered) (views : List Hand) : Type 0 where
   pub log : List Numbered
   pub taken : ℕ

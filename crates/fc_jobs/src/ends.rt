@@ -4,8 +4,11 @@ use crossbeam_channel::{Pass, RuledReceiver, RuledSender};
 use std::marker::Model;
 use std::sync::OnceLock;
 
-/// The end from which the workers get their jobs, and, once it is known, whether there is a worker: true from the first that asked for a job on; false where none ever will,
-/// since they may have been refused the memory that they begin with. A clause sees which channel it is.
+/// The end from which the workers receive their jobs.
+///
+/// It also stores whether a worker has asked for a job, once that is known: `true` from the first
+/// request on, and `false` if none ever will, as when memory to start the workers couldn't be
+/// allocated. A clause sees which channel it is.
 #[derive(Drop)]
 pub struct Jobs {
     pub(crate) receiver: RuledReceiver<Numbered, Hand, OnceEach>,
@@ -26,7 +29,9 @@ impl Model for Jobs {
     ghost invariant = { λ j. IsKeyed (receives_on j.receiver) };
 }
 
-/// The one end that sends, with a list of all that was sent. Once it is dropped the channel is closed.
+/// The only sending end, with a list of all jobs that were sent.
+///
+/// The channel is closed when it is dropped.
 #[derive(Drop)]
 pub struct Sent {
     pub(crate) sender: RuledSender<Numbered, Hand, OnceEach>,
@@ -52,7 +57,7 @@ impl Model for Sent {
         × (length (view_of s.pass).sent ≡ s.next) };
 }
 
-/// A worker's place at the channel, with a list of what the worker got.
+/// A worker's place at the channel, with a list of the jobs that it received.
 #[derive(Drop)]
 pub struct Got {
     pub(crate) pass: Pass<Numbered, Hand>,

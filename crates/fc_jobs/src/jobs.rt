@@ -10,17 +10,17 @@ use fc_registry::Job;
 use std::alloc::{AllocError, Global};
 use std::sync::{OnceLock, Wait};
 
-/// The places of the channel: how many jobs may wait.
+/// The capacity of the channel: the number of jobs that may wait.
 const PLACES: usize = 256;
 
 /// The number of the first job that is not sent.
 const LAST: u64 = 1 << 61;
 
 impl Jobs {
-    /// Makes a channel of 256 places, with the end that sends and a `Got` for each worker.
+    /// Makes a channel of 256 places, with its sending end and a `Got` for each worker.
     ///
     /// # Errors
-    /// There was no memory for it.
+    /// Returns `AllocError` if memory can't be allocated.
     pub fn new(alloc: Global, workers: usize) -> Result<(Jobs, Sent, Vec<Got>), AllocError>
         ensures sent { IfOk result (λ r. r.1 ≡ nothing_sent r.0) }
         ensures got { IfOk result (λ r. r.2.items ≡ replicate workers (nothing_got r.0)) }
@@ -39,8 +39,10 @@ impl Jobs {
         Ok((jobs, sent, gots))
     }
 
-    /// Sends a job under the next number, from 0 on, or hands it back; the numbers end at 2^61, from where on each job comes
-    /// back. It waits while the channel is full.
+    /// Sends a job under the next number, from 0 on, or returns it.
+    ///
+    /// The numbers end at 2^61, from which on each job is returned. It waits while the channel is
+    /// full.
     pub fn send<R: Wait>(&self, rt: &R, job: Job, sent: &mut Sent) -> Option<Job>
         requires { sent.old.channel ≡ self.now }
         ensures sent { MatchOption result (sent.new ≡ with_sent sent.old job)
@@ -54,8 +56,10 @@ impl Jobs {
         sent.send(rt, Numbered { number, job })
     }
 
-    /// Receives the next job with its number, which is new to the worker; none once the sender is gone and nothing is left. It waits
-    /// while the channel is empty.
+    /// Receives the next job with its number, which is new to the worker.
+    ///
+    /// Returns `None` if the sender is gone and no job is left. It waits while the channel is
+    /// empty.
     pub fn next<R: Wait>(&self, rt: &R, got: &mut Got) -> Option<(u64, Job)>
         requires { got.old.channel ≡ self.now }
         ensures got { MatchOption result (got.new ≡ got.old) (λ r. got.new ≡ with_got got.old r.0 r.1) }
@@ -72,25 +76,31 @@ impl Jobs {
 }
 
 impl Jobs {
-    /// Returns whether a worker has asked for a job yet. Where none has, none may ever: the thread that was to begin them may have been refused memory. Who sends no job before then
-    /// doesn't wait for ever.
+    /// Returns whether a worker has asked for a job yet.
+    ///
+    /// If none has, none may ever: the thread that was to begin them may have been refused memory.
+    /// A caller that sends no job before then doesn't wait for ever.
     pub fn is_served(&self) -> bool {
         self.served.get() == Some(&true)
     }
 
-    /// Waits until a worker has asked for a job, or it is known that none will. Tells whether one has.
+    /// Waits until a worker has asked for a job, or it is known that none will.
+    ///
+    /// Returns whether one has.
     pub fn await_worker<R: Wait>(&self, rt: &R) -> bool {
         *self.served.wait(rt)
     }
 
-    /// Says that no worker will ask for a job any more: who waits for one goes on. Where one has asked, it changes nothing.
+    /// Declares that no worker will ask for a job any more.
+    ///
+    /// A caller that waits for one continues. If a worker has asked, this has no effect.
     pub fn dismiss<R: Wait>(&self, rt: &R) {
         let _ = self.served.set(rt, false);
     }
 }
 
 impl Sent {
-    // Sends a job that has its number, or hands it back.
+    // Sends a job that has its number, or returns it.
     fn send<R: Wait>(&mut self, rt: &R, numbered: Numbered) -> Option<Job>
         requires { (numbered.number ≡ length self.old.sent) × (numbered.number < 2 ^ 61) }
         ensures { MatchOption result (self.new ≡ with_sent self.old numbered.job)
@@ -106,7 +116,7 @@ impl Sent {
         }
     }
 
-    // A place for another worker.
+    // Makes a place for another worker.
     fn hire(&mut self) -> Got
         ensures same { self.new ≡ self.old }
         ensures got { result ≡ nothing_got self.old.channel }
@@ -116,7 +126,7 @@ impl Sent {
     }
 }
 
-// A place for each worker.
+// Makes a place for each worker.
 fn hire(alloc: Global, sent: &mut Sent, workers: usize) -> Result<Vec<Got>, AllocError>
     ensures same { sent.new ≡ sent.old }
     ensures got { IfOk result (λ v. v.items ≡ replicate workers (nothing_got sent.old.channel)) }

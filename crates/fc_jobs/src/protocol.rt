@@ -3,21 +3,23 @@ use crossbeam_channel::protocol::{Lesson, Outcome, Protocol, Split};
 use fc_registry::Job;
 use std::collections::LinkedList;
 
-/// A job under its number.
+/// A job with its number.
 #[derive(Drop)]
 pub struct Numbered {
     pub number: u64,
     pub job: Job,
 }
 
-/// What a pass knows: the sender's all that was sent, a worker's what it got. No value of it is made.
+/// The view of a pass: for the sender all jobs sent, for a worker all received.
+///
+/// No value of it is made.
 pub struct Hand {
     pub sends: bool,
     pub sent: LinkedList<Numbered>,
     pub got: LinkedList<Numbered>,
 }
 
-/// Each number is got once.
+/// The rule that each number is received once.
 pub struct OnceEach;
 
 impl Protocol<Numbered, Hand> for OnceEach {
@@ -29,7 +31,7 @@ impl Protocol<Numbered, Hand> for OnceEach {
     ghost first = { sends_view [] };
 }
 
-/// A send: the sender's view lists what it sent.
+/// A send: the sender's view lists the jobs that it sent.
 pub(crate) struct Puts;
 
 impl Outcome<Numbered, Hand> for Puts {
@@ -45,7 +47,7 @@ impl Lesson<Numbered, Hand> for Puts {
     ghost fact = { λ _ _. ⊤ };
 }
 
-/// A receive: the worker's view lists what it got, whose number is new to it.
+/// A receive: the worker's view lists the jobs that it received, with new numbers.
 pub(crate) struct Takes;
 
 impl Outcome<Numbered, Hand> for Takes {
@@ -61,7 +63,7 @@ impl Lesson<Numbered, Hand> for Takes {
     ghost fact = { λ _ _. ⊤ };
 }
 
-/// Another worker's pass, cut from the sender's: nothing is got yet.
+/// Another worker's pass, split from the sender's: nothing is received yet.
 pub(crate) struct Hires;
 
 impl Split<Hand> for Hires {

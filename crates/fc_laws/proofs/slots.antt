@@ -3,3 +3,4 @@ pub mod Causes
 pub mod Writing
 pub mod Published
 pub mod Deletions
+pub mod Updates

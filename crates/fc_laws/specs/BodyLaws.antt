@@ -1,4 +1,4 @@
--- What the laws of bodies that come in blocks speak of.
+-- Definitions for the laws of bodies in blocks.
 use Rattle.std.specs.Prelude.{◌≡◌, ℕ, List, [], ◌∷◌, ◌++◌, max, true, Option, Some, None, Ok}
 use Rattle.coap_msg.specs.declared.types.Emission.{Emission}
 use Rattle.coap_msg.specs.declared.types.Endpoint.{Endpoint}
@@ -16,64 +16,67 @@ use Rattle.fc_core.specs.declared.event.Event.{Event}
 use Rattle.fc_core.specs.declared.event.Event.TheVariants.{Deliver}
 use Rattle.fc_laws.specs.ExchangeLaws.{IsOpening}
 use Rattle.fc_core.specs.History.{Entry, Seen, and_then, front_at}
-use Rattle.fc_core.specs.Receiving.{Received, Settled, add_in, addition_of, received_added, told}
+use Rattle.fc_core.specs.Receiving.{Received, Settled, add_in, addition_of, received_added, told, initial_vars_by}
 use Rattle.fc_core.specs.Policies.{is_allowed}
 use Rattle.coap_reply.specs.Responses.{Response, bare, settled_by}
 use Rattle.fc_core.specs.Stages.{new_task}
 
--- what a new request that its endpoint is allowed to send is to a server that is handed a moment
+-- classification of a new request that its endpoint is allowed to send, by a server that is passed
+-- a time.
 abbrev pub asked_at : Seen → ℕ → Endpoint → Message → Asked → Received
 asked_at s now to m r = received_added (add_in (front_at s now) to r) m r
 
--- the payload that it adds
+-- payload that it adds.
 abbrev pub addition_at : Seen → ℕ → Endpoint → Asked → Addition
 addition_at s now to r = addition_of (max s.moment now) to r
 
--- the datagram is a request that is no repeat, that passes every check of its options, and that its endpoint is allowed to send
+-- the datagram is a request and no duplicate, passes every check of its options, and its endpoint
+-- is allowed to send it.
 pub record IsAskedAnew (s : Seen) (now : ℕ) (to : Endpoint) (bytes : List ℕ) (m : Message) (r : Asked) : Type 0 where
   pub opens : IsOpening s now to bytes
   pub read : reading_of bytes ≡ Ok m
   pub asks : verdict m ≡ IsAsked r
   pub allowed : is_allowed s.policy.managers to r.action ≡ true
 
--- the event delivers such a request
+-- the event delivers such a request.
 abbrev pub Asks : Seen → Event → Message → Asked → Type 0
 Asks s (Deliver now to bytes) m r = IsAskedAnew s now to bytes.now m r
 Asks s other m r = ⊥
 
--- its payload, as it is added
+-- its payload, as it is added.
 abbrev pub addition_by : Seen → Event → Asked → List Addition
 addition_by s (Deliver now to bytes) r = addition_at s now to r ∷ []
 addition_by s other r = []
 
--- its block fits the payloads before it, and makes this body with them
+-- its block fits the payloads before it, and makes this body with them.
 abbrev pub FitsBy : Seen → Event → Asked → Place → List ℕ → Type 0
 FitsBy s (Deliver now to bytes) r b body = FitsBehind s.additions (addition_at s now to r) b body
 FitsBy s other r b body = ⊥
 
--- a PUT of slot N with a block
+-- a PUT of slot N with a block.
 pub record PutsBlock (r : Asked) (n : ℕ) (b : Place) : Type 0 where
   pub action : r.action ≡ actions.Install n
   pub block : r.block1 ≡ Some b
 
--- one job comes, which installs this body in slot N
-pub record BringsInstall (e : Entry) (s : Seen) (n : ℕ) (body : List ℕ) : Type 0 where
+-- one job arrives, which installs this body in slot N. This request's query determines the initial
+-- variables.
+pub record BringsInstall (e : Entry) (s : Seen) (r : Asked) (n : ℕ) (body : List ℕ) : Type 0 where
   pub job : Job
   pub tasks : (and_then e s).tasks ≡ s.tasks ++ (new_task job ∷ [])
-  pub asks : job.ask ≡ Installs (record { items = body })
+  pub asks : job.ask ≡ Installs (record { items = body }) (initial_vars_by r.query)
   pub slot : job.origin.slot ≡ n
 
--- the answer 2.31 (Continue), with the block that was sent
+-- the answer 2.31 (Continue), with the block that was sent.
 abbrev pub continue_by : Seen → Event → Message → Place → Option Emission
 continue_by s (Deliver now to bytes) m b = told (front_at s now) to m (settled_by (code 2 31) (Some b))
 continue_by s other m b = None
 
--- a request with a block is answered at once, by this code alone
+-- a request with a block is answered immediately, by this code alone.
 abbrev pub SettlesBy : Seen → Event → Message → Asked → ℕ → Type 0
 SettlesBy s (Deliver now to bytes) m r answer = asked_at s now to m r ≡ Settled m r (bare answer)
 SettlesBy s other m r answer = ⊥
 
--- what a block may be answered at once: 2.31 (Continue) with its Block1, or by the code of a refusal alone
+-- immediate answers to a block: 2.31 (Continue) with its Block1, or the code of a refusal alone.
 pub data IsAnswerAtOnce (b : Place) (response : Response) : Type 0 where
   Continue : (is : response ≡ settled_by 95 (Some b)) → IsAnswerAtOnce b response
   Unavailable : (is : response ≡ bare 163) → IsAnswerAtOnce b response

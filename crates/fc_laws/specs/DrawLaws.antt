@@ -1,4 +1,4 @@
--- What the law of draws speaks of: which events need a message id of the server's own.
+-- Definitions for the law of draws: the events that need a message ID of the server.
 use Rattle.std.specs.Prelude.{◌≡◌, ℕ, ◌+◌, ◌<◌, false, max, Option}
 use Rattle.coap_msg.specs.Wire.{Message}
 use Rattle.coap_opts.specs.Verdict.{Asked}
@@ -17,19 +17,20 @@ use Rattle.fc_laws.specs.ExchangeLaws.{FindsNoExchange}
 use Rattle.fc_laws.specs.KeptLaws.{opened_at}
 use Rattle.fc_laws.specs.ReplyLaws.{Refuses}
 
--- the block of a request is answered when it comes, by this
+-- the block of a request is answered on arrival, by this.
 abbrev pub Settles : Seen → Event → Message → Asked → Response → Type 0
 Settles s (Deliver now to bytes) m r response = asked_at s now to m r ≡ Settled m r response
 Settles s other m r response = ⊥
 
--- the event delivers a new request that is answered when it comes: there is no room for its exchange, a check of its options refuses it,
--- or its block is refused, or more are to follow
+-- the event delivers a new request that is answered on arrival: there is no space for its exchange,
+-- a check of its options refuses it, its block is refused, or its block isn't the last one.
 pub data IsAnsweredAtOnce (s : Seen) (e : Event) (m : Message) : Type 0 where
   FindsNoRoom : (crowded : FindsNoExchange s e m) → IsAnsweredAtOnce s e m
   IsRefused : (answer : ℕ) (refuses : Refuses s e m answer) → IsAnsweredAtOnce s e m
   IsSettled : (asked : Asked) (response : Response) (asks : Asks s e m asked) (settles : Settles s e m asked response) → IsAnsweredAtOnce s e m
 
--- the event answers a request that isn't confirmable, when it comes or by its job less than 247,000 ms later; or it draws the id of a turn's notification
+-- the event answers a request that isn't confirmable, on arrival or by its job less than 247,000 ms
+-- later; or it draws the message ID of a lease's notification.
 pub data NeedsId (s : Seen) (e : Event) : Type 0 where
   AnswersAtOnce : (m : Message) (kind : is_confirmable m.kind ≡ false) (answers : IsAnsweredAtOnce s e m) → NeedsId s e
   AnswersInTime : (k now : ℕ) (content : Content) (event : e ≡ Answer k now) (at : stage s k ≡ ToAnswer content) (kind : (job s k).confirmable ≡ false)

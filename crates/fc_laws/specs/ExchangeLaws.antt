@@ -1,4 +1,4 @@
--- What the laws of exchanges and message ids speak of.
+-- Definitions for the laws of exchanges and message IDs.
 use Rattle.std.specs.Prelude.{◌≡◌, ◌⊎◌, ℕ, ◌+◌, ◌%◌, ◌<◌, ◌≤◌, ◌==◌, ◌&&◌, Bool, true, false, nat_lt, List, [], ◌∷◌, ◌++◌, length, map, filter, find, max, Option, Some, None, Ok}
 use Rattle.arrayvec.specs.ArrayVec.{ArrayVec}
 use Rattle.coap_msg.specs.declared.types.Emission.{Emission}
@@ -14,44 +14,47 @@ use Rattle.coap_reply.specs.Responses.{bare}
 use Rattle.fc_core.specs.History.{Entry, History, Begins, Then, Seen, seen, and_then, front_at}
 use Rattle.fc_core.specs.Receiving.{is_confirmable, told}
 
--- ---- repeats
+-- ---- duplicates
 
--- a verdict on a request: it is carried out, refused, or gets no answer
+-- a verdict on a request: it is served, refused, or gets no response.
 abbrev pub IsOnRequest : Verdict → Type 0
 IsOnRequest (IsAsked asked) = Unit {0}
 IsOnRequest (IsRefused answer) = Unit {0}
 IsOnRequest IsSilent = Unit {0}
 IsOnRequest other = ⊥
 
--- an exchange was opened less than 247,000 ms before the moment
+-- whether an exchange was opened less than 247,000 ms before the time.
 abbrev pub is_within : ℕ → Exchange → Bool
 is_within at e = nat_lt at (e.at + 247000)
 
--- the exchange of an endpoint and message id that was opened in that time, if one was
+-- exchange of an endpoint and message ID that was opened within that time, if there is one.
 abbrev pub repeated : Seen → ℕ → Endpoint → ℕ → Option Exchange
 repeated s at to id = find (λ e. is_within at e && is_of to id e) s.exchanges
 
--- the datagram is a request that repeats the one of this exchange
+-- the datagram is a request that duplicates the one of this exchange.
 pub record IsRepeat (s : Seen) (now : ℕ) (to : Endpoint) (bytes : List ℕ) (e : Exchange) : Type 0 where
   pub message : Message
   pub read : reading_of bytes ≡ Ok message
   pub asks : IsOnRequest (verdict message)
   pub is : repeated s (max s.moment now) to message.id ≡ Some e
 
--- the bytes that are kept of an exchange go out again where its request was confirmable and was answered
+-- the bytes that are stored for an exchange are sent again if its request was confirmable and was
+-- answered.
 abbrev pub again : Endpoint → Bool → Option (ArrayVec ℕ) → Option Emission
 again to true (Some bytes) = Some (record { to = to; bytes = bytes })
 again to confirmable answer = None
 
--- the exchanges that were opened in the last 247,000 ms, and how many of them are of an address
+-- exchanges that were opened in the last 247,000 ms, and the number of them that belong to an
+-- address.
 abbrev pub held_at : Seen → ℕ → List Exchange
 held_at s at = filter (is_within at) s.exchanges
 
 abbrev pub shared_at : Seen → ℕ → List ℕ → ℕ
 shared_at s at ip = share_of ip (held_at s at)
 
--- the datagram is a request and no repeat, and there is room: in the last 247,000 ms fewer exchanges were opened than the policy's limit, and
--- fewer of the address than its share; and fewer than 2^64 - 1 were ever opened
+-- the datagram is a request and no duplicate, and there is space: in the last 247,000 ms fewer
+-- exchanges were opened than the policy's limit, and fewer of the address than its share; and fewer
+-- than 2^64 - 1 were ever opened.
 pub record IsOpening (s : Seen) (now : ℕ) (to : Endpoint) (bytes : List ℕ) : Type 0 where
   pub message : Message
   pub read : reading_of bytes ≡ Ok message
@@ -61,11 +64,13 @@ pub record IsOpening (s : Seen) (now : ℕ) (to : Endpoint) (bytes : List ℕ) :
   pub share : shared_at s (max s.moment now) to.ip < s.policy.limits.share
   pub numbers : length s.exchanges < 18446744073709551615
 
--- no place is free for one more exchange: as many were opened in the last 247,000 ms as the policy's limit, or 2^64 - 1 ever
+-- there is no space for another exchange: as many were opened in the last 247,000 ms as the
+-- policy's limit, or 2^64 - 1 ever.
 abbrev pub HasNoPlace : Seen → ℕ → Type 0
 HasNoPlace s at = (places_of s.policy.limits ≤ length (held_at s at)) ⊎ (18446744073709551615 ≤ length s.exchanges)
 
--- the datagram is a request and no repeat, and no place is free, though its address is below its share
+-- the datagram is a request and no duplicate, and there is no space, though its address is below
+-- its share.
 pub record IsCrowdedOut (s : Seen) (now : ℕ) (to : Endpoint) (bytes : List ℕ) (m : Message) : Type 0 where
   pub read : reading_of bytes ≡ Ok m
   pub asks : IsOnRequest (verdict m)
@@ -73,7 +78,8 @@ pub record IsCrowdedOut (s : Seen) (now : ℕ) (to : Endpoint) (bytes : List ℕ
   pub share : shared_at s (max s.moment now) to.ip < s.policy.limits.share
   pub full : HasNoPlace s (max s.moment now)
 
--- the datagram is a request and no repeat, and in the last 247,000 ms as many exchanges of its address were opened as its share
+-- the datagram is a request and no duplicate, and in the last 247,000 ms as many exchanges of its
+-- address were opened as its share.
 pub record IsOverShare (s : Seen) (now : ℕ) (to : Endpoint) (bytes : List ℕ) (m : Message) : Type 0 where
   pub read : reading_of bytes ≡ Ok m
   pub asks : IsOnRequest (verdict m)
@@ -88,27 +94,28 @@ abbrev pub repeat_emits : Event → Exchange → Option Emission
 repeat_emits (Deliver now to bytes) e = again to e.confirmable e.answer
 repeat_emits other e = None
 
--- the event delivers a new request that there is room for
+-- the event delivers a new request with space for it.
 abbrev pub Opens : Seen → Event → Type 0
 Opens s (Deliver now to bytes) = IsOpening s now to bytes.now
 Opens s other = ⊥
 
--- the event delivers a new request that no place is free for
+-- the event delivers a new request without space for it.
 abbrev pub FindsNoExchange : Seen → Event → Message → Type 0
 FindsNoExchange s (Deliver now to bytes) m = IsCrowdedOut s now to bytes.now m
 FindsNoExchange s other m = ⊥
 
--- the event delivers a new request of an address that has its whole share
+-- the event delivers a new request from an address that has used its share.
 abbrev pub ExceedsShare : Seen → Event → Message → Type 0
 ExceedsShare s (Deliver now to bytes) m = IsOverShare s now to bytes.now m
 ExceedsShare s other m = ⊥
 
--- the answer to a message at once, by this code alone
+-- the immediate answer to a message, by this code alone.
 abbrev pub bare_by : Seen → Event → Message → ℕ → Option Emission
 bare_by s (Deliver now to bytes) m answer = told (front_at s now) to m (bare answer)
 bare_by s other m answer = None
 
--- whose an exchange is, its message id, whether it is confirmable, and when it was opened
+-- endpoint and message ID of an exchange, whether it is confirmable, and the time when it was
+-- opened.
 pub record Arrival : Type 0 where
   pub endpoint : Endpoint
   pub id : ℕ
@@ -118,11 +125,11 @@ pub record Arrival : Type 0 where
 abbrev pub arrival_of : Exchange → Arrival
 arrival_of e = record { endpoint = e.endpoint; id = e.id; confirmable = e.confirmable; at = e.at }
 
--- the exchanges that were opened, but for their answers
+-- opened exchanges, without their answers.
 abbrev pub arrivals : Seen → List Arrival
 arrivals s = map arrival_of s.exchanges
 
--- what arrives is the datagram's: its endpoint, message id and type, at the front's moment
+-- the arrival is the datagram's: its endpoint, message ID and type, at the front's time.
 pub record IsArrival (s : Seen) (now : ℕ) (to : Endpoint) (bytes : List ℕ) (a : Arrival) : Type 0 where
   pub message : Message
   pub read : reading_of bytes ≡ Ok message
@@ -132,45 +139,45 @@ abbrev pub ArrivesBy : Seen → Event → Arrival → Type 0
 ArrivesBy s (Deliver now to bytes) a = IsArrival s now to bytes.now a
 ArrivesBy s other a = ⊥
 
--- one exchange is opened, the last
+-- one exchange is opened, as the last.
 pub record OpensOne (r : Entry) (s : Seen) : Type 0 where
   pub arrival : Arrival
   pub is : ArrivesBy s r.event arrival
   pub last : arrivals (and_then r s) ≡ arrivals s ++ arrival ∷ []
 
--- ---- message ids
+-- ---- message IDs
 
--- a message id that was drawn, and when
+-- a message ID that was drawn, and the time.
 pub record Draw : Type 0 where
   pub id : ℕ
   pub at : ℕ
 
--- an event draws the id that is next where another is next after it
+-- an event draws the next message ID if another one is next after it.
 abbrev pub draws_by : Bool → Draw → List Draw → List Draw
 draws_by true draw before = before
 draws_by false draw before = draw ∷ before
 
--- the ids that were drawn, the newest first
+-- message IDs that were drawn, the newest first.
 abbrev pub draws_of : History → List Draw
 draws_of (Begins serial id policy) = []
 draws_of (Then h r) = draws_by ((seen (Then h r)).ids.next == (seen h).ids.next) (record { id = (seen h).ids.next; at = (seen (Then h r)).moment }) (draws_of h)
 
--- the id that a server begins with
+-- first message ID of a server.
 abbrev pub first_id : History → ℕ
 first_id (Begins serial id policy) = id
 first_id (Then h r) = first_id h
 
--- of the draws, the newest first, each is of the id after the one before it
+-- in a list of draws, the newest first, each message ID follows the one before it.
 abbrev pub AreInOrder : ℕ → List Draw → Type 0
 AreInOrder first [] = Unit {0}
 AreInOrder first (d ∷ ds) = (d.id ≡ (first + length ds) % 65536) × AreInOrder first ds
 
--- each draw of this id was at least 247,000 ms before the moment
+-- each draw of this message ID was at least 247,000 ms before the time.
 abbrev pub AllBefore : ℕ → ℕ → List Draw → Type 0
 AllBefore id at [] = Unit {0}
 AllBefore id at (d ∷ ds) = (d.id ≡ id → d.at + 247000 ≤ at) × AllBefore id at ds
 
--- of the draws, the newest first, none is of an id that was drawn less than 247,000 ms before
+-- in a list of draws, the newest first, no message ID was drawn twice within less than 247,000 ms.
 abbrev pub AreApart : List Draw → Type 0
 AreApart [] = Unit {0}
 AreApart (d ∷ ds) = AllBefore d.id d.at ds × AreApart ds

@@ -1,4 +1,4 @@
--- What the laws of head words speak of.
+-- Definitions for the laws of head words.
 use Rattle.std.specs.Prelude.{◌≡◌, ℕ, ◌==◌, ◌⊎◌, if◌then◌else◌, List, [], ◌∷◌, ◌++◌, is_some}
 use Rattle.fc_registry.specs.Slots.{Slot}
 use Rattle.fc_core.specs.Stage.{Stage}
@@ -9,26 +9,27 @@ use Rattle.fc_core.specs.declared.event.Event.TheVariants.{Raise}
 use Rattle.fc_core.specs.History.{History, Begins, Then, Seen, seen, stage}
 use Rattle.fc_core.specs.Laws.{slot_of}
 
--- the head word of a slot's state
+-- head word of a slot's state.
 abbrev pub slot_word : Slot → ℕ
 slot_word slot = head_word slot.serial (is_some slot.present)
 
--- a job that is to raise its slot's head word was so before, or is to raise it to that of this state
+-- a job that is to raise its slot's head word was to do so before, or the word is that of this
+-- state.
 abbrev pub PublishesAt : Slot → Stage → Stage → Type 0
 PublishesAt slot old (ToRaise word content) = (old ≡ ToRaise word content) ⊎ (word ≡ slot_word slot)
 PublishesAt slot old other = Unit {0}
 
--- the word that a job at this stage is to raise its slot's to
+-- head word that a job at this stage is to raise.
 abbrev pub word_to_raise : Stage → List ℕ
 word_to_raise (ToRaise word content) = word ∷ []
 word_to_raise other = []
 
--- the word that an event raises slot n's to: that of a job of the slot, which is at its Raise
+-- head word that an event raises for slot n: that of a job of the slot, which is at its Raise.
 abbrev pub words_raised : ℕ → Event → Seen → List ℕ
 words_raised n (Raise k) s = if slot_of s k == n then word_to_raise (stage s k) else []
 words_raised n other s = []
 
--- the words that were raised for slot n, the newest first
+-- head words that were raised for slot n, the newest first.
 abbrev pub raises_of : ℕ → History → List ℕ
 raises_of n (Begins serial id policy) = []
 raises_of n (Then h r) = words_raised n r.event (seen h) ++ raises_of n h

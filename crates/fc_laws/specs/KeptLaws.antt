@@ -1,4 +1,4 @@
--- What the laws of kept answers speak of.
+-- Definitions for the laws of stored answers.
 use Rattle.std.specs.Prelude.{◌≡◌, ℕ, ◌⊎◌, true, List, map, slice_set, Option, Some, None, is_some, max}
 use Rattle.arrayvec.specs.ArrayVec.{ArrayVec}
 use Rattle.coap_msg.specs.declared.types.Emission.{Emission}
@@ -9,27 +9,28 @@ use Rattle.fc_core.specs.Stage.{ToAnswer}
 use Rattle.fc_core.specs.History.{Seen, job, stage}
 use Rattle.fc_core.specs.Ids.{free_id}
 
--- ---- what is kept
+-- ---- stored answers
 
--- the bytes that went out
+-- bytes that were sent.
 abbrev pub emitted_bytes : Option Emission → Option (ArrayVec ℕ)
 emitted_bytes None = None
 emitted_bytes (Some emission) = Some emission.bytes
 
--- the kept answer of each exchange, at its number
+-- stored answer of each exchange, at its number.
 abbrev pub answers : Seen → List (Option (ArrayVec ℕ))
 answers s = map (λ e. e.answer) s.exchanges
 
--- the number of the exchange of a job's request
+-- number of the exchange of a job's request.
 abbrev pub exchange_of_job : Seen → ℕ → ℕ
 exchange_of_job s k = (job s k).origin.opening.number
 
--- the answer of a job's exchange is what its Answer emitted; that of each other exchange is as it was
+-- the answer of a job's exchange is the emission of its Answer; those of other exchanges are
+-- unchanged.
 abbrev pub answers_with : Option Emission → ℕ → List (Option (ArrayVec ℕ)) → List (Option (ArrayVec ℕ))
 answers_with None number kept = kept
 answers_with (Some emission) number kept = slice_set kept number (Some emission.bytes)
 
--- the event is the Answer of a job that stands at its answer
+-- the event is the Answer of a job that is to be answered.
 pub record AnswersJob (s : Seen) (e : Event) : Type 0 where
   pub number : ℕ
   pub now : ℕ
@@ -37,12 +38,13 @@ pub record AnswersJob (s : Seen) (e : Event) : Type 0 where
   pub event : e ≡ Answer number now
   pub at : stage s number ≡ ToAnswer content
 
--- ---- when an answer goes out
+-- ---- times of answers
 
--- when the exchange of a job's request was opened
+-- time when the exchange of a job's request was opened.
 abbrev pub opened_at : Seen → ℕ → ℕ
 opened_at s k = (job s k).origin.opening.at
 
--- the answer of a job goes by the request's own message id, or one of the server's own is free at a moment
+-- the answer of a job has the request's own message ID, or a message ID of the server is available
+-- at a time.
 abbrev pub HasId : Seen → ℕ → ℕ → Type 0
 HasId s k now = ((job s k).confirmable ≡ true) ⊎ (is_some (free_id s.ids (max s.moment now)) ≡ true)

@@ -1,4 +1,4 @@
--- What the laws of registration speak of.
+-- Definitions for the laws of registration.
 use Rattle.std.specs.Prelude.{◌≡◌, ℕ, ◌&&◌, ◌++◌, find, max, nat_eq, Bool, true, List, [], ◌∷◌, Option, Some, None}
 use Rattle.std.specs.Cmp.Lexicographic.{pointwise}
 use Rattle.std.specs.List.{list_any}
@@ -18,26 +18,26 @@ use Rattle.fc_core.specs.TurnStage as turns
 use Rattle.fc_core.specs.History.{Entry, History, Then, Seen, seen, slot_at, stage, watch}
 use Rattle.fc_core.specs.Laws.{slot_of}
 
--- no block is asked, or the first
+-- no block is requested, or the first one.
 abbrev pub IsFirst : Option Place → Type 0
 IsFirst None = Unit {0}
 IsFirst (Some block) = block.number ≡ 0
 
--- the request has Observe 0 and asks the first block, and its run means a 2.05 Content
+-- the request has Observe 0 and requests no block or the first, and its run means a 2.05 (Content).
 pub record AsksToObserve (t : Ticket) : Type 0 where
   pub observe : t.observe ≡ Some 0
   pub first : IsFirst t.block
   pub content : (meaning_at t).code ≡ 69
 
--- the client of this endpoint and token is in a list of observers
+-- whether the client with this endpoint and token is in a list of observers.
 abbrev pub is_held : Endpoint → List ℕ → ObserverList → Bool
 is_held to token w = list_any (is_entry_of to token) w.held
 
--- that of the ticket's request is
+-- whether that of the ticket's request is.
 abbrev pub is_among : Ticket → ObserverList → Bool
 is_among t w = is_held t.origin.endpoint t.token.items w
 
--- the event is the commit of this client's GET, by its job at its stage and at its job's slot
+-- the event is the commit of this client's GET, by its job at its stage and at its job's slot.
 pub record Registers (r : Entry) (s : Seen) (n : ℕ) (to : Endpoint) (token : List ℕ) : Type 0 where
   pub number : ℕ
   pub now : ℕ
@@ -49,12 +49,13 @@ pub record Registers (r : Entry) (s : Seen) (n : ℕ) (to : Endpoint) (token : L
   pub asks : AsksToObserve ticket
   pub client : (same_endpoint ticket.origin.endpoint to && pointwise nat_eq ticket.token.items token) ≡ true
 
--- none of the entries after a history does
+-- none of the entries after a history does this.
 abbrev pub NoneRegisters : History → List Entry → ℕ → Endpoint → List ℕ → Type 0
 NoneRegisters h [] n to token = Unit {0}
 NoneRegisters h (r ∷ rs) n to token = (Registers r (seen h) n to token → ⊥) × NoneRegisters (Then h r) rs n to token
 
--- a turn of slot n is brought at a moment: the job, at its first stage, of the first of its observers that is due then
+-- a lease of slot n is granted at a time: the job, at its first stage, of the first of its
+-- observers with a pending notification then.
 pub record BringsTurn (s : Seen) (n at : ℕ) (after : Seen) : Type 0 where
   pub entry : ObserverEntry
   pub first : find (is_due (max (watch s n).moment at) (slot_at s n).noticed) (watch s n).held ≡ Some entry

@@ -1,4 +1,4 @@
--- What the laws of a policy speak of.
+-- Definitions for the laws of a policy.
 use Rattle.std.specs.Prelude.{◌≡◌, ◌⊎◌, ℕ, Bool, true, false, List, [], ◌∷◌, Option, None}
 use Rattle.coap_msg.specs.Wire.{Message}
 use Rattle.coap_msg.specs.declared.types.Emission.{Emission}
@@ -12,32 +12,33 @@ use Rattle.fc_core.specs.History.{Seen}
 use Rattle.fc_core.specs.Policies.{is_manager}
 use Rattle.fc_laws.specs.ExchangeLaws.{bare_by}
 
--- it installs a program, or removes one
+-- whether it installs a program or removes one.
 abbrev pub asks_for_change : Ask → Bool
-asks_for_change (Install image) = true
+asks_for_change (Install image initial) = true
 asks_for_change Remove = true
 asks_for_change other = false
 
--- a job that does so is of a manager's endpoint
+-- a job that does so belongs to a manager's endpoint.
 abbrev pub IsManaged : List Network → Job → Type 0
 IsManaged managers j = asks_for_change j.ask ≡ true → is_manager managers j.origin.endpoint ≡ true
 
--- an address above its share: a confirmable request is answered 5.03 (Service Unavailable), whose byte is 163, by its acknowledgement; another isn't answered
+-- above its address's share, a confirmable request is answered 5.03 (Service Unavailable), whose
+-- byte is 163, by its acknowledgement; any other gets no response.
 abbrev pub over_share_emits : Bool → Seen → Event → Message → Option Emission
 over_share_emits true s e m = bare_by s e m 163
 over_share_emits false s e m = None
 
--- the address of an exchange is one of these
+-- the address of an exchange is one of these.
 abbrev pub IsAmong : List (List ℕ) → Exchange → Type 0
 IsAmong [] e = ⊥
 IsAmong (ip ∷ ips) e = (is_at ip e ≡ true) ⊎ IsAmong ips e
 
--- the address of each of these exchanges is
+-- the address of each of these exchanges is one of these.
 abbrev pub AreAmong : List (List ℕ) → List Exchange → Type 0
 AreAmong ips [] = Unit {0}
 AreAmong ips (e ∷ es) = IsAmong ips e × AreAmong ips es
 
--- an address is one of these
+-- an address is one of these.
 abbrev pub IsOneOf : List ℕ → List (List ℕ) → Type 0
 IsOneOf own [] = ⊥
 IsOneOf own (ip ∷ ips) = (ip ≡ own) ⊎ IsOneOf own ips

@@ -1,4 +1,4 @@
--- What a refusal leaves as it was, and the three things that it doesn't.
+-- Effects of a refusal, and the three exceptions.
 use Rattle.std.specs.Prelude.{◌≡◌, ◌⊎◌, ℕ, ◌%◌, ◌≤◌, Bool, true, false, List, [], max, slice_set, Option, Some, None, Ok, Err}
 use Rattle.std.specs.Borrow.{Bor}
 use Rattle.coap_msg.specs.declared.types.Bad.TheVariants as bad
@@ -32,9 +32,10 @@ use Rattle.fc_laws.specs.ReplyLaws.{Refuses, Rejects}
 use Rattle.fc_core.specs.Stages.{image_of}
 use Rattle.fc_laws.specs.TurnLaws.{moment_at}
 
--- ---- what is refused
+-- ---- refusals
 
--- a datagram that isn't a request is ignored, or rejected by a Reset message; or a request finds no place for its exchange, or its address above its share
+-- a datagram that isn't a request is ignored, or rejected by a Reset message; or there is no space
+-- for a request's exchange; or its address is above its share.
 pub data IsTurnedDown (s : Seen) (e : Event) : Type 0 where
   IsNoMessage : (now : ℕ) (to : Endpoint) (bytes : Bor (List ℕ)) (event : e ≡ Deliver now to bytes) (read : reading_of bytes.now ≡ Err bad.Ignore)
       → IsTurnedDown s e
@@ -44,9 +45,11 @@ pub data IsTurnedDown (s : Seen) (e : Event) : Type 0 where
   FindsNoRoom : (m : Message) (crowded : FindsNoExchange s e m) → IsTurnedDown s e
   IsAboveShare : (m : Message) (over : ExceedsShare s e m) → IsTurnedDown s e
 
--- the call that the event is for job k is refused: no ticket, since the slot is empty or memory is refused; no commit, since the slot has
--- changed or is at its last serial; no install, since the image isn't accepted, memory is refused or the slot is at its last serial;
--- nothing removed or described; no answer sent, since it is late or has no message id; and of a turn no message id, or it is out no longer
+-- the event's call for job k is refused: no ticket, since the slot is empty or memory can't be
+-- allocated; no commit, since the slot has changed or is at its last serial; no install, since the
+-- image isn't accepted, memory can't be allocated or the slot is at its last serial; nothing
+-- removed or described; no answer sent, since its exchange's lifetime has passed or it has no
+-- message ID; and for a lease no message ID, or it isn't out any more.
 pub data IsRefusedCall (s : Seen) (k : ℕ) (e : Event) (emitted : Option Emission) : Type 0 where
   NothingTaken : (count : ℕ) (memory : Bool) (readings : List ℕ) (event : e ≡ Take k memory readings) (at : stage s k ≡ ToTake count)
       (why : (memory ≡ false) ⊎ ((slot_at s (slot_of s k)).present ≡ None)) → IsRefusedCall s k e emitted
@@ -70,13 +73,13 @@ pub data IsRefusedCall (s : Seen) (k : ℕ) (e : Event) (emitted : Option Emissi
       (at : stage s k ≡ ToTell turn (turns.ToNote found id)) (stale : entry_out turn (at_moment (moment_at s k now) (watch s (slot_of s k))) ≡ None)
       → IsRefusedCall s k e emitted
 
--- a check of its options refuses a new request, by a code or in silence
+-- a check of its options refuses a new request, by a code or silently.
 pub data IsRefusedByCheck (s : Seen) (e : Event) : Type 0 where
   ByCode : (m : Message) (answer : ℕ) (refuses : Refuses s e m answer) → IsRefusedByCheck s e
   InSilence : (now : ℕ) (to : Endpoint) (bytes : Bor (List ℕ)) (event : e ≡ Deliver now to bytes) (opens : IsOpening s now to bytes.now)
       (silent : verdict opens.message ≡ IsSilent) → IsRefusedByCheck s e
 
--- the taking of a turn that is out finds the slot empty
+-- the snapshot of a lease that is out finds the slot empty.
 pub record FindsTurnMissing (s : Seen) (k : ℕ) (e : Event) (turn : Turn) : Type 0 where
   pub memory : Bool
   pub readings : List ℕ
@@ -86,31 +89,32 @@ pub record FindsTurnMissing (s : Seen) (k : ℕ) (e : Event) (turn : Turn) : Typ
   pub entry : ObserverEntry
   pub out : entry_out turn (at_moment (s.shard_moment (slot_of s k % 8)) (watch s (slot_of s k))) ≡ Some entry
 
--- ---- what it leaves
+-- ---- effects
 
--- no slot changes, and no head word rises
+-- no slot changes, and no head word increases.
 pub record LeavesSlots (before after : Seen) : Type 0 where
   pub first : after.first_serial ≡ before.first_serial
   pub slots : (n : ℕ) → after.changes n ≡ before.changes n
   pub words : after.words ≡ before.words
 
--- no exchange is opened or answered, and no payload is added to a transfer
+-- no exchange is opened or answered, and no payload is added to a transfer.
 pub record LeavesFront (before after : Seen) : Type 0 where
   pub exchanges : after.exchanges ≡ before.exchanges
   pub additions : after.additions ≡ before.additions
 
--- the jobs are those that there were, each at its stage, and so are the observers of each slot, with all that is kept of them
+-- the jobs and their stages are unchanged, and so are the observers of each slot, with all their
+-- data.
 pub record LeavesJobs (before after : Seen) : Type 0 where
   pub tasks : after.tasks ≡ before.tasks
   pub observers : (n : ℕ) → watch after n ≡ watch before n
 
--- all is as it was, whatever moments were handed in and message ids drawn
+-- everything is unchanged, for any times that were passed and message IDs that were drawn.
 pub record LeavesAll (before after : Seen) : Type 0 where
   pub slots : LeavesSlots before after
   pub jobs : LeavesJobs before after
   pub front : LeavesFront before after
 
--- all but the stage of job k, and the moment that was handed to the observers of a slot
+-- everything except the stage of job k, and the time that was passed to the observers of a slot.
 pub record LeavesAllButStage (k : ℕ) (before after : Seen) : Type 0 where
   pub slots : LeavesSlots before after
   pub at : Stage
@@ -118,14 +122,14 @@ pub record LeavesAllButStage (k : ℕ) (before after : Seen) : Type 0 where
   pub observers : (n : ℕ) → watch after n ≡ record (watch before n) { moment = (watch after n).moment }
   pub front : LeavesFront before after
 
--- all but that the request has its exchange
+-- everything except that the request has its exchange.
 pub record LeavesAllButExchange (r : Entry) (s : Seen) : Type 0 where
   pub slots : LeavesSlots s (and_then r s)
   pub jobs : LeavesJobs s (and_then r s)
   pub exchange : OpensOne r s
   pub additions : (and_then r s).additions ≡ s.additions
 
--- all but that, and that the transfer of this endpoint and slot is gone
+-- everything except that, and that the transfer of this endpoint and slot is removed.
 pub record LeavesAllButTransfer (r : Entry) (s : Seen) (to : Endpoint) (n : ℕ) : Type 0 where
   pub slots : LeavesSlots s (and_then r s)
   pub jobs : LeavesJobs s (and_then r s)
@@ -134,7 +138,8 @@ pub record LeavesAllButTransfer (r : Entry) (s : Seen) (to : Endpoint) (n : ℕ)
   pub others : (from : Endpoint) (m : ℕ) → same_key to n from m ≡ false →
       bytes_held (and_then r s).moment from m (transfers (and_then r s).additions) ≡ bytes_held (and_then r s).moment from m (transfers s.additions)
 
--- all but the stage of job k, and that the observer whose turn it is keeps that its taking found the slot empty
+-- everything except the stage of job k, and that the lease's observer records that the snapshot
+-- found the slot empty.
 pub record LeavesAllButTurn (k : ℕ) (turn : Turn) (before after : Seen) : Type 0 where
   pub slots : LeavesSlots before after
   pub at : Stage
@@ -143,7 +148,7 @@ pub record LeavesAllButTurn (k : ℕ) (turn : Turn) (before after : Seen) : Type
   pub missing : watch after (slot_of before k) ≡ turn_missed turn (at_moment (before.shard_moment (slot_of before k % 8)) (watch before (slot_of before k)))
   pub front : LeavesFront before after
 
--- who sent what an event delivers
+-- sender of the datagram that an event delivers.
 abbrev pub sender : Event → Endpoint
 sender (Deliver now to bytes) = to
 sender other = record { ip = []; port = 0 }

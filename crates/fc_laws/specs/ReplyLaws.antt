@@ -1,4 +1,4 @@
--- What the laws of refusals and of answers speak of.
+-- Definitions for the laws of refusals and answers.
 use Rattle.std.specs.Prelude.{◌≡◌, ℕ, ◌/◌, ◌%◌, ◌≤◌, ◌⊎◌, false, List, [], ◌∷◌, Ok, Err}
 use Rattle.coap_msg.specs.declared.types.Bad.TheVariants as bad
 use Rattle.coap_msg.specs.declared.types.Emission.{Emission}
@@ -20,46 +20,51 @@ use Rattle.fc_core.specs.Replies.{Says}
 
 -- ---- refusals
 
--- a request that passes each check of its options asks for another program in a slot, or for none, and its endpoint is no manager: 4.03 Forbidden
+-- a request that passes each check of its options is to change or remove the program of a slot, and
+-- its endpoint isn't a manager's: 4.03 (Forbidden).
 pub record IsForbidden (s : Seen) (to : Endpoint) (m : Message) (answer : ℕ) : Type 0 where
   pub asked : Asked
   pub asks : verdict m ≡ IsAsked asked
   pub allowed : is_allowed s.policy.managers to asked.action ≡ false
   pub answer_is : answer ≡ 131
 
--- a check of its options refuses a request by this code, or its endpoint is not allowed to send it
+-- a check of its options refuses a request by this code, or its endpoint isn't allowed to send it.
 abbrev pub IsRefusal : Seen → Endpoint → Message → ℕ → Type 0
 IsRefusal s to m answer = (verdict m ≡ IsRefused answer) ⊎ IsForbidden s to m answer
 
--- the datagram is a request and no repeat, there is room for its exchange, and it is refused by this code
+-- the datagram is a request and no duplicate, there is space for its exchange, and it is refused by
+-- this code.
 pub record IsRefusedAnew (s : Seen) (now : ℕ) (to : Endpoint) (bytes : List ℕ) (m : Message) (answer : ℕ) : Type 0 where
   pub opens : IsOpening s now to bytes
   pub read : reading_of bytes ≡ Ok m
   pub refuses : IsRefusal s to m answer
 
--- the event delivers such a request
+-- the event delivers such a request.
 abbrev pub Refuses : Seen → Event → Message → ℕ → Type 0
 Refuses s (Deliver now to bytes) m answer = IsRefusedAnew s now to bytes.now m answer
 Refuses s other m answer = ⊥
 
--- the datagram is a confirmable message of this id with a format error, or one that is no request: a ping, whose code is 0.00, or of a
--- class other than 0 (RFC 7252, 4.2)
+-- the datagram is a confirmable message with this message ID and a format error, or one that isn't
+-- a request: a ping, whose code is 0.00, or a message of a class other than 0 (RFC 7252, section
+-- 4.2).
 pub data IsRejected (bytes : List ℕ) (id : ℕ) : Type 0 where
   FormatError : (read : reading_of bytes ≡ Err (bad.Reset id)) → IsRejected bytes id
   NoRequest : (m : Message) (read : reading_of bytes ≡ Ok m) (kind : m.kind ≡ Confirmable) (code : (m.code ≡ 0) ⊎ (32 ≤ m.code)) (own : m.id ≡ id) → IsRejected bytes id
 
--- the event delivers such a datagram from an endpoint
+-- the event delivers such a datagram from an endpoint.
 abbrev pub Rejects : Event → Endpoint → ℕ → Type 0
 Rejects (Deliver now from bytes) to id = (from ≡ to) × IsRejected bytes.now id
 Rejects other to id = ⊥
 
--- a Reset message of this id: version 1, type 3, no token, code 0.00 (RFC 7252, 3)
+-- a Reset message with this message ID: version 1, type 3, no token, code 0.00 (RFC 7252, section
+-- 3).
 abbrev pub reset_to : Endpoint → ℕ → Emission
 reset_to to id = record { to = to; bytes = record { items = 112 ∷ 0 ∷ (id / 256) ∷ (id % 256) ∷ [] } }
 
 -- ---- answers
 
--- the emission answers the job by this content: to its client's endpoint, by this type and message id, with the request's token
+-- the emission answers the job with this content: to its client's endpoint, with this type and
+-- message ID, and with the request's token.
 pub record IsAnswerTo (j : Job) (content : Content) (kind : MessageType) (id : ℕ) (e : Emission) : Type 0 where
   pub response : Response
   pub says : Says j content response

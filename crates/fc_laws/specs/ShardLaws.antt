@@ -1,17 +1,17 @@
--- What the laws of events of shards speak of.
+-- Definitions for the laws of events of shards.
 use Rattle.std.specs.Prelude.{◌≡◌, ℕ, ◌≤◌}
 use Rattle.fc_core.specs.declared.event.Event.{Event}
 use Rattle.fc_core.specs.declared.event.Event.TheVariants.{Due, ShardTick, Signal}
 use Rattle.fc_core.specs.History.{Seen}
 
--- the event is of a shard that isn't: there are eight, from 0
+-- the event names a shard that doesn't exist: there are eight, from 0.
 abbrev pub IsOfNoShard : Event → Type 0
 IsOfNoShard (Due shard now) = 8 ≤ shard
 IsOfNoShard (Signal shard to id reset) = 8 ≤ shard
 IsOfNoShard (ShardTick shard now) = 8 ≤ shard
 IsOfNoShard other = ⊥
 
--- all that the front, the jobs, the slots and the shards hold is as it was
+-- the front, the jobs, the slots and the shards are unchanged.
 pub record IsAsBefore (before after : Seen) : Type 0 where
   pub moment : after.moment ≡ before.moment
   pub exchanges : after.exchanges ≡ before.exchanges

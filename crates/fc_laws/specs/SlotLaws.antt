@@ -1,28 +1,33 @@
--- What the laws of slots speak of.
+-- Definitions for the laws of slots.
 use Rattle.std.specs.Prelude.{◌≡◌, ℕ, ◌<◌, true, List, [], ◌∷◌, Some}
+use Rattle.arrayvec.specs.ArrayVec.{ArrayVec}
 use Rattle.fc_help.specs.declared.request.Method.TheVariants.{Post}
 use Rattle.fc_kinds.specs.Meaning.{Program}
 use Rattle.fc_verify.specs.Accepted.{Accepts}
 use Rattle.fc_verify.specs.Judged.{judged}
-use Rattle.fc_registry.specs.Calls.{commit_of, meaning_at}
+use Rattle.fc_registry.specs.Calls.{commit_of, meaning_at, initial_vars_of}
 use Rattle.fc_registry.specs.Changes.{Change, Installed, Committed, Removed}
 use Rattle.fc_registry.specs.Record.{code_class}
-use Rattle.fc_registry.specs.Slots.{Present, Ticket}
+use Rattle.fc_registry.specs.Slots.{Present, Ticket, vars_in}
+use Rattle.fc_registry.specs.declared.job.Ask.TheVariants.{Install as Asks}
+use Rattle.fc_registry.specs.declared.job.InitialVars.{InitialVars}
 use Rattle.fc_core.specs.declared.event.Event.TheVariants.{Commit, Install, Remove}
+use Rattle.fc_core.specs.Rows.{Scene}
 use Rattle.fc_core.specs.Stage.{Stage}
 use Rattle.fc_core.specs.Stage.{ToCommit, ToInstall, ToRemove, ToRaise}
 use Rattle.fc_core.specs.History.{Entry, History, Seen, seen, and_then, job, slot_at, stage}
 use Rattle.fc_core.specs.Laws.{Taking, slot_of, takings_of}
 use Rattle.fc_core.specs.Stages.{image_of}
 
--- a job that is to publish its slot's new head word
+-- a job that is to publish its slot's new head word.
 abbrev pub IsToRaise : Stage → Type 0
 IsToRaise (ToRaise word content) = Unit {0}
 IsToRaise other = ⊥
 
--- ---- what changes a slot
+-- ---- changes of a slot
 
--- the event is the install of an accepted image, by its job at its stage and into its job's slot, with memory for it
+-- the event is the install of an accepted image, by its job at its stage and into its job's slot,
+-- with memory for it. The job determines the variables that it leaves.
 pub record IsInstall (r : Entry) (s : Seen) (n : ℕ) : Type 0 where
   pub number : ℕ
   pub program : Program
@@ -31,9 +36,23 @@ pub record IsInstall (r : Entry) (s : Seen) (n : ℕ) : Type 0 where
   pub slot : slot_of s number ≡ n
   pub accepted : judged (image_of (job s number).ask) ≡ Accepts program
   pub below : (slot_at s n).serial < 9223372036854775807
-  pub change : (and_then r s).changes n ≡ Installed program ∷ s.changes n
+  pub change : (and_then r s).changes n ≡ Installed program (initial_vars_of (job s number).ask) ∷ s.changes n
 
--- the event is the commit of a run, by its job at its stage and into its job's slot
+-- a job that is to install an accepted program, below the last serial of its slot.
+pub record IsToInstall (s : Seen) (k : ℕ) (p : Program) : Type 0 where
+  pub at : stage s k ≡ ToInstall
+  pub accepted : judged (image_of (job s k).ask) ≡ Accepts p
+  pub below : (slot_at s (slot_of s k)).serial < 9223372036854775807
+
+-- a scene whose job requests the install of an image, and determines the variables that it leaves.
+abbrev pub scene_installing : ArrayVec ℕ → InitialVars → Scene → Scene
+scene_installing image initial x = record x { job = record x.job { ask = Asks image initial } }
+
+-- the variables of slot n.
+abbrev pub vars_at : Seen → ℕ → List ℕ
+vars_at s n = vars_in (slot_at s n).present
+
+-- the event is the commit of a run, by its job at its stage and into its job's slot.
 pub record IsWriting (r : Entry) (s : Seen) (n : ℕ) : Type 0 where
   pub number : ℕ
   pub now : ℕ
@@ -44,7 +63,7 @@ pub record IsWriting (r : Entry) (s : Seen) (n : ℕ) : Type 0 where
   pub slot : slot_of s number ≡ n
   pub change : (and_then r s).changes n ≡ Committed (commit_of ticket) ∷ s.changes n
 
--- the event removes the slot's program, by its job at its stage
+-- the event removes the slot's program, by its job at its stage.
 pub record IsRemoving (r : Entry) (s : Seen) (n : ℕ) : Type 0 where
   pub number : ℕ
   pub found : Present
@@ -55,34 +74,34 @@ pub record IsRemoving (r : Entry) (s : Seen) (n : ℕ) : Type 0 where
   pub below : (slot_at s n).serial < 9223372036854775807
   pub change : (and_then r s).changes n ≡ Removed ∷ s.changes n
 
--- what an event does to a slot
+-- effect of an event on a slot.
 pub data ChangesBy (r : Entry) (s : Seen) (n : ℕ) : Type 0 where
   Nothing : (is : (and_then r s).changes n ≡ s.changes n) → ChangesBy r s n
   Installs : (is : IsInstall r s n) → ChangesBy r s n
   Writes : (is : IsWriting r s n) → ChangesBy r s n
   Clears : (is : IsRemoving r s n) → ChangesBy r s n
 
--- some image is accepted as this program
+-- some image is accepted as this program.
 pub record IsOfImage (p : Program) : Type 0 where
   pub image : List ℕ
   pub accepted : judged image ≡ Accepts p
 
--- each program that was installed is one that an image is accepted as
+-- each program that was installed is one that an image is accepted as.
 abbrev pub AllOfImages : List Change → Type 0
 AllOfImages [] = Unit {0}
-AllOfImages (Installed p ∷ cs) = IsOfImage p × AllOfImages cs
+AllOfImages (Installed p initial ∷ cs) = IsOfImage p × AllOfImages cs
 AllOfImages (Committed c ∷ cs) = AllOfImages cs
 AllOfImages (Removed ∷ cs) = AllOfImages cs
 
 -- ---- commits
 
--- the slot's changes are those before the newest of these takings
+-- the slot's changes are those before the newest of these snapshots.
 abbrev pub IsUnchanged : List Taking → List Change → Type 0
 IsUnchanged [] cs = ⊥
 IsUnchanged (t ∷ ts) cs = cs ≡ t.changes
 
--- the run of the ticket answers a POST with a code of class 2; its slot hasn't changed since the job's last taking, and isn't
--- at the last serial
+-- the run of the ticket answers a POST with a code of class 2; its slot hasn't changed since the
+-- job's last snapshot, and isn't at the last serial.
 pub record IsWritten (h : History) (k : ℕ) (t : Ticket) : Type 0 where
   pub post : t.request.method ≡ Post
   pub class : code_class (meaning_at t).code ≡ 2

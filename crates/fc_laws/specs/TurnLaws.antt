@@ -1,4 +1,4 @@
--- What the laws of turns speak of.
+-- Definitions for the laws of leases.
 use Rattle.std.specs.Prelude.{◌≡◌, ℕ, ◌+◌, ◌*◌, ◌%◌, ◌<◌, ◌≤◌, ◌&&◌, nat_eq, nat_le, max, Bool, true, if◌then◌else◌, List, Option, None, Some}
 use Rattle.std.specs.Cmp.Lexicographic.{pointwise}
 use Rattle.std.specs.List.{Contains}
@@ -24,16 +24,18 @@ use Rattle.fc_core.specs.History.{Entry, Seen, late_in, stage, watch}
 use Rattle.fc_core.specs.Laws.{slot_of}
 use Rattle.fc_laws.specs.ObserveLaws.{is_held}
 
--- the moment of the shard of a job's slot, after it is handed one
+-- time of the shard of a job's slot, after it is passed one.
 abbrev pub moment_at : Seen → ℕ → ℕ → ℕ
 moment_at s k now = max (s.shard_moment (slot_of s k % 8)) now
 
--- a ticket's response: with the serial that its taking found as ETag and sequence number, where its run means a 2.05 Content
+-- a ticket's response: if its run means a 2.05 (Content), the snapshot's serial is its ETag and
+-- sequence number.
 abbrev pub response_of : Ticket → Response
 response_of t = ran_response (meaning_at t).code (cut_for t.block (meaning_at t).reply) t.serial true
 
--- the emission is a notification of the entry that has this turn out at a moment: it goes to that entry's endpoint, with its token,
--- and is confirmable if so many ms passed since its last that was
+-- the emission is a notification of the entry that has this lease out at a time: it is sent to that
+-- entry's endpoint, with its token, and is confirmable if `confirm_after` ms have passed since the
+-- entry's last confirmable one.
 pub record Notifies (turn : Turn) (id at confirm_after : ℕ) (w : ObserverList) (response : Response) (e : Emission) : Type 0 where
   pub entry : ObserverEntry
   pub held : Contains w.held entry
@@ -45,19 +47,19 @@ pub record Notifies (turn : Turn) (id at confirm_after : ℕ) (w : ObserverList)
     token = entry.token.items;
   }) response
 
--- a message of this type to an observer
+-- a message of this type to an observer.
 abbrev pub note_as : MessageType → ℕ → ObserverEntry → Response → Emission
 note_as kind id entry response = sent_in (record { to = entry.endpoint; kind = kind; id = id; token = entry.token.items }) response
 
--- of an observer of the slot of this job, by the policy
+-- notification of an observer of this job's slot, by the policy.
 abbrev pub NotifiesOf : Seen → ℕ → ℕ → Turn → ℕ → Response → Emission → Type 0
 NotifiesOf s k now turn id response e = Notifies turn id (moment_at s k now) s.policy.confirm_after (watch s (slot_of s k)) response e
 
--- its turn, if it is this one, was given a window of 247,000 ms before, or earlier
+-- its lease, if it is this one, was granted at least 247,000 ms before.
 abbrev pub HasLapsed : Turn → ℕ → ObserverEntry → Type 0
 HasLapsed turn at o = (since : ℕ) (missing : Bool) → o.phase ≡ TurnOut turn.number since missing → since + 247000 ≤ at
 
--- an emission to an observer that is in a list: to the endpoint of one of its entries, with its token
+-- an emission to an observer in a list: to the endpoint of one of its entries, with its token.
 pub record IsToHeld (w : ObserverList) (e : Emission) : Type 0 where
   pub entry : ObserverEntry
   pub held : is_held entry.endpoint entry.token.items w ≡ true
@@ -66,7 +68,8 @@ pub record IsToHeld (w : ObserverList) (e : Emission) : Type 0 where
   pub response : Response
   pub is : e ≡ sent_in (record { to = entry.endpoint; kind = kind; id = id; token = entry.token.items }) response
 
--- an emission is the outstanding notification of an observer that is in a list, sent again as it was less than four times
+-- an emission is the outstanding notification of an observer in a list, retransmitted unchanged
+-- less than four times.
 pub record Resends (w : ObserverList) (e : Emission) : Type 0 where
   pub entry : ObserverEntry
   pub held : is_held entry.endpoint entry.token.items w ≡ true
@@ -78,9 +81,9 @@ pub record Resends (w : ObserverList) (e : Emission) : Type 0 where
   pub few : retransmissions < 4
   pub is : e ≡ record { to = entry.endpoint; bytes = bytes }
 
--- ---- who is taken from a list
+-- ---- removals from a list
 
--- by the commit of its own GET with Observe 1
+-- by the commit of its own GET with Observe 1.
 pub record Cancels (r : Entry) (s : Seen) (n : ℕ) (to : Endpoint) (token : List ℕ) : Type 0 where
   pub number : ℕ
   pub now : ℕ
@@ -92,7 +95,7 @@ pub record Cancels (r : Entry) (s : Seen) (n : ℕ) (to : Endpoint) (token : Lis
   pub asks : ticket.observe ≡ Some 1
   pub client : (same_endpoint ticket.origin.endpoint to && pointwise nat_eq ticket.token.items token) ≡ true
 
--- by a Reset message that answers the last notification that it was sent
+-- by a Reset message that answers the last notification that it was sent.
 pub record Resets (r : Entry) (s : Seen) (n : ℕ) (to : Endpoint) (token : List ℕ) : Type 0 where
   pub shard : ℕ
   pub id : ℕ
@@ -103,7 +106,7 @@ pub record Resets (r : Entry) (s : Seen) (n : ℕ) (to : Endpoint) (token : List
   pub own : is_entry_of to token entry ≡ true
   pub last : entry.id ≡ Some id
 
--- by a tick of the shard to which its notification is late, after it was sent again four times
+-- by a tick of its shard, if the notification to it has timed out after four retransmissions.
 pub record TimesOut (r : Entry) (s : Seen) (n : ℕ) (to : Endpoint) (token : List ℕ) : Type 0 where
   pub shard : ℕ
   pub now : ℕ
@@ -121,12 +124,12 @@ pub record TimesOut (r : Entry) (s : Seen) (n : ℕ) (to : Endpoint) (token : Li
   pub outstanding : entry.phase ≡ Outstanding sent_at timeout retransmissions bytes
   pub four : 4 ≤ retransmissions
 
--- a turn that found the slot empty, or whose run means no 2.05 Content
+-- a lease that found the slot empty, or whose run doesn't mean a 2.05 (Content).
 abbrev pub IsNoContent : Option Ticket → Type 0
 IsNoContent None = Unit {0}
 IsNoContent (Some t) = (meaning_at t).code ≡ 69 → ⊥
 
--- by the notification of a turn that it has out, which is no 2.05 Content
+-- by the notification of its lease, which is out, if that isn't a 2.05 (Content).
 pub record IsTurnedAway (r : Entry) (s : Seen) (n : ℕ) (to : Endpoint) (token : List ℕ) : Type 0 where
   pub number : ℕ
   pub now : ℕ
@@ -142,7 +145,8 @@ pub record IsTurnedAway (r : Entry) (s : Seen) (n : ℕ) (to : Endpoint) (token 
   pub own : is_entry_of to token entry ≡ true
   pub answer : IsNoContent found
 
--- the event takes the client of this endpoint and token from the observers of slot n, in one of these four ways
+-- the event removes the client with this endpoint and token from the observers of slot n, in one of
+-- these four ways.
 pub data Removes (r : Entry) (s : Seen) (n : ℕ) (to : Endpoint) (token : List ℕ) : Type 0 where
   ByCancellation : (w : Cancels r s n to token) → Removes r s n to token
   ByReset : (w : Resets r s n to token) → Removes r s n to token

@@ -1,4 +1,4 @@
-//! What a history promises of answers and moments: each function is a law, and its contract says it.
+//! Laws of answers and times: each function is a law, stated by its contract.
 ghost use Rattle.coap_msg.specs.declared.types.Emission.{Emission};
 ghost use Rattle.fc_core.specs.AnswerLaws.{Causes, greatest, moments_of, shard_moments_of};
 ghost use Rattle.coap_block.specs.Cuts.{Part};
@@ -20,43 +20,57 @@ ghost use Rattle.fc_kinds.specs.Meaning.{Input, IsRun, Program, meant};
 ghost use Rattle.fc_registry.specs.Record.{code_class};
 ghost use Rattle.std.specs.Prelude.{ℕ, ◌⊎◌, ◌++◌, ◌<◌, ◌≤◌, Bool, List, None, Option, Some, false, length, take, true, ◌≡◌};
 
-/// A job that has an answer after an event had it before, or the event gives it for a reason. The answer is 5.03 (Service
-/// Unavailable) only where memory is refused, where the slot changes under the job's eighth ticket, or where the slot is
-/// at its last serial and is to change; 4.04 (Not Found) only where a taking or a receipt finds the slot empty; 2.03 (Valid)
-/// only where the slot's head word is that of a program at a serial that the request names; 2.02 (Deleted) only at a removal.
-/// A run's code and the block of its reply that is asked are the answer only at the commit of the run, and where the run wants to
-/// write only if it may. The receipt of an install is its program's, its version is the slot's new serial, and it tells whether
-/// the slot was empty; that of a slot is its program's, with the serial of its install. A list of head words has 64.
+/// A job that has an answer after an event had it before, or the event caused it.
+///
+/// The causes of each answer:
+///
+/// - 5.03 (Service Unavailable): memory can't be allocated, the slot changes under the job's eighth
+///   ticket, or the slot is at its last serial and has to change.
+/// - 4.04 (Not Found): a snapshot or a receipt finds the slot empty.
+/// - 2.03 (Valid): the slot's head word is that of a program at a serial that the request names.
+/// - 2.02 (Deleted): a removal.
+/// - The code of a run, with the requested block of its reply: the commit of the run, and if the
+///   run wants to write, only a commit that may.
+/// - The receipt of an install: it is its program's, its version is the slot's new serial, and it
+///   says whether the slot was empty.
+/// - The receipt of a slot: it is its program's, with the serial of the program's install.
+/// - A list of head words: it has 64.
 pub fn answers_have_causes()
     ensures { (h : History) (r : Entry) (k : ℕ) (c : Content)
         → answer_at (stage (seen (Then h r)) k) ≡ Some c
         → (answer_at (stage (seen h) k) ≡ Some c) ⊎ Causes h r k c }
 {}
 
-/// A slot is empty once its job's removal has made the answer 2.02 (Deleted).
+/// A slot is empty after its job's removal has made the answer 2.02 (Deleted).
 pub fn deleted_slots_are_empty()
     ensures { (h : History) (r : Entry) (k : ℕ) → HasCome (seen h) k
         → answer_at (stage (seen (Then h r)) k) ≡ Some Deleted
         → (answer_at (stage (seen h) k) ≡ Some Deleted) ⊎ ((slot_at (seen (Then h r)) (slot_of (seen h) k)).present ≡ None) }
 {}
 
-/// A taking at its stage that finds the slot empty makes the answer 4.04 (Not Found), whether or not there is memory.
+/// A snapshot that finds the slot empty makes the answer 4.04 (Not Found).
+///
+/// The snapshot is at its stage; memory may be available or not.
 pub fn empty_slots_are_missing()
     ensures { (s : Seen) (k count : ℕ) (memory : Bool) (readings : List ℕ) (o : Option Emission) → stage s k ≡ ToTake count
         → (slot_at s (slot_of s k)).present ≡ None
         → stage (and_then (did (Take k memory readings) o) s) k ≡ ToAnswer Missing }
 {}
 
-/// The front's moment is the greatest of those that deliveries, ticks, and at their stage answers and turns that draw a message id handed
-/// to it; a shard's is the greatest of those at which it was asked for a turn or time passed for it, and of those of its slots' jobs that
-/// committed, notified or gave up their turn at their stage.
+/// The time of the front, and of a shard, is the latest time that it was passed.
+///
+/// The front is passed a time by deliveries, by ticks, and, at their stage, by answers and by
+/// leases that draw a message ID. A shard is passed a time by requests for a lease and by ticks.
+/// Its slots' jobs that commit, notify or release their lease at their stage also pass it one.
 pub fn moments_are_the_greatest()
     ensures front { (h : History) → (seen h).moment ≡ greatest (moments_of h) }
     ensures shard { (h : History) (i : ℕ) → (seen h).shard_moment i ≡ greatest (shard_moments_of i h) }
 {}
 
-/// Where no block is asked, an answer of at most 1,024 bytes goes whole and without Block2, and of a longer one the first 1,024
-/// bytes go as block 0 of that size, with more to follow. So the reply to a POST goes whole.
+/// Without a requested block, an answer of at most 1,024 bytes is sent complete.
+///
+/// It then has no Block2. Of a longer answer the first 1,024 bytes are sent as block 0 of that
+/// size, with more to follow. So the reply to a POST is sent complete.
 pub fn unasked_answers_are_cut_at_1024()
     ensures whole { (body : List ℕ) → length body ≤ 1024
         → cut_for None body ≡ Some (record { bytes = body; place = None }) }
@@ -66,18 +80,27 @@ pub fn unasked_answers_are_cut_at_1024()
         → cut_for None (meant p input).reply ≡ Some (record { bytes = (meant p input).reply; place = None }) }
 {}
 
-/// A run whose code isn't of class 2 is answered by its code alone, whatever its reply, and whether or not the slot is observed.
+/// A run whose code isn't of class 2 is answered by its code alone.
+///
+/// This holds for any reply, and whether or not the slot is observed.
 pub fn errors_carry_no_block()
     ensures { (answer : ℕ) (cut : Option Part) (serial : ℕ) (observed : Bool)
         → (code_class answer ≡ 2 → ⊥)
         → ran_response answer cut serial observed ≡ bare answer }
 {}
 
-/// Each answer has its code, by its byte (RFC 7252, 12.1.2). The receipt of an install is 2.01 (Created), 65, where the slot was empty, and
-/// else 2.04 (Changed), 68; a removal is 2.02 (Deleted), 66; a match is 2.03 (Valid), 67; an empty slot is 4.04 (Not Found), 132; what can't
-/// be carried out is 5.03 (Service Unavailable), 163; a refused image is 4.00 (Bad Request), 128. The receipt of a slot and the list of
-/// slots are 2.05 (Content), 69, and a run is answered by its own code; where the block that is asked begins past the end, a Content is
-/// 4.00.
+/// Each answer has its code, given by its byte (RFC 7252, section 12.1.2).
+///
+/// - The receipt of an install: 2.01 (Created), 65, if the slot was empty, and otherwise 2.04
+///   (Changed), 68.
+/// - A removal: 2.02 (Deleted), 66.
+/// - A match: 2.03 (Valid), 67.
+/// - An empty slot: 4.04 (Not Found), 132.
+/// - A job that can't be executed: 5.03 (Service Unavailable), 163.
+/// - A refused image: 4.00 (Bad Request), 128.
+/// - The receipt of a slot, and the list of slots: 2.05 (Content), 69.
+/// - A run: its own code.
+/// - A 2.05 whose requested block begins at or past the end: 4.00.
 pub fn answers_have_their_codes()
     ensures created { (j : Job) (receipt : Receipt) (r : Response) → Says j (Made receipt true) r → r.code ≡ 65 }
     ensures changed { (j : Job) (receipt : Receipt) (r : Response) → Says j (Made receipt false) r → r.code ≡ 68 }

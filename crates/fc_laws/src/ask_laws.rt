@@ -1,8 +1,8 @@
-//! What a history promises of what a job asks: each function is a law, and its contract says it.
+//! Laws of a job's request: each function is a law, stated by its contract.
 ghost use Rattle.coap_msg.specs.Wire.{Message};
 ghost use Rattle.coap_msg.specs.declared.types.Endpoint.{Endpoint};
 ghost use Rattle.coap_msg.specs.declared.types.MessageType.TheVariants.{Confirmable};
-ghost use Rattle.coap_opts.specs.Verdict.{Asked, block_in, etags, number_in};
+ghost use Rattle.coap_opts.specs.Verdict.{Asked, block_in, etags, number_in, query, values};
 ghost use Rattle.coap_opts.specs.declared.number.TheConstants as option;
 ghost use Rattle.fc_laws.specs.AskLaws.{BringsJob, IsPlain, Requests, core_path, program_path, request_in, run_path};
 ghost use Rattle.fc_laws.specs.BodyLaws.{Asks};
@@ -10,11 +10,20 @@ ghost use Rattle.fc_core.specs.History.{Entry, Seen};
 ghost use Rattle.fc_help.specs.declared.request.Method.TheVariants.{Get, Post};
 ghost use Rattle.fc_registry.specs.declared.job.Ask.TheVariants.{Describe, Discover, Install, Remove, Run};
 ghost use Rattle.fc_registry.specs.declared.job.Job.{Job};
-ghost use Rattle.std.specs.Prelude.{ℕ, ◌≡◌, ◌≢◌, ◌↔◌, ◌<◌, ◌≤◌, [], None, Some, length, max, true};
+ghost use Rattle.fc_registry.specs.declared.job.InitialVars.TheVariants.{Kept, Zeros};
+ghost use Rattle.fc_registry.specs.Calls.{initial_vars_of};
+ghost use Rattle.fc_core.specs.Receiving.{initial_vars_by};
+ghost use Rattle.std.specs.Prelude.{ℕ, ◌≡◌, ◌≢◌, ◌↔◌, ◌<◌, ◌≤◌, ◌∷◌, [], None, Some, codes, length, max, true};
 
-/// A job asks what its message says (RFC 7252, 5.8). A GET, code 1, and a POST, code 2, of `/r/N` have slot N's program answer the
-/// message's Content-Format, query and payload. Of `/p/N` a PUT, code 3, without Block1 installs the payload, a DELETE, code 4, removes the
-/// program, and a GET describes it; a GET of `/.well-known/core` lists the slots. No other code brings a job.
+/// A job has the request of its message (RFC 7252, section 5.8).
+///
+/// - `/r/N`: a GET, code 1, and a POST, code 2, run slot N's program on the message's
+///   Content-Format, query and payload.
+/// - `/p/N`: a PUT, code 3, without Block1 installs the payload, a DELETE, code 4, removes the
+///   program, and a GET describes it.
+/// - `/.well-known/core`: a GET lists the slots.
+///
+/// No other code produces a job.
 pub fn jobs_ask_what_their_messages_say()
     ensures get { (r : Entry) (s : Seen) (from : Endpoint) (m : Message) (j : Job) (n : ℕ) → n < 64 →
         BringsJob r s from m j → Requests m 1 (run_path n) → j.ask ≡ Run (request_in Get n m) }
@@ -22,7 +31,7 @@ pub fn jobs_ask_what_their_messages_say()
         BringsJob r s from m j → Requests m 2 (run_path n) → j.ask ≡ Run (request_in Post n m) }
     ensures put { (r : Entry) (s : Seen) (from : Endpoint) (m : Message) (j : Job) (n : ℕ) → n < 64 →
         BringsJob r s from m j → Requests m 3 (program_path n) → block_in option.BLOCK1 m ≡ None →
-        j.ask ≡ Install (record { items = m.payload }) }
+        j.ask ≡ Install (record { items = m.payload }) (initial_vars_by (query m)) }
     ensures delete { (r : Entry) (s : Seen) (from : Endpoint) (m : Message) (j : Job) (n : ℕ) → n < 64 →
         BringsJob r s from m j → Requests m 4 (program_path n) → j.ask ≡ Remove }
     ensures describe { (r : Entry) (s : Seen) (from : Endpoint) (m : Message) (j : Job) (n : ℕ) → n < 64 →
@@ -33,8 +42,24 @@ pub fn jobs_ask_what_their_messages_say()
         BringsJob r s from m j → (1 ≤ m.code) × (m.code ≤ 4) }
 {}
 
-/// A job is of its message's endpoint, message id, token and slot, and of the exchange that its delivery opens; it is confirmable
-/// exactly where the message is, and no turn of an observer.
+/// A PUT of `/p/N` keeps the variables exactly if its only query option is `keep`.
+///
+/// The query's options are the Uri-Query options of RFC 7252, section 5.10.1. Neither `keep=1`, nor
+/// `keeps`, nor `keep` twice keeps them. For a body in blocks the request with the last block
+/// counts.
+pub fn puts_keep_variables_by_their_query()
+    ensures keep { (r : Entry) (s : Seen) (from : Endpoint) (m : Message) (j : Job) (n : ℕ) → n < 64 →
+        BringsJob r s from m j → Requests m 3 (program_path n) → values option.URI_QUERY m ≡ codes "keep" ∷ [] →
+        initial_vars_of j.ask ≡ Kept }
+    ensures other { (r : Entry) (s : Seen) (from : Endpoint) (m : Message) (j : Job) (n : ℕ) → n < 64 →
+        BringsJob r s from m j → Requests m 3 (program_path n) → values option.URI_QUERY m ≢ codes "keep" ∷ [] →
+        initial_vars_of j.ask ≡ Zeros }
+{}
+
+/// A job has its message's endpoint, message ID, token and slot.
+///
+/// It also has the exchange that its delivery opens. It is confirmable exactly if its message is,
+/// and isn't an observer's lease.
 pub fn jobs_are_of_their_messages()
     ensures endpoint { (r : Entry) (s : Seen) (from : Endpoint) (m : Message) (j : Job) →
         BringsJob r s from m j → j.origin.endpoint ≡ from }
@@ -54,8 +79,11 @@ pub fn jobs_are_of_their_messages()
         BringsJob r s from m j → j.turn ≡ None }
 {}
 
-/// The block of a job is a GET's Block2 or a PUT's Block1 (RFC 7959, 2.1); its Observe is that of a request of `/r/N` (RFC 7641, 2).
-/// Its ETags are the first four of eight bytes (RFC 7252, 5.10.6), and none where its client registers, by Observe 0, or cancels, by 1.
+/// A job has the options of its message.
+///
+/// Its block is a GET's Block2 or a PUT's Block1 (RFC 7959, section 2.1). Its Observe is that of a
+/// request of `/r/N` (RFC 7641, section 2). Its ETags are the first four of eight bytes (RFC 7252,
+/// section 5.10.6). It has none if its client registers, by Observe 0, or cancels, by 1.
 pub fn jobs_have_their_messages_options()
     ensures block2 { (r : Entry) (s : Seen) (from : Endpoint) (m : Message) (j : Job) →
         BringsJob r s from m j → m.code ≡ 1 → j.block ≡ block_in option.BLOCK2 m }
@@ -73,8 +101,10 @@ pub fn jobs_have_their_messages_options()
         BringsJob r s from m j → Requests m code (run_path n) → number_in option.OBSERVE m ≡ Some 1 → j.etags.items ≡ [] }
 {}
 
-/// A job does come of each request without Block1 that is no repeat, that passes the checks of its options, and for whose exchange there is
-/// room.
+/// Each new request without Block1 that passes all checks of options makes a job.
+///
+/// The request is no duplicate, its endpoint is allowed to send it, and there is space for its
+/// exchange.
 pub fn requests_bring_jobs()
     ensures { (r : Entry) (s : Seen) (m : Message) (q : Asked) → Asks s r.event m q → block_in option.BLOCK1 m ≡ None
         → (from : Endpoint) × (j : Job) × BringsJob r s from m j }

@@ -1,4 +1,4 @@
-//! What a history promises of bodies that come and go in blocks: each function is a law, and its contract says it.
+//! Laws of bodies in blocks: each function is a law, stated by its contract.
 ghost use Rattle.coap_block.specs.Causes.{FindsNoRoom, HasLargeSum, HasWrongLength, IsOutOfPlace};
 ghost use Rattle.coap_block.specs.Cuts.{cut_at};
 ghost use Rattle.coap_block.specs.Transfers.{transfers};
@@ -22,10 +22,13 @@ use coap_block::laws::{
     transfers_are_payloads_joined,
 };
 
-/// Blocks are joined (RFC 7959, 2.5). A new request with a block is carried out exactly where the block is the last and fits
-/// behind those that its endpoint sent for its slot: the body is their payloads since block number 0, joined, and its own. It is
-/// answered 2.31 (Continue) with its Block1 exactly where it fits so and more are to come. A body has at most 8,208 bytes, and
-/// at most 16 transfers are held. The moments of what is added never fall.
+/// Blocks are joined (RFC 7959, section 2.5).
+///
+/// A new request with a block is served exactly if the block is the last one and fits after those
+/// that its endpoint sent for its slot. The body consists of their payloads since block number 0,
+/// joined, and its own. The request is answered 2.31 (Continue) with its Block1 exactly if it fits
+/// in this way and more blocks follow. A body has at most 8,208 bytes, and at most 16 transfers are
+/// stored. The times of added payloads never decrease.
 pub fn blocks_are_joined()
     ensures whole { (h : History) (now : ℕ) (to : Endpoint) (m : Message) (r : Asked) (b : Place)
         (body : List ℕ) → r.block1 ≡ Some b →
@@ -46,9 +49,12 @@ pub fn blocks_are_joined()
     transfers_are_payloads_joined();
 }
 
-/// Each request that is no repeat, that passes the checks of its options, and for whose exchange there is room, adds its
-/// payload, with its block if it has one; nothing else adds any. So a repeat isn't taken twice, and a request that is refused
-/// before its payload is looked at leaves the transfers.
+/// Each new request that passes the checks of its options adds its payload.
+///
+/// The request is no duplicate, its endpoint is allowed to send it, and there is space for its
+/// exchange. The payload is added with its block if it has one; no other event adds any. So a
+/// duplicate isn't added twice, and a request that is refused before its payload is examined leaves
+/// the transfers unchanged.
 pub fn new_requests_add_their_payloads()
     ensures adds { (e : Entry) (s : Seen) (m : Message) (r : Asked) → Asks s e.event m r
         → (and_then e s).additions ≡ addition_by s e.event r ++ s.additions }
@@ -56,12 +62,14 @@ pub fn new_requests_add_their_payloads()
         → (and_then e s).additions ≡ s.additions }
 {}
 
-/// A PUT of slot N whose block is the last and fits brings a job that installs the whole body in slot N. One whose block fits with
-/// more to come brings none, and is answered 2.31 (Continue) with its Block1.
+/// A PUT of slot N whose last block fits makes a job that installs the body.
+///
+/// The job installs the complete body in slot N, by the query of that last request. A PUT whose
+/// block fits and isn't the last one makes no job, and is answered 2.31 (Continue) with its Block1.
 pub fn blocks_that_fit_are_answered()
     ensures installs { (e : Entry) (h : History) (m : Message) (r : Asked) (n : ℕ) (b : Place) (body : List ℕ) →
         Asks (seen h) e.event m r → PutsBlock r n b → b.more ≡ false → FitsBy (seen h) e.event r b body
-        → BringsInstall e (seen h) n body }
+        → BringsInstall e (seen h) r n body }
     ensures continues { (e : Entry) (h : History) (m : Message) (r : Asked) (n : ℕ) (b : Place) (body : List ℕ) →
         Asks (seen h) e.event m r → PutsBlock r n b → b.more ≡ true → FitsBy (seen h) e.event r b body
         → Emits (seen h) e.event e.emitted → e.emitted ≡ continue_by (seen h) e.event m b }
@@ -72,11 +80,18 @@ pub fn blocks_that_fit_are_answered()
     blocks_that_fit_are_joined();
 }
 
-/// A block that doesn't fit is answered at once, by the code of its one cause (RFC 7959, 2.9): 5.03 (Service Unavailable), whose byte is
-/// 163, exactly where it has number 0 and 16 other transfers are under way; 4.08 (Request Entity Incomplete), 136, where it has another
-/// number and doesn't begin where those before it end; 4.00 (Bad Request), 128, where its payload hasn't the length of its block; and
-/// 4.13 (Request Entity Too Large), 141, where the sum is above 8,208 bytes. It brings no job. Nothing else is answered at once but
-/// 2.31 (Continue), 95.
+/// A block that doesn't fit is answered immediately by the code of its only cause.
+///
+/// RFC 7959, section 2.9, defines 4.08 and 4.13. The causes:
+///
+/// - 5.03 (Service Unavailable), whose byte is 163, exactly if the block has number 0 and 16 other
+///   transfers are in progress.
+/// - 4.08 (Request Entity Incomplete), 136, exactly if it has another number and doesn't begin at
+///   the end of the blocks before it.
+/// - 4.00 (Bad Request), 128, exactly if its payload doesn't have the length of its block.
+/// - 4.13 (Request Entity Too Large), 141, exactly if the sum is above 8,208 bytes.
+///
+/// Such a block makes no job. The only other immediate answer is 2.31 (Continue), 95.
 pub fn refused_blocks_have_causes()
     ensures full { (h : History) (now : ℕ) (to : Endpoint) (m : Message) (r : Asked) (b : Place) →
         r.block1 ≡ Some b →
@@ -105,7 +120,9 @@ pub fn refused_blocks_have_causes()
     refusals_have_only_their_causes();
 }
 
-/// A GET that names a block is answered by the block of that number and size, whatever it says of more.
+/// A GET that names a block is answered by the block with that number and size.
+///
+/// The request's "more" bit has no effect.
 pub fn asked_blocks_are_cut()
     ensures { (body : List ℕ) (p : Place) → p.szx < 7
         → cut_for (Some p) body ≡ cut_at body p.number p.szx }

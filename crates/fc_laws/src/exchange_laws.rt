@@ -1,4 +1,4 @@
-//! What a history promises of exchanges and message ids: each function is a law, and its contract says it.
+//! Laws of exchanges and message IDs: each function is a law with its contract.
 ghost use Rattle.coap_dedup.specs.Exchanges.{Exchange};
 ghost use Rattle.fc_laws.specs.ExchangeLaws.{AllBefore, AreApart, AreInOrder, FindsNoExchange, Opens, OpensOne, Repeats, arrivals, bare_by, draws_of, first_id, repeat_emits};
 ghost use Rattle.fc_core.specs.Contents.{Content};
@@ -14,9 +14,12 @@ ghost use Rattle.fc_core.specs.Ids.{free_id};
 ghost use Rattle.fc_core.specs.Legal.{Emits};
 ghost use Rattle.std.specs.Prelude.{ℕ, ◌+◌, ◌%◌, ◌<◌, ◌≤◌, ◌≡◌, ◌↔◌, ◌++◌, ◌∷◌, [], None, Option, Some, is_some, length, max, true};
 
-/// A repeat, which is a request of an endpoint and message id of which an exchange was opened less than 247,000 ms before,
-/// opens no exchange, brings no job, adds no payload to a transfer and draws no message id. It emits the bytes that are kept of that exchange, where its
-/// request was confirmable and was answered, and else nothing.
+/// A duplicate opens no exchange, makes no job, and adds and draws nothing.
+///
+/// A duplicate is a request from an endpoint and with a message ID for which an exchange was opened
+/// less than 247,000 ms before. It adds no payload to a transfer, and draws no message ID. It emits
+/// the bytes that are stored for that exchange if the exchange's request was confirmable and was
+/// answered, and otherwise nothing.
 pub fn repeats_do_nothing()
     ensures exchanges { (r : Entry) (s : Seen) (e : Exchange) → Repeats s r.event e
         → (and_then r s).exchanges ≡ s.exchanges }
@@ -29,18 +32,24 @@ pub fn repeats_do_nothing()
         → r.emitted ≡ repeat_emits r.event e }
 {}
 
-/// An event opens an exchange exactly where it delivers a request that is no repeat, and there is room for it: fewer exchanges than the policy's
-/// limit were opened less than 247,000 ms before, and fewer of its address than a share. It is of the delivery's endpoint, message id and type, and
-/// opened at the front's moment; none is ever lost.
+/// A new request for which there is space opens an exchange, and nothing else does.
+///
+/// The request is no duplicate. There is space if fewer than 2^64 - 1 exchanges were ever opened;
+/// and, within the last 247,000 ms, fewer than the policy's limit, and fewer of its address than a
+/// share. The exchange has the delivery's endpoint, message ID and type, and is opened at the
+/// front's time. No exchange is ever lost.
 pub fn new_requests_open_exchanges()
     ensures opens { (r : Entry) (s : Seen) → Opens s r.event → OpensOne r s }
     ensures others { (r : Entry) (s : Seen) → (Opens s r.event → ⊥)
         → arrivals (and_then r s) ≡ arrivals s }
 {}
 
-/// A request that is no repeat and that finds no place, since as many exchanges as the policy's limit were opened less than 247,000 ms before, is
-/// answered 5.03 (Service Unavailable), whose byte is 163, if its address is below its share. It opens no exchange, so that nothing of it is kept, brings no
-/// job, and adds no payload to a transfer.
+/// A new request without space for its exchange is answered 5.03.
+///
+/// 5.03 is Service Unavailable, and its byte is 163. The request is no duplicate, and its address
+/// is below its share. There is no space since, within the last 247,000 ms, as many exchanges as
+/// the policy's limit were opened, or 2^64 - 1 were ever opened. The request opens no exchange, so
+/// nothing of it is stored; it makes no job, and adds no payload to a transfer.
 pub fn requests_without_room_are_unavailable()
     ensures exchanges { (r : Entry) (s : Seen) (m : Message) → FindsNoExchange s r.event m
         → (and_then r s).exchanges ≡ s.exchanges }
@@ -51,8 +60,10 @@ pub fn requests_without_room_are_unavailable()
         → r.emitted ≡ bare_by s r.event m 163 }
 {}
 
-/// A request is carried out at most once in its window: two jobs of requests with one endpoint and message id came at least 247,000 ms
-/// apart. A turn of an observer is no request.
+/// A request is executed at most once within its lifetime.
+///
+/// Two jobs of requests with one endpoint and message ID arrived at least 247,000 ms apart. An
+/// observer's lease isn't a request.
 pub fn requests_are_carried_out_once()
     ensures { (h : History) (j k : ℕ) → j < k → HasCome (seen h) k
         → (job (seen h) j).turn ≡ None → (job (seen h) k).turn ≡ None
@@ -61,8 +72,10 @@ pub fn requests_are_carried_out_once()
         → (job (seen h) j).origin.opening.at + 247000 ≤ (job (seen h) k).origin.opening.at }
 {}
 
-/// The server draws its message ids in order: the id after 65,535 is 0. No id is drawn twice less than 247,000 ms apart. An id is
-/// free at a moment where it is the next in order and each draw of it was at least 247,000 ms before, and no other is.
+/// The server draws its message IDs in order; the one after 65,535 is 0.
+///
+/// No message ID is drawn twice within less than 247,000 ms. A message ID is available at a time
+/// exactly if it is the next in order and each of its draws was at least 247,000 ms before.
 pub fn message_ids_come_in_order()
     ensures order { (h : History) → first_id h < 65536 → AreInOrder (first_id h) (draws_of h) }
     ensures apart { (h : History) → first_id h < 65536 → AreApart (draws_of h) }
@@ -70,8 +83,11 @@ pub fn message_ids_come_in_order()
         ↔ ((id ≡ (first_id h + length (draws_of h)) % 65536) × AllBefore id at (draws_of h)) }
 {}
 
-/// An event draws a message id exactly where it needs one and one is free. It needs one where it answers a request that isn't confirmable, when that
-/// comes, or by its job less than 247,000 ms after the request was opened; and where it is the draw of a turn, whose notification has an id of its own.
+/// An event draws a message ID exactly if it needs one and one is available.
+///
+/// It needs one if it answers a request that isn't confirmable, either on arrival, or by its job
+/// less than 247,000 ms after the request was opened. It also needs one if it is the draw of a
+/// lease, whose notification has its own message ID.
 pub fn message_ids_are_drawn_where_needed()
     ensures needed { (h : History) (r : Entry) (id : ℕ) → first_id h < 65536 → NeedsId (seen h) r.event
         → free_id (seen h).ids (seen (Then h r)).moment ≡ Some id
@@ -81,8 +97,10 @@ pub fn message_ids_are_drawn_where_needed()
     ensures others { (h : History) (r : Entry) → (NeedsId (seen h) r.event → ⊥) → draws_of (Then h r) ≡ draws_of h }
 {}
 
-/// The answer of a job goes out less than 247,000 ms after its request was opened, and never later. Until then it does go out, where
-/// its request was confirmable or a message id of the server's own is free.
+/// The answer of a job is sent less than 247,000 ms after its request was opened.
+///
+/// It is never sent later. Until then it is sent if its request was confirmable or a message ID of
+/// the server is available.
 pub fn answers_go_out_in_time()
     ensures late { (s : Seen) (k now : ℕ) (e : Emission) → Emits s (Answer k now) (Some e)
         → max s.moment now < opened_at s k + 247000 }
@@ -90,8 +108,10 @@ pub fn answers_go_out_in_time()
         → max s.moment now < opened_at s k + 247000 → HasId s k now → Emits s (Answer k now) o → is_some o ≡ true }
 {}
 
-/// What is kept as the answer of an exchange is the bytes that went out: those that its delivery emitted, where it was answered at
-/// once, or those that the Answer of its job emitted. No other event touches an answer that is kept.
+/// The stored answer of an exchange consists of the bytes that were sent.
+///
+/// They are those that its delivery emitted, if it was answered immediately, or those that the
+/// `Answer` of its job emitted. No other event changes a stored answer.
 pub fn kept_answers_are_what_went_out()
     ensures opened { (h : History) (r : Entry) → Opens (seen h) r.event → Emits (seen h) r.event r.emitted
         → answers (seen (Then h r)) ≡ answers (seen h) ++ emitted_bytes r.emitted ∷ [] }

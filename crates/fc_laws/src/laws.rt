@@ -1,4 +1,4 @@
-//! What a history promises of jobs: each function is a law, and its contract says it.
+//! Laws of jobs: each function is a law, stated by its contract.
 ghost use Rattle.coap_msg.specs.declared.types.Emission.{Emission};
 ghost use Rattle.fc_core.specs.Contents.{Content, Ran, RunAnswer, Unavailable};
 ghost use Rattle.fc_core.specs.declared.event.Event.TheVariants.{Take, Commit, Install, Raise, Answer, Lose};
@@ -13,22 +13,28 @@ ghost use Rattle.fc_core.specs.Legal.{AllMean, Emits, IsMeant};
 ghost use Rattle.fc_core.specs.Rows.{names};
 ghost use Rattle.std.specs.Prelude.{ℕ, ◌+◌, ◌<◌, ◌≤◌, List, None, Option, Some, false, length, true, ◌≡◌};
 
-/// An event that comes when its job isn't at the stage that the event needs changes nothing that can be asked of a
-/// history, and emits nothing; nor does an event of what isn't served.
+/// An event at the wrong stage of its job changes nothing and emits nothing.
+///
+/// Nothing of the history's summary changes. The same holds for an event of a job that has ended or
+/// never arrived, and for a `Peek` of another head word than the job needs.
 pub fn strays_change_nothing()
     ensures seen { (r : Entry) (s : Seen) → is_stray s r.event ≡ true → and_then r s ≡ s }
     ensures emitted { (r : Entry) (s : Seen) → is_stray s r.event ≡ true → Emits s r.event r.emitted
         → r.emitted ≡ None }
 {}
 
-/// An event moves no job that came before but the one that it names, and makes no job another.
+/// An event changes the stage of no earlier job except the one that it names.
+///
+/// Apart from its stage, no event changes an earlier job.
 pub fn only_the_named_job_moves()
     ensures stages { (r : Entry) (s : Seen) (k : ℕ) → HasCome s k → (names r.event ≡ Some k → ⊥)
         → stage (and_then r s) k ≡ stage s k }
     ensures jobs { (r : Entry) (s : Seen) (k : ℕ) → HasCome s k → job (and_then r s) k ≡ job s k }
 {}
 
-/// An event changes no slot but that of the job that it names, and none where it names no job.
+/// An event changes no slot except that of the job that it names.
+///
+/// It changes none if it names no job.
 pub fn only_the_named_slot_changes()
     ensures named { (r : Entry) (s : Seen) (k n : ℕ) → names r.event ≡ Some k
         → (n ≡ (job s k).origin.slot → ⊥) → (and_then r s).changes n ≡ s.changes n }
@@ -36,8 +42,10 @@ pub fn only_the_named_slot_changes()
         → (and_then r s).changes n ≡ s.changes n }
 {}
 
-/// A job takes at most eight tickets. Where a run that wants to write finds at its commit that the slot has changed, its
-/// job takes again, but after the eighth ticket it answers 5.03 (Service Unavailable).
+/// A job takes at most eight tickets.
+///
+/// If a run that wants to write finds at its commit that the slot has changed, its job takes
+/// another ticket; after the eighth it is answered 5.03 (Service Unavailable).
 pub fn takings_are_few()
     ensures few { (h : History) (k : ℕ) → length (takings_of h k) ≤ 8 }
     ensures eighth { (h : History) (k now : ℕ) (o : Option Emission) → IsOvertaken (seen h) k
@@ -48,16 +56,21 @@ pub fn takings_are_few()
         → TakesAgain (stage (seen (Then h (did (Commit k now) o))) k) }
 {}
 
-/// The answer of a run is of the last ticket that its job took: its code is what the ticket's program means for the
-/// request, the variables and the readings that were found, its block is the one that was asked of the reply that it means, and its serial is the
-/// one that was found.
+/// The answer of a run comes from the last ticket that its job took.
+///
+/// Its code is what the ticket's program means for the request and for the variables and readings
+/// of the snapshot. Its block is the requested one of the reply that the program means. Its serial
+/// is that of the snapshot.
 pub fn answers_are_of_the_last_taking()
     ensures { (h : History) (k : ℕ) (run : RunAnswer) → answer_at (stage (seen h) k) ≡ Some (Ran run)
         → IsOfNewest (takings_of h k) run }
 {}
 
-/// Each ticket that a job holds has a meaning, a request's as that of a turn: its program reaches its exit, for the request and for the variables and readings that the
-/// taking found, in at most the steps of its longest path, which are at most its budget. So it is in a history whose takings found no program without a meaning.
+/// Each ticket of a job has a meaning, for a request as for a lease.
+///
+/// The ticket's program reaches its exit for the request and for the variables and readings of the
+/// snapshot. It takes at most the steps of its longest path, which are at most its budget. This
+/// holds in a history whose snapshots found no program without a meaning.
 pub fn held_tickets_have_a_meaning()
     ensures committed { (h : History) (k n : ℕ) (t : Ticket) → AllMean h → stage (seen h) k ≡ ToCommit n t → IsMeant t }
     ensures drawing { (h : History) (k : ℕ) (turn : Turn) (t : Ticket) → AllMean h
@@ -66,7 +79,9 @@ pub fn held_tickets_have_a_meaning()
         → stage (seen h) k ≡ ToTell turn (ToNote (Some t) id) → IsMeant t }
 {}
 
-/// A taking keeps the readings that are handed in at it, whatever an earlier taking was handed: its run finds them, and its commit has them.
+/// A snapshot has the readings that were passed to it, not those of an earlier one.
+///
+/// Its run gets these readings, and its commit has them.
 pub fn takings_keep_their_readings()
     ensures { (s : Seen) (k count : ℕ) (readings : List ℕ) (o : Option Emission) (p : Present) → stage s k ≡ ToTake count
         → (slot_at s (slot_of s k)).present ≡ Some p
@@ -74,13 +89,15 @@ pub fn takings_keep_their_readings()
         × ((run_of t).input.readings ≡ readings) × ((commit_of t).readings ≡ readings) }
 {}
 
-/// A job is answered at most once, and is gone then.
+/// A job is answered at most once, and has then ended.
 pub fn jobs_are_answered_once()
     ensures once { (h : History) (k : ℕ) → answers_of h k ≤ 1 }
     ensures gone { (h : History) (k : ℕ) → 1 ≤ answers_of h k → stage (seen h) k ≡ Gone }
 {}
 
-/// A job that was answered, or whose worker was lost, is gone, whatever happens later.
+/// A job that was answered, or whose worker was lost, has ended.
+///
+/// No later event changes that.
 pub fn ended_jobs_stay_ended()
     ensures answered { (s : Seen) (k now : ℕ) (o : Option Emission) (content : Content)
         → stage s k ≡ ToAnswer content → stage (and_then (did (Answer k now) o) s) k ≡ Gone }
@@ -90,14 +107,15 @@ pub fn ended_jobs_stay_ended()
         → stage (seen (followed_by h rs)) k ≡ Gone }
 {}
 
-/// Once its slot's new head word is published, a job stands at its answer, which is the one that it had.
+/// After its slot's new head word is published, a job gives the answer that it had.
 pub fn raises_keep_the_answer()
     ensures { (s : Seen) (k word : ℕ) (o : Option Emission) (content : Content)
         → stage s k ≡ ToRaise word content → stage (and_then (did (Raise k) o) s) k ≡ ToAnswer content }
 {}
 
-/// A job that is refused the memory for a ticket or an install answers 5.03 (Service Unavailable), and a job that stands
-/// at its answer takes no ticket later.
+/// A job without memory for a ticket or an install is answered 5.03.
+///
+/// 5.03 is Service Unavailable. A job that is to give its answer takes no ticket later.
 pub fn refused_memory_ends_a_job()
     ensures take { (s : Seen) (k count : ℕ) (readings : List ℕ) (o : Option Emission) (p : Present) → stage s k ≡ ToTake count
         → (slot_at s (slot_of s k)).present ≡ Some p

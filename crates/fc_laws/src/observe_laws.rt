@@ -1,4 +1,4 @@
-//! What a history promises of the observers of slots: each function is a law, and its contract says it.
+//! Laws of the observers of slots: each function is a law, stated by its contract.
 ghost use Rattle.std.specs.Prelude.{◌≡◌, ℕ, ◌+◌, ◌*◌, ◌%◌, ◌<◌, ◌∷◌, ◌⊎◌, Bool, List, Option, None, Some, max, true, false};
 ghost use Rattle.coap_msg.specs.declared.types.Emission.{Emission};
 ghost use Rattle.coap_msg.specs.declared.types.Endpoint.{Endpoint};
@@ -18,10 +18,15 @@ ghost use Rattle.fc_core.specs.Laws.{followed_by, slot_of};
 ghost use Rattle.fc_laws.specs.ObserveLaws.{AsksToObserve, BringsTurn, NoneRegisters, Registers, is_among, is_held};
 ghost use Rattle.fc_core.specs.Stages.{run_content};
 
-/// The commit of a GET with Observe 0 whose run means a 2.05 Content, and that asks no block or the first, registers its client at
-/// the moment of its shard; its answer says that the client observes exactly where it is among the observers then. That of a GET
-/// with Observe 1 removes the client, whatever the code. Any other commit leaves the observers of its slot, and each commit those
-/// of the other slots.
+/// The commit of a GET registers its client, or cancels its observation.
+///
+/// - Observe 0: if the run means a 2.05 (Content), and the GET requests no block or the first, the
+///   client is registered at its shard's time. The answer says that the client observes exactly if
+///   it is among the observers then.
+/// - Observe 1: the client is removed, whatever the code.
+///
+/// Any other commit leaves the observers of its slot unchanged, and each commit leaves those of the
+/// other slots unchanged.
 pub fn commits_register_and_cancel()
     ensures registered { (s : Seen) (k now n : ℕ) (t : Ticket) (o : Option Emission) → stage s k ≡ ToCommit n t
         → t.request.method ≡ Get → AsksToObserve t → watch (and_then (did (Commit k now) o) s) (slot_of s k)
@@ -40,8 +45,10 @@ pub fn commits_register_and_cancel()
         → watch (and_then (did (Commit k now) o) s) m ≡ watch s m }
 {}
 
-/// A client comes among the observers of a slot only by the commit of its own GET there, with Observe 0. So one that was removed,
-/// however that was, isn't among them until it registers anew.
+/// A client becomes an observer only by the commit of its own GET with Observe 0.
+///
+/// The GET is for the slot that it observes. So a client that was removed, for any reason, isn't
+/// among the slot's observers until it registers again.
 pub fn observers_come_by_their_commits()
     ensures comes { (r : Entry) (s : Seen) (n : ℕ) (to : Endpoint) (token : List ℕ) → is_held to token (watch (and_then r s) n) ≡ true
         → (is_held to token (watch s n) ≡ true) ⊎ Registers r s n to token }
@@ -49,8 +56,10 @@ pub fn observers_come_by_their_commits()
         → is_held to token (watch (seen h) n) ≡ false → is_held to token (watch (seen (followed_by h rs)) n) ≡ false }
 {}
 
-/// A signal is for the observers of its shard's slots alone: a Reset message removes just the entries whose last notification it
-/// answers, in each of these slots, and an Acknowledgement ends their wait.
+/// A signal is for the observers of its shard's slots alone.
+///
+/// In each of these slots a Reset message removes exactly the entries whose last notification it
+/// answers, and an Acknowledgement ends their wait.
 pub fn signals_are_for_their_shard()
     ensures reset { (s : Seen) (i n id : ℕ) (to : Endpoint) (o : Option Emission) → n % 8 ≡ i
         → watch (and_then (did (Signal i to id true) o) s) n ≡ after_reset to id (watch s n) }
@@ -60,8 +69,11 @@ pub fn signals_are_for_their_shard()
         → watch (and_then (did (Signal i to id reset) o) s) n ≡ watch s n }
 {}
 
-/// A shard that is asked for a turn gives it to the first of its slots that has an observer due, there to the first that is, and to no
-/// other; and that brings one job, which answers the observer's request anew. Where none is due no job comes.
+/// A shard grants a lease to the first observer with a pending notification.
+///
+/// It is the first such observer of the shard's first slot that has one, and no other. The lease
+/// makes one job, which runs the observer's request again. If no observer has a pending
+/// notification, there is no job.
 pub fn turns_are_for_the_first_that_is_due()
     ensures found { (s : Seen) (i at k : ℕ) → due_in s i at ≡ Some k
         → (is_due_at s i at k ≡ true) × ((j : ℕ) → j < k → is_due_at s i at j ≡ false) }
@@ -79,8 +91,9 @@ pub fn turns_are_for_the_first_that_is_due()
         → (and_then (did (Due i now) o) s).tasks ≡ s.tasks }
 {}
 
-/// A turn that needs a message id draws the next of the server's own, unless that was drawn less than 247,000 ms before: then it needs
-/// one still.
+/// A lease that needs a message ID draws the server's next one.
+///
+/// If that was drawn less than 247,000 ms before, the lease still needs one.
 pub fn turns_draw_message_ids()
     ensures drawn { (s : Seen) (k now id : ℕ) (turn : Turn) (found : Option Ticket) (o : Option Emission)
         → stage s k ≡ ToTell turn (ToDraw found)
@@ -93,8 +106,10 @@ pub fn turns_draw_message_ids()
         → draws_of (Then h (did (Fresh k now) o)) ≡ record { id = id; at = max (seen h).moment now } ∷ draws_of h }
 {}
 
-/// A turn that is given up is its observer's no longer, from the moment of its shard on, and its job is gone; no other slot's observers
-/// change. A job whose worker is lost leaves the observers of every slot.
+/// A lease that is released isn't out any more from its shard's time on.
+///
+/// Its job has ended. The observers of other slots don't change. A job whose worker is lost changes
+/// the observers of no slot.
 pub fn turns_are_given_up_or_lost()
     ensures given_up { (s : Seen) (k now : ℕ) (turn : Turn) (needs : TurnStage) (o : Option Emission) → stage s k ≡ ToTell turn needs
         → watch (and_then (did (GiveUp k now) o) s) (slot_of s k)
@@ -106,7 +121,9 @@ pub fn turns_are_given_up_or_lost()
     ensures lost { (s : Seen) (k n : ℕ) (o : Option Emission) → watch (and_then (did (Lose k) o) s) n ≡ watch s n }
 {}
 
-/// A tick of a shard is for the first of its slots that has a late notification, and for no other.
+/// A tick of a shard is for its first slot with a notification that has timed out.
+///
+/// It is for no other slot.
 pub fn ticks_are_for_the_first_that_is_late()
     ensures found { (s : Seen) (i at k : ℕ) → late_in s i at ≡ Some k
         → (is_late_at s i at k ≡ true) × ((j : ℕ) → j < k → is_late_at s i at j ≡ false) }

@@ -1,4 +1,4 @@
-//! What a history promises of a server's policy: each function is a law, and its contract says it.
+//! Laws of a server's policy: each function is a law, stated by its contract.
 ghost use Rattle.std.specs.Borrow.{Bor};
 ghost use Rattle.std.specs.Prelude.{ℕ, List, [], ◌∷◌, length, max, nat_le, ◌≡◌, ◌*◌, ◌+◌, ◌<◌, ◌≤◌, Ok, false, true, if◌then◌else◌};
 ghost use Rattle.coap_msg.specs.declared.types.Emission.{Emission};
@@ -27,8 +27,11 @@ ghost use Rattle.fc_laws.specs.PolicyLaws.{AreAmong, IsManaged, IsOneOf, over_sh
 ghost use Rattle.fc_laws.specs.RefusalLaws.{LeavesAll};
 ghost use Rattle.fc_laws.specs.ReplyLaws.{Refuses};
 
-/// A network has the addresses that begin with its bits: 192.0.2.0/25 has 192.0.2.127 and hasn't 192.0.2.128, which 192.0.2.0/24 has; that hasn't
-/// 193.0.2.0. 127.0.0.1/32 has no other address, nor has it with more than 32 bits, and 0.0.0.0/0 has each.
+/// A network has the addresses that begin with its bits.
+///
+/// 192.0.2.0/25 contains 192.0.2.127 and doesn't contain 192.0.2.128, which 192.0.2.0/24 contains;
+/// that doesn't contain 193.0.2.0. 127.0.0.1/32 contains no other address, also with more than 32
+/// bits, and 0.0.0.0/0 contains each address.
 pub fn networks_are_prefixes()
     ensures last { is_in (192 ∷ 0 ∷ 2 ∷ 127 ∷ []) (record { ip = 192 ∷ 0 ∷ 2 ∷ 0 ∷ []; bits = 25 }) ≡ true }
     ensures next { is_in (192 ∷ 0 ∷ 2 ∷ 128 ∷ []) (record { ip = 192 ∷ 0 ∷ 2 ∷ 0 ∷ []; bits = 25 }) ≡ false }
@@ -39,8 +42,10 @@ pub fn networks_are_prefixes()
     ensures any { (ip : List ℕ) → address_number ip < 4294967296 → is_in ip any_address ≡ true }
 {}
 
-/// Only a PUT or DELETE of `/p/N` wants a manager's endpoint. A GET or POST of `/r/N`, a GET of `/p/N` and one of the list are allowed to each endpoint, and
-/// each action is allowed to a manager's.
+/// Only a PUT or DELETE of `/p/N` requires a manager's endpoint.
+///
+/// A GET or POST of `/r/N`, a GET of `/p/N` and a GET of the list are allowed to each endpoint.
+/// Each action is allowed to a manager's endpoint.
 pub fn managers_are_wanted_for_changes_alone()
     ensures get { (managers : List Network) (to : Endpoint) (n : ℕ) → is_allowed managers to (actions.Get n) ≡ true }
     ensures post { (managers : List Network) (to : Endpoint) (n : ℕ) → is_allowed managers to (actions.Post n) ≡ true }
@@ -51,8 +56,10 @@ pub fn managers_are_wanted_for_changes_alone()
     ensures managers { (managers : List Network) (to : Endpoint) (action : Action) → is_manager managers to ≡ true → is_allowed managers to action ≡ true }
 {}
 
-/// By default each endpoint is a manager's, 1,024 exchanges are held, no address is above its share, and a notification is confirmable after 86,400,000 ms,
-/// which is 24 hours.
+/// The default policy allows each endpoint to change programs.
+///
+/// At most 1,024 exchanges are stored, no address is above its share, and a notification is
+/// confirmable after 86,400,000 ms, which is 24 hours.
 pub fn default_policy_allows_all()
     ensures managers { (to : Endpoint) → address_number to.ip < 4294967296 → is_manager default_policy.managers to ≡ true }
     ensures places { places_of default_policy.limits ≡ 1024 }
@@ -60,28 +67,38 @@ pub fn default_policy_allows_all()
     ensures shares { (h : History) (e : Event) (m : Message) → (seen h).policy ≡ default_policy → ExceedsShare (seen h) e m → ⊥ }
 {}
 
-/// Each job that installs or removes a program is of a manager's endpoint. A slot changes by the installs, removals and commits of jobs alone, so no
-/// other endpoint changes which program a slot holds.
+/// Each job that installs or removes a program comes from a manager's endpoint.
+///
+/// A slot changes only by installs, removals and commits of jobs. So no other endpoint changes the
+/// program of a slot.
 pub fn managers_alone_change_programs()
     ensures { (h : History) (k : ℕ) → HasCome (seen h) k → IsManaged (seen h).policy.managers (job (seen h) k) }
 {}
 
-/// A new PUT or DELETE of a program that passes each check of its options, of an endpoint that is no manager's, is refused by 4.03 (Forbidden), whose byte
-/// is 131.
+/// A new PUT or DELETE of a program from another endpoint is refused by 4.03.
+///
+/// The request passes each check of its options, and its endpoint isn't a manager's. 4.03 is
+/// Forbidden, and its byte is 131.
 pub fn forbidden_changes_are_refused()
     ensures { (s : Seen) (now : ℕ) (to : Endpoint) (bytes : Bor (List ℕ)) (m : Message) (r : Asked) → IsOpening s now to bytes.now
         → reading_of bytes.now ≡ Ok m → verdict m ≡ IsAsked r → changes_program r.action ≡ true → is_manager s.policy.managers to ≡ false
         → Refuses s (Deliver now to bytes) m 131 }
 {}
 
-/// From the front's moment on, at most `exchanges` of the policy's limits are less than 247,000 ms old, and at most `share` of each address.
+/// The exchanges are within the policy's limits, in all and for each address.
+///
+/// From the front's time on, at most `Limits::places` of them are less than 247,000 ms old, and at
+/// most `share` of each address.
 pub fn exchanges_are_within_limits()
     ensures all { (h : History) (at : ℕ) → (seen h).moment ≤ at → length (held_at (seen h) at) ≤ places_of (seen h).policy.limits }
     ensures shares { (h : History) (at : ℕ) (ip : List ℕ) → (seen h).moment ≤ at → shared_at (seen h) at ip ≤ (seen h).policy.limits.share }
 {}
 
-/// Each address keeps a place for each exchange of its share: if all that is held is of some addresses, and a share for each of them fits into the places, a new
-/// request of one of them below its share finds a place.
+/// Each address keeps space for the exchanges of its share.
+///
+/// Suppose that all stored exchanges belong to some addresses, and a share for each of these fits
+/// into the table. Suppose also that fewer than 2^64 - 1 exchanges were ever opened. Then a new
+/// request from one of these addresses below its share finds space.
 pub fn shares_are_kept_free()
     ensures { (h : History) (now : ℕ) (to : Endpoint) (bytes : List ℕ) (m : Message) (ips : List (List ℕ))
         → AreAmong ips (held_at (seen h) (max (seen h).moment now)) → IsOneOf to.ip ips
@@ -89,8 +106,11 @@ pub fn shares_are_kept_free()
         → length (seen h).exchanges < 18446744073709551615 → IsCrowdedOut (seen h) now to bytes m → ⊥ }
 {}
 
-/// A new request of an address that has its whole share changes nothing but the front's moment: it opens no exchange, draws no message id, brings no job and
-/// adds no payload to a transfer. A confirmable one is answered 5.03 (Service Unavailable), whose byte is 163; another isn't answered.
+/// A new request above its address's share changes nothing but the front's time.
+///
+/// The request opens no exchange, draws no message ID, makes no job and adds no payload to a
+/// transfer. A confirmable one is answered 5.03 (Service Unavailable), whose byte is 163; any other
+/// gets no response.
 pub fn requests_above_a_share_change_nothing()
     ensures left { (r : Entry) (s : Seen) (m : Message) → ExceedsShare s r.event m → LeavesAll s (and_then r s) }
     ensures ids { (r : Entry) (s : Seen) (m : Message) → ExceedsShare s r.event m → (and_then r s).ids ≡ s.ids }
@@ -98,8 +118,11 @@ pub fn requests_above_a_share_change_nothing()
         → r.emitted ≡ over_share_emits (is_confirmable m.kind) s r.event m }
 {}
 
-/// A notification is confirmable exactly if the policy's `confirm_after`, in ms, has passed since its observer's registration or last confirmable
-/// notification: none is a millisecond early, and none is non-confirmable from then on. By default that is 86,400,000 ms, 24 hours.
+/// A notification is confirmable exactly if the policy's time has passed.
+///
+/// This is `confirm_after`, in ms, since its observer's registration or last confirmable
+/// notification. None is confirmable a millisecond early, and none is non-confirmable from then on.
+/// By default it is 86,400,000 ms, 24 hours.
 pub fn notifications_are_confirmable_in_time()
     ensures in_time { (s : Seen) (k now id : ℕ) (turn : Turn) (response : Response) (e : Emission) (n : NotifiesOf s k now turn id response e)
         → n.entry.confirmed + s.policy.confirm_after ≤ moment_at s k now → e ≡ note_as Confirmable id n.entry response }

@@ -1,4 +1,4 @@
-//! What a refusal leaves as it was: one law, whose cases are its three exceptions.
+//! The effects of a refusal: one law, whose cases are its three exceptions.
 ghost use Rattle.std.specs.Prelude.{◌≡◌, ℕ, Some};
 ghost use Rattle.coap_msg.specs.Wire.{Message};
 ghost use Rattle.coap_opts.specs.Values.{Place};
@@ -11,9 +11,15 @@ ghost use Rattle.fc_laws.specs.RefusalLaws.{FindsTurnMissing, IsRefusedByCheck, 
 
 use coap_block::laws::blocks_leave_other_transfers;
 
-/// After a refusal all but the moment, a drawn message id, and the stage of the job whose call was refused is as before, with three
-/// exceptions: a request that a check refuses keeps its exchange, though not where it was answered 5.03 (Service Unavailable) since there was no room for that; a block that is refused
-/// keeps it too, and the transfer of its endpoint and slot is gone; and a turn keeps that its taking found the slot empty.
+/// A refusal leaves everything unchanged, with three exceptions.
+///
+/// The time, a drawn message ID, and the stage of the job whose call was refused may change. The
+/// exceptions:
+///
+/// - A request that a check refuses opens its exchange. One without space for it opens none, and is
+///   answered 5.03 (Service Unavailable).
+/// - A refused block opens its exchange too, and the transfer of its endpoint and slot is removed.
+/// - A lease records that its snapshot found the slot empty.
 pub fn refusals_leave_all_else()
     ensures turned_down { (r : Entry) (s : Seen) → IsTurnedDown s r.event → LeavesAll s (and_then r s) }
     ensures refused_calls { (r : Entry) (s : Seen) (k : ℕ) → IsRefusedCall s k r.event r.emitted → LeavesAllButStage k s (and_then r s) }

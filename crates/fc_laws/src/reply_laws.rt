@@ -1,4 +1,4 @@
-//! What a history promises of refusals, and of whom answers are for: each function is a law, and its contract says it.
+//! Laws of refusals and receivers: each function is a law, stated by its contract.
 ghost use Rattle.std.specs.Borrow.{Bor};
 ghost use Rattle.std.specs.Prelude.{◌≡◌, ℕ, Bool, Err, List, None, Ok, Option, Some, false, max, true};
 ghost use Rattle.coap_msg.specs.Wire.{Message};
@@ -21,9 +21,12 @@ ghost use Rattle.fc_core.specs.declared.event.Event.TheVariants.{Answer, Deliver
 ghost use Rattle.fc_core.specs.declared.front.Delivered.TheVariants.{Signal};
 ghost use Rattle.fc_core.specs.Stage.{ToAnswer};
 
-/// A request that is no repeat, and that a check of its options refuses, is answered by the code of that check alone. A confirmable message
-/// with a format error, a ping, and a confirmable message that is no request are rejected by a Reset message of their id (RFC 7252,
-/// 4.2). Neither brings a job, and no delivery changes a slot, its observers, a head word or a shard's moment.
+/// A request that a check of options refuses is answered by the code of that check.
+///
+/// The request is no duplicate. A confirmable message with a format error is rejected by a Reset
+/// message with its message ID (RFC 7252, section 4.2). So is a ping, and a confirmable message
+/// that isn't a request. None of these makes a job, and no delivery changes a slot, its observers,
+/// a head word or a shard's time.
 pub fn refusals_are_answered_by_their_code()
     ensures refused { (r : Entry) (s : Seen) (m : Message) (answer : ℕ) → Refuses s r.event m answer
         → Emits s r.event r.emitted → r.emitted ≡ bare_by s r.event m answer }
@@ -45,9 +48,11 @@ pub fn refusals_are_answered_by_their_code()
         (and_then (did (Deliver now to bytes) o) s).shard_moment i ≡ s.shard_moment i }
 {}
 
-/// An answer goes to its client's endpoint, with the token of the request: to a confirmable request in its Acknowledgement, by the
-/// request's own message id, and to another in a non-confirmable message, by the next id of the server's own (RFC 7252, 5.2 and 5.3);
-/// where that isn't free, nothing goes.
+/// An answer is sent to its client's endpoint, with the token of the request.
+///
+/// A confirmable request is answered in its Acknowledgement, with the request's message ID. Any
+/// other request is answered in a non-confirmable message with the server's next message ID (RFC
+/// 7252, sections 5.2 and 5.3); if that isn't available, nothing is sent.
 pub fn answers_go_to_their_clients()
     ensures confirmable { (s : Seen) (k now : ℕ) (content : Content) (e : Emission) → stage s k ≡ ToAnswer content
         → (job s k).confirmable ≡ true → Emits s (Answer k now) (Some e)
@@ -64,9 +69,11 @@ pub fn answers_go_to_their_clients()
         → free_id f.ids f.now ≡ None → told f to m response ≡ None }
 {}
 
-/// An Acknowledgement or a Reset message is handed on with the message id that it answers, and with which of the two it is. It gets no
-/// answer, and neither does what is ignored, nor a non-confirmable request with an unrecognised critical option (RFC 7252, 4.2, 4.3
-/// and 5.4.1).
+/// A signal, an ignored datagram and some non-confirmable requests get no response.
+///
+/// An Acknowledgement or a Reset message is passed on with the message ID that it answers and with
+/// its type. No response follows it, an ignored datagram, or a non-confirmable request with an
+/// unrecognised critical option (RFC 7252, sections 4.2, 4.3 and 5.4.1).
 pub fn some_messages_get_no_answer()
     ensures handed_on { (f : FrontState) (to : Endpoint) (bytes : List ℕ) (m : Message) (reset : Bool) → reading_of bytes ≡ Ok m
         → verdict m ≡ IsSignal reset → delivered f to bytes ≡ Signal m.id reset }

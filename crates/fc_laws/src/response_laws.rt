@@ -1,4 +1,4 @@
-//! What answers carry, by the numbers of their options and by their payload: each function is a law, and its contract says it.
+//! Laws of options and payloads: each function is a law, stated by its contract.
 ghost use Rattle.std.specs.Prelude.{◌≡◌, ◌≢◌, ℕ, ◌≤◌, ◌%◌, ◌∷◌, [], List, None, Option, Some, Bool, codes, false, true};
 ghost use Rattle.std.specs.Int.{to_be_bytes, w64};
 ghost use Rattle.coap_block.specs.Cuts.{Part};
@@ -14,8 +14,10 @@ ghost use Rattle.fc_registry.specs.Receipts.{receipt_text};
 ghost use Rattle.fc_registry.specs.declared.job.Job.{Job};
 ghost use Rattle.fc_registry.specs.declared.receipt.Receipt.{Receipt};
 
-/// An install is answered by its receipt. Where the image came in blocks, the answer has the Block1 of the last of them, option 27
-/// (RFC 7959, 2.3); where it came whole, no option.
+/// An install is answered by its receipt.
+///
+/// If the image was sent in blocks, the answer has the Block1 of the last of them, option 27 (RFC
+/// 7959, section 2.3); if it was sent complete, the answer has no option.
 pub fn installs_are_answered_by_receipts()
     ensures whole { (j : Job) (receipt : Receipt) (created : Bool) (r : Response) → j.block ≡ None → Says j (Made receipt created) r
         → (r.options ≡ []) × (r.payload ≡ receipt_text receipt) }
@@ -23,8 +25,11 @@ pub fn installs_are_answered_by_receipts()
         → Says j (Made receipt created) r → (r.options ≡ (27, block_bytes p) ∷ []) × (r.payload ≡ receipt_text receipt) }
 {}
 
-/// A 2.03 (Valid), 67, has the slot's serial as its ETag, option 4, and no payload (RFC 7252, 5.9.1.3). A 2.02 (Deleted), 66, a
-/// 4.04 (Not Found), 132, and a 5.03 (Service Unavailable), 163, have neither options nor payload, and so no Max-Age.
+/// Some answers are codes alone, or a code with an ETag.
+///
+/// A 2.03 (Valid), 67, has the slot's serial as its ETag, option 4, and no payload (RFC 7252,
+/// section 5.9.1.3). A 2.02 (Deleted), 66, a 4.04 (Not Found), 132, and a 5.03 (Service
+/// Unavailable), 163, have neither options nor payload, and so no Max-Age.
 pub fn some_answers_are_codes_alone()
     ensures valid { (j : Job) (serial : ℕ) (r : Response) → Says j (Valid serial) r
         → r ≡ record { code = 67; options = (4, to_be_bytes w64 serial) ∷ []; payload = [] } }
@@ -33,8 +38,10 @@ pub fn some_answers_are_codes_alone()
     ensures unavailable { (j : Job) (r : Response) → Says j Unavailable r → r ≡ record { code = 163; options = []; payload = [] } }
 {}
 
-/// A refused image is answered by the number of the first rule that it breaks and by its slot, as a text without options; where only the
-/// typing is missing, by a number from 20 to 28 and any slot (RFC 7252, 5.5.2).
+/// A refused image is answered by the first rule that it breaks, and the slot.
+///
+/// The answer is a text without options. If only the typing is missing, it has a number from 20 to
+/// 28 and any slot (RFC 7252, section 5.5.2).
 pub fn refused_images_are_told_why()
     ensures rejected { (j : Job) (rule : Rule) (slot : ℕ) (r : Response) → Says j (Rejected rule slot) r
         → (r.options ≡ []) × (r.payload ≡ fault_text (number_of rule) slot) }
@@ -42,8 +49,10 @@ pub fn refused_images_are_told_why()
         × (r.options ≡ []) × (r.payload ≡ fault_text number slot) }
 {}
 
-/// What a slot's program is, and the list of slots, go by the block that is asked of them, with its Block2, option 23, where it isn't the
-/// whole (RFC 7959, 2.4). The list has Content-Format 40, option 12 (RFC 7252, 12.3); a receipt has none.
+/// The receipt of a slot, and the list of slots, are sent by the requested block.
+///
+/// The answer has Block2, option 23, unless it is complete (RFC 7959, section 2.4). The list has
+/// Content-Format 40, option 12 (RFC 7252, section 12.3); a receipt has none.
 pub fn descriptions_are_cut_as_asked()
     ensures described { (j : Job) (receipt : Receipt) (part : Part) (r : Response) → cut_for j.block (receipt_text receipt) ≡ Some part
         → part.place ≡ None → Says j (Described receipt) r → (r.options ≡ []) × (r.payload ≡ part.bytes) }
@@ -57,9 +66,13 @@ pub fn descriptions_are_cut_as_asked()
         → (r.options ≡ (12, 40 ∷ []) ∷ (23, block_bytes p) ∷ []) × (r.payload ≡ part.bytes) }
 {}
 
-/// A run's 2.05 (Content), 69, has the serial that was found as its ETag, option 4, where its client observes the slot the lowest 24 bits
-/// of that as its sequence number, option 6, and the block that is asked of the reply with its Block2, option 23, where it isn't the whole.
-/// A 2.04 (Changed), 68, is the bytes of its reply alone, and each other code goes without options and payload.
+/// A run is answered by its code and reply.
+///
+/// - 2.05 (Content), 69: it has the serial of the snapshot as its ETag, option 4. If its client
+///   observes the slot, it has the lowest 24 bits of that serial as its sequence number, option 6.
+///   It has the requested block of the reply, with Block2, option 23, unless it is complete.
+/// - 2.04 (Changed), 68: it consists of the bytes of its reply alone.
+/// - Any other code: it has neither options nor payload.
 pub fn runs_are_answered_with_their_reply()
     ensures content { (j : Job) (run : RunAnswer) (part : Part) (r : Response) → run.code ≡ 69 → run.cut ≡ Some part → part.place ≡ None
         → run.observed ≡ false → Says j (Ran run) r → (r.options ≡ (4, to_be_bytes w64 run.serial) ∷ []) × (r.payload ≡ part.bytes) }
@@ -79,7 +92,10 @@ pub fn runs_are_answered_with_their_reply()
         → (r.options ≡ []) × (r.payload ≡ []) }
 {}
 
-/// The texts of answers: of a receipt, of a refusal, and of the list of the slots that have a program, whose head words are odd.
+/// The texts of answers are plain.
+///
+/// They are those of a receipt, of a refusal, and of the list of the slots that have a program,
+/// whose head words are odd.
 pub fn texts_are_plain()
     ensures receipt { receipt_text (record { version = 1; cost = 2; budget = 3; vars = 8 }) ≡ codes "version=1 cost=2 budget=3 vars=8" }
     ensures refusal { fault_text 16 0 ≡ codes "V16 slot 0" }

@@ -1,4 +1,4 @@
-//! What a history promises of events of shards: each function is a law, and its contract says it.
+//! Laws of events of shards: each function is a law, stated by its contract.
 ghost use Rattle.std.specs.Prelude.{◌≡◌, ℕ, ◌+◌, ◌*◌, ◌<◌, ◌≤◌, None, Option, Some, max};
 ghost use Rattle.arrayvec.specs.ArrayVec.{ArrayVec};
 ghost use Rattle.coap_msg.specs.declared.types.Emission.{Emission};
@@ -10,14 +10,18 @@ ghost use Rattle.fc_observe.specs.Observers.{at_moment, late_entry};
 ghost use Rattle.fc_observe.specs.declared.entry.Entry.{Entry as ObserverEntry};
 ghost use Rattle.fc_observe.specs.declared.entry.Phase.TheVariants.{Outstanding};
 
-/// An event of a shard above 7 emits nothing, and changes nothing that the front, the jobs, the slots and the shards hold.
+/// An event of a shard above 7 emits nothing and changes nothing.
+///
+/// The front, the jobs, the slots and the shards are unchanged.
 pub fn shards_are_eight()
     ensures same { (r : Entry) (s : Seen) → IsOfNoShard r.event → IsAsBefore s (and_then r s) }
     ensures emitted { (r : Entry) (s : Seen) → IsOfNoShard r.event → Emits s r.event r.emitted → r.emitted ≡ None }
 {}
 
-/// The tick of a shard sends the notification for which it is, the same bytes to the same endpoint, where it was sent again less than four
-/// times; after the fourth time, and where none is late, it sends nothing.
+/// A tick of a shard retransmits its overdue notification, at most four times.
+///
+/// It sends the same bytes to the same endpoint. After the fourth retransmission, and if no
+/// notification has timed out, it sends nothing.
 pub fn ticks_send_late_notifications_again()
     ensures again { (s : Seen) (i k now sent_at timeout count : ℕ) (bytes : ArrayVec ℕ) (x : ObserverEntry) (o : Option Emission)
         → late_in s i (max (s.shard_moment i) now) ≡ Some k

@@ -1,4 +1,4 @@
-//! What a history promises of turns and of the notifications of observers: each function is a law, and its contract says it.
+//! Laws of leases and notifications: each function is a law with its contract.
 ghost use Rattle.std.specs.Prelude.{◌≡◌, ℕ, ◌+◌, ◌*◌, ◌%◌, ◌<◌, ◌≤◌, ◌⊎◌, List, None, Option, Some, false, is_some, length, max, true};
 ghost use Rattle.std.specs.List.{All};
 ghost use Rattle.coap_msg.specs.declared.types.Emission.{Emission};
@@ -20,8 +20,11 @@ ghost use Rattle.fc_core.specs.Stage.{Gone, ToTell};
 ghost use Rattle.fc_core.specs.TurnStage.{TurnStage};
 ghost use Rattle.fc_core.specs.TurnStage.{ToNote};
 
-/// The job of a turn is told of its own turn until it is gone, and no request's job is. Once it has notified its observer, whether or
-/// not that sent anything, was given up or lost, it is gone for ever: so a turn notifies once at most.
+/// A lease notifies at most once.
+///
+/// The job of a lease is at a stage of its own lease until it ends, and no request's job is at one.
+/// Once it has notified its observer (whether or not anything was sent), was released, or was lost,
+/// it has ended for ever.
 pub fn turns_stand_apart()
     ensures turn { (h : History) (k number : ℕ) → (job (seen h) k).turn ≡ Some number
         → ((needs : TurnStage) × (stage (seen h) k ≡ ToTell (record { slot = slot_of (seen h) k; number = number }) needs))
@@ -37,10 +40,13 @@ pub fn turns_stand_apart()
         → stage (seen (followed_by (Then h (did (Lose k) o)) rs)) k ≡ Gone }
 {}
 
-/// What a turn notifies its observer of is the last ticket that it took, and it took no other: the code that the ticket's program means
-/// for the request, the variables and the readings that were found, a 2.05 Content with the reply that it means, cut as the request asks, and the
-/// serial found as its ETag and sequence number. A turn that found its slot empty notifies of a bare 4.04 (Not Found).
-/// A turn asks for no block but the first, so that a run that means a 2.05 Content is told as one.
+/// The notification of a lease comes from the one ticket that it took.
+///
+/// The notification has the code that the ticket's program means for the request and for the
+/// variables and readings of the snapshot. A 2.05 (Content) has the reply that the program means,
+/// cut as requested, and the snapshot's serial as its ETag and sequence number. A lease that found
+/// its slot empty sends a bare 4.04 (Not Found). A lease requests no block but the first, so the
+/// notification of a run that means a 2.05 (Content) has that code.
 pub fn notifications_are_of_the_last_taking()
     ensures newest { (h : History) (k id : ℕ) (turn : Turn) (t : Ticket) → stage (seen h) k ≡ ToTell turn (ToNote (Some t) id)
         → (length (takings_of h k) ≡ 1) × IsNewest (takings_of h k) t }
@@ -53,8 +59,10 @@ pub fn notifications_are_of_the_last_taking()
         → (meaning_at t).code ≡ 69 → (response_of t).code ≡ 69 }
 {}
 
-/// A turn that is to notify sends exactly where it is out at the moment of its shard, whatever its taking found. So one that was given
-/// up, has notified before or was given 247,000 ms before sends nothing.
+/// A lease that is to notify sends exactly if it is out at its shard's time.
+///
+/// This holds whatever its snapshot found. So a lease that was released, has notified before, or
+/// was granted at least 247,000 ms before sends nothing.
 pub fn notes_emit_where_turns_are_out()
     ensures where_out { (h : History) (k now random id : ℕ) (turn : Turn) (found : Option Ticket) (o : Option Emission)
         → stage (seen h) k ≡ ToTell turn (ToNote found id) → Emits (seen h) (Note k now random) o
@@ -70,9 +78,11 @@ pub fn notes_emit_where_turns_are_out()
         → All (HasLapsed turn (moment_at (seen h) k now)) (watch (seen h) (slot_of (seen h) k)).held → o ≡ None }
 {}
 
-/// The serials that one observer is sent rise: the ticket that a turn notifies of has a serial above the last that the observer who has
-/// the turn was sent. So of two notifications to one endpoint and token, of the same slot and with no registration between them, the
-/// later has the greater serial.
+/// The serials that one observer is sent increase.
+///
+/// The ticket of a lease's notification has a serial above the last one that the lease's observer
+/// was sent. So of two notifications to one endpoint and token, of the same slot and without a
+/// registration between them, the later has the greater serial.
 pub fn serials_rise_for_observers()
     ensures above { (h : History) (k now id : ℕ) (turn : Turn) (t : Ticket) (o : ObserverEntry)
         → stage (seen h) k ≡ ToTell turn (ToNote (Some t) id)
@@ -89,8 +99,10 @@ pub fn serials_rise_for_observers()
         → is_entry_of to token x ≡ true → t.serial < u.serial }
 {}
 
-/// Only an observer that is in the list of a slot is sent notifications of it, and these again. So one that was removed hears nothing
-/// more before it registers anew.
+/// Only observers in the list of a slot are sent its notifications.
+///
+/// This includes retransmissions. So an observer that was removed gets nothing more before it
+/// registers again.
 pub fn removed_observers_hear_nothing()
     ensures notified { (h : History) (k now random id : ℕ) (turn : Turn) (found : Option Ticket) (e : Emission)
         → stage (seen h) k ≡ ToTell turn (ToNote found id) → Emits (seen h) (Note k now random) (Some e)
@@ -99,14 +111,20 @@ pub fn removed_observers_hear_nothing()
         → (k : ℕ) × (late_in s i (max (s.shard_moment i) now) ≡ Some k) × Resends (watch s (8 * k + i)) e }
 {}
 
-/// An observer stays in the list of its slot, unless its own GET with Observe 1 is committed, a Reset message answers its last
-/// notification, that is late after four retransmissions, or its turn notifies it of anything but a 2.05 Content.
+/// An observer stays in the list of its slot, with four exceptions:
+///
+/// - Its own GET with Observe 1 is committed.
+/// - A Reset message answers its last notification.
+/// - That notification has timed out after four retransmissions.
+/// - Its lease sends it anything but a 2.05 (Content).
 pub fn observers_stay()
     ensures { (r : Entry) (s : Seen) (n : ℕ) (to : Endpoint) (token : List ℕ) → is_held to token (watch s n) ≡ true
         → (is_held to token (watch (and_then r s) n) ≡ true) ⊎ Removes r s n to token }
 {}
 
-/// A notification that isn't a 2.05 Content removes the observer that it goes to from the list of its slot (RFC 7641, 4.2).
+/// A notification that isn't a 2.05 (Content) removes its observer.
+///
+/// The observer is removed from the list of its slot (RFC 7641, section 4.2).
 pub fn errors_remove_their_observer()
     ensures { (s : Seen) (k now random id : ℕ) (turn : Turn) (found : Option Ticket) (x : ObserverEntry) (e : Emission)
         → stage s k ≡ ToTell turn (ToNote found id) → IsNoContent found
@@ -115,7 +133,7 @@ pub fn errors_remove_their_observer()
         → is_held x.endpoint x.token.items (watch (and_then (did (Note k now random) (Some e)) s) (slot_of s k)) ≡ false }
 {}
 
-/// The observers of a slot are at no later moment than their shard.
+/// The time of a slot's observers is at most that of their shard.
 pub fn observers_follow_their_shard()
     ensures { (h : History) (n : ℕ) → (watch (seen h) n).moment ≤ (seen h).shard_moment (n % 8) }
 {}

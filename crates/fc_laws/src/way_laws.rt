@@ -1,4 +1,4 @@
-//! Which way a job goes, from its coming to its answer: each function is a law, and its contract says it.
+//! Laws of a job's stages: each function is a law, stated by its contract.
 ghost use Rattle.std.specs.Prelude.{◌≡◌, ℕ, ◌+◌, ◌<◌, ◌≤◌, ◌∷◌, ◌++◌, ◌⊎◌, [], List, None, Option, Some, false, is_none, length, true};
 ghost use Rattle.arrayvec.specs.ArrayVec.{ArrayVec};
 ghost use Rattle.coap_msg.specs.declared.types.Emission.{Emission};
@@ -16,19 +16,27 @@ ghost use Rattle.fc_isa.specs.declared.rule.Rule.{Rule};
 ghost use Rattle.fc_kinds.specs.Meaning.{Program};
 ghost use Rattle.fc_registry.specs.Calls.{wants};
 ghost use Rattle.fc_registry.specs.Slots.{Present, Ticket};
+ghost use Rattle.fc_registry.specs.declared.job.InitialVars.{InitialVars};
 ghost use Rattle.fc_registry.specs.declared.job.Ask.TheVariants.{Describe, Discover, Install as Installs, Remove as Removes, Run};
 ghost use Rattle.fc_registry.specs.declared.job.Job.{Job};
 ghost use Rattle.fc_verify.specs.Accepted.{Accepts, Breaks, Untypable};
 ghost use Rattle.fc_verify.specs.Judged.{judged};
 
-/// What a job needs first: a GET or POST of a program a taking, or a look at its slot's head word where its client names ETags; a whole PUT
-/// the install, a DELETE the removal, a GET of the slot its receipt, and the list of slots the first head word. A turn needs a taking.
+/// A job begins with its first call.
+///
+/// - A GET or POST of a program: a snapshot, or the slot's head word if its client names ETags.
+/// - A complete PUT: the install.
+/// - A DELETE: the removal.
+/// - A GET of the slot: its receipt.
+/// - The list of slots: the first head word.
+/// - A lease: a snapshot.
 pub fn jobs_begin_with_their_first_call()
     ensures run { (j : Job) (request : Request) → j.turn ≡ None → j.ask ≡ Run request → j.etags.items ≡ []
         → (new_task j).stage ≡ ToTake 0 }
     ensures tagged { (j : Job) (request : Request) (serial : ℕ) (serials : List ℕ) → j.turn ≡ None → j.ask ≡ Run request
         → j.etags.items ≡ serial ∷ serials → (new_task j).stage ≡ ToMatch }
-    ensures install { (j : Job) (image : ArrayVec ℕ) → j.turn ≡ None → j.ask ≡ Installs image → (new_task j).stage ≡ ToInstall }
+    ensures install { (j : Job) (image : ArrayVec ℕ) (initial : InitialVars) → j.turn ≡ None → j.ask ≡ Installs image initial →
+        (new_task j).stage ≡ ToInstall }
     ensures remove { (j : Job) → j.turn ≡ None → j.ask ≡ Removes → (new_task j).stage ≡ ToRemove }
     ensures describe { (j : Job) → j.turn ≡ None → j.ask ≡ Describe → (new_task j).stage ≡ ToDescribe }
     ensures list { (j : Job) → j.turn ≡ None → j.ask ≡ Discover → (new_task j).stage ≡ ToList (record { items = [] }) }
@@ -36,9 +44,15 @@ pub fn jobs_begin_with_their_first_call()
         → (new_task j).stage ≡ ToTell (record { slot = j.origin.slot; number = number }) TakesForTurn }
 {}
 
-/// What a job needs next. A look at a head word that is none of the ETags leads to a taking; a taking that gives a ticket to the commit of its
-/// run. A commit that has nothing to write leads to the answer of the run, and one that may write to raising the slot's head word first, as
-/// an install and a removal do. A refused image, the removal of nothing, a receipt and the last of 64 head words lead to the answer.
+/// A job continues with its next call.
+///
+/// - A head word that is none of the ETags leads to a snapshot.
+/// - A snapshot that gives a ticket leads to the commit of its run.
+/// - A commit that has nothing to write leads to the answer of the run.
+/// - A commit that may write leads to raising the slot's head word first, as an install and a
+///   removal do.
+/// - A refused image, the removal of nothing, a receipt, and the last of 64 head words lead to the
+///   answer.
 pub fn jobs_go_on_with_their_next_call()
     ensures unmatched { (s : Seen) (k : ℕ) (o : Option Emission) → stage s k ≡ ToMatch
         → ((serial : ℕ) → word_at s.words (slot_of s k) ≡ head_word serial true → HasSerial (job s k).etags.items serial → ⊥)

@@ -1,4 +1,4 @@
--- What is left after the first call.
+-- The calls after the first one.
 use Rattle.std.proofs.Common.{◌≡◌, ℕ, List, length}
 use Rattle.fc_core.specs.declared.stage.Task.{Task}
 use Rattle.fc_core.specs.History.{History}
@@ -7,7 +7,7 @@ use Rattle.fc_server.specs.States.{ServerState}
 use Rattle.fc_linear.specs.Operations.{Operation, LogEntry, emitted_of, event_for}
 use Rattle.fc_linear.specs.Parts.{RightByParts}
 
--- after the first call the rest is as right
+-- after the first call the rest is still right.
 pub record After (k : ℕ) (op : Operation) (es : List LogEntry) (h : History) (end : ServerState) : Type 0 where
   pub server : ServerState
   pub tasks : List Task

@@ -49,7 +49,7 @@ module _ (k : ℕ) (es : List LogEntry) (h : History) (end s : ServerState) (tas
         rest = record { front = r.2; shards = st.shards; words = st.words; jobs = st.jobs; to_come = st.to_come; numbered = st.numbered; events = st.events.1 };
       }
 
-  -- a delivery that brings no job
+  -- a delivery that produces no job.
   jobless : (now : ℕ) (from : Endpoint) (bytes : List ℕ) (d : Delivered) → job_in d ≡ None → jobs_by d ≡ [] → sent_by d ≡ reply_in d
       → RightByParts end s tasks (entry_for k (Logged (HearsDatagram now from bytes d)) ∷ es) → After k (Logged (HearsDatagram now from bytes d)) es h end
   jobless now from bytes d none nobody sent st =
@@ -116,7 +116,7 @@ module _ (k : ℕ) (es : List LogEntry) (h : History) (end s : ServerState) (tas
         rest = record { front = r.2; shards = st.shards; words = st.words; jobs = n.jobs; to_come = n.to_come; numbered = n.numbered; events = st.events.1 };
       }
 
--- what is sent is what may be
+-- the emission is permitted.
 sent_is : (live : Bool) (id : Option ℕ) (job : Job) (content : Content) (answered : Answered) → Answers live id job content answered → IsAnswered live id job content (emission_of answered)
 sent_is true (Some id) job content (Sent emission) a = a
 sent_is true (Some id) job content Late a = absurd a

@@ -1,4 +1,4 @@
--- Calls of a shard for no job that came before.
+-- Calls of a shard for no earlier job.
 use Rattle.std.proofs.Common.{◌≡◌, ℕ, Bool, true, List, [], ◌∷◌, ◌++◌, set, Option, Some, None, refl, ap, subst}
 use Rattle.std.proofs.lemmas.List.{append-nil}
 use Rattle.coap_msg.specs.declared.types.Endpoint.{Endpoint}

@@ -1,4 +1,4 @@
--- What the first call takes from the calls of its part and of its job.
+-- The first call's place among the calls of its part and of its job.
 use Rattle.std.proofs.Common.{◌≡◌, ◌≢◌, ℕ, ◌+◌, ◌<◌, ◌≤◌, Bool, true, false, List, [], ◌∷◌, ◌++◌, length, set, Option, Some, None, refl, sym, ap, ◌∙◌, subst, ⊎_elim, arith}
 use Rattle.std.specs.Prelude.{◌==◌, if◌then◌else◌, is_some}
 use Rattle.std.specs.List.{filter}
@@ -47,7 +47,7 @@ concerns_other j k op n = grind (is_other j k n, arith, nat_tests)
 concerns_none : (j k : ℕ) (op : Operation) → is_for_job op ≡ false → job_brought op ≡ None → concerns j (entry_for k op) ≡ false
 concerns_none j k op not none = rw (not, none) refl
 
--- a call for a job that came before
+-- a call for an earlier job.
 pub record Named (k : ℕ) (op : Operation) (tasks : List Task) (es : List LogEntry) : Type 0 where
   pub came : k < length tasks
   pub stage : Stage
@@ -57,7 +57,7 @@ pub record Named (k : ℕ) (op : Operation) (tasks : List Task) (es : List LogEn
   pub numbered : let later = set tasks k (record { job = (task_at tasks k).job; stage = stage }) in HaveNextNumbers (length later) (bringing es)
 
 module _ (k : ℕ) (op : Operation) (end s : ServerState) (tasks : List Task) (es : List LogEntry) (st : RightByParts end s tasks (entry_for k op ∷ es)) where
-  -- it brings nothing
+  -- it produces nothing.
   bringing_left : job_brought op ≡ None → bringing (entry_for k op ∷ es) ≡ bringing es
   bringing_left none = left (λ e. is_some (job_brought e.operation)) (entry_for k op) es (ap (λ (o : Option Job). is_some o) none)
 
@@ -92,11 +92,11 @@ module _ (k : ℕ) (op : Operation) (end s : ServerState) (tasks : List Task) (e
         numbered = subst (λ (m : ℕ). HaveNextNumbers m (bringing es)) (sym n) (subst (HaveNextNumbers (length tasks)) (bringing_left none) st.numbered);
       }
 
-  -- a call for no job leaves them all as they are
+  -- a call for no job leaves them all unchanged.
   pub spared : is_for_job op ≡ false → job_brought op ≡ None → ((j : ℕ) → of_job j (entry_for k op ∷ es) ≡ of_job j es) × (bringing (entry_for k op ∷ es) ≡ bringing es)
   spared not none = (λ j. left (concerns j) (entry_for k op) es (concerns_none j k op not none), bringing_left none)
 
--- a call that brings a job
+-- a call that produces a job.
 pub record Brought (k : ℕ) (job : Job) (tasks : List Task) (es : List LogEntry) : Type 0 where
   pub is : k ≡ length tasks
   pub jobs : (j : ℕ) → j < length (tasks ++ new_task job ∷ []) → FollowsStages (of_job j es) (task_at (tasks ++ new_task job ∷ []) j)

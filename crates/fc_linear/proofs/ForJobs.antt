@@ -106,7 +106,7 @@ module _ (k : ℕ) (es : List LogEntry) (h : History) (end s : ServerState) (tas
         rest = record { front = st.front; shards = st.shards; words = r.2; jobs = n.jobs; to_come = n.to_come; numbered = n.numbered; events = st.events.1 };
       }
 
--- ---- a taking
+-- ---- a snapshot
 
 had : (memory : Bool) (readings : List ℕ) (job : Job) (serial : ℕ) (p : Option Present)
     → let x = taking (readings_if memory readings) job serial p in x ≡ taking (readings_if (had_memory x) readings) job serial p

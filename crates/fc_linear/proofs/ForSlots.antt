@@ -1,4 +1,4 @@
--- Calls of a shard that change a slot or end a turn, and images that are not installed.
+-- Calls of a shard that change a slot or end a lease, and images that aren't installed.
 use Rattle.std.proofs.Common.{◌≡◌, ℕ, ◌%◌, ◌/◌, max, Bool, true, false, List, ◌∷◌, set, Option, Some, None, refl, sym, ap, ◌∙◌, subst, ⊎_elim}
 use Rattle.std.specs.Prelude.{nat_lt}
 use Rattle.fc_kinds.specs.Meaning.{Program}
@@ -12,6 +12,7 @@ use Rattle.fc_registry.specs.declared.commit.CommitOutcome.{CommitOutcome}
 use Rattle.fc_registry.specs.declared.commit.CommitOutcome.TheVariants.{Writes, Keeps, Overtakes, Ends}
 use Rattle.fc_registry.specs.declared.commit.Committed.{Committed}
 use Rattle.fc_registry.specs.declared.job.Job.{Job}
+use Rattle.fc_registry.specs.declared.job.InitialVars.{InitialVars}
 use Rattle.fc_registry.specs.declared.note.Noted.{Noted}
 use Rattle.fc_registry.specs.declared.note.Noted.TheVariants.{Send, Stale, Stranger}
 use Rattle.fc_registry.specs.declared.note.Notification.{Notification}
@@ -19,7 +20,7 @@ use Rattle.fc_registry.specs.declared.note.Notification.TheVariants as tells
 use Rattle.fc_registry.specs.declared.receipt.Receipt.{Receipt as Facts}
 use Rattle.fc_registry.specs.declared.shard.Made.{Made}
 use Rattle.fc_registry.specs.declared.shard.Removal.{Removal}
-use Rattle.fc_registry.specs.Calls.{HasGiven, clear_by, commits, outcome, put_by, receipt_of, run_of}
+use Rattle.fc_registry.specs.Calls.{HasGiven, clear_by, commits, outcome, put_by, receipt_of, run_of, initial_vars_of}
 use Rattle.fc_registry.specs.Changes.{Change, after_changes}
 use Rattle.fc_registry.specs.Notes.{IsNotedIn, IsOfTurn, note_at, note_calls, note_in, sent_of, ticket_told}
 use Rattle.fc_registry.specs.Shards.{shard_at}
@@ -85,13 +86,13 @@ module _ (s : ServerState) (task : Task) (k : ℕ) (w : AtWork s task) (now : �
 
 -- ---- an install
 
-told_put : (b : Bool) (slot : Slot) (p : Program) → changes_told (Installs p (put_by b slot p).answer) ≡ (put_by b slot p).changes
-told_put true slot p = refl
-told_put false slot p = refl
+told_put : (b : Bool) (slot : Slot) (p : Program) (v : InitialVars) → changes_told (Installs p v (put_by b slot p v).answer) ≡ (put_by b slot p v).changes
+told_put true slot p v = refl
+told_put false slot p v = refl
 
-put_safe : (b : Bool) (slot : Slot) (p : Program) → IsSafe p → AllSafe (changes_told (Installs p (put_by b slot p).answer))
-put_safe true slot p safe = (safe, tt)
-put_safe false slot p safe = tt
+put_safe : (b : Bool) (slot : Slot) (p : Program) (v : InitialVars) → IsSafe p → AllSafe (changes_told (Installs p v (put_by b slot p v).answer))
+put_safe true slot p v safe = (safe, tt)
+put_safe false slot p v safe = tt
 
 module _ (s : ServerState) (task : Task) (k : ℕ) (p : Program) (answer : Made) (st : Stage) where
   installs_here : judged (image_of task.job.ask) ≡ Accepts p → IsSafe p → task.stage ≡ ToInstall → st ≡ made (receipt_of p 0) answer → (after : Shard) → InstallsTo task.job p (shard_at s.shards (task.job.origin.slot % 8)) answer after
@@ -103,13 +104,14 @@ module _ (s : ServerState) (task : Task) (k : ℕ) (p : Program) (answer : Made)
       let sc = scene_with s task i ToInstall in
       let t : ServerState = record s { shards = set s.shards (i % 8) after } in
       let later : Task = record { job = task.job; stage = st } in
-      let m : Judgement → Move = λ j. move_of (Install k true) sc (Some (install_if true j slot)) in
+      let v = initial_vars_of task.job.ask in
+      let m : Judgement → Move = λ j. move_of (Install k true) sc (Some (install_if true v j slot)) in
       does_there (Install k true) s task i ToInstall t later None refl is (record {
         front = refl;
         task_is = ap (λ (y : Stage). record { job = task.job; stage = y }) (to ∙ ap (λ (y : Made). made (receipt_of p 0) y) d.0) ∙ ap (λ (j : Judgement). task_moved task (m j)) (sym judges);
-        shards = ap (λ (y : Shard). set s.shards (i % 8) y) (d.1 ∙ ap (λ (cs : List Change). with_slot x i (after_changes slot cs)) (sym (told_put (nat_lt slot.serial last_serial) slot p))) ∙ ap (λ (j : Judgement). shards_moved (m j) i s.shards) (sym judges);
+        shards = ap (λ (y : Shard). set s.shards (i % 8) y) (d.1 ∙ ap (λ (cs : List Change). with_slot x i (after_changes slot cs)) (sym (told_put (nat_lt slot.serial last_serial) slot p v))) ∙ ap (λ (j : Judgement). shards_moved (m j) i s.shards) (sym judges);
         words = ap (λ (j : Judgement). words_after (m j) task s.words) (sym judges);
-        safe = subst (λ (j : Judgement). AllSafe (m j).changes) (sym judges) (put_safe (nat_lt slot.serial last_serial) slot p safe);
+        safe = subst (λ (j : Judgement). AllSafe (m j).changes) (sym judges) (put_safe (nat_lt slot.serial last_serial) slot p v safe);
         emits = refl;
       })
 
@@ -197,7 +199,7 @@ module _ (s : ServerState) (task : Task) (k : ℕ) (receipt : Option Facts) (st 
       subst (λ (y : Job). DescribesTo y (shard_at s.shards (y.origin.slot % 8)) receipt after → Does (Receipt k) s task (record s { shards = set s.shards (y.origin.slot % 8) after }) (record { job = task.job; stage = st }) None) (sym same)
       (⊎_elim (λ a. describes_here a.0 a.1 after) (λ b. passes_here b.0 b.1 after) m)
 
--- ---- the end of a turn
+-- ---- the end of a lease
 
 given_up : (now : ℕ) (turn : Turn) (x y : Shard) → GivesUpAt now turn x y → y ≡ after_given_up turn (at_time x now)
 unfolding GivesUpAt
@@ -219,12 +221,12 @@ module _ (s : ServerState) (task : Task) (k : ℕ) (w : AtWork s task) (turn : T
         emits = refl;
       })
 
--- what is told is what was found
+-- the notification is that of the snapshot.
 told_found : (told : Notification) (found : Option Ticket) → SaysFound told found → ticket_told told ≡ found
 told_found (tells.Ran outcome ticket) found is = sym is.0
 told_found tells.Gone found is = sym is
 
--- it is the turn's own
+-- it is the lease's own.
 own_told : (told : Notification) (found : Option Ticket) (turn : Turn) (id : ℕ) (job : Job) (slot : Slot) → SaysFound told found → turn.slot ≡ job.origin.slot → job.turn ≡ Some turn.number → FitsTurn job slot (turns.ToNote found id) → IsOfTurn turn slot.serial told
 own_told tells.Gone found turn id job slot is at number fits = tt
 own_told (tells.Ran outcome ticket) found turn id job slot is at number fits =
@@ -378,7 +380,8 @@ module _ (k : ℕ) (es : List LogEntry) (h : History) (end s : ServerState) (tas
       let sc = scene_with s task i ToInstall in
       let e = Install k true in
       let f = n.moves.1.0 in
-      let rejects : Rejects (refused (Broken f)) ≡ install_call (judged (image_of task.job.ask)) slot = rejected_call (image_of task.job.ask) (judged (image_of task.job.ask)) f slot n.moves.1.1 in
+      let initial = initial_vars_of task.job.ask in
+      let rejects : Rejects (refused (Broken f)) ≡ install_call initial (judged (image_of task.job.ask)) slot = rejected_call (image_of task.job.ask) initial (judged (image_of task.job.ask)) f slot n.moves.1.1 in
       let there : row e (scene_in s task) ≡ moves (ToAnswer (refused (Broken f))) =
       ap (λ (x : Stage). row e (scene_with s task i x)) n.moves.2 ∙ ap (λ (c : Call). move_of e sc (Some c)) (sym rejects) in
       record {

@@ -1,4 +1,4 @@
--- What a call is to the history, as an event.
+-- A call as an event of the history.
 use Rattle.std.proofs.Common.{◌≡◌, ℕ, ◌%◌, List, set, Option, refl, sym, ap, subst}
 use Rattle.coap_msg.specs.declared.types.Emission.{Emission}
 use Rattle.fc_registry.specs.Shards.{shard_at}
@@ -17,27 +17,27 @@ use Rattle.fc_server.proofs.Others.{does_done}
 use Rattle.fc_server.proofs.Served.{at_seen}
 use Rattle.fc_server.proofs.Stepping.{goes_on}
 
--- one event more
+-- one more event.
 pub served_on : (h : History) (e : Event) (old : ServerState) (tasks : List Task) (out : Option Emission) (new : ServerState) (later : List Task) → Done e (with_tasks old tasks) out (with_tasks new later) → Serves h old tasks → Serves (next h e out) new later
 unfolding seen
 served_on h e old tasks out new later done v =
     let s = goes_on e (with_tasks old tasks) (with_tasks new later) out done (seen h) v.agrees in
     record { legal = (s.emits, v.legal); means = (s.means, v.means); agrees = s.agrees }
 
--- a job that came may be worked on
+-- a job that arrived may run.
 pub may_work : (h : History) (s : ServerState) (tasks : List Task) (k : ℕ) → Serves h s tasks → AtWork s (task_at tasks k)
 may_work h s tasks k v = at_seen (seen h) (with_tasks s tasks) k (task_at tasks k) v.agrees (ap (λ (ts : List Task). task_at ts k) (sym v.agrees.tasks))
 
--- an event of the job of this number
+-- an event of the job with this number.
 pub job_served : (h : History) (e : Event) (k : ℕ) → IsOfJob e k → (s t : ServerState) (tasks : List Task) (later : Task) (out : Option Emission) → Does e s (task_at tasks k) t later out → Serves h s tasks → Serves (next h e out) t (set tasks k later)
 job_served h e k of s t tasks later out d v = served_on h e s tasks out t (set tasks k later) (does_done e k of s t tasks (set tasks k later) (task_at tasks k) later out refl refl d) v
 
--- what is found of slot i, for a task at a stage
+-- inputs at slot i, for a task at a stage.
 abbrev pub scene_with : ServerState → Task → ℕ → Stage → Scene
 scene_with s task i stage =
     let shard = shard_at s.shards (i % 8) in record { job = task.job; slot = slot_in shard i; around = around_of shard (common_in s.front s.words) i; stage = stage }
 
--- what it does, told of the stage and the slot that are its
+-- its effect, by its own stage and slot.
 pub record DoesThere (e : Event) (s : ServerState) (task : Task) (i : ℕ) (stage : Stage) (t : ServerState) (later : Task) (out : Option Emission) : Type 0 where
   pub front : t.front ≡ s.front
   pub task_is : later ≡ task_moved task (row e (scene_with s task i stage))
@@ -54,6 +54,6 @@ does_there e s task i stage t later out at is d =
     there_is e s task t later out
     (subst (λ (n : ℕ). DoesThere e s task n task.stage t later out) at (subst (λ (x : Stage). DoesThere e s task i x t later out) (sym is) d))
 
--- the stage of a task at work fits its job and its slot
+-- the stage of a running task fits its job and its slot.
 pub fits_there : (s : ServerState) (task : Task) (stage : Stage) → AtWork s task → task.stage ≡ stage → FitsStage task.job (slot_in (shard_at s.shards (task.job.origin.slot % 8)) task.job.origin.slot) stage
 fits_there s task stage w is = subst (λ (x : Stage). FitsStage task.job (slot_in (shard_at s.shards (task.job.origin.slot % 8)) task.job.origin.slot) x) is w.stage

@@ -41,7 +41,7 @@ module _ (k : ℕ) (es : List LogEntry) (h : History) (end s : ServerState) (tas
   after_first (RejectsImage job content) st = after_reject k es h end s tasks v job content st
   after_first (LacksMemory job) st = after_lack k es h end s tasks v job st
 
--- whatever history leaves the server before them
+-- for any history that leaves the server before them.
 pub ends : (log : List LogEntry) (h : History) (end s : ServerState) (tasks : List Task) → Serves h s tasks → RightByParts end s tasks log → LeavesServer (history_on h log) end
 ends [] h end s tasks v st = record { server = s; tasks = tasks; serves = v; front = sym st.front; shards = λ i low. sym (st.shards i low); words = sym st.words }
 ends (e ∷ es) h end s tasks v st =

@@ -1,5 +1,5 @@
--- Operations of a server with many threads, as the entries of one history: which part of the server each is of, its effect on that part and
--- on its job, and its event.
+-- Operations of a server with many threads, as the entries of one history: the part of the server
+-- that each belongs to, its effect on that part and on its job, and its event.
 use Rattle.std.specs.Prelude.{◌≡◌, ◌⊎◌, ℕ, ◌%◌, ◌<◌, ◌==◌, Bool, true, false, List, [], ◌∷◌, ◌++◌, length, Option, Some, None}
 use Rattle.std.specs.Borrow.{Bor}
 use Rattle.arrayvec.specs.ArrayVec.{ArrayVec}
@@ -36,13 +36,15 @@ use Rattle.fc_calls.specs.Logged.{TakesForJob, CommitsRun, InstallsProgram, Remo
 use Rattle.fc_calls.specs.Doings.{AdvancesTo, AnswersAt, CommitsAt, DescribesTo, DrawsAt, GivesTurnAt, GivesUpAt, HandsOn, HearsAt, InstallsTo, NotesAt, PassesIfQuiet, RemovesFrom, TakesTo, TicksAt}
 use Rattle.fc_calls.specs.Doings.{SaysFound}
 
--- a call that a thread's log has; or an image that isn't installed, since it breaks a rule or memory is refused
+-- a call that a thread's log has, or an image that isn't installed: it breaks a rule, or memory is
+-- refused.
 pub data Operation : Type 0 where
   Logged : (call : LoggedCall) → Operation
   RejectsImage : (job : Job) (content : Content) → Operation
   LacksMemory : (job : Job) → Operation
 
--- an operation, with the number of its job; the number means nothing if the operation is for no job
+-- an operation, with the number of its job; the number has no meaning if the operation is for no
+-- job.
 pub record LogEntry : Type 0 where
   pub job : ℕ
   pub operation : Operation
@@ -120,7 +122,7 @@ WordsDo (Logged (LooksAt slot word)) ws vs = (word ≡ word_at ws slot) × (vs �
 WordsDo (Logged (RaisesWord slot word)) ws vs = vs ≡ word_raised slot word ws
 WordsDo other ws vs = ⊥
 
--- it is an event: readings are none, and a shard's index is below 8
+-- it is an event: readings aren't, and a shard's index is below 8.
 abbrev pub IsEvent : Operation → Type 0
 IsEvent (Logged (GivesReadings readings)) = ⊥
 IsEvent (Logged (HandsSignal shard from id reset)) = shard < 8
@@ -135,13 +137,13 @@ abbrev pub job_in : Delivered → Option Job
 job_in (Brings job) = Some job
 job_in other = None
 
--- the new job that it brings, if any
+-- the new job that it produces, if any.
 abbrev pub job_brought : Operation → Option Job
 job_brought (Logged (HearsDatagram now from bytes brings)) = job_in brings
 job_brought (Logged (GivesTurn shard now turn)) = turn
 job_brought other = None
 
--- it is for a job that came before
+-- whether it is for a job that arrived before.
 abbrev pub is_for_job : Operation → Bool
 is_for_job (Logged (HearsDatagram now from bytes brings)) = false
 is_for_job (Logged (AdvancesFront now)) = false
@@ -152,17 +154,17 @@ is_for_job (Logged (AdvancesShard shard now ticked)) = false
 is_for_job (Logged (GivesTurn shard now turn)) = false
 is_for_job other = true
 
--- a receipt ends the job whose stage needs it, and leaves any other job where it is
+-- a receipt ends the job whose stage needs it, and doesn't change any other job.
 abbrev pub ReceiptMoves : Option Facts → Stage → Stage → Type 0
 ReceiptMoves receipt s t = ((s ≡ ToDescribe) × (t ≡ ToAnswer (told receipt))) ⊎ ((s ≡ ToDescribe → ⊥) × (t ≡ s))
 
--- a look at a head word is for the tags of a request, or for the list of all slots
+-- a head word is read for the ETags of a request, or for the list of all slots.
 abbrev pub LookMoves : ℕ → ℕ → Job → Stage → Stage → Type 0
 LookMoves slot word job s t =
     ((slot ≡ job.origin.slot) × (s ≡ ToMatch) × (t ≡ matched word job.etags.items))
     ⊎ ((seen : ArrayVec ℕ) × (slot ≡ length seen.items) × (s ≡ ToList seen) × (t ≡ listed (seen.items ++ word ∷ [])))
 
--- the operation that the job's stage needs, and the stage that it leads to by what it was answered
+-- the operation that the job's stage needs, and the stage that its result leads to.
 abbrev pub StageMoves : Operation → Job → Stage → Stage → Type 0
 StageMoves (Logged (DrawsId now id)) job s t = (turn : Turn) × (found : Option Ticket) × (s ≡ ToTell turn (turns.ToDraw found)) × (t ≡ ToTell turn (with_id found id))
 StageMoves (Logged (AnswersRequest now j content sent)) job s t = (j ≡ job) × (s ≡ ToAnswer content) × (t ≡ Gone)

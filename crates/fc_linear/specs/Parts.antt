@@ -1,4 +1,5 @@
--- A log of operations that is right for each part of a server and for each job, and the history that it makes.
+-- A log of operations that is right for each part of a server and for each job, and the history
+-- that it makes.
 use Rattle.std.specs.Prelude.{◌≡◌, ℕ, ◌+◌, ◌*◌, ◌<◌, ◌≤◌, ◌==◌, ◌&&◌, ◌||◌, Bool, List, [], ◌∷◌, length, Some, is_some}
 use Rattle.std.specs.List.{filter}
 use Rattle.fc_registry.specs.declared.job.Job.{Job}
@@ -27,35 +28,35 @@ of_shard i log = filter (λ e. is_shard i (part_of e.operation)) log
 abbrev pub of_words : List LogEntry → List LogEntry
 of_words log = filter (λ e. is_words (part_of e.operation)) log
 
--- it is for job k, or brings it
+-- whether it is for job k, or produces it.
 abbrev pub concerns : ℕ → LogEntry → Bool
 concerns k e = (is_for_job e.operation || is_some (job_brought e.operation)) && (e.job == k)
 
 abbrev pub of_job : ℕ → List LogEntry → List LogEntry
 of_job k log = filter (concerns k) log
 
--- the entries that bring a job
+-- the entries that produce a job.
 abbrev pub bringing : List LogEntry → List LogEntry
 bringing log = filter (λ e. is_some (job_brought e.operation)) log
 
 -- ---- each is right
 
--- the operations, in order, lead a part from one state to another
+-- the operations, in order, lead a part from one state to another.
 abbrev pub LeadInOrder : {S : Type 0} → (Operation → S → S → Type 0) → List LogEntry → S → S → Type 0
 LeadInOrder Does [] s t = t ≡ s
 LeadInOrder {S} Does (e ∷ es) s t = (m : S) × Does e.operation s m × LeadInOrder Does es m t
 
--- each operation is the one that the job needs at the stage that those before it led to
+-- each operation is the one that the job needs at the stage that the earlier ones led to.
 abbrev pub FollowsStages : List LogEntry → Task → Type 0
 FollowsStages [] task = Unit {0}
 FollowsStages (e ∷ es) task = (stage : Stage) × StageMoves e.operation task.job task.stage stage × FollowsStages es (record { job = task.job; stage = stage })
 
--- the first operation brings the job, and the others follow its stages
+-- the first operation produces the job, and the others follow its stages.
 abbrev pub BringsItsJob : List LogEntry → Type 0
 BringsItsJob [] = Unit {0}
 BringsItsJob (e ∷ es) = (job : Job) × (job_brought e.operation ≡ Some job) × FollowsStages es (new_task job)
 
--- the jobs have the numbers from n on
+-- the jobs have the numbers from n on.
 abbrev pub HaveNextNumbers : ℕ → List LogEntry → Type 0
 HaveNextNumbers n [] = Unit {0}
 HaveNextNumbers n (e ∷ es) = (e.job ≡ n) × HaveNextNumbers (n + 1) es
@@ -64,8 +65,9 @@ abbrev pub AllEvents : List LogEntry → Type 0
 AllEvents [] = Unit {0}
 AllEvents (e ∷ es) = IsEvent e.operation × AllEvents es
 
--- the log is right for each part and for each job, and leads a server with these jobs to another: each part's operations lead it there, in
--- order; those of a job that came follow its stages; and those of a job to come begin by bringing it, under the next number
+-- the log is right for each part and for each job, and leads a server with these jobs to another:
+-- each part's operations lead it there, in order; the operations of an existing job follow its
+-- stages; and those of a later job begin by producing it, with the next number.
 pub record RightByParts (end : ServerState) (s : ServerState) (tasks : List Task) (log : List LogEntry) : Type 0 where
   pub front : LeadInOrder FrontDoes (of_front log) s.front end.front
   pub shards : (i : ℕ) → i < 8 → LeadInOrder ShardDoes (of_shard i log) (shard_at s.shards i) (shard_at end.shards i)
@@ -77,12 +79,12 @@ pub record RightByParts (end : ServerState) (s : ServerState) (tasks : List Task
 
 -- ---- the history of a log
 
--- the history after a history and the operations of a log, as events
+-- the history continued by the operations of a log, as events.
 abbrev pub history_on : History → List LogEntry → History
 history_on h [] = h
 history_on h (e ∷ es) = history_on (next h (event_of e) (emitted_of e.operation)) es
 
--- the history leaves a server with these parts
+-- the history leaves a server with these parts.
 pub record LeavesServer (h : History) (end : ServerState) : Type 0 where
   pub server : ServerState
   pub tasks : List Task
@@ -91,12 +93,13 @@ pub record LeavesServer (h : History) (end : ServerState) : Type 0 where
   pub shards : (i : ℕ) → i < 8 → shard_at server.shards i ≡ shard_at end.shards i
   pub words : server.words ≡ end.words
 
--- a server that begins so, and has done nothing
+-- a server with this initial state, before any event.
 abbrev pub first_server : Begin → ServerState
 first_server b = record { front = first_front b.policy b.id; shards = first_shards b.serial b.policy.confirm_after; words = no_words }
 
--- the history is legal, each taking in it that found a program has a meaning, and the server is as the history says: its front, its slots,
--- the moments of its shards, the observers of its slots, and the head words. Place k of shard i is slot 8 k + i
+-- the history is legal, each snapshot in it that found a program has a meaning, and the server is
+-- that of the history: its front, its slots, the times of its shards, the observers of its slots,
+-- and the head words. Place k of shard i is slot 8 k + i.
 pub record IsHistoryOf (h : History) (end : ServerState) : Type 0 where
   pub legal : IsLegal h
   pub means : AllMean h

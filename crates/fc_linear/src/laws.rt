@@ -8,13 +8,17 @@ ghost use Rattle.fc_server.specs.States.{ServerState, begin_of};
 ghost use Rattle.fc_linear.specs.Operations.{LogEntry};
 ghost use Rattle.fc_linear.specs.Parts.{IsHistoryOf, LeavesServer, RightByParts, first_server, history_on};
 
-/// A log that is right for each part of a new server and for each job is one legal history, which leaves the server as it is.
+/// A log that is right for each part of a new server and each job is one history.
+///
+/// The history is legal, and the server at its end is the one that the history leaves.
 pub fn calls_are_one_history()
     ensures { (log : List LogEntry) (b : Begin) (end : ServerState) → RightByParts end (first_server b) [] log →
         IsHistoryOf (history_on (begin_of b) log) end }
 {}
 
-/// A log that is right for each part of a server and for each job continues any history that leaves the server.
+/// A log that is right for each part of a server and each job continues a history.
+///
+/// It continues any history that leaves the server.
 pub fn calls_continue_a_history()
     ensures { (log : List LogEntry) (h : History) (end s : ServerState) (tasks : List Task) → Serves h s tasks →
         RightByParts end s tasks log → LeavesServer (history_on h log) end }

@@ -1,4 +1,4 @@
--- A text is that of a network in one way, so what its parts don't say it doesn't say.
+-- A text is that of a network in one way, so facts about a network are facts about its parts.
 use Rattle.std.proofs.Common.{◌≡◌, ℕ, suc, ◌<◌, ◌≤◌, List, [], ◌∷◌, ◌++◌, length, refl, sym, ◌∙◌, subst, arith}
 use Rattle.std.proofs.Common.{map, Option, None, Some, MatchOption, slice_index_or, Bor}
 use Rattle.std.specs.Net.Addr.{ipv4_octets}
@@ -29,7 +29,7 @@ uncut (x ∷ a) b u = uncut a b (rest_unslashed x (a ++ (slash ∷ b)) u)
 pub no_slash : (text : List ℕ) → IsUnslashed text → IsNoNetwork text
 no_slash text u = record { none = λ n w. uncut w.address w.digits (subst IsUnslashed w.text_is u) }
 
--- a text that is cut at its first slash
+-- a text split at its first slash
 pub record IsCut (text address digits : List ℕ) : Type 0 where
   pub text_is : text ≡ address ++ (slash ∷ digits)
   pub first : IsUnslashed address
@@ -76,7 +76,7 @@ is_network text address digits a ip bits c dotted octets number few = record {
 
 -- ---- texts of networks
 
--- where one is of none, they are of none
+-- if one text isn't a network's, the texts aren't those of networks
 pub none_first : (a : List ℕ) (texts : List (List ℕ)) → IsNoNetwork a → AreNoNetworks (a ∷ texts)
 none_first a texts w = record { none = go }
   where
@@ -105,7 +105,7 @@ Networks texts r = MatchOption r (AreNoNetworks texts) (AreNetworks texts)
 abbrev Managers : List (Bor (List ℕ)) → Option (List Network) → Type 0
 Managers texts r = MatchOption r (AreNoManagers (texts_of texts)) (AreManagers (texts_of texts))
 
--- four texts stand for them
+-- four texts represent them
 stand_for : (texts four : List (List ℕ)) (r : Option (List Network)) → ((ns : List Network) → AreManagers texts ns → AreNetworks four ns) → ((ns : List Network) → AreNetworks four ns → AreManagers texts ns)
     → Networks four r → MatchOption r (AreNoManagers texts) (AreManagers texts)
 stand_for texts four None down up w = record { none = λ ns m. w.none ns (down ns m) }
@@ -137,7 +137,7 @@ four_texts (a ∷ b ∷ c ∷ []) r le lt w = absurd (omega (arith, le))
 four_texts (a ∷ b ∷ c ∷ d ∷ []) r le lt w = stand_for (a.now ∷ b.now ∷ c.now ∷ d.now ∷ []) (a.now ∷ b.now ∷ c.now ∷ d.now ∷ []) r (λ ns m. m) (λ ns m. m) w
 four_texts (a ∷ b ∷ c ∷ d ∷ e ∷ ts) r le lt w = absurd (omega (arith, lt))
 
--- five texts and more
+-- five texts or more
 pub many_texts : (ts : List (Bor (List ℕ))) → 5 ≤ length ts → AreNoManagers (texts_of ts)
 many_texts [] many = absurd (omega (arith, many))
 many_texts (a ∷ []) many = absurd (omega (arith, many))

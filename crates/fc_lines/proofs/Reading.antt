@@ -1,4 +1,4 @@
--- A line has its fields in one way, so what its fields don't say it doesn't say.
+-- A line has its fields in one way, so facts about a line are facts about its fields.
 use Rattle.std.proofs.Common.{◌≡◌, ◌≢◌, ℕ, ◌<◌, ◌^◌, List, [], ◌∷◌, ◌++◌, Ok, refl, sym, ◌∙◌, ap, subst, arith}
 use Rattle.std.specs.Str.Parse.{AllDigits}
 use Rattle.std.specs.Char.{digit_value}
@@ -13,7 +13,7 @@ use Rattle.fc_lines.specs.Lines.{IsDelivery, IsDevice, IsTick, IsLine, IsNoLine}
 use Rattle.fc_lines.specs.declared.line.Line.{Line}
 use Rattle.fc_lines.specs.declared.line.Line.TheVariants.{Deliver, Device, Tick}
 
--- the same text, cut at its first space
+-- the same text, split at its first space
 pub record AreSame (a b a' b' : List ℕ) : Type 0 where
   pub first : a' ≡ a
   pub rest : b' ≡ b
@@ -27,7 +27,7 @@ cut_once (x ∷ a) b (y ∷ a') b' u u' e =
     let head : y ≡ x = cc e in
     record { first = cc (head, same.first); rest = same.rest }
 
--- a text with no space is not cut
+-- a text without a space isn't split
 pub uncut : (a b : List ℕ) → IsUnspaced (a ++ (space ∷ b)) → ⊥
 uncut [] b u = All-head (λ y. y ≢ space) space b u refl
 uncut (x ∷ a) b u = uncut a b (All-tail (λ y. y ≢ space) x (a ++ (space ∷ b)) u)
@@ -83,7 +83,7 @@ tick_fields text now t = record { text_is = t.text_is; first_unspaced = number_u
 device_fields : (text : List ℕ) (now : ℕ) (readings : List ℕ) (d : IsDevice text now readings) → AreFields text d.first device d.third
 device_fields text now readings d = record { text_is = d.text_is; first_unspaced = number_unspaced _ _ d.now_is; second_unspaced = device_unspaced }
 
--- no fields, no line
+-- without fields there is no line
 pub no_fields : (text : List ℕ) → HasNoFields text → IsNoLine text
 no_fields text h = record { none = go }
   where
@@ -92,7 +92,7 @@ no_fields text h = record { none = go }
     go (Tick now) t = h.none _ _ _ (tick_fields _ _ t)
     go (Device now readings) d = h.none _ _ _ (device_fields _ _ _ d)
 
--- no moment, no line
+-- without a time there is no line
 pub no_moment : (text a b c : List ℕ) → AreFields text a b c → IsNoNumber a (2 ^ 64) → IsNoLine text
 no_moment text a b c f h = record { none = go }
   where
@@ -104,7 +104,8 @@ no_moment text a b c f h = record { none = go }
     go (Device now readings) d =
         h.none now d.now_fits (subst (λ x. IsNumber x now) (fields_fit text a b c _ _ _ f (device_fields _ _ _ d)).first_is d.now_is)
 
--- where they aren't two dashes, nor `dev` stands first: no peer or no bytes, no line
+-- if the fields aren't two dashes, and the second isn't `dev`: without a peer or without bytes
+-- there is no line
 pub no_peer : (text a b c : List ℕ) → AreFields text a b c → ((b ≡ dash) × (c ≡ dash) → ⊥) → (b ≡ device → ⊥) → IsNoNumber b 256 → IsNoLine text
 no_peer text a b c f other none h = record { none = go }
   where
@@ -127,7 +128,7 @@ no_bytes text a b c f other none h = record { none = go }
         other (sym fit.second_is, sym fit.third_is)
     go (Device now readings) d = none (sym (fields_fit text a b c _ _ _ f (device_fields _ _ _ d)).second_is)
 
--- behind `dev`: no readings, no line
+-- after `dev`: without readings there is no line
 pub no_readings : (text a b c : List ℕ) → AreFields text a b c → b ≡ device → ((readings : List ℕ) → decode_sized c 64 ≡ Ok readings → ⊥) → IsNoLine text
 no_readings text a b c f is h = record { none = go }
   where

@@ -8,11 +8,12 @@ use Rattle.fc_lines.specs.Fields.{IsNumber}
 abbrev pub slash : ℕ
 slash = 47
 
--- no byte of it is a slash
+-- no byte of it is a slash.
 abbrev pub IsUnslashed : List ℕ → Type 0
 IsUnslashed text = (i : ℕ) → i < length text → slice_index text i ≢ slash
 
--- an IPv4 address, a slash, and the decimal number of the address' first bits that all addresses of the network have
+-- an IPv4 address, a slash, and the decimal number of the address's first bits that all addresses
+-- of the network share.
 pub record IsNetwork (text : List ℕ) (n : Network) : Type 0 where
   pub address : List ℕ
   pub digits : List ℕ
@@ -25,17 +26,17 @@ pub record IsNetwork (text : List ℕ) (n : Network) : Type 0 where
 pub record IsNoNetwork (text : List ℕ) : Type 0 where
   pub none : (n : Network) → IsNetwork text n → ⊥
 
--- each text is that of the network at its place
+-- each text is that of the network at its place.
 abbrev pub AreNetworks : List (List ℕ) → List Network → Type 0
 AreNetworks [] [] = Unit {0}
 AreNetworks (text ∷ texts) (n ∷ ns) = IsNetwork text n × AreNetworks texts ns
 AreNetworks texts ns = ⊥
 
--- no networks have these texts
+-- the texts aren't those of networks.
 pub record AreNoNetworks (texts : List (List ℕ)) : Type 0 where
   pub none : (ns : List Network) → AreNetworks texts ns → ⊥
 
--- one to four texts are those of four networks: the last stands for those that are missing
+-- one to four texts are those of four networks: the last is repeated for those that are missing.
 abbrev pub AreManagers : List (List ℕ) → List Network → Type 0
 AreManagers (a ∷ []) ns = AreNetworks (a ∷ a ∷ a ∷ a ∷ []) ns
 AreManagers (a ∷ b ∷ []) ns = AreNetworks (a ∷ b ∷ b ∷ b ∷ []) ns
@@ -43,12 +44,12 @@ AreManagers (a ∷ b ∷ c ∷ []) ns = AreNetworks (a ∷ b ∷ c ∷ c ∷ [])
 AreManagers (a ∷ b ∷ c ∷ d ∷ []) ns = AreNetworks (a ∷ b ∷ c ∷ d ∷ []) ns
 AreManagers texts ns = ⊥
 
--- they are those of none
+-- the texts aren't those of four networks.
 pub record AreNoManagers (texts : List (List ℕ)) : Type 0 where
   pub none : (ns : List Network) → AreManagers texts ns → ⊥
 
--- the policy of these texts of networks, of these limits, 1 to 65,536 exchanges and a share of 1 at least, and of the seconds after
--- which a notification is confirmable, 1 to 86,400
+-- the policy of these texts of networks and these limits: 1 to 65,536 exchanges, a share of at
+-- least 1, and 1 to 86,400 seconds after which a notification is confirmable.
 pub record IsPolicyOf (texts : List (List ℕ)) (exchanges share seconds : ℕ) (p : Policy) : Type 0 where
   pub managers : AreManagers texts p.managers
   pub exchanges_are : p.limits.exchanges ≡ exchanges
@@ -60,6 +61,6 @@ pub record IsPolicyOf (texts : List (List ℕ)) (exchanges share seconds : ℕ) 
   pub some_seconds : 1 ≤ seconds
   pub most_seconds : seconds ≤ 86400
 
--- there is no such policy
+-- there is no such policy.
 pub record IsNoPolicy (texts : List (List ℕ)) (exchanges share seconds : ℕ) : Type 0 where
   pub none : (p : Policy) → IsPolicyOf texts exchanges share seconds p → ⊥

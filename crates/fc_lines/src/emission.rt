@@ -1,4 +1,4 @@
-//! Peers by a number, and emissions as `peer hex`.
+//! Peers identified by a number, and emissions printed as `peer hex`.
 ghost use Rattle.std.specs.Prelude.{◌≡◌, OnOk};
 ghost use Rattle.std.specs.Io.KnownBytes.{Appends};
 ghost use Rattle.fc_lines.specs.Emissions.{peer_endpoint, printed};
@@ -8,10 +8,10 @@ use coap_msg::{Emission, Endpoint};
 use std::io;
 use std::io::Write;
 
-/// The port of CoAP (RFC 7252, 6.1).
+/// CoAP's default port (RFC 7252, section 6.1).
 const PORT: u16 = 5683;
 
-/// Returns the endpoint of a peer: 127.0.0.peer, at the port of CoAP.
+/// Returns the endpoint of a peer: 127.0.0.peer, at CoAP's port.
 pub fn endpoint(peer: u8) -> Endpoint
     ensures { result ≡ peer_endpoint peer }
 {
@@ -21,10 +21,10 @@ pub fn endpoint(peer: u8) -> Endpoint
     }
 }
 
-/// Prints an emission as `peer hex`, and has it written out.
+/// Prints an emission as `peer hex`, and flushes the output.
 ///
 /// # Errors
-/// The writer failed.
+/// Returns the writer's error.
 pub fn print<W: Write>(out: &mut W, emission: &Emission) -> io::Result<()>
     ensures { OnOk result (Appends (W.contents out.old) (W.contents out.new) (printed emission.now)) }
 {

@@ -1,4 +1,4 @@
-//! Bytes by hex digits, in and out.
+//! Hexadecimal encoding and decoding of bytes.
 ghost use Rattle.std.specs.Prelude.{◌≡◌, ◌*◌, ◌≤◌, ℕ, List, length, IfOk, OnOk};
 ghost use Rattle.std.specs.Io.KnownBytes.{Appends};
 ghost use Rattle.hex.specs.Hex.{decode_of, encode_lower};
@@ -10,10 +10,11 @@ use std::alloc::Global;
 use std::io;
 use std::io::Write;
 
-/// Decodes the bytes that hex digits of either case spell, two a byte.
+/// Decodes hex digits in upper or lower case, two for each byte.
 ///
 /// # Errors
-/// They are no such digits, or there was no memory for the bytes.
+/// Returns `Bad` if they aren't such digits, and `NoMemory` if memory for the bytes can't be
+/// allocated.
 pub fn decode(alloc: Global, digits: &[u8]) -> Result<Vec<u8>, LineError>
     ensures bytes { IfOk result (λ bytes. decode_of digits.now ≡ Ok bytes.items) }
     ensures bad { result ≡ Err Bad → (bytes : List ℕ) → decode_of digits.now ≡ Ok bytes → ⊥ }
@@ -25,16 +26,18 @@ pub fn decode(alloc: Global, digits: &[u8]) -> Result<Vec<u8>, LineError>
     }
 }
 
-/// The most digits of a datagram.
+/// Maximum number of hex digits of a datagram.
 const DIGITS: usize = 2560;
 
-/// The most bytes of a short datagram.
+/// Maximum length of a short datagram, in bytes.
 const SHORT: usize = 64;
 
-/// Writes a datagram, at most 1,280 bytes, by hex digits in lower case, two a byte.
+/// Writes a datagram as hex digits in lower case, two for each byte.
+///
+/// It has at most 1,280 bytes.
 ///
 /// # Errors
-/// The writer failed.
+/// Returns the writer's error.
 pub fn write<W: Write>(out: &mut W, bytes: &[u8]) -> io::Result<()>
     requires { length bytes.now ≤ 1280 }
     ensures { OnOk result (Appends (W.contents out.old) (W.contents out.new) (encode_lower bytes.now)) }
@@ -46,7 +49,8 @@ pub fn write<W: Write>(out: &mut W, bytes: &[u8]) -> io::Result<()>
     }
 }
 
-// Most datagrams are short, and need no room for the digits of the longest, which would be zeroed for each.
+// Most datagrams are short. They need no buffer for the digits of the longest, which would be
+// zeroed for each.
 fn write_short<W: Write>(out: &mut W, bytes: &[u8]) -> io::Result<()>
     requires { length bytes.now ≤ 64 }
     ensures { OnOk result (Appends (W.contents out.old) (W.contents out.new) (encode_lower bytes.now)) }
@@ -63,7 +67,7 @@ fn write_long<W: Write>(out: &mut W, bytes: &[u8]) -> io::Result<()>
     write_by(out, bytes, &mut digits)
 }
 
-// Writes bytes by their digits, which are made in this room.
+// Writes bytes as digits, which are made in `room`.
 fn write_by<W: Write>(out: &mut W, bytes: &[u8], room: &mut [u8]) -> io::Result<()>
     requires { 2 * length bytes.now ≤ length room.old }
     ensures { OnOk result (Appends (W.contents out.old) (W.contents out.new) (encode_lower bytes.now)) }

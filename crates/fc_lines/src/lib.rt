@@ -1,12 +1,17 @@
-//! Text that the programs read and print: lines, numbers, hex digits, a server's policy, and emissions as `peer hex`.
+//! Text that the programs read and print.
+//!
+//! It is lines, numbers, hex digits, a server's policy, and emissions as `peer hex`.
 //!
 //! # What is proved
 //!
-//! - A line is read exactly where it has one of three forms: a datagram, a moment, or a moment with readings.
-//! - Numbers and hex digits are read exactly. An emission is written as `peer hex`.
-//! - A network is read exactly where it is an IPv4 address, a slash and 0 to 32, and a policy is that of its texts and limits.
+//! - A line is accepted exactly if it has one of three forms: a datagram, a time, or a time with
+//!   readings.
+//! - Numbers and hex digits are parsed exactly. An emission is written as `peer hex`.
+//! - A network is accepted exactly if it is an IPv4 address, a slash and 0 to 32. A policy is that
+//!   of its texts and limits.
 //!
-//! By the contracts of `line::parse`, `line::number`, `hexadecimal`, `emission::print`, `policy::network`, `policy`.
+//! By the contracts of `line::parse`, `line::number`, `hexadecimal`, `emission::print`,
+//! `policy::network`, `policy`.
 #![tactic(auto)]
 
 pub mod emission;

@@ -1,15 +1,19 @@
-//! A bound on the lines that a reader gives.
+//! A limit on the length of the lines that a reader returns.
 ghost use Rattle.std.specs.Prelude.{◌≡◌, ◌==◌};
 
 use std::io;
 use std::io::{ErrorKind, Read};
 
-/// The most bytes of a line: a moment of 20 digits, a peer of three, and the digits of 65,507 bytes, the most that UDP over IPv4 carries, with a space behind
-/// the first two.
+/// Maximum length of a line, in bytes.
+///
+/// A line has a time of 20 digits, a peer of three, and the digits of 65,507 bytes, the maximum for
+/// UDP over IPv4. A space follows each of the first two.
 pub const LONGEST_LINE: usize = 20 + 1 + 3 + 1 + 2 * 65_507;
 
-/// A reader that gives what another gives, but fails where a line of it is longer than the longest: it reads no more of that line than shows it, and what stands
-/// before the line was given by earlier reads.
+/// A reader that passes on another's bytes, and fails if a line is too long.
+///
+/// It reads no more of that line than shows that it is too long. Earlier reads have returned the
+/// bytes before the line.
 #[derive(Drop)]
 pub struct LineLimit<R: Read + Drop> {
     inner: R,
@@ -22,7 +26,8 @@ impl<R: Read + Drop> LineLimit<R> {
         LineLimit { inner, length: 0 }
     }
 
-    // Goes on behind these bytes, at most one more than the line that they begin in may still have. Tells whether the line that they begin in is short enough: those that end in them are.
+    // Advances past these bytes, at most one more than the line in which they begin may still have.
+    // Returns whether that line is short enough; the lines that end within them are.
     fn goes_on(&mut self, bytes: &[u8]) -> bool {
         let begun = match bytes.iter().position(is_line_feed) {
             Some(end) => self.length.saturating_add(end),
@@ -42,7 +47,7 @@ fn is_line_feed(byte: &u8) -> bool
     *byte == b'\n'
 }
 
-/// Why a line is too long.
+/// Returns the error for a line that is too long.
 fn too_long() -> io::Error {
     io::Error::from(ErrorKind::InvalidData)
 }

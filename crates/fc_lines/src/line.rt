@@ -1,4 +1,4 @@
-//! The lines that are played.
+//! Parsing of the lines that are played.
 ghost use Rattle.std.specs.Prelude.{◌≡◌, ◌↔◌, ◌∷◌, ◌++◌, ◌^◌, ℕ, List, MatchOption, IfOk, IsTrue};
 ghost use Rattle.hex.specs.Hex.{decode_sized};
 ghost use Rattle.fc_lines.specs.Fields.{space, dash, device, IsNumber, IsNoNumber, IsUnspaced, AreFields, HasNoFields};
@@ -9,32 +9,35 @@ use crate::hexadecimal::decode;
 use std::alloc::Global;
 use thiserror::Error;
 
-/// What a line says.
+/// The contents of a line.
 #[derive(Drop)]
 pub enum Line {
-    /// A datagram comes from a peer, at a moment in milliseconds.
+    /// A datagram from a peer, at a time in milliseconds.
     Deliver { now: u64, peer: u8, bytes: Vec<u8> },
-    /// Time passes, to a moment in milliseconds.
+    /// Time passes, up to a time in milliseconds.
     Tick { now: u64 },
-    /// The device's readings are these, from a moment in milliseconds on.
+    /// The device's readings, from a time in milliseconds on.
     Device { now: u64, readings: [u8; 64] },
 }
 
-/// Why a line isn't read.
+/// The reason why a line isn't accepted.
 #[derive(Clone, Copy, Debug, PartialEq, Eq, Error)]
 pub enum LineError {
-    /// It is neither `now peer hex` nor `now - -` nor `now dev hex`.
+    /// The line is neither `now peer hex` nor `now - -` nor `now dev hex`.
     #[error("bad")]
     Bad,
-    /// There was no memory for its datagram.
+    /// Memory for the line's datagram can't be allocated.
     #[error("out of memory")]
     NoMemory,
 }
 
-/// Reads a line, without its line feed: `now peer hex`, `now - -`, or `now dev hex` with 128 hex digits.
+/// Parses a line, without its line feed.
+///
+/// It is `now peer hex`, `now - -`, or `now dev hex` with 128 hex digits.
 ///
 /// # Errors
-/// It is none of the three, or there was no memory for its datagram.
+/// Returns `Bad` if it is none of the three, and `NoMemory` if memory for its datagram can't be
+/// allocated.
 pub fn parse(alloc: Global, text: &[u8]) -> Result<Line, LineError>
     ensures line { IfOk result (IsLine text.now) }
     ensures bad { result ≡ Err Bad → IsNoLine text.now }
@@ -67,7 +70,7 @@ fn is_device(second: &[u8]) -> bool
     second == b"dev".as_slice()
 }
 
-/// Parses the device's readings, 64 bytes, by 128 hex digits of either case.
+/// Parses the device's 64 bytes of readings from 128 hex digits of either case.
 pub fn readings(digits: &[u8]) -> Option<[u8; 64]>
     ensures { MatchOption result ((bytes : List ℕ) → decode_sized digits.now 64 ≡ Ok bytes → ⊥)
         (λ readings. decode_sized digits.now 64 ≡ Ok readings) }
@@ -79,7 +82,7 @@ pub fn readings(digits: &[u8]) -> Option<[u8; 64]>
     }
 }
 
-// The three fields that single spaces part; the third may have more spaces.
+// Returns the three fields that single spaces separate; the third may have more spaces.
 fn fields(text: &[u8]) -> Option<(&[u8], &[u8], &[u8])>
     ensures { MatchOption result (HasNoFields text.now) (λ parts. AreFields text.now parts.0.now parts.1.now parts.2.now) }
 {
@@ -88,7 +91,7 @@ fn fields(text: &[u8]) -> Option<(&[u8], &[u8], &[u8])>
     Some((first, second, third))
 }
 
-// What stands before the first space, and what stands behind it.
+// Returns the parts before and after the first space.
 fn cut(text: &[u8]) -> Option<(&[u8], &[u8])>
     ensures { MatchOption result (IsUnspaced text.now)
         (λ parts. (text.now ≡ parts.0.now ++ (space ∷ parts.1.now)) × IsUnspaced parts.0.now) }
@@ -103,7 +106,7 @@ fn are_dashes(second: &[u8], third: &[u8]) -> bool
     second == b"-".as_slice() && third == b"-".as_slice()
 }
 
-/// Parses the number that decimal digits write. A sign is no digit.
+/// Parses decimal digits as a number, without a sign.
 pub fn number(text: &[u8]) -> Option<u64>
     ensures { MatchOption result (IsNoNumber text.now (2 ^ 64)) (IsNumber text.now) }
 {
@@ -116,7 +119,7 @@ pub fn number(text: &[u8]) -> Option<u64>
     digits.parse::<u64>().ok()
 }
 
-/// Parses the number below 256 that decimal digits write.
+/// Parses decimal digits as a number below 256.
 pub fn byte(text: &[u8]) -> Option<u8>
     ensures { MatchOption result (IsNoNumber text.now 256) (IsNumber text.now) }
 {

@@ -7,15 +7,23 @@ use coap_dedup::{Limits, MOST_EXCHANGES};
 use fc_core::{Managers, Network, Policy};
 use std::net::Ipv4Addr;
 
-/// The most seconds after which a notification may be confirmable: 24 hours (RFC 7641, 4.5).
+/// Maximum of the seconds after which a notification is confirmable: 24 hours.
+///
+/// See RFC 7641, section 4.5.
 pub const MAX_SECONDS: u64 = 86_400;
 
-/// The seconds after which a notification is confirmable by default: 24 hours.
+/// Default of the seconds after which a notification is confirmable: 24 hours.
 pub const DEFAULT_SECONDS: u64 = 86_400;
 
-/// Builds a policy from the texts of one to four networks, from the limits, and from the seconds after which a notification is confirmable. Returns
-/// `None` exactly if one of the texts isn't a network, if there are none or more than four, if `exchanges` isn't 1 to 65,536, if `share` is 0, or if
-/// `seconds` isn't 1 to 86,400.
+/// Builds a policy from the texts of one to four networks, and limits.
+///
+/// `seconds` is the time after which a notification is confirmable. Returns `None` exactly in these
+/// cases:
+///
+/// - One of the texts isn't a network, or there are none or more than four.
+/// - `exchanges` isn't 1 to 65,536.
+/// - `share` is 0.
+/// - `seconds` isn't 1 to 86,400.
 pub fn policy(managers: &[&str], exchanges: usize, share: usize, seconds: u64) -> Option<Policy>
     ensures { let texts = map (λ text. text.now) managers.now in
         MatchOption result (IsNoPolicy texts exchanges share seconds) (IsPolicyOf texts exchanges share seconds) }
@@ -34,8 +42,10 @@ pub fn policy(managers: &[&str], exchanges: usize, share: usize, seconds: u64) -
     })
 }
 
-/// Parses the texts of one to four networks. The last stands for those that are missing. Returns `None` exactly if one of them isn't a network, or if
-/// there are none or more than four.
+/// Parses the texts of one to four networks.
+///
+/// The last one is repeated for those that are missing. Returns `None` exactly if one of them isn't
+/// a network, or if there are none or more than four.
 pub fn networks(texts: &[&str]) -> Option<Managers>
     ensures { let all = map (λ text. text.now) texts.now in MatchOption result (AreNoManagers all) (AreManagers all) }
 {
@@ -54,7 +64,10 @@ fn four(a: &str, b: &str, c: &str, d: &str) -> Option<Managers>
     Some([network(a)?, network(b)?, network(c)?, network(d)?])
 }
 
-/// Parses a network, as `192.0.2.0/24`: an IPv4 address, and how many of its first bits all addresses of the network have, 0 to 32.
+/// Parses a network, as `192.0.2.0/24`.
+///
+/// It is an IPv4 address, and the number of its first bits, 0 to 32, that all addresses of the
+/// network share.
 pub fn network(text: &str) -> Option<Network>
     ensures { MatchOption result (IsNoNetwork text.now) (IsNetwork text.now) }
 {

@@ -24,6 +24,7 @@ use Rattle.fc_registry.specs.declared.note.Noted.TheVariants as noted
 use Rattle.fc_registry.specs.declared.note.Notification.{Notification}
 use Rattle.fc_registry.specs.declared.note.Notification.TheVariants as tells
 use Rattle.fc_registry.specs.declared.slot.SlotState.{SlotState}
+use Rattle.fc_registry.specs.declared.job.InitialVars.{InitialVars}
 use Rattle.fc_registry.specs.Calls.{IsCommit, IsOwnCommit, clear_by, commit_calls, commits, install_in, is_cancellation, is_out_at, is_registration, miss_calls, observe_calls_by, put_by, remove_from, turn_calls}
 use Rattle.fc_registry.specs.Changes.{after_changes}
 use Rattle.fc_registry.specs.Notes.{IsNotedIn, keeps_observer, note_calls, sent_of, ticket_told, told_call}
@@ -110,12 +111,12 @@ sent_noted n told turn id random at v w r is sent = sent_after n (note_calls tur
 
 -- ---- an install and a removal
 
-put_rises : (slot : Slot) (p : Program) (b : Bool) → slot.serial ≤ (after_changes slot (put_by b slot p).changes).serial
-put_rises slot p true = omega arith
-put_rises slot p false = omega arith
+put_rises : (slot : Slot) (p : Program) (v : InitialVars) (b : Bool) → slot.serial ≤ (after_changes slot (put_by b slot p v).changes).serial
+put_rises slot p v true = omega arith
+put_rises slot p v false = omega arith
 
-pub install_rises : (slot : Slot) (p : Program) → slot.serial ≤ (after_changes slot (install_in slot p).changes).serial
-install_rises slot p = put_rises slot p (nat_lt slot.serial last_serial)
+pub install_rises : (slot : Slot) (p : Program) (v : InitialVars) → slot.serial ≤ (after_changes slot (install_in slot p v).changes).serial
+install_rises slot p v = put_rises slot p v (nat_lt slot.serial last_serial)
 
 clear_rises : (slot : Slot) (b : Bool) (found : Option Present) → slot.serial ≤ (after_changes slot (clear_by b slot.serial found).changes).serial
 clear_rises slot b None = omega arith
@@ -128,7 +129,7 @@ remove_rises slot = clear_rises slot (nat_lt slot.serial last_serial) slot.prese
 -- ---- places
 
 module _ (slots : List Slot) (watches : List ObserverList) (p : ℕ) (few : length slots ≡ 8) (eight : length watches ≡ 8) (lt : p < 8) (sent : AreSentUpTo slots watches) where
-  -- the slot at a place and its observers are others
+  -- the slot at a place and its observers are replaced.
   pub sent_written : (s : Slot) (w : ObserverList) → IsSentUpTo s.serial w → AreSentUpTo (set slots p s) (set watches p w)
   sent_written s w up k =
       ⊎_elim
@@ -139,15 +140,15 @@ module _ (slots : List Slot) (watches : List ObserverList) (p : ℕ) (few : leng
       (subst (λ (t : Slot). IsSentUpTo t.serial (get_or watches k (no_observers 0 0))) (sym (get_or-set_other slots p k s (new_slot 0) other)) (sent k)))
       (cases_eq k p)
 
-  -- its observers alone are others
+  -- its observers alone are replaced.
   pub sent_there : (w : ObserverList) → IsSentUpTo (get_or slots p (new_slot 0)).serial w → AreSentUpTo slots (set watches p w)
   sent_there w up = subst (λ (xs : List Slot). AreSentUpTo xs (set watches p w)) (set-get_or slots p (new_slot 0)) (sent_written (get_or slots p (new_slot 0)) w up)
 
-  -- the slot alone is another
+  -- the slot alone is replaced.
   pub sent_at : (s : Slot) → (get_or slots p (new_slot 0)).serial ≤ s.serial → AreSentUpTo (set slots p s) watches
   sent_at s le = subst (λ (ws : List ObserverList). AreSentUpTo (set slots p s) ws) (set-get_or watches p (no_observers 0 0)) (sent_written s (get_or watches p (no_observers 0 0)) (sent_more (get_or slots p (new_slot 0)).serial s.serial (get_or watches p (no_observers 0 0)) le (sent p)))
 
--- what stands at a place, as it is seen
+-- the view of the slot at a place.
 module _ (items : List SlotState) (watches : List ObserverList) (p : ℕ) (few : length items ≡ 8) (eight : length watches ≡ 8) (lt : p < 8) (sent : AreSentUpTo (map as_seen items) watches) where
   seen_few : length (map as_seen items) ≡ 8
   seen_few = length-map items as_seen ∙ few
@@ -179,7 +180,7 @@ mapped_at f P [] k keeps none was = none
 mapped_at f P (w ∷ ws) zero keeps none was = keeps w was
 mapped_at f P (w ∷ ws) (suc k) keeps none was = mapped_at f P ws k keeps none was
 
--- a call on the observers at each, that hands in no serial
+-- a call on the observers at each place, without a serial.
 pub sent_everywhere : (c : ObserverCall) (slots : List Slot) (watches : List ObserverList) → ((n : ℕ) → HandsInUpTo n c) → AreSentUpTo slots watches → AreSentUpTo slots (map (observers_after c) watches)
 sent_everywhere c slots watches up sent k =
     let n = (get_or slots k (new_slot 0)).serial in
@@ -194,11 +195,11 @@ new_held [] k new = refl
 new_held (w ∷ ws) zero new = new.0
 new_held (w ∷ ws) (suc k) new = new_held ws k new.1
 
--- a new shard has no observers
+-- a new shard has no observers.
 pub none_new : (index confirm_after k : ℕ) → (get_or (new_watches index confirm_after 8) k (no_observers 0 0)).held ≡ []
 none_new index confirm_after k = new_held (new_watches index confirm_after 8) k (refl, (refl, (refl, (refl, (refl, (refl, (refl, (refl, tt))))))))
 
--- they were sent nothing
+-- they were sent nothing.
 pub none_sent : (slots : List Slot) (index confirm_after : ℕ) → AreSentUpTo slots (new_watches index confirm_after 8)
 none_sent slots index confirm_after k =
     let n = (get_or slots k (new_slot 0)).serial in

@@ -3,6 +3,7 @@ use Rattle.std.proofs.Common.{◌≡◌, ℕ, ◌+◌, ◌<◌, ◌≤◌, Bool,
 use Rattle.std.specs.Prelude.{IfSome}
 use Rattle.std.proofs.lemmas.Bool.{le-ltb, lt-ltb}
 use Rattle.fc_kinds.specs.Meaning.{Program}
+use Rattle.fc_registry.specs.declared.job.InitialVars.{InitialVars}
 use Rattle.fc_registry.specs.Calls.{install_in, put_by}
 use Rattle.fc_registry.specs.Changes.{Change, Installed, Committed, Removed, changed, with_vars}
 use Rattle.fc_registry.specs.Plans.{IsStoredOf, IsStoredProgram, IsPlan, IsPlanned, SavesImage, IsUpdateOf}
@@ -19,11 +20,11 @@ vars_kept None (Some k) after vars e h = absurd h
 vars_kept (Some p) None after vars e h = absurd h
 vars_kept (Some p) (Some k) after vars e h = (h.0, h.1, e)
 
-program_kept : (slot : Slot) (k : Option StoredProgram) (c : Change) (serial : ℕ) (saved : ProgramUpdate) → serial ≡ slot.serial + 1 → IsStoredProgram slot.present k → IsUpdateOf c saved → SavesImage c saved
+program_kept : (slot : Slot) (k : Option StoredProgram) (c : Change) (serial : ℕ) (saved : ProgramUpdate) → serial ≡ slot.serial + 1 → IsStoredProgram slot.present k → IsUpdateOf slot c saved → SavesImage c saved
     → IsStoredProgram (changed slot c).present (program_after serial saved k)
-program_kept slot k (Installed p) serial (saves.Install image vars) is h told own = (own, is, told)
-program_kept slot k (Installed p) serial (saves.Commit vars) is h told own = absurd told
-program_kept slot k (Installed p) serial saves.Remove is h told own = absurd told
+program_kept slot k (Installed p v) serial (saves.Install image vars) is h told own = (own, is, told)
+program_kept slot k (Installed p v) serial (saves.Commit vars) is h told own = absurd told
+program_kept slot k (Installed p v) serial saves.Remove is h told own = absurd told
 program_kept slot k (Committed c) serial (saves.Install image vars) is h told own = absurd told
 program_kept slot k (Committed c) serial (saves.Commit vars) is h told own = vars_kept slot.present k c.after vars.now told h
 program_kept slot k (Committed c) serial saves.Remove is h told own = absurd told
@@ -32,7 +33,7 @@ program_kept slot k Removed serial (saves.Commit vars) is h told own = absurd to
 program_kept slot k Removed serial saves.Remove is h told own = tt
 
 serial_after : (slot : Slot) (c : Change) → (changed slot c).serial ≡ slot.serial + 1
-serial_after slot (Installed p) = refl
+serial_after slot (Installed p v) = refl
 serial_after slot (Committed c) = refl
 serial_after slot Removed = refl
 
@@ -40,10 +41,10 @@ pub kept_changed : (slot : Slot) (k : StoredSlot) (n : ℕ) (c : Change) (s : Sl
 kept_changed slot k n c s kept planned own =
     (planned.1 ∙ sym (serial_after slot c), program_kept slot k.program c s.serial s.program planned.1 kept.1 planned.2 own)
 
--- the plan of an install
-pub plan_put : (slot : Slot) (n : ℕ) (p : Program) (saved : ProgramUpdate) (r : Option SlotUpdate) → (r ≡ None → last_serial ≤ slot.serial) → IfSome r (λ (s : SlotUpdate). (slot.serial < last_serial) × (s ≡ record { slot = n; serial = slot.serial + 1; program = saved }))
-    → IsUpdateOf (Installed p) saved → IsPlan slot n (install_in slot p).changes r
-plan_put slot n p saved None none some told = subst (λ (b : Bool). IsPlan slot n (put_by b slot p).changes None) (sym (le-ltb slot.serial last_serial (none refl))) tt
-plan_put slot n p saved (Some s) none some told =
-    subst (λ (b : Bool). IsPlan slot n (put_by b slot p).changes (Some s)) (sym (lt-ltb slot.serial last_serial some.0))
-    ((ap (λ (x : SlotUpdate). x.slot) some.1, ap (λ (x : SlotUpdate). x.serial) some.1, subst (λ (x : SlotUpdate). IsUpdateOf (Installed p) x.program) (sym some.1) told), refl)
+-- the plan of an install.
+pub plan_put : (slot : Slot) (n : ℕ) (p : Program) (v : InitialVars) (saved : ProgramUpdate) (r : Option SlotUpdate) → (r ≡ None → last_serial ≤ slot.serial) → IfSome r (λ (s : SlotUpdate). (slot.serial < last_serial) × (s ≡ record { slot = n; serial = slot.serial + 1; program = saved }))
+    → IsUpdateOf slot (Installed p v) saved → IsPlan slot n (install_in slot p v).changes r
+plan_put slot n p v saved None none some told = subst (λ (b : Bool). IsPlan slot n (put_by b slot p v).changes None) (sym (le-ltb slot.serial last_serial (none refl))) tt
+plan_put slot n p v saved (Some s) none some told =
+    subst (λ (b : Bool). IsPlan slot n (put_by b slot p v).changes (Some s)) (sym (lt-ltb slot.serial last_serial some.0))
+    ((ap (λ (x : SlotUpdate). x.slot) some.1, ap (λ (x : SlotUpdate). x.serial) some.1, subst (λ (x : SlotUpdate). IsUpdateOf slot (Installed p v) x.program) (sym some.1) told), refl)

@@ -20,12 +20,16 @@ use Rattle.fc_registry.specs.declared.commit.CommitOutcome.TheVariants.{Writes, 
 use Rattle.fc_help.specs.declared.request.Method.{Method}
 use Rattle.fc_help.specs.declared.request.Method.TheVariants.{Get, Post}
 use Rattle.fc_registry.specs.Calls.{IsCommit, IsOwnCommit, ComesTo, IsCurrent, commit_of, commits, is_post, wants, meaning_at, clear_by, install_in, put_by, remove_from}
+use Rattle.fc_registry.specs.declared.job.InitialVars.{InitialVars}
 use Rattle.fc_registry.specs.declared.ring.Entry.{Entry}
-use Rattle.fc_registry.specs.Slots.{Slot, Present, Ticket, new_slot, last_serial}
-use Rattle.fc_registry.specs.Changes.{Change, Installed, Committed, Removed, Commit, after_changes, changed, with_vars, entry_of}
-use Rattle.fc_registry.specs.Record.{IsLink, IsChain, IsEntry, AreEntries, left_by, HasRecordIf, HasRing, HasRingIf, HasRingSince, IsRecord, IsRing, code_class}
+use Rattle.fc_registry.specs.declared.job.InitialVars.TheVariants.{Zeros}
+use Rattle.fc_registry.specs.Laws.{AllCommits, RingBegins, vars_begun}
+use Rattle.fc_registry.proofs.Installs.{installed_size}
+use Rattle.fc_registry.specs.Slots.{Slot, Present, Ticket, new_slot, last_serial, vars_in}
+use Rattle.fc_registry.specs.Changes.{Change, Installed, Committed, Removed, Commit, after_changes, changed, installed, with_vars, entry_of}
+use Rattle.fc_registry.specs.Record.{IsLink, IsChain, IsEntry, AreEntries, left_by, HasRecordIf, HasRingFrom, HasRingIf, HasRingSince, IsRecord, IsRing, code_class}
 
--- one more entry, that begins with what the others left
+-- one more entry, which begins with the variables that the others left.
 entries_more : (p : Program) (serial : ℕ) (vars : List ℕ) (es : List Entry) (e : Entry) → AreEntries p serial vars es → IsEntry p (serial + length es) (left_by vars es) e → AreEntries p serial vars (es ++ e ∷ [])
 entries_more p serial vars [] e a x = (subst (λ (n : ℕ). IsEntry p n vars e) (omega arith) x, tt)
 entries_more p serial vars (y ∷ es) e a x = (a.0, entries_more p (serial + 1) y.after es e a.1 (subst (λ (n : ℕ). IsEntry p n (left_by y.after es) e) (omega arith) x))
@@ -34,7 +38,7 @@ left_more : (vars : List ℕ) (es : List Entry) (e : Entry) → left_by vars (es
 left_more vars [] e = refl
 left_more vars (y ∷ es) e = left_more y.after es e
 
--- the entry of a link
+-- the entry of a link.
 entry_is : (slot : Slot) (c : Commit) (p : Present) → slot.present ≡ Some p → IsLink slot c → IsEntry p.program (slot.serial + 1) p.vars (entry_of (slot.serial + 1) c)
 entry_is slot c p is link =
     let same : link.found ≡ p = (let s = link.present in cc) in
@@ -49,7 +53,7 @@ entry_is slot c p is link =
 abbrev with_after : Present → Commit → Present
 with_after p c = record p { vars = c.after }
 
--- a ring that has room for one more
+-- a ring with room for one more.
 short : (p : Present) (since serial : ℕ) (first : List ℕ) (c : Commit) (ring : List Entry) → length ring < 8 → IsEntry p.program (serial + 1) p.vars (entry_of (serial + 1) c) → HasRingSince since serial first p ring
     → HasRingSince since (serial + 1) first (with_after p c) (keep_last 8 (ring ++ entry_of (serial + 1) c ∷ []))
 short p since serial first c ring lt e h =
@@ -72,7 +76,7 @@ short p since serial first c ring lt e h =
       begins = λ q. h.begins all;
     })
 
--- a ring of eight
+-- a ring of eight.
 full : (p : Present) (since serial : ℕ) (first : List ℕ) (c : Commit) (ring : List Entry) → 8 ≤ length ring → IsEntry p.program (serial + 1) p.vars (entry_of (serial + 1) c) → HasRingSince since serial first p ring
     → HasRingSince since (serial + 1) first (with_after p c) (keep_last 8 (ring ++ entry_of (serial + 1) c ∷ []))
 full p since serial first c [] le e h = absurd (omega (arith, le))
@@ -104,54 +108,71 @@ one_more p since serial first c ring e h = ⊎_elim
     (λ (ge : 8 ≤ length ring). full p since serial first c ring ge e h)
     (cases_lt (length ring) 8)
 
-abbrev zeros_of : Present → List ℕ
-zeros_of p = replicate p.program.vars_size 0
-
--- a ring since the install counts from the version
-since_version : (serial : ℕ) (p : Present) (ring : List Entry) → HasRing serial p ring → HasRingSince p.version serial (zeros_of p) p ring
-since_version serial p ring h = record { version = omega arith; reached = h.version; size = h.size; found = h.found; entries = h.entries; vars = h.vars; begins = h.zeros }
-
-from_version : (serial : ℕ) (p : Present) (ring : List Entry) → HasRingSince p.version serial (zeros_of p) p ring → HasRing serial p ring
-from_version serial p ring h = record { version = h.reached; size = h.size; found = h.found; entries = h.entries; vars = h.vars; zeros = h.begins }
-
 record_if : (serial : ℕ) (o : Option Present) (ring : List Entry) → HasRingIf serial o ring → HasRecordIf serial o ring
 record_if serial None ring h = h
-record_if serial (Some p) ring h = (p.version, zeros_of p, since_version serial p ring h, λ e. refl)
+record_if serial (Some p) ring h = (p.version, h)
 
 pub ring_record : (slot : Slot) → IsRing slot → IsRecord slot
 ring_record slot h = record_if slot.serial slot.present slot.ring h
 
--- a commit that is a link keeps the ring of its slot
+-- a commit that is a link keeps the ring of its slot a ring.
+since_committed : (slot : Slot) (since : ℕ) (c : Commit) (link : IsLink slot c) → HasRingFrom since slot.serial link.found slot.ring
+    → HasRingFrom since (slot.serial + 1) (with_after link.found c) (keep_last 8 (slot.ring ++ entry_of (slot.serial + 1) c ∷ []))
+since_committed slot since c link h =
+    (h.0, one_more link.found since slot.serial h.0 c slot.ring (entry_is slot c link.found link.present link) h.1, h.2)
+
 pub ring_committed : (slot : Slot) (c : Commit) → IsLink slot c → IsRing slot → IsRing (changed slot (Committed c))
 ring_committed slot c link h =
-    let p = link.found in
-    let has : HasRing slot.serial p slot.ring = subst (λ (o : Option Present). HasRingIf slot.serial o slot.ring) link.present h in
-    let e = entry_is slot c p link.present link in
-    let new : HasRing (slot.serial + 1) (with_after p c) (keep_last 8 (slot.ring ++ entry_of (slot.serial + 1) c ∷ [])) =
-    from_version (slot.serial + 1) (with_after p c) _ (one_more p p.version slot.serial (zeros_of p) c slot.ring e (since_version slot.serial p slot.ring has)) in
-    subst (λ (o : Option Present). HasRingIf (slot.serial + 1) (with_vars c.after o) (keep_last 8 (slot.ring ++ entry_of (slot.serial + 1) c ∷ []))) (sym link.present) new
+    let has : HasRingFrom link.found.version slot.serial link.found slot.ring = subst (λ (o : Option Present). HasRingIf slot.serial o slot.ring) link.present h in
+    subst (λ (o : Option Present). HasRingIf (slot.serial + 1) (with_vars c.after o) (keep_last 8 (slot.ring ++ entry_of (slot.serial + 1) c ∷ []))) (sym link.present)
+    (since_committed slot link.found.version c link has)
 
 record_committed : (slot : Slot) (c : Commit) → IsLink slot c → IsRecord slot → IsRecord (changed slot (Committed c))
 record_committed slot c link h =
-    let p = link.found in
-    let has : HasRecordIf slot.serial (Some p) slot.ring = subst (λ (o : Option Present). HasRecordIf slot.serial o slot.ring) link.present h in
-    let e = entry_is slot c p link.present link in
-    let new : HasRecordIf (slot.serial + 1) (Some (with_after p c)) (keep_last 8 (slot.ring ++ entry_of (slot.serial + 1) c ∷ [])) =
-    (has.0, has.1, one_more p has.0 slot.serial has.1 c slot.ring e has.2, has.3) in
-    subst (λ (o : Option Present). HasRecordIf (slot.serial + 1) (with_vars c.after o) (keep_last 8 (slot.ring ++ entry_of (slot.serial + 1) c ∷ []))) (sym link.present) new
+    let has : HasRecordIf slot.serial (Some link.found) slot.ring = subst (λ (o : Option Present). HasRecordIf slot.serial o slot.ring) link.present h in
+    subst (λ (o : Option Present). HasRecordIf (slot.serial + 1) (with_vars c.after o) (keep_last 8 (slot.ring ++ entry_of (slot.serial + 1) c ∷ []))) (sym link.present)
+    (has.0, since_committed slot has.0 c link has.1)
 
--- an install begins a new ring
-pub ring_installed : (slot : Slot) (p : Program) → IsRing (changed slot (Installed p))
-ring_installed slot p = record { version = omega arith; size = omega arith; found = replicate p.vars_size 0; entries = tt; vars = refl; zeros = λ q. refl }
+-- an install begins a new ring.
+begun : (slot : Slot) (p : Program) (v : InitialVars) → HasRingSince (slot.serial + 1) (slot.serial + 1) (installed slot p v).vars (installed slot p v) []
+begun slot p v = record { version = omega arith; reached = omega arith; size = omega arith; found = (installed slot p v).vars; entries = tt; vars = refl; begins = λ q. refl }
 
--- the ring of a slot that is a chain of changes
+pub ring_installed : (slot : Slot) (p : Program) (v : InitialVars) → IsRing (changed slot (Installed p v))
+ring_installed slot p v = ((installed slot p v).vars, begun slot p v, installed_size v p (vars_in slot.present))
+
+-- the ring of a slot after a chain of changes.
 pub rings_follow : (serial : ℕ) (cs : List Change) → IsChain (new_slot serial) cs → IsRing (after_changes (new_slot serial) cs)
 rings_follow serial [] chain = refl
-rings_follow serial (Installed p ∷ cs) chain = ring_installed (after_changes (new_slot serial) cs) p
+rings_follow serial (Installed p v ∷ cs) chain = ring_installed (after_changes (new_slot serial) cs) p v
 rings_follow serial (Committed c ∷ cs) chain = ring_committed (after_changes (new_slot serial) cs) c chain.0 (rings_follow serial cs chain.1)
 rings_follow serial (Removed ∷ cs) chain = refl
 
--- a commit that writes is a link of what the slot held
+-- it counts from the variables that the newest install left.
+pub rings_begin : (serial : ℕ) (cs : List Change) → IsChain (new_slot serial) cs → RingBegins serial cs (after_changes (new_slot serial) cs)
+rings_begin serial [] chain p e = absurd (cc)
+rings_begin serial (Installed program v ∷ cs) chain p e =
+    let slot = after_changes (new_slot serial) cs in
+    let is : installed slot program v ≡ p = cc in
+    subst (λ (q : Present). HasRingSince q.version (slot.serial + 1) (installed slot program v).vars q []) is (begun slot program v)
+rings_begin serial (Committed c ∷ cs) chain p e =
+    let slot = after_changes (new_slot serial) cs in
+    let link = chain.0 in
+    let is : with_after link.found c ≡ p = committed_is c slot.present link.found p link.present e in
+    subst (λ (q : Present). HasRingSince q.version (slot.serial + 1) (vars_begun serial cs) q (keep_last 8 (slot.ring ++ entry_of (slot.serial + 1) c ∷ []))) is
+    (one_more link.found link.found.version slot.serial (vars_begun serial cs) c slot.ring (entry_is slot c link.found link.present link) (rings_begin serial cs chain.1 link.found link.present))
+  where
+    committed_is : (c : Commit) (o : Option Present) (q p : Present) → o ≡ Some q → with_vars c.after o ≡ Some p → with_after q c ≡ p
+    committed_is c None q p is e = absurd (cc)
+    committed_is c (Some r) q p is e = let same : r ≡ q = cc in let left : with_after r c ≡ p = cc in subst (λ (x : Present). with_after x c ≡ p) same left
+rings_begin serial (Removed ∷ cs) chain p e = absurd (cc)
+
+pub zeros_begin : (serial : ℕ) (later earlier : List Change) (p : Program) → AllCommits later → vars_begun serial (later ++ (Installed p Zeros ∷ earlier)) ≡ replicate p.vars_size 0
+zeros_begin serial [] earlier p all = refl
+zeros_begin serial (Committed c ∷ later) earlier p all = zeros_begin serial later earlier p all
+zeros_begin serial (Installed q v ∷ later) earlier p all = absurd all
+zeros_begin serial (Removed ∷ later) earlier p all = absurd all
+
+-- a commit that writes is a link at the slot's state.
 commit_link : (slot : Slot) (t : Ticket) → wants t ≡ true → IsCurrent t slot → IsLink slot (commit_of t)
 commit_link slot t w current =
     let post = wants_post t.request.method (code_class (meaning_at t).code == 2) w in
@@ -169,7 +190,7 @@ commit_link slot t w current =
     wants_post Get b e = absurd (cc)
     wants_post Post b e = (refl, e)
 
--- what a commit leaves is a ring again
+-- a commit leaves a ring.
 ring_by : (t : Ticket) (slot : Slot) (v : ObserverList) (o : CommitOutcome) → ComesTo t slot o → IsRecord slot → IsRecord (after_changes slot (commits o t slot.serial v).changes)
 ring_by t slot v Writes w h = record_committed slot (commit_of t) (commit_link slot t w.0 w.1) h
 ring_by t slot v Keeps w h = h
@@ -185,12 +206,12 @@ ring_kept ran t slot v (Done m) after w h = own_kept ran t slot v (Done m) after
 ring_kept ran t slot v Overtaken after w h = own_kept ran t slot v Overtaken after w h
 ring_kept ran t slot v Ended after w h = own_kept ran t slot v Ended after w h
 
-put_ring_by : (slot : Slot) (p : Program) (b : Bool) → IsRecord slot → IsRecord (after_changes slot (put_by b slot p).changes)
-put_ring_by slot p true h = ring_record (changed slot (Installed p)) (ring_installed slot p)
-put_ring_by slot p false h = h
+put_ring_by : (slot : Slot) (p : Program) (v : InitialVars) (b : Bool) → IsRecord slot → IsRecord (after_changes slot (put_by b slot p v).changes)
+put_ring_by slot p v true h = ring_record (changed slot (Installed p v)) (ring_installed slot p v)
+put_ring_by slot p v false h = h
 
-pub ring_put : (slot : Slot) (p : Program) → IsRecord slot → IsRecord (after_changes slot (install_in slot p).changes)
-ring_put slot p h = put_ring_by slot p (nat_lt slot.serial last_serial) h
+pub ring_put : (slot : Slot) (p : Program) (v : InitialVars) → IsRecord slot → IsRecord (after_changes slot (install_in slot p v).changes)
+ring_put slot p v h = put_ring_by slot p v (nat_lt slot.serial last_serial) h
 
 clear_ring_by : (slot : Slot) (b : Bool) (p : Option Present) → IsRecord slot → IsRecord (after_changes slot (clear_by b slot.serial p).changes)
 clear_ring_by slot b None h = h
@@ -200,21 +221,21 @@ clear_ring_by slot false (Some p) h = h
 pub ring_clear : (slot : Slot) → IsRecord slot → IsRecord (after_changes slot (remove_from slot).changes)
 ring_clear slot h = clear_ring_by slot (nat_lt slot.serial last_serial) slot.present h
 
--- each slot of a list, after one of them was written
+-- each slot of a list, after one of them was written.
 pub all_written : (items : List SlotState) (k : ℕ) (t : SlotState) → All (λ x. IsRecord (as_seen x)) items → IsRecord (as_seen t) → All (λ x. IsRecord (as_seen x)) (set items k t)
 all_written items k t all here = λ j d lt. ⊎_elim
     (λ (e : j ≡ k). let low : k < length items = omega (arith, e, lt, length-set items k t) in subst (λ (i : ℕ). IsRecord (as_seen (get_or (set items k t) i d))) (sym e) (subst (λ (x : SlotState). IsRecord (as_seen x)) (sym (get_or-set_same items k t d low)) here))
     (λ (ne : j ≡ k → ⊥). subst (λ (x : SlotState). IsRecord (as_seen x)) (sym (get_or-set_other items k j t d ne)) (all j d (omega (arith, lt, length-set items k t))))
     (cases_eq j k)
 
--- slots that are seen as new ones
+-- slots with the view of new ones.
 pub all_new : (items : List SlotState) (n serial : ℕ) → map as_seen items ≡ replicate n (new_slot serial) → All (λ x. IsRecord (as_seen x)) items
 all_new items n serial is = λ j d lt.
     let count : n ≡ length items = sym (sym (length-map items as_seen) ∙ (ap length is ∙ length-replicate n (new_slot serial))) in
     let one : as_seen (get_or items j d) ≡ new_slot serial = sym (get_or-map as_seen items j d (new_slot serial) lt) ∙ (ap (λ (xs : List Slot). get_or xs j (new_slot serial)) is ∙ get_or-replicate n j (new_slot serial) (new_slot serial) (omega (arith, lt, count))) in
     subst IsRecord (sym one) refl
 
--- the state of a slot that was read, and then written at its place
+-- the state of a slot that was read, and then written at its place.
 pub written_rings : (items : List SlotState) (k : ℕ) (was now : SlotState) → (length items ≡ 8) × All (λ x. IsRecord (as_seen x)) items → k < 8 → was ≡ get_or items k was → (IsRecord (as_seen was) → IsRecord (as_seen now)) → (length (set items k now) ≡ 8) × All (λ x. IsRecord (as_seen x)) (set items k now)
 written_rings items k was now inv lt is keeps =
     let eight = inv.0 in
@@ -227,25 +248,23 @@ all_seen (x ∷ xs) k all lt = subst IsRecord (sym (get_or-map as_seen (x ∷ xs
 
 -- ---- restoring
 
--- a restored program begins a new ring
+-- a restored program begins a new ring.
 pub restored_ring : (serial : ℕ) (b : Body) (k : StoredProgram) → IsProgramState serial k b.program.value → b.version ≡ k.version → b.vars ≡ k.vars → HasRecordIf serial (present_of (Some b)) []
 restored_ring serial b k is version vars =
-    let low = is.0 in (
-      serial,
-      b.vars,
-      record {
-        version = omega (arith, version, low);
-        reached = omega arith;
-        size = omega arith;
-        found = b.vars;
-        entries = tt;
-        vars = refl;
-        begins = λ q. refl;
-      },
-      λ (e : serial ≡ b.version). vars ∙ is.2 (sym (e ∙ version)),
-    )
+    let low = is.1 in
+    let ring : HasRingSince serial serial b.vars (record { program = b.program.value; version = b.version; vars = b.vars }) [] =
+    record {
+      version = omega (arith, version, low);
+      reached = omega arith;
+      size = omega arith;
+      found = b.vars;
+      entries = tt;
+      vars = refl;
+      begins = λ q. refl;
+    } in
+    (serial, (b.vars, ring, ap (λ (xs : List ℕ). length xs) vars ∙ is.2))
 
--- a slot that is restored, or else as it was
+-- a slot that is restored, or else unchanged.
 pub record_either : {X E : Type 0} (r : Result X E) (was now : SlotState) → OnOk r (IsRecord (as_seen now)) → OnErr r (now ≡ was) → IsRecord (as_seen was) → IsRecord (as_seen now)
 record_either (Ok x) was now is same h = is
 record_either (Err e) was now is same h = subst (λ (s : SlotState). IsRecord (as_seen s)) (sym same) h

@@ -1,4 +1,4 @@
--- Nobody observes a slot of a shard that isn't watched.
+-- No slot of a shard that isn't watched has an observer.
 use Rattle.std.proofs.Common.{◌≡◌, ℕ, zero, suc, ◌+◌, ◌<◌, List, [], ◌∷◌, ◌++◌, length, map, set, get_or, Bool, true, false, Option, Some, None, refl, sym, ap, ◌∙◌, subst, ⊎_elim}
 use Rattle.std.specs.Prelude.{◌&&◌, ◌||◌, find, if◌then◌else◌, is_none, is_some, max, nat_lt, not}
 use Rattle.std.specs.List.{list_any}
@@ -18,7 +18,7 @@ use Rattle.fc_registry.specs.Slots.{Present, Shard, Ticket}
 use Rattle.fc_registry.specs.Watches.{AreWatched, has_due, has_late, is_quiet, noticed_at, place_from, signal_call, watch_at}
 use Rattle.fc_registry.proofs.Ahead.{mapped_at}
 
--- ---- calls that enter nobody
+-- ---- calls that register no observer
 
 missed_enters : (out : Bool) (turn : Turn) (present : Option Present) (at : ℕ) → EnterNone (miss_calls out turn present ++ Advance at ∷ [])
 missed_enters true turn None at = (tt, (tt, tt))
@@ -42,7 +42,7 @@ signal_enters false to id = tt
 
 -- ---- places
 
--- the observers at a place are others, which are none where there were none
+-- the observers at a place are replaced, by none if there were none.
 pub watched_there : (b : Bool) (ws : List ObserverList) (k : ℕ) (was w : ObserverList) → k < length ws → was ≡ get_or ws k was → (was.held ≡ [] →
     w.held ≡ []) → AreWatched b ws → AreWatched b (set ws k w)
 watched_there true ws k was w lt is keeps none = tt
@@ -58,14 +58,14 @@ pub true_of_not : (b : Bool) → not b ≡ false → b ≡ true
 true_of_not true is = refl
 true_of_not false is = absurd (cc is)
 
--- the same, where it is seen whether they are none
+-- the same, if it is known whether there are none.
 pub watched_if : (b some : Bool) (ws : List ObserverList) (k : ℕ) (was w : ObserverList) → k < length ws → was ≡ get_or ws k was → (some ≡ false →
     w.held ≡ []) → AreWatched b ws → AreWatched (b || some) (set ws k w)
 watched_if true some ws k was w lt is seen none = tt
 watched_if false true ws k was w lt is seen none = tt
 watched_if false false ws k was w lt is seen none = watched_there false ws k was w lt is (λ old. seen refl) none
 
--- a signal to the observers at each
+-- a signal to the observers at each place.
 pub watched_everywhere : (b reset : Bool) (to : Endpoint) (id : ℕ) (ws : List ObserverList) → AreWatched b ws →
     AreWatched b (map (observers_after (signal_call reset to id)) ws)
 watched_everywhere true reset to id ws none = tt
@@ -73,7 +73,7 @@ watched_everywhere false reset to id ws none = λ k.
     let c = signal_call reset to id in
     mapped_at (observers_after c) (λ (w : ObserverList). w.held ≡ []) ws k (λ w. stays_empty c w (signal_enters reset to id)) refl (none k)
 
--- ---- a shard that isn't watched is quiet
+-- ---- a shard that isn't watched is idle
 
 nowhere : (p : ℕ → Bool) (n k : ℕ) → ((j : ℕ) → p j ≡ false) → place_from p n k ≡ None
 nowhere p zero k none = refl

@@ -1,4 +1,5 @@
--- What the calls of a shard answer, and what they change. Each call is decided by one function of the slot that it finds.
+-- The results of a shard's calls, and the changes that they make. Each call is decided by one
+-- function of the slot that it finds.
 use Rattle.std.specs.Prelude.{◌≡◌, ℕ, ◌+◌, ◌/◌, ◌==◌, ◌&&◌, ◌<◌, ◌≤◌, Bool, true, false, if◌then◌else◌, nat_lt, List, [], ◌∷◌, ◌++◌, Option, Some, None, is_none, is_some, max}
 use Rattle.coap_msg.specs.Codes.{code}
 use Rattle.coap_opts.specs.Values.{Place}
@@ -14,8 +15,10 @@ use Rattle.fc_observe.specs.Calls.{ObserverCall, Advance, Cancel, Miss, Register
 use Rattle.fc_observe.specs.Observers.{ObserverList, at_moment, entry_out, registration}
 use Rattle.fc_registry.specs.declared.observe.TheConstants as observe
 use Rattle.fc_registry.specs.declared.job.Ask.{Ask}
-use Rattle.fc_registry.specs.declared.job.Ask.TheVariants.{Run}
+use Rattle.fc_registry.specs.declared.job.Ask.TheVariants.{Run, Install}
 use Rattle.fc_registry.specs.declared.job.Job.{Job}
+use Rattle.fc_registry.specs.declared.job.InitialVars.{InitialVars}
+use Rattle.fc_registry.specs.declared.job.InitialVars.TheVariants.{Zeros}
 use Rattle.fc_registry.specs.Taken.{Taken}
 use Rattle.fc_registry.specs.Taken.{Given, Missing, Stale, Refused}
 use Rattle.fc_registry.specs.declared.shard.Made.{Made}
@@ -32,237 +35,263 @@ use Rattle.fc_registry.specs.Changes.{Change, Installed, Committed as Wrote, Rem
 use Rattle.fc_registry.specs.Record.{code_class}
 use Rattle.fc_registry.specs.Watches.{watch_at, with_calls}
 
--- ---- take
+-- ---- snapshots
 
--- the request that a job asks a program to answer; a job that asks for no run has an empty one
+-- the request that a job asks a program to answer; a job that requests no run has an empty one.
 abbrev pub request_of : Ask → Request
 request_of (Run request) = request
 request_of other = no_request
 
--- a ticket of what a slot holds at a serial, with the readings that are handed in
+-- a ticket of a slot's contents at a serial, with the readings passed to the snapshot.
 abbrev pub ticket_of : Job → List ℕ → ℕ → Present → Ticket
 ticket_of job readings serial found = record { origin = job.origin; turn = job.turn; token = job.token; request = request_of job.ask; block = job.block; observe = job.observe; serial = serial; found = found; readings = readings }
 
--- the readings that a ticket is to keep, where there is memory for one
+-- the readings that a ticket keeps, if there is memory for one.
 abbrev pub readings_if : Bool → List ℕ → Option (List ℕ)
 readings_if true readings = Some readings
 readings_if false readings = None
 
--- a taking gives a ticket of what the slot holds, where there is memory for it; an empty slot asks for none
+-- a snapshot gives a ticket of the slot's contents, if there is memory for it; an empty slot needs
+-- no memory.
 abbrev pub taking : Option (List ℕ) → Job → ℕ → Option Present → Taken
 taking kept job serial None = Missing
 taking (Some readings) job serial (Some found) = Given (ticket_of job readings serial found)
 taking None job serial (Some found) = Refused
 
--- the turn of this number of the observers of a job's slot
+-- the lease with this number of the observers of a job's slot.
 abbrev pub turn_of : Job → ℕ → Turn
 turn_of job number = record { slot = job.origin.slot; number = number }
 
--- a turn that is out no longer is stale, whatever the slot holds
+-- the snapshot of a lease that isn't active is stale, whatever the slot's contents.
 abbrev pub turn_taking : Bool → Option (List ℕ) → Job → ℕ → Option Present → Taken
 turn_taking true kept job serial present = taking kept job serial present
 turn_taking false kept job serial present = Stale
 
--- one that is out and finds the slot empty is missing
+-- an active lease whose snapshot finds the slot empty is marked as missing.
 abbrev pub miss_calls : Bool → Turn → Option Present → List ObserverCall
 miss_calls true turn None = Miss turn ∷ []
 miss_calls out turn present = []
 
--- the turn is out at a moment
+-- the lease is active at a time.
 abbrev pub is_out_at : Turn → ℕ → ObserverList → Bool
 is_out_at turn at w = is_some (entry_out turn (at_moment at w))
 
--- what a turn's taking calls, the newest first
+-- the calls of a lease's snapshot on the observers, the newest first.
 abbrev pub turn_calls : Turn → ℕ → Option Present → ObserverList → List ObserverCall
 turn_calls turn at present w = miss_calls (is_out_at turn at w) turn present ++ Advance at ∷ []
 
--- what a request's job takes, or that of the turn of a number, of a slot with these observers, at a moment
+-- the snapshot of a slot with these observers, at a time: a request's, or that of the lease with a
+-- number.
 abbrev pub taking_by : Option ℕ → Option (List ℕ) → Job → Slot → ℕ → ObserverList → Taken
 taking_by None kept job slot at w = taking kept job slot.serial slot.present
 taking_by (Some number) kept job slot at w = turn_taking (is_out_at (turn_of job number) at w) kept job slot.serial slot.present
 
--- what it calls on them, the newest first
+-- its calls on the observers, the newest first.
 abbrev pub taking_calls_by : Option ℕ → Job → Slot → ℕ → ObserverList → List ObserverCall
 taking_calls_by None job slot at w = []
 taking_calls_by (Some number) job slot at w = turn_calls (turn_of job number) at slot.present w
 
+-- the snapshot of a job.
 abbrev pub taking_at : Option (List ℕ) → Job → Slot → ℕ → ObserverList → Taken
 taking_at kept job slot at w = taking_by job.turn kept job slot at w
 
+-- the calls of a job's snapshot on the observers, the newest first.
 abbrev pub taking_calls : Job → Slot → ℕ → ObserverList → List ObserverCall
 taking_calls job slot at w = taking_calls_by job.turn job slot at w
 
--- memory was there, or it was refused
+-- a job's snapshot of a slot: there was memory, or it was refused.
 abbrev pub IsFinding : Job → List ℕ → Slot → Taken → Type 0
 IsFinding job readings slot taken = (memory : Bool) × (taken ≡ taking (readings_if memory readings) job slot.serial slot.present)
 
+-- the same for a lease, which is stale if it isn't active.
 abbrev pub IsTurnTaking : Turn → ℕ → ObserverList → Job → List ℕ → Slot → Taken → Type 0
 IsTurnTaking turn at w job readings slot taken = (memory : Bool) × (taken ≡ turn_taking (is_out_at turn at w) (readings_if memory readings) job slot.serial slot.present)
 
+-- the same for the job of a request or of a lease.
 abbrev pub IsTaking : Job → List ℕ → Slot → ℕ → ObserverList → Taken → Type 0
 IsTaking job readings slot at w taken = (memory : Bool) × (taken ≡ taking_at (readings_if memory readings) job slot at w)
 
--- a taking at a shard, with these readings: of the job's slot and its observers
+-- a snapshot at a shard, with these readings: of the job's slot and its observers.
 abbrev pub TakesAt : Job → List ℕ → Shard → Taken → Type 0
 TakesAt job readings shard taken = IsTaking job readings (slot_in shard job.origin.slot) shard.now (watch_at shard (job.origin.slot / 8)) taken
 
--- the shard after it
+-- the shard after it.
 abbrev pub after_taking : Job → Shard → Shard
 after_taking job shard = with_calls (taking_calls job (slot_in shard job.origin.slot) shard.now (watch_at shard (job.origin.slot / 8))) job.origin.slot shard
 
--- what a call answers, and what it changes
+-- the result of a call, and the changes that it makes.
 pub record Called (A : Type 0) : Type 0 where
   pub answer : A
   pub changes : List Change
 
 -- ---- install
 
--- below the last serial it is a change, and tells the new serial and whether the slot was empty
-abbrev pub put_by : Bool → Slot → Program → Called Made
-put_by true slot p = record { answer = Raised (slot.serial + 1) (is_none slot.present); changes = Installed p ∷ [] }
-put_by false slot p = record { answer = AtEnd; changes = [] }
+-- the variables that an install is requested to leave; another job installs nothing.
+abbrev pub initial_vars_of : Ask → InitialVars
+initial_vars_of (Install image initial) = initial
+initial_vars_of other = Zeros
 
-abbrev pub install_in : Slot → Program → Called Made
-install_in slot p = put_by (nat_lt slot.serial last_serial) slot p
+-- below the last serial an install is a change; its result has the new serial, and whether the slot
+-- was empty.
+abbrev pub put_by : Bool → Slot → Program → InitialVars → Called Made
+put_by true slot p initial = record { answer = Raised (slot.serial + 1) (is_none slot.present); changes = Installed p initial ∷ [] }
+put_by false slot p initial = record { answer = AtEnd; changes = [] }
+
+-- the install of a program in a slot.
+abbrev pub install_in : Slot → Program → InitialVars → Called Made
+install_in slot p initial = put_by (nat_lt slot.serial last_serial) slot p initial
 
 -- ---- remove
 
--- below the last serial the removal of a program is a change, and tells the new serial; an empty slot stays as it is
+-- below the last serial the removal of a program is a change, and its result has the new serial; an
+-- empty slot doesn't change.
 abbrev pub clear_by : Bool → ℕ → Option Present → Called Removal
 clear_by below serial None = record { answer = removals.Absent; changes = [] }
 clear_by true serial (Some p) = record { answer = removals.Removed (serial + 1); changes = Removed ∷ [] }
 clear_by false serial (Some p) = record { answer = removals.AtEnd; changes = [] }
 
+-- the removal of a slot's program.
 abbrev pub remove_from : Slot → Called Removal
 remove_from slot = clear_by (nat_lt slot.serial last_serial) slot.serial slot.present
 
 -- ---- receipt
 
--- what is told of a program whose install has this serial
+-- the receipt of a program whose install has this serial.
 abbrev pub receipt_of : Program → ℕ → Receipt
 receipt_of p version = record { version = version; cost = p.cost; budget = p.budget; vars = p.vars_size }
 
+-- the receipt of the program in a slot.
 abbrev pub receipt_at : Option Present → Option Receipt
 receipt_at None = None
 receipt_at (Some p) = Some (receipt_of p.program p.version)
 
--- ---- what a ticket's run means
+-- ---- the meaning of a ticket's run
 
+-- the request is a POST.
 abbrev pub is_post : Method → Bool
 is_post Get = false
 is_post Post = true
 
--- a run that answers a POST with a code of class 2 wants to write
+-- a run that answers a POST with a code of class 2 wants to write.
 abbrev pub wants_by : Ran → Bool
 wants_by ran = is_post ran.input.request.method && (code_class (meaning_of ran).code == 2)
 
--- what a ticket's run is given: its request, the variables that its taking found, and the readings that were handed in there
+-- the input of a ticket's run: its request, and the variables and readings of its snapshot.
 abbrev pub input_of : Ticket → Input
 input_of t = input_with t.request t.found.vars t.readings
 
+-- the run of a ticket.
 abbrev pub run_of : Ticket → Ran
 run_of t = record { program = t.found.program; input = input_of t }
 
+-- the ticket's run wants to write.
 abbrev pub wants : Ticket → Bool
 wants t = wants_by (run_of t)
 
--- what the ticket's program means for its request, and the variables and readings that were found
+-- the meaning of the ticket's program for its request, and for the variables and readings of its
+-- snapshot.
 abbrev pub meaning_at : Ticket → Meaning
 meaning_at t = meaning_of (run_of t)
 
 -- ---- observe
 
--- the option has this value
+-- the option has this value.
 abbrev pub has_observe : ℕ → Option ℕ → Bool
 has_observe value None = false
 has_observe value (Some own) = own == value
 
--- the block that is asked is the first
+-- the requested block is the first.
 abbrev pub is_first_block : Option Place → Bool
 is_first_block None = true
 is_first_block (Some block) = block.number == 0
 
--- the size of the block that is asked, as an exponent
+-- the size of the requested block, as an exponent.
 abbrev pub szx_of : Option Place → Option ℕ
 szx_of None = None
 szx_of (Some block) = Some block.szx
 
--- the client is to be an observer: Observe 0, the first block, and a 2.05 Content (RFC 7641, 4.1)
+-- the client is registered as an observer: Observe 0, the first block, and a 2.05 (Content)
+-- response (RFC 7641, section 4.1).
 abbrev pub is_registration : Ticket → Bool
 is_registration t = has_observe observe.REGISTER t.observe && (is_first_block t.block && ((meaning_at t).code == code 2 5))
 
--- it is to be one no longer: Observe 1, whatever the code (RFC 7641, 3.6)
+-- the client is removed: Observe 1, whatever the code (RFC 7641, section 3.6).
 abbrev pub is_cancellation : Ticket → Bool
 is_cancellation t = has_observe observe.CANCEL t.observe
 
+-- the call of a registration or of a cancellation on the observers, if it is one.
 abbrev pub observe_calls_by : Bool → Bool → ℕ → Ticket → List ObserverCall
 observe_calls_by true cancel now t = Register now t.origin.endpoint t.token t.request (szx_of t.block) t.serial ∷ []
 observe_calls_by false true now t = Cancel t.origin.endpoint t.token.items ∷ []
 observe_calls_by false false now t = []
 
--- what a run that has nothing to write calls on the observers of its slot, at a moment
+-- the calls of a run that has nothing to write on the observers of its slot, at a time.
 abbrev pub observe_calls : ℕ → Ticket → List ObserverCall
 observe_calls now t = observe_calls_by (is_registration t) (is_cancellation t) now t
 
--- the registration is made
+-- the registration is made.
 abbrev pub is_entered : Registered → Bool
 is_entered Full = false
 is_entered other = true
 
--- the client observes the slot from now on, which has these observers
+-- the client observes the slot, which has these observers, from now on.
 abbrev pub is_observed : Ticket → ObserverList → Bool
 is_observed t w = is_registration t && is_entered (registration t.origin.endpoint t.token.items w)
 
 -- ---- commit
 
--- nothing has changed since the ticket was taken
+-- nothing has changed since the ticket's snapshot.
 pub record IsCurrent (t : Ticket) (slot : Slot) : Type 0 where
   pub serial : slot.serial ≡ t.serial
   pub present : slot.present ≡ Some t.found
 
--- what a commit comes to at a slot
+-- the outcome of a commit at a slot.
 abbrev pub ComesTo : Ticket → Slot → CommitOutcome → Type 0
 ComesTo t slot Keeps = wants t ≡ false
 ComesTo t slot Overtakes = (wants t ≡ true) × (IsCurrent t slot → ⊥)
 ComesTo t slot Ends = (wants t ≡ true) × IsCurrent t slot × (last_serial ≤ slot.serial)
 ComesTo t slot Writes = (wants t ≡ true) × IsCurrent t slot × (slot.serial < last_serial)
 
--- the same by serials, which decide where the slot is the one that gave the ticket
+-- the same by serials, which decide if the slot is the one that gave the ticket.
 abbrev pub outcome_by : Bool → Bool → Bool → CommitOutcome
 outcome_by false current below = Keeps
 outcome_by true false below = Overtakes
 outcome_by true true false = Ends
 outcome_by true true true = Writes
 
+-- the outcome by the serials of the ticket and of the slot.
 abbrev pub outcome : Ticket → Slot → CommitOutcome
 outcome t slot = outcome_by (wants t) (slot.serial == t.serial) (nat_lt slot.serial last_serial)
 
--- the slot gave the ticket: its serial has not fallen since, and where it is the ticket's the slot holds what was found
+-- the slot gave the ticket: its serial has not fallen since; if it is the ticket's, the slot holds
+-- the program and the variables that the snapshot found.
 pub record HasGiven (slot : Slot) (t : Ticket) : Type 0 where
   pub serial : t.serial ≤ slot.serial
   pub present : t.serial ≡ slot.serial → slot.present ≡ Some t.found
 
--- the mark is of the ticket's job, at a slot of this serial
+-- the mark of the ticket's job, at a slot of this serial.
 abbrev pub mark_of : Ticket → ℕ → Bool → Bool → Mark
 mark_of t serial changed observed = record { origin = t.origin; found = t.serial; serial = serial; changed = changed; observed = observed }
 
--- a commit that writes leaves just the variables that the run means, and gives its notice
+-- a commit that writes leaves just the variables of the run's meaning, and has its notify flag.
 abbrev pub commit_of : Ticket → Commit
 commit_of t = record { request = t.request; readings = t.readings; before = t.found.vars; after = (meaning_at t).vars; notice = (meaning_at t).notice }
 
--- the commit at a slot of this serial and with these observers
+-- the commit at a slot of this serial and with these observers.
 abbrev pub commits : CommitOutcome → Ticket → ℕ → ObserverList → Called Committed
 commits Writes t serial w = record { answer = Done (mark_of t (serial + 1) true false); changes = Wrote (commit_of t) ∷ [] }
 commits Keeps t serial w = record { answer = Done (mark_of t serial false (is_observed t w)); changes = [] }
 commits Overtakes t serial w = record { answer = Overtaken; changes = [] }
 commits Ends t serial w = record { answer = Ended; changes = [] }
 
--- what it calls on them at a moment: one that is done and changed nothing registers or removes a GET's client
+-- its calls on the observers at a time: one that is done and changed nothing registers or removes a
+-- GET's client.
 abbrev pub commit_calls : Committed → ℕ → Ticket → List ObserverCall
 commit_calls (Done m) now t = if m.changed then [] else observe_calls now t
 commit_calls other now t = []
 
--- the outcome is of the ticket's program, request, variables and readings, and the ticket's serial isn't above the slot's
+-- the outcome is of the ticket's program, request, variables and readings, and the ticket's serial
+-- isn't above the slot's.
 pub record IsRunOf (ran : Ran) (t : Ticket) (serial : ℕ) : Type 0 where
   pub program : ran.program ≡ t.found.program
   pub request : ran.input.request ≡ t.request
@@ -270,36 +299,38 @@ pub record IsRunOf (ran : Ran) (t : Ticket) (serial : ℕ) : Type 0 where
   pub readings : ran.input.readings ≡ t.readings
   pub found : t.serial ≤ serial
 
--- the ticket is no turn's, and the outcome is of it
+-- the ticket is of no lease, and the outcome is of it.
 pub record IsOwn (ran : Ran) (t : Ticket) (slot : Slot) : Type 0 where
   pub asked : t.turn ≡ None
   pub run : IsRunOf ran t slot.serial
 
--- the commit of an outcome that is the ticket's
+-- the commit of an outcome that is the ticket's.
 pub record IsCommitOf (t : Ticket) (slot : Slot) (w : ObserverList) (c : Committed) (after : Slot) : Type 0 where
   pub comes_to : CommitOutcome
   pub is : ComesTo t slot comes_to
   pub answer : c ≡ (commits comes_to t slot.serial w).answer
   pub after_is : after ≡ after_changes slot (commits comes_to t slot.serial w).changes
 
--- The commit of a run would write: the run is the ticket's, wants to, and finds its slot as the taking did, below the last serial.
+-- the commit of a run would write: the run is the ticket's and wants to write, and its slot is as
+-- the snapshot found it, below the last serial.
 abbrev pub WouldWrite : Ran → Ticket → Slot → Type 0
 WouldWrite ran t slot = (wants_by ran ≡ true) × IsOwn ran t slot × ComesTo t slot Writes
 
--- an outcome that isn't the ticket's changes nothing
+-- an outcome that isn't the ticket's changes nothing.
 pub record IsStranger (ran : Ran) (t : Ticket) (slot : Slot) (after : Slot) : Type 0 where
   pub stranger : IsOwn ran t slot → ⊥
   pub after_is : after ≡ slot
 
+-- an outcome that is the ticket's, and its commit.
 abbrev pub IsOwnCommit : Ran → Ticket → Slot → ObserverList → Committed → Slot → Type 0
 IsOwnCommit ran t slot w c after = IsOwn ran t slot × IsCommitOf t slot w c after
 
--- what a commit answers at a slot with these observers, and what it leaves there
+-- the result of a commit at a slot with these observers, and the slot after it.
 abbrev pub IsCommit : Ran → Ticket → Slot → ObserverList → Committed → Slot → Type 0
 IsCommit ran t slot w Stranger after = IsStranger ran t slot after
 IsCommit ran t slot w c after = IsOwnCommit ran t slot w c after
 
--- a commit at a moment, to the ticket's slot and its observers alone
+-- a commit at a time, to the ticket's slot and its observers alone.
 pub record CommitsTo (ran : Ran) (t : Ticket) (old : Shard) (now : ℕ) (c : Committed) (new : Shard) : Type 0 where
   pub after : Slot
   pub commit : IsCommit ran t (slot_in old t.origin.slot) (watch_at old (t.origin.slot / 8)) c after

@@ -1,12 +1,15 @@
--- What changes a slot, and what a slot is after its changes.
-use Rattle.std.specs.Prelude.{ℕ, ◌+◌, Bool, true, if◌then◌else◌, List, [], ◌∷◌, ◌++◌, Option, Some, None, replicate}
+-- The changes of a slot, and the slot after its changes.
+use Rattle.std.specs.Prelude.{ℕ, ◌+◌, ◌==◌, Bool, true, if◌then◌else◌, List, [], ◌∷◌, ◌++◌, length, Option, Some, None, replicate}
 use Rattle.fc_help.specs.Request.{Request}
 use Rattle.fc_kinds.specs.Meaning.{Program}
 use Rattle.circular_buffer.specs.Buffer.{keep_last}
+use Rattle.fc_registry.specs.declared.job.InitialVars.{InitialVars}
+use Rattle.fc_registry.specs.declared.job.InitialVars.TheVariants.{Zeros, Kept}
 use Rattle.fc_registry.specs.declared.ring.Entry.{Entry}
-use Rattle.fc_registry.specs.Slots.{Slot, Present}
+use Rattle.fc_registry.specs.Slots.{Slot, Present, vars_in}
 
--- a commit: the request that it answered, the readings of its taking, the variables that it found and left, and whether the run gave a notice
+-- a commit: the request that it answered, the readings of its snapshot, the variables that it found
+-- and left, and whether the run set the notify flag.
 pub record Commit : Type 0 where
   pub request : Request
   pub readings : List ℕ
@@ -14,33 +17,46 @@ pub record Commit : Type 0 where
   pub after : List ℕ
   pub notice : Bool
 
--- an install of an accepted image, a commit of a POST, or a removal of a present program
+-- an install of an accepted image and the variables that it leaves, a commit of a POST, or a
+-- removal of a present program.
 pub data Change : Type 0 where
-  Installed : (program : Program) → Change
+  Installed : (program : Program) (initial : InitialVars) → Change
   Committed : (commit : Commit) → Change
   Removed : Change
 
--- a commit as the slot remembers it
+-- the entry of a commit in the slot's ring.
 abbrev pub entry_of : ℕ → Commit → Entry
 entry_of serial commit = record { serial = serial; request = commit.request; readings = commit.readings; before = commit.before; after = commit.after }
 
+-- the program that is present, if there is one, with these variables.
 abbrev pub with_vars : List ℕ → Option Present → Option Present
 with_vars vars None = None
 with_vars vars (Some p) = Some (record p { vars = vars })
 
--- observers are told of an install, of a removal, and of a commit whose run gave a notice
+-- observers are notified of an install, of a removal, and of a commit whose run set the notify
+-- flag.
 abbrev pub is_noticed : Change → Bool
-is_noticed (Installed program) = true
+is_noticed (Installed program initial) = true
 is_noticed (Committed commit) = commit.notice
 is_noticed Removed = true
 
--- each change raises the serial by one; an install sets the variables to zeros, a commit to what it left
+-- a program's variables after its install over these: zeros, or the same bytes if they are kept and
+-- have the program's size.
+abbrev pub vars_installed : InitialVars → Program → List ℕ → List ℕ
+vars_installed Zeros program before = replicate program.vars_size 0
+vars_installed Kept program before = if length before == program.vars_size then before else replicate program.vars_size 0
+
+-- the program that an install leaves in a slot.
+abbrev pub installed : Slot → Program → InitialVars → Present
+installed slot program initial = record { program = program; version = slot.serial + 1; vars = vars_installed initial program (vars_in slot.present) }
+
+-- each change raises the serial by one; a commit sets the variables to those that it left.
 abbrev pub changed : Slot → Change → Slot
-changed slot (Installed program) = record { serial = slot.serial + 1; noticed = slot.serial + 1; present = Some (record { program = program; version = slot.serial + 1; vars = replicate program.vars_size 0 }); ring = [] }
+changed slot (Installed program initial) = record { serial = slot.serial + 1; noticed = slot.serial + 1; present = Some (installed slot program initial); ring = [] }
 changed slot (Committed commit) = record { serial = slot.serial + 1; noticed = if commit.notice then slot.serial + 1 else slot.noticed; present = with_vars commit.after slot.present; ring = keep_last 8 (slot.ring ++ entry_of (slot.serial + 1) commit ∷ []) }
 changed slot Removed = record { serial = slot.serial + 1; noticed = slot.serial + 1; present = None; ring = [] }
 
--- the slot that these changes leave of another, the newest first
+-- the slot that these changes, the newest first, leave of another.
 abbrev pub after_changes : Slot → List Change → Slot
 after_changes slot [] = slot
 after_changes slot (c ∷ cs) = changed (after_changes slot cs) c

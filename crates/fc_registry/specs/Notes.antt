@@ -1,4 +1,5 @@
--- Notifications (RFC 7641, 4.2): what a turn tells its observer, and how it ends.
+-- Notifications (RFC 7641, section 4.2): the message to a lease's observer, and the end of the
+-- lease.
 use Rattle.std.specs.Prelude.{◌≡◌, ℕ, ◌==◌, ◌/◌, Bool, true, false, if◌then◌else◌, List, [], ◌∷◌, ◌++◌, Option, Some, None, is_some, max}
 use Rattle.std.specs.Option.{option_map}
 use Rattle.arrayvec.specs.ArrayVec.{ArrayVec}
@@ -23,116 +24,121 @@ use Rattle.fc_registry.specs.Calls.{IsRunOf, meaning_at}
 use Rattle.fc_registry.specs.Slots.{Shard, Ticket, slot_in}
 use Rattle.fc_registry.specs.Watches.{at_time, watch_at, with_calls}
 
--- ---- what is told
+-- ---- the content
 
--- the ticket whose run is told; none where the slot was found empty
+-- the ticket of the notified run; none if the slot was found empty.
 abbrev pub ticket_told : Notification → Option Ticket
 ticket_told (tells.Ran outcome ticket) = Some ticket.now
 ticket_told tells.Gone = None
 
--- a run's answer, with the serial found as its sequence number, cut as its request asks; 4.04 of an empty slot
+-- a run's response, with the snapshot's serial as its sequence number, and the block that its
+-- request asks for; 4.04 for an empty slot.
 abbrev pub note_response : Option Ticket → Response
 note_response None = bare (code 4 4)
 note_response (Some t) = ran_response (meaning_at t).code (cut_for t.block (meaning_at t).reply) t.serial true
 
--- only a 2.05 Content leaves the observer in the list
+-- only a 2.05 (Content) response leaves the observer in the list.
 abbrev pub keeps_observer : Option Ticket → Bool
 keeps_observer None = false
 keeps_observer (Some t) = (meaning_at t).code == code 2 5
 
--- ---- to whom
+-- ---- the observer
 
--- the observer whose turn is out. Of an empty slot it is told only where the taking of the turn found it so
+-- the observer with an active lease. It is notified of an empty slot only if the lease's snapshot
+-- found the slot empty.
 abbrev pub observer_told : Option Ticket → Turn → ObserverList → Option Interest
 observer_told None turn w = if is_missing turn w then option_map interest_of (entry_out turn w) else None
 observer_told (Some t) turn w = option_map interest_of (entry_out turn w)
 
--- a notification is confirmable or not (RFC 7641, 4.5)
+-- a notification is confirmable or not (RFC 7641, section 4.5).
 abbrev pub note_kind : Bool → MessageType
 note_kind true = Confirmable
 note_kind false = NonConfirmable
 
--- by a message id, and the token of the observer's registration
+-- its header, with a message ID, and the token of the observer's registration.
 abbrev pub note_envelope : ℕ → Bool → Interest → Envelope
 note_envelope id confirmable o = record { to = o.endpoint; kind = note_kind confirmable; id = id; token = o.token.items }
 
+-- the notification of an observer.
 abbrev pub note_to : ℕ → Bool → Option Ticket → Interest → Emission
 note_to id confirmable found o = sent_in (note_envelope id confirmable o) (note_response found)
 
--- that of a turn, if it may be told, where the observers were handed the moment
+-- the notification of a lease, if it may be notified, once the observers have the time.
 abbrev pub note_in : Turn → ℕ → Option Ticket → ObserverList → Option Emission
 note_in turn id found w = option_map (note_to id (must_confirm_turn turn w) found) (observer_told found turn w)
 
--- at a moment
+-- the same, at a time.
 abbrev pub note_at : Turn → ℕ → ℕ → Option Ticket → ObserverList → Option Emission
 note_at turn id at found w = note_in turn id found (at_moment at w)
 
--- ---- how the turn ends
+-- ---- the end of the lease
 
--- the serial that an observer was sent
+-- the serial that an observer was sent.
 abbrev pub serial_told : Option Ticket → ℕ
 serial_told None = 0
 serial_told (Some t) = t.serial
 
--- a notification of these bytes ends its turn; where the answer isn't a 2.05 Content, its observer is removed
+-- a notification with these bytes ends its lease; if the response isn't 2.05 (Content), the
+-- observer is removed.
 abbrev pub told_call : Bool → Turn → ℕ → ℕ → ℕ → ℕ → ArrayVec ℕ → ObserverCall
 told_call true turn id random at serial bytes = Notify at turn id serial random bytes
 told_call false turn id random at serial bytes = End turn
 
--- by what is sent at a moment, if anything is
+-- the same for a message that is sent at a time, if one is.
 abbrev pub told_calls : Turn → ℕ → ℕ → ℕ → Option Ticket → Option Emission → List ObserverCall
 told_calls turn id random at found None = []
 told_calls turn id random at found (Some e) = told_call (keeps_observer found) turn id random at (serial_told found) e.bytes ∷ []
 
--- what it calls on the observers, the newest first
+-- the calls of a notification on the observers, the newest first.
 abbrev pub note_calls : Turn → ℕ → ℕ → ℕ → Option Ticket → Option Emission → List ObserverCall
 note_calls turn id random at found sent = told_calls turn id random at found sent ++ Advance at ∷ []
 
--- ---- what becomes of it
+-- ---- the result
 
--- what is sent, if anything is
+-- the message that is sent, if one is.
 abbrev pub sent_of : Noted → Option Emission
 sent_of (Send emission) = Some emission
 sent_of other = None
 
--- what becomes of a notification whose emission was written over another
+-- the result of a notification whose message was written over another.
 abbrev pub noted_as : NoteOutcome → Emission → Noted
 noted_as outcomes.Sent emission = Send emission
 noted_as outcomes.Stale emission = Stale
 noted_as outcomes.Stranger emission = Stranger
 
--- one that isn't sent leaves that as it was
+-- a notification that isn't sent leaves that message unchanged.
 abbrev pub IsKeptUnlessSent : NoteOutcome → Emission → Emission → Type 0
 IsKeptUnlessSent outcomes.Sent old new = Unit {0}
 IsKeptUnlessSent other old new = new ≡ old
 
--- the ticket is this turn's, and the outcome is of it, where the slot is at this serial
+-- the ticket is this lease's, and the outcome is of it, at this serial of the slot.
 pub record IsRunOfTurn (turn : Turn) (ran : Ran) (t : Ticket) (serial : ℕ) : Type 0 where
   pub slot : t.origin.slot ≡ turn.slot
   pub number : t.turn ≡ Some turn.number
   pub run : IsRunOf ran t serial
 
--- what is told is the turn's own
+-- the notification belongs to the lease.
 abbrev pub IsOfTurn : Turn → ℕ → Notification → Type 0
 IsOfTurn turn serial (tells.Ran outcome ticket) = IsRunOfTurn turn outcome.now ticket.now serial
 IsOfTurn turn serial tells.Gone = Unit {0}
 
--- it is no stranger
+-- it isn't a stranger.
 abbrev pub IsSentOrStale : Noted → Type 0
 IsSentOrStale Stranger = ⊥
 IsSentOrStale other = Unit {0}
 
--- first whether the turn may be told, then whether what is told is its own; where the observers were handed the moment
+-- first whether the lease may be notified, then whether the notification belongs to it; once the
+-- observers have the time.
 abbrev pub IsNotedIn : Notification → Turn → ℕ → ℕ → ObserverList → Noted → Type 0
 IsNotedIn told turn id serial w Stale = observer_told (ticket_told told) turn w ≡ None
 IsNotedIn told turn id serial w Stranger = (is_some (observer_told (ticket_told told) turn w) ≡ true) × (IsOfTurn turn serial told → ⊥)
 IsNotedIn told turn id serial w (Send emission) = IsOfTurn turn serial told × (Some emission ≡ note_in turn id (ticket_told told) w)
 
--- at a moment
+-- the same, at a time.
 abbrev pub IsNoted : Notification → Turn → ℕ → ℕ → ℕ → ObserverList → Noted → Type 0
 IsNoted told turn id at serial w noted = IsNotedIn told turn id serial (at_moment at w) noted
 
--- a notification at a moment, to the turn's slot's observers alone
+-- a notification at a time, of the observers of the lease's slot alone.
 pub record NotesTo (told : Notification) (turn : Turn) (id random : ℕ) (old : Shard) (now : ℕ) (noted : Noted) (new : Shard) : Type 0 where
   pub is : IsNoted told turn id (max old.now now) (slot_in old turn.slot).serial (watch_at old (turn.slot / 8)) noted
   pub after : new ≡ with_calls (note_calls turn id random (max old.now now) (ticket_told told) (sent_of noted)) turn.slot (at_time old now)

@@ -1,17 +1,17 @@
 -- The record of a slot's commits, and the chain that it keeps.
-use Rattle.std.specs.Prelude.{◌≡◌, ℕ, ◌+◌, ◌-◌, ◌/◌, ◌≤◌, min, List, [], ◌∷◌, length, replicate, Option, Some, None}
+use Rattle.std.specs.Prelude.{◌≡◌, ℕ, ◌+◌, ◌-◌, ◌/◌, ◌≤◌, min, List, [], ◌∷◌, length, Option, Some, None}
 use Rattle.fc_help.specs.declared.request.Method.TheVariants.{Post}
 use Rattle.fc_kinds.specs.Meaning.{Program, input_with, meant}
 use Rattle.fc_registry.specs.declared.ring.Entry.{Entry}
 use Rattle.fc_registry.specs.Slots.{Slot, Present}
 use Rattle.fc_registry.specs.Changes.{Change, Installed, Committed, Removed, Commit, after_changes}
 
--- the class of a code: its upper three bits (RFC 7252, 3)
+-- the class of a code: its upper three bits (RFC 7252, section 3).
 abbrev pub code_class : ℕ → ℕ
 code_class code = code / 32
 
--- a commit found the program and the variables that the slot then held, and left just what the program means there, with its
--- notice: it answered a POST, with a code of class 2
+-- a commit found the program and the variables that the slot then held, and left just the variables
+-- that the program means there, with its notify flag. It answered a POST, with a code of class 2.
 pub record IsLink (slot : Slot) (c : Commit) : Type 0 where
   pub found : Present
   pub present : slot.present ≡ Some found
@@ -21,15 +21,17 @@ pub record IsLink (slot : Slot) (c : Commit) : Type 0 where
   pub post : c.request.method ≡ Post
   pub class : code_class (meant found.program (input_with c.request found.vars c.readings)).code ≡ 2
 
--- each commit in a list of changes, the newest first, is a link: it begins with what the changes before it left
+-- each commit in a list of changes, the newest first, is a link: it begins with the state that the
+-- changes before it left.
 abbrev pub IsChain : Slot → List Change → Type 0
 IsChain first [] = Unit {0}
 IsChain first (Committed c ∷ cs) = IsLink (after_changes first cs) c × IsChain first cs
-IsChain first (Installed p ∷ cs) = IsChain first cs
+IsChain first (Installed p initial ∷ cs) = IsChain first cs
 IsChain first (Removed ∷ cs) = IsChain first cs
 
--- an entry of the ring of a slot with this program: it is of this serial, begins with these variables, and left just what the
--- program means there; it answered a POST, with a code of class 2
+-- an entry of the ring of a slot with this program: it is of this serial, begins with these
+-- variables, and left just the variables that the program means there. It answered a POST, with a
+-- code of class 2.
 pub record IsEntry (p : Program) (serial : ℕ) (vars : List ℕ) (e : Entry) : Type 0 where
   pub serial_is : e.serial ≡ serial
   pub before : e.before ≡ vars
@@ -37,34 +39,19 @@ pub record IsEntry (p : Program) (serial : ℕ) (vars : List ℕ) (e : Entry) : 
   pub post : e.request.method ≡ Post
   pub class : code_class (meant p (input_with e.request vars e.readings)).code ≡ 2
 
--- entries of consecutive serials, the oldest first: each begins with what the one before it left
+-- entries of consecutive serials, the oldest first: each begins with the variables that the one
+-- before it left.
 abbrev pub AreEntries : Program → ℕ → List ℕ → List Entry → Type 0
 AreEntries p serial vars [] = Unit {0}
 AreEntries p serial vars (e ∷ es) = IsEntry p serial vars e × AreEntries p (serial + 1) e.after es
 
--- what the last of them left
+-- the variables that the last of them left.
 abbrev pub left_by : List ℕ → List Entry → List ℕ
 left_by vars [] = vars
 left_by vars (e ∷ es) = left_by e.after es
 
--- the ring of a slot with a program: the last eight commits since its install, of which the first found these variables
-pub record HasRing (serial : ℕ) (p : Present) (ring : List Entry) : Type 0 where
-  pub version : p.version ≤ serial
-  pub size : length ring ≡ min 8 (serial - p.version)
-  pub found : List ℕ
-  pub entries : AreEntries p.program ((serial - length ring) + 1) found ring
-  pub vars : p.vars ≡ left_by found ring
-  pub zeros : length ring ≡ serial - p.version → found ≡ replicate p.program.vars_size 0
-
-abbrev pub HasRingIf : ℕ → Option Present → List Entry → Type 0
-HasRingIf serial None ring = ring ≡ []
-HasRingIf serial (Some p) ring = HasRing serial p ring
-
--- the ring of a slot is a chain; that of an empty slot is empty
-abbrev pub IsRing : Slot → Type 0
-IsRing slot = HasRingIf slot.serial slot.present slot.ring
-
--- a ring that counts from a serial, at which the variables were these: the last eight commits since then
+-- a ring that counts from a serial, at which the variables were these: the last eight commits since
+-- then.
 pub record HasRingSince (since serial : ℕ) (first : List ℕ) (p : Present) (ring : List Entry) : Type 0 where
   pub version : p.version ≤ since
   pub reached : since ≤ serial
@@ -74,12 +61,24 @@ pub record HasRingSince (since serial : ℕ) (first : List ℕ) (p : Present) (r
   pub vars : p.vars ≡ left_by found ring
   pub begins : length ring ≡ serial - since → found ≡ first
 
--- the ring counts from the install, or from a later serial at which the slot was restored
+-- such a ring, if the variables at that serial were as many as the program has.
+abbrev pub HasRingFrom : ℕ → ℕ → Present → List Entry → Type 0
+HasRingFrom since serial p ring = (first : List ℕ) × HasRingSince since serial first p ring × (length first ≡ p.program.vars_size)
+
+-- the ring of a slot with a program counts from the install.
+abbrev pub HasRingIf : ℕ → Option Present → List Entry → Type 0
+HasRingIf serial None ring = ring ≡ []
+HasRingIf serial (Some p) ring = HasRingFrom p.version serial p ring
+
+-- the ring of a slot is a chain; that of an empty slot is empty.
+abbrev pub IsRing : Slot → Type 0
+IsRing slot = HasRingIf slot.serial slot.present slot.ring
+
+-- the ring counts from the install, or from a later serial at which the slot was restored.
 abbrev pub HasRecordIf : ℕ → Option Present → List Entry → Type 0
 HasRecordIf serial None ring = ring ≡ []
-HasRecordIf serial (Some p) ring =
-    (since : ℕ) × (first : List ℕ) × HasRingSince since serial first p ring × (since ≡ p.version → first ≡ replicate p.program.vars_size 0)
+HasRecordIf serial (Some p) ring = (since : ℕ) × HasRingFrom since serial p ring
 
--- the ring of a slot that may have been restored is a chain
+-- the ring of a slot that may have been restored is a chain.
 abbrev pub IsRecord : Slot → Type 0
 IsRecord slot = HasRecordIf slot.serial slot.present slot.ring

@@ -1,4 +1,4 @@
--- Slots and shards, and the tickets by which jobs speak of them.
+-- Slots and shards, and the tickets of their jobs.
 use Rattle.std.specs.Prelude.{◌≡◌, ℕ, ◌/◌, ◌%◌, ◌<◌, Bool, List, [], Option, Some, None, slice_index_or, slice_set}
 use Rattle.arrayvec.specs.ArrayVec.{ArrayVec}
 use Rattle.coap_opts.specs.Values.{Place}
@@ -8,58 +8,63 @@ use Rattle.fc_observe.specs.Observers.{ObserverList}
 use Rattle.fc_registry.specs.declared.job.Origin.{Origin}
 use Rattle.fc_registry.specs.declared.ring.Entry.{Entry}
 
--- a program in a slot: its version is the serial of its install
+-- a program in a slot: its version is the serial of its install.
 pub record Present : Type 0 where
   pub program : Program
   pub version : ℕ
   pub vars : List ℕ
 
--- the version of what is present, and its variables
+-- the version of the present program, if there is one.
 abbrev pub version_in : Option Present → Option ℕ
 version_in None = None
 version_in (Some p) = Some p.version
 
+-- its variables; none if the slot is empty.
 abbrev pub vars_in : Option Present → List ℕ
 vars_in None = []
 vars_in (Some p) = p.vars
 
--- a slot: its serial counts its changes, the noticed one is that of the last change that observers are told of, and its ring
--- holds the last eight commits since its install, the oldest first
+-- a slot: its serial counts its changes, and the noticed serial is that of the last change that
+-- observers are notified of. Its ring holds the last eight commits since its install, the oldest
+-- first.
 pub record Slot : Type 0 where
   pub serial : ℕ
   pub noticed : ℕ
   pub present : Option Present
   pub ring : List Entry
 
--- the greatest serial
+-- the greatest serial.
 abbrev pub last_serial : ℕ
 last_serial = 9223372036854775807
 
--- a slot that nothing was installed in, at its first serial
+-- a slot in which nothing was installed, at its first serial.
 abbrev pub new_slot : ℕ → Slot
 new_slot serial = record { serial = serial; noticed = serial; present = None; ring = [] }
 
--- a shard: the greatest moment handed to it, and its slots and their observers, of which the place n / 8 is that of slot n
+-- a shard: the greatest time passed to it, and its slots and their observers. Those of slot n are
+-- at place n / 8.
 pub record Shard : Type 0 where
   pub index : ℕ
   pub now : ℕ
   pub slots : List Slot
   pub watches : List ObserverList
 
--- the shard of index n mod 8 owns slot n, of 64 slots
+-- the shard of index n mod 8 owns slot n, of 64 slots.
 pub record IsOwned (shard : Shard) (n : ℕ) : Type 0 where
   pub slot : n < 64
   pub index : n % 8 ≡ shard.index
 
+-- the slot with this number.
 abbrev pub slot_in : Shard → ℕ → Slot
 slot_in shard n = slice_index_or shard.slots (n / 8) (new_slot 0)
 
--- the shard with another state of slot n, and of no other
+-- the shard with another state of slot n, and of no other.
 abbrev pub with_slot : Shard → ℕ → Slot → Shard
 with_slot shard n slot = record shard { slots = slice_set shard.slots (n / 8) slot }
 
--- what a taking found: the serial of the slot, and its program with version and variables, and the readings; and its request with its
--- token, the block of the reply that it asks, and the value of its Observe option. That of a turn has its number
+-- a ticket: the slot's serial, its program with version and variables, and the readings, as a
+-- snapshot found them. It also has the request with its token, the response block that it asks for,
+-- and its Observe value. That of a lease has the lease's number.
 pub record Ticket : Type 0 where
   pub origin : Origin
   pub turn : Option ℕ
@@ -71,8 +76,8 @@ pub record Ticket : Type 0 where
   pub found : Present
   pub readings : List ℕ
 
--- what a commit leaves, for the answer to spend: the serial found, the serial at the commit, whether the slot changed, and whether
--- the client of its request observes it from now on
+-- the mark of a commit, which a response consumes: the serial found, the serial at the commit,
+-- whether the slot changed, and whether the client of its request observes it from now on.
 pub record Mark : Type 0 where
   pub origin : Origin
   pub found : ℕ

@@ -1,4 +1,4 @@
--- What a taking gives, and what it writes down.
+-- The result of a snapshot, and the data that it writes.
 use Rattle.std.specs.Prelude.{◌≡◌, ℕ, List, Option, length}
 use Rattle.arrayvec.specs.ArrayVec.{ArrayVec}
 use Rattle.coap_opts.specs.Values.{Place}
@@ -7,17 +7,19 @@ use Rattle.fc_kinds.specs.Meaning.{Program}
 use Rattle.fc_registry.specs.declared.job.Origin.{Origin}
 use Rattle.fc_registry.specs.Slots.{Ticket}
 
+-- the result of a snapshot.
 pub data Taken : Type 0 where
-  -- a program
+  -- a program.
   Given : (ticket : Ticket) → Taken
-  -- the slot is empty
+  -- the slot is empty.
   Missing : Taken
-  -- the turn is out no longer
+  -- the lease isn't active.
   Stale : Taken
-  -- there was no memory for another handle of the program
+  -- memory for another handle of the program can't be allocated.
   Refused : Taken
 
--- what a taking writes down: a ticket but for its program, of which its answer has the handle
+-- the data that a snapshot writes: a ticket without its program, whose handle is the snapshot's
+-- result.
 pub record Found : Type 0 where
   pub origin : Origin
   pub turn : Option ℕ
@@ -30,7 +32,7 @@ pub record Found : Type 0 where
   pub vars : List ℕ
   pub readings : List ℕ
 
--- with a program that is the ticket
+-- together with a program it is the ticket.
 abbrev pub ticket_with : Program → Found → Ticket
 ticket_with p f = record {
   origin = f.origin;
@@ -44,6 +46,6 @@ ticket_with p f = record {
   readings = f.readings;
 }
 
--- the variables are the program's in number
+-- the variables are as many as the program has.
 abbrev pub IsSized : Program → Found → Type 0
 IsSized p f = length f.vars ≡ p.vars_size

@@ -1,4 +1,5 @@
--- The turns of a slot's observers, as jobs: each answers its observer's request anew (RFC 7641, 4.2).
+-- The leases of a slot's observers, as jobs: each answers its observer's request again (RFC 7641,
+-- section 4.2).
 use Rattle.std.specs.Prelude.{ℕ, ◌+◌, ◌*◌, ◌%◌, Bool, true, false, Option, Some, None, []}
 use Rattle.std.specs.Option.{option_map}
 use Rattle.coap_opts.specs.Values.{Place}
@@ -11,12 +12,12 @@ use Rattle.fc_registry.specs.declared.job.Job.{Job}
 use Rattle.fc_registry.specs.Slots.{Shard}
 use Rattle.fc_registry.specs.Watches.{noticed_at, watch_at}
 
--- the first block of the size of this exponent, which has three bits
+-- the first block of the size with this exponent, which has three bits.
 abbrev pub first_block : Option ℕ → Option Place
 first_block None = None
 first_block (Some szx) = Some (record { number = 0; more = false; szx = szx % 8 })
 
--- the job of the turn of this number of slot n, which has no exchange
+-- the job of the lease with this number of slot n, which has no exchange.
 abbrev pub turn_job : ℕ → ℕ → Interest → Job
 turn_job n number o = record {
   origin = record { opening = record { number = 0; at = 0 }; endpoint = o.endpoint; id = 0; slot = n };
@@ -29,21 +30,22 @@ turn_job n number o = record {
   ask = Run o.request;
 }
 
--- of the entry that has the turn
+-- the job of a lease, for the entry that has it.
 abbrev pub job_of_turn : ℕ → Option Turn → ObserverList → Option Job
 job_of_turn n None w = None
 job_of_turn n (Some turn) w = option_map (turn_job n turn.number) (option_map interest_of (entry_out turn w))
 
--- the job of the turn that is given at a moment to one of these observers of slot n, where this serial is noticed
+-- the job of the lease that is granted at a time to one of these observers of slot n, about this
+-- noticed serial.
 abbrev pub turn_given_to : ℕ → ℕ → ℕ → ObserverList → Option Job
 turn_given_to n now noticed w = job_of_turn n (next_turn noticed (at_moment now w)) (observers_after (NextDue now noticed) w)
 
--- the job that was written, if one was
+-- the job that was written, if one was.
 abbrev pub written_if : Bool → Job → Option Job
 written_if true job = Some job
 written_if false job = None
 
--- at a place of a shard
+-- the job of the lease that is granted at a place of a shard.
 abbrev pub due_job : Option ℕ → Shard → Option Job
 due_job None shard = None
 due_job (Some k) shard = turn_given_to (8 * k + shard.index) shard.now (noticed_at shard k) (watch_at shard k)

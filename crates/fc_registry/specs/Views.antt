@@ -1,4 +1,4 @@
--- How the fields of a shard are seen.
+-- Views of the fields of a shard.
 use Rattle.std.specs.Prelude.{Option, Some, None}
 use Rattle.fc_registry.specs.declared.body.Body.{Body}
 use Rattle.fc_registry.specs.declared.slot.SlotState.{SlotState}
@@ -8,21 +8,23 @@ use Rattle.fc_registry.specs.Taken.{Found, IsSized, ticket_with}
 use Rattle.fc_registry.specs.declared.shard.Taken.{Taken}
 use Rattle.fc_registry.specs.declared.shard.Taken.TheVariants.{Given, Missing, Stale, Refused}
 
+-- the view of a slot's program.
 abbrev pub present_of : Option Body → Option Present
 present_of None = None
 present_of (Some b) = Some (record { program = b.program.value; version = b.version; vars = b.vars })
 
+-- the view of a slot.
 abbrev pub as_seen : SlotState → Slot
 as_seen s = record { serial = s.serial; noticed = s.noticed; present = present_of s.body; ring = s.ring }
 
--- what a taking gave, with what it wrote down
+-- the result of a snapshot, with the data that it wrote.
 abbrev pub taken_with : Taken → Found → spec.Taken
 taken_with (Given program) f = spec.Given (ticket_with program.value f)
 taken_with Missing f = spec.Missing
 taken_with Stale f = spec.Stale
 taken_with Refused f = spec.Refused
 
--- a program that is given has the variables that were written down, in number
+-- a program that a snapshot gives has as many variables as were written.
 abbrev pub HasSize : Taken → Found → Type 0
 HasSize (Given program) f = IsSized program.value f
 HasSize other f = Unit {0}

@@ -10,116 +10,118 @@ use Rattle.fc_observe.specs.Observers.{ObserverList, at_moment, late_entry, next
 use Rattle.fc_observe.specs.Quiet.{AreQuietUntil}
 use Rattle.fc_registry.specs.Slots.{Shard, Slot, new_slot}
 
--- those of the slots at the first places of a new shard: place k is that of slot 8 k + index
+-- the observers at the first places of a new shard: those at place k are of slot 8 k + index.
 abbrev pub new_watches : ℕ → ℕ → ℕ → List ObserverList
 new_watches index confirm_after zero = []
 new_watches index confirm_after (suc k) = new_watches index confirm_after k ++ no_observers (8 * k + index) confirm_after ∷ []
 
--- a shard that was handed a moment: it never goes back
+-- a shard to which a time was passed: its time never goes back.
 abbrev pub at_time : Shard → ℕ → Shard
 at_time shard now = record shard { now = max shard.now now }
 
--- the observers of the slot at a place, and the slot's noticed serial
+-- the observers of the slot at a place.
 abbrev pub watch_at : Shard → ℕ → ObserverList
 watch_at shard k = slice_index_or shard.watches k (no_observers 0 0)
 
+-- the noticed serial of the slot at a place.
 abbrev pub noticed_at : Shard → ℕ → ℕ
 noticed_at shard k = (slice_index_or shard.slots k (new_slot 0)).noticed
 
--- the shard after a call on the observers at a place, and on no others
+-- the shard after a call on the observers at a place, and on no others.
 abbrev pub watch_called : ObserverCall → ℕ → Shard → Shard
 watch_called c k shard = record shard { watches = slice_set shard.watches k (observers_after c (watch_at shard k)) }
 
--- the observers at each place after these calls on those at one, of which the latest stands first
+-- the observers at each place after these calls, the latest first, on those at one place.
 abbrev pub watches_called : List ObserverCall → ℕ → List ObserverList → List ObserverList
 watches_called [] k watches = watches
 watches_called (c ∷ cs) k watches = slice_set watches k (after_calls (c ∷ cs) (slice_index_or watches k (no_observers 0 0)))
 
--- the shard after these calls on the observers of slot n, and on no others
+-- the shard after these calls on the observers of slot n, and on no others.
 abbrev pub with_calls : List ObserverCall → ℕ → Shard → Shard
 with_calls cs n shard = record shard { watches = watches_called cs (n / 8) shard.watches }
 
--- the first of so many places, from k on, that passes
+-- the first of n places, from k on, that passes.
 abbrev pub place_from : (ℕ → Bool) → ℕ → ℕ → Option ℕ
 place_from p zero k = None
 place_from p (suc n) k = if p k then Some k else place_from p n (k + 1)
 
 -- ---- time
 
--- a notification at a place is late
+-- a notification at a place has timed out.
 abbrev pub has_late : Shard → ℕ → Bool
 has_late shard k = is_some (late_entry (at_moment shard.now (watch_at shard k)))
 
--- the first such place
+-- the first such place.
 abbrev pub late_place : Shard → Option ℕ
 late_place shard = place_from (has_late shard) 8 0
 
--- what a tick does at a place
+-- the effect of a tick at a place.
 abbrev pub ticked_in : Option ℕ → Shard → Ticked
 ticked_in None shard = Quiet
 ticked_in (Some k) shard = ticked (at_moment shard.now (watch_at shard k))
 
--- the shard after it
+-- the shard after it.
 abbrev pub shard_after_tick : Option ℕ → Shard → Shard
 shard_after_tick None shard = shard
 shard_after_tick (Some k) shard = watch_called (Tick shard.now) k shard
 
--- ---- turns
+-- ---- leases
 
--- an observer at a place is due
+-- an observer at a place has a pending notification.
 abbrev pub has_due : Shard → ℕ → Bool
 has_due shard k = is_some (next_turn (noticed_at shard k) (at_moment shard.now (watch_at shard k)))
 
--- the first such place
+-- the first such place.
 abbrev pub due_place : Shard → Option ℕ
 due_place shard = place_from (has_due shard) 8 0
 
--- no notification at a place is late, and no observer due
+-- no notification at a place has timed out, and no observer there has a pending one.
 abbrev pub is_quiet_at : Shard → ℕ → Bool
 is_quiet_at shard k =
     is_none (late_entry (at_moment shard.now (watch_at shard k))) && is_none (next_turn (noticed_at shard k) (at_moment shard.now (watch_at shard k)))
 
--- nor at any place
+-- nor at any other place: the shard is idle.
 abbrev pub is_quiet : Shard → Bool
 is_quiet shard = is_none (late_place shard) && is_none (due_place shard)
 
--- the shard after a turn was given there
+-- the shard after a lease was granted there.
 abbrev pub after_due : Option ℕ → Shard → Shard
 after_due None shard = shard
 after_due (Some k) shard = watch_called (NextDue shard.now (noticed_at shard k)) k shard
 
--- the shard after a turn was given up
+-- the shard after a lease was released.
 abbrev pub after_given_up : Turn → Shard → Shard
 after_given_up turn shard = watch_called (GiveUp turn shard.now) (turn.slot / 8) shard
 
 -- ---- signals
 
--- a Reset message or an Acknowledgement, as a call on the observers of a slot
+-- a Reset message or an Acknowledgement, as a call on the observers of a slot.
 abbrev pub signal_call : Bool → Endpoint → ℕ → ObserverCall
 signal_call true to id = Reset to id
 signal_call false to id = Acknowledge to id
 
--- it is for the observers of every slot
+-- it is for the observers of every slot.
 abbrev pub signalled : ObserverCall → Shard → Shard
 signalled c shard = record shard { watches = map (observers_after c) shard.watches }
 
--- ---- whom there is to notify
+-- ---- idle shards
 
--- nobody observes a slot, where the shard isn't watched
+-- no slot has an observer, if the shard isn't watched.
 abbrev pub AreWatched : Bool → List ObserverList → Type 0
 AreWatched true watches = Unit {0}
 AreWatched false watches = (k : ℕ) → (slice_index_or watches k (no_observers 0 0)).held ≡ []
 
--- before this moment no notification at any place is late, and no observer due, unless the shard is called
+-- before this time no notification at any place has timed out, and no observer has a pending one,
+-- unless the shard is called.
 abbrev pub StaysQuietUntil : ℕ → Shard → Type 0
 StaysQuietUntil until shard = (k : ℕ) → k < 8 → AreQuietUntil until (noticed_at shard k) (watch_at shard k).held
 
--- ---- what observers were sent
+-- ---- serials sent to observers
 
--- no observer in the list was sent a serial above this
+-- no observer in the list was sent a serial above this.
 abbrev pub IsSentUpTo : ℕ → ObserverList → Type 0
 IsSentUpTo serial w = All (λ o. o.serial ≤ serial) w.held
 
--- at each place, none was sent a serial above that of the slot
+-- at each place, no observer was sent a serial above that of the slot.
 abbrev pub AreSentUpTo : List Slot → List ObserverList → Type 0
 AreSentUpTo slots watches = (k : ℕ) → IsSentUpTo (slice_index_or slots k (new_slot 0)).serial (slice_index_or watches k (no_observers 0 0))

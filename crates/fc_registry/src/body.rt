@@ -1,4 +1,4 @@
-//! What stands in a slot.
+//! The contents of a slot.
 ghost use Rattle.std.specs.Prelude.{◌≡◌, length};
 
 use fc_help::Vars;

@@ -1,4 +1,6 @@
-//! Jobs: what a request brings.
+//! Jobs: the work for requests and for notification leases.
+ghost use Rattle.std.specs.Prelude.{◌≡◌};
+
 use crate::slot_number::SlotNumber;
 use arrayvec::ArrayVec;
 use coap_block::Body;
@@ -7,14 +9,19 @@ use coap_opts::Block;
 use coap_opts::request::ETAGS;
 use fc_help::Request;
 
-/// An opened exchange: its number, counted from 0, and the moment at which it was opened, in milliseconds.
+/// An exchange: its number and its start time.
+///
+/// Numbers count from 0. The time is in milliseconds.
 #[derive(Clone, Copy, Default, PartialEq, Eq)]
 pub struct Opening {
     pub number: u64,
     pub at: u64,
 }
 
-/// Where a job comes from: its exchange, endpoint and message id, and the slot that its request names; one that names none has 0.
+/// The origin of a job.
+///
+/// It has the job's exchange, endpoint and message ID, and the slot that its request names. The
+/// slot is 0 if the request names none.
 #[derive(Clone, Copy, Default, PartialEq, Eq)]
 pub struct Origin {
     pub opening: Opening,
@@ -23,36 +30,71 @@ pub struct Origin {
     pub slot: SlotNumber,
 }
 
-/// What a job is to do.
+/// The variables that a program has after its install.
+#[derive(Clone, Copy, PartialEq, Eq)]
+pub enum InitialVars {
+    /// Zeros.
+    Zeros,
+    /// The previous program's, if they have the new program's size; else zeros.
+    Kept,
+}
+
+/// The action that a job requests.
 #[derive(Drop)]
 pub enum Ask {
-    /// Answer a request by the slot's program.
+    /// Answer a request with the slot's program.
     Run(Request),
     /// Install the program of an image in the slot.
-    Install(Body),
+    Install(Body, InitialVars),
     /// Remove the slot's program.
     Remove,
-    /// Tell what the slot's program is.
+    /// Describe the slot's program.
     Describe,
-    /// List the slots that have a program (RFC 6690, 4).
+    /// List the slots that have a program (RFC 6690, section 4).
     Discover,
 }
 
-/// A job: a request that was opened and is to be answered, or the turn of an observer, whose request is answered anew. A turn has no
-/// exchange: its origin names its observer's endpoint and its slot.
+impl Ask {
+    ghost use Rattle.fc_registry.specs.Calls.{initial_vars_of};
+
+    /// Returns the variables that an install is to leave.
+    ///
+    /// The other requests name none, and have `Zeros`.
+    pub fn initial_vars(&self) -> InitialVars
+        ensures { result ≡ initial_vars_of self.now }
+    {
+        match self {
+            Ask::Install(_, initial) => *initial,
+            _ => InitialVars::Zeros,
+        }
+    }
+}
+
+/// A job: a request to answer, or an observer's notification lease.
+///
+/// The job of a request has an open exchange. The job of a lease answers the observer's request
+/// again. It has no exchange: its origin names the observer's endpoint and its slot.
 #[derive(Drop)]
 pub struct Job {
     pub origin: Origin,
-    /// The number of the turn, among those of its slot's observers; none of a request.
+    /// The lease's number among those of its slot's observers.
+    ///
+    /// It is `None` for a request.
     pub turn: Option<u64>,
     /// Whether its request is confirmable.
     pub confirmable: bool,
     pub token: Token,
-    /// The serials that a GET names as ETags: its client has the answers of these (RFC 7252, 5.10.6.2).
+    /// The serials that a GET names as ETags (RFC 7252, section 5.10.6.2).
+    ///
+    /// Its client has the responses of these serials.
     pub etags: ArrayVec<u64, ETAGS>,
-    /// The block that its request names (RFC 7959): the last of a PUT's body, or the one that a GET asks.
+    /// The block that its request names (RFC 7959).
+    ///
+    /// For a PUT it is the last block of the body, for a GET the requested block.
     pub block: Option<Block>,
-    /// The value of Observe in a GET of a slot: 0 registers its client as an observer, 1 cancels (RFC 7641, 2).
+    /// The value of Observe in a GET of a slot (RFC 7641, section 2).
+    ///
+    /// 0 registers its client as an observer, 1 cancels.
     pub observe: Option<u32>,
     pub ask: Ask,
 }

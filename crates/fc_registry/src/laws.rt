@@ -1,8 +1,10 @@
-//! What the slots promise of their changes: each function is a law, and its contract says it.
+//! Laws about changes of slots, tickets, leases and rings.
+//!
+//! Each law is the contract of an empty function.
 ghost use Rattle.circular_buffer.specs.Buffer.{keep_last};
-ghost use Rattle.fc_registry.specs.Changes.{Change, Commit, Committed, after_changes, changed};
+ghost use Rattle.fc_registry.specs.Changes.{Change, Commit, Committed, Installed, after_changes, changed};
 ghost use Rattle.coap_msg.specs.declared.types.Emission.{Emission};
-ghost use Rattle.fc_registry.specs.Laws.{FollowsInstall, IsTicketOfJob, IsTurnFor, noticed_serial};
+ghost use Rattle.fc_registry.specs.Laws.{AllCommits, FollowsInstall, IsTicketOfJob, IsTurnFor, RingBegins, noticed_serial, vars_begun};
 ghost use Rattle.coap_opts.specs.Values.{Place};
 ghost use Rattle.fc_observe.specs.Calls.{Advance, End, Notify, Register};
 ghost use Rattle.fc_observe.specs.Views.{interest_of};
@@ -16,23 +18,28 @@ ghost use Rattle.fc_registry.specs.Record.{IsChain, IsRing};
 ghost use Rattle.fc_store.specs.Updates.{slot_after};
 ghost use Rattle.fc_store.specs.Stored.{StoredSlot};
 ghost use Rattle.fc_store.specs.declared.store.SlotUpdate.{SlotUpdate};
-ghost use Rattle.fc_registry.specs.Slots.{Present, Shard, Slot, Ticket, new_slot};
+ghost use Rattle.fc_registry.specs.Slots.{Present, Shard, Slot, Ticket, new_slot, vars_in};
 ghost use Rattle.fc_registry.specs.Turns.{due_job};
 ghost use Rattle.fc_registry.specs.Watches.{after_due, shard_after_tick, due_place, is_quiet, late_place, ticked_in, watch_at};
 ghost use Rattle.fc_registry.specs.declared.commit.CommitOutcome.{CommitOutcome};
 ghost use Rattle.fc_registry.specs.declared.job.Job.{Job};
+ghost use Rattle.fc_registry.specs.declared.job.InitialVars.{InitialVars};
+ghost use Rattle.fc_registry.specs.declared.job.InitialVars.TheVariants.{Kept, Zeros};
+ghost use Rattle.fc_kinds.specs.Meaning.{Program};
 ghost use Rattle.fc_registry.specs.Taken.{Given};
-ghost use Rattle.fc_registry.specs.Calls.{HasGiven, ComesTo, IsTaking, is_registration, meaning_at, observe_calls, outcome};
+ghost use Rattle.fc_registry.specs.Calls.{HasGiven, ComesTo, IsTaking, install_in, is_registration, meaning_at, observe_calls, outcome};
 ghost use Rattle.std.specs.List.{Any};
-ghost use Rattle.std.specs.Prelude.{List, [], None, Some, length, true, ℕ, ◌∷◌, ◌++◌, ◌+◌, ◌≤◌, ◌≡◌};
+ghost use Rattle.std.specs.Prelude.{List, [], None, Some, length, replicate, true, ℕ, ◌∷◌, ◌++◌, ◌+◌, ◌≤◌, ◌≡◌};
 
 /// A slot's serial counts its changes, from its first serial on.
 pub fn serials_count_changes()
     ensures { (serial : ℕ) (cs : List Change) → (after_changes (new_slot serial) cs).serial ≡ serial + length cs }
 {}
 
-/// A slot's noticed serial is that of its newest change that observers are told of: an install, a removal, or a commit whose
-/// run gave a notice. It is its first serial where there is none, and never above its serial.
+/// The noticed serial is that of the newest change that observers are notified of.
+///
+/// Such a change is an install, a removal, or a commit whose run set the notify flag. Without one,
+/// the noticed serial is the slot's first serial. It is never above the slot's serial.
 pub fn noticed_serials_are_of_notices()
     ensures serial { (serial : ℕ) (cs : List Change) → (after_changes (new_slot serial) cs).noticed
         ≡ noticed_serial serial cs }
@@ -40,26 +47,57 @@ pub fn noticed_serials_are_of_notices()
         ≤ (after_changes (new_slot serial) cs).serial }
 {}
 
-/// The program in a slot is that of the newest install, with no removal since. Its version is the serial of that
-/// install; the install set its variables to zeros, and only commits have written them.
+/// The program in a slot is that of the newest install.
+///
+/// No removal has come since. The program's version is the serial of that install. The install left
+/// the variables as requested, and only commits have written them since.
 pub fn versions_are_installs()
     ensures { (serial : ℕ) (cs : List Change) (p : Present) →
         (after_changes (new_slot serial) cs).present ≡ Some p → FollowsInstall serial cs p }
 {}
 
-/// A commit adds one entry to its slot's ring, which keeps eight: its serial, its request, the readings of its taking, and the variables before it and after.
+/// An install keeps the variables, or sets them to zeros.
+///
+/// An install that keeps the variables leaves them byte for byte if they are as many as the new
+/// program has. They are zeros if they aren't, if the slot was empty, and after every other
+/// install. So a program always has the number of variables that it declares. Everything else is
+/// the same after either install, and so is its result.
+pub fn installs_keep_or_zero_variables()
+    ensures kept { (slot : Slot) (found : Present) (p : Program) → slot.present ≡ Some found → length found.vars ≡ p.vars_size →
+        vars_in (changed slot (Installed p Kept)).present ≡ found.vars }
+    ensures other { (slot : Slot) (p : Program) → (length (vars_in slot.present) ≡ p.vars_size → ⊥) →
+        vars_in (changed slot (Installed p Kept)).present ≡ replicate p.vars_size 0 }
+    ensures empty { (slot : Slot) (p : Program) (initial : InitialVars) → slot.present ≡ None →
+        vars_in (changed slot (Installed p initial)).present ≡ replicate p.vars_size 0 }
+    ensures zeroed { (slot : Slot) (p : Program) → vars_in (changed slot (Installed p Zeros)).present ≡ replicate p.vars_size 0 }
+    ensures size { (slot : Slot) (p : Program) (initial : InitialVars) →
+        length (vars_in (changed slot (Installed p initial)).present) ≡ p.vars_size }
+    ensures rest { (slot : Slot) (p : Program) →
+        record (changed slot (Installed p Kept)) { present = (changed slot (Installed p Zeros)).present } ≡ changed slot (Installed p Zeros) }
+    ensures answer { (slot : Slot) (p : Program) → (install_in slot p Kept).answer ≡ (install_in slot p Zeros).answer }
+{}
+
+/// A commit adds one entry to its slot's ring, which keeps eight.
+///
+/// The entry has the commit's serial and request, the readings of its snapshot, and the variables
+/// before and after it.
 pub fn entries_are_of_their_commits()
     ensures { (slot : Slot) (c : Commit) → (changed slot (Committed c)).ring
         ≡ keep_last 8 (slot.ring ++ record { serial = slot.serial + 1; request = c.request; readings = c.readings; before = c.before; after = c.after } ∷ []) }
 {}
 
-/// What the commit of a ticket comes to at the slot that gave it is decided by the ticket's serial: the slot has changed
-/// since exactly where its serial is another.
+/// The ticket's serial decides the outcome of its commit.
+///
+/// This holds at the slot that gave the ticket. The slot has changed since the snapshot exactly if
+/// its serial is another.
 pub fn serials_decide()
     ensures { (t : Ticket) (slot : Slot) (o : CommitOutcome) → HasGiven slot t → ComesTo t slot o → o ≡ outcome t slot }
 {}
 
-/// A quiet shard has nothing to do: at its moment a tick sends nothing, nobody is due, and neither changes it.
+/// An idle shard has nothing to do.
+///
+/// At its time a tick sends nothing, no observer has a pending notification, and neither call
+/// changes the shard.
 pub fn quiet_shards_do_nothing()
     ensures tick { (shard : Shard) → is_quiet shard ≡ true →
         (ticked_in (late_place shard) shard ≡ Quiet) × (shard_after_tick (late_place shard) shard ≡ shard) }
@@ -67,15 +105,20 @@ pub fn quiet_shards_do_nothing()
         (due_job (due_place shard) shard ≡ None) × (after_due (due_place shard) shard ≡ shard) }
 {}
 
-/// A ticket has what its job asks: the token, the block and the Observe of its request, its client and its turn, and the request that the
-/// slot's program is to answer.
+/// A ticket has the data of its job.
+///
+/// These are the token, the block and the Observe value of its request, its client and its lease,
+/// and the request that the slot's program is to answer.
 pub fn tickets_are_of_their_jobs()
     ensures { (job : Job) (readings : List ℕ) (slot : Slot) (at : ℕ) (w : ObserverList) (t : Ticket) →
         IsTaking job readings slot at w (Given t) → IsTicketOfJob job t }
 {}
 
-/// A notification of a 2.05 Content (69) ends its turn, with the message id, the serial and the bytes that were sent. One of anything else,
-/// and of an empty slot, ends it by the removal of its observer (RFC 7641, 4.2).
+/// A notification ends its lease.
+///
+/// A 2.05 (Content) notification (code 69) ends it with the message ID, the serial and the bytes
+/// that were sent. Any other notification, and that of an empty slot, ends it by removing the
+/// observer (RFC 7641, section 4.2).
 pub fn notifications_end_their_turns()
     ensures content { (turn : Turn) (id random at : ℕ) (t : Ticket) (e : Emission) → (meaning_at t).code ≡ 69 →
         note_calls turn id random at (Some t) (Some e) ≡ Notify at turn id t.serial random e.bytes ∷ Advance at ∷ [] }
@@ -85,8 +128,10 @@ pub fn notifications_end_their_turns()
         note_calls turn id random at None (Some e) ≡ End turn ∷ Advance at ∷ [] }
 {}
 
-/// A turn's job asks what a registration asked that its slot has, from the first block on: of the size of the Block2 option of that
-/// registration, where it had one (RFC 7959, 2.6). A registration keeps that size.
+/// The job of a lease has the request of a registration in its slot.
+///
+/// It requests the first block, of the size in the Block2 option of that registration, if there was
+/// one (RFC 7959, section 2.6). A registration keeps that size.
 pub fn turns_ask_what_was_registered()
     ensures turn { (shard : Shard) (k : ℕ) (j : Job) → due_job (Some k) shard ≡ Some j →
         Any (λ (o : Entry). IsTurnFor j (interest_of o)) (watch_at shard k).held }
@@ -96,13 +141,22 @@ pub fn turns_ask_what_was_registered()
         observe_calls now t ≡ Register now t.origin.endpoint t.token t.request (Some block.szx) t.serial ∷ [] }
 {}
 
-/// The update of a change, with an image of its program, makes of a slot's stored state that of the changed slot.
+/// The update of a change leads to the stored state of the changed slot.
+///
+/// It starts from the slot's stored state, and has an image of the change's program.
 pub fn plans_keep_what_changes_make()
     ensures { (slot : Slot) (k : StoredSlot) (n : ℕ) (c : Change) (s : SlotUpdate) → IsStoredOf slot k → IsPlanned slot n c s → SavesImage c s.program
         → IsStoredOf (changed slot c) (slot_after s k) }
 {}
 
-/// The ring of a slot that was new is that of the commits since its last install: it has the last eight of them.
+/// The ring of a slot that was new has the commits since its last install.
+///
+/// It has the last eight of them. If it has all of them, the first found the variables that the
+/// install left. An install that keeps no variables left zeros.
 pub fn new_slots_have_full_rings()
-    ensures { (serial : ℕ) (cs : List Change) → IsChain (new_slot serial) cs → IsRing (after_changes (new_slot serial) cs) }
+    ensures ring { (serial : ℕ) (cs : List Change) → IsChain (new_slot serial) cs → IsRing (after_changes (new_slot serial) cs) }
+    ensures begins { (serial : ℕ) (cs : List Change) → IsChain (new_slot serial) cs →
+        RingBegins serial cs (after_changes (new_slot serial) cs) }
+    ensures zeros { (serial : ℕ) (later earlier : List Change) (p : Program) → AllCommits later →
+        vars_begun serial (later ++ (Installed p Zeros ∷ earlier)) ≡ replicate p.vars_size 0 }
 {}

@@ -1,21 +1,23 @@
-//! Jobs; shards of slots, each with its observers; tickets, commits, installs; the ring of a slot's last commits.
+//! Slots in shards: jobs, snapshots, commits, installs, rings and observers.
 //!
-//! Shard `n mod 8` owns slot `n`. A job takes a ticket, which is what it found; it runs the ticket's program; and its
-//! commit writes where nothing has changed since. No call waits, and of a made shard's calls only a taking asks for
-//! memory, for a handle.
+//! Shard `n mod 8` owns slot `n`. A job takes a snapshot of its slot, its ticket, and runs the
+//! ticket's program. The commit of the run writes only if nothing has changed since. No call waits.
+//! Once a shard is made, only a snapshot, for a handle, and [`Shard::restore`] allocate memory.
 //!
 //! ```rust
 //! ghost use Rattle.fc_registry.specs.Slots.{IsOwned};
 //!
-//! use fc_registry::{Made, Shard, SlotNumber};
+//! use fc_registry::{InitialVars, Made, Shard, SlotNumber};
 //! use fc_verify::Verified;
 //! use std::sync::Arc;
 //!
-//! /// Installs a program in a slot of this shard, and gives the slot's new serial; none where its serials are at their end.
+//! /// Installs a program in a slot of this shard.
+//! ///
+//! /// Returns the slot's new serial, or `None` if the slot is at its last serial.
 //! fn install(shard: &mut Shard, slot: SlotNumber, program: Arc<Verified>) -> Option<u64>
 //!     requires { IsOwned shard.old slot }
 //! {
-//!     match shard.install(slot, program) {
+//!     match shard.install(slot, program, InitialVars::Zeros) {
 //!         Made::Raised { serial, .. } => Some(serial),
 //!         Made::AtEnd => None,
 //!     }
@@ -24,30 +26,43 @@
 //!
 //! # What is proved
 //!
-//! - A taking gives what the slot holds, with the readings that are handed in. Its ticket has its job's client and turn, the token, the
-//!   block and the Observe of its request, and these readings.
-//! - A run with other readings than its ticket's is no run of it (`Stranger`). A commit writes the meaning's variables, to its slot alone,
-//!   where nothing has changed since.
-//! - An install sets zeros and raises the serial by one; a removal of a program leaves none and raises it as well. A receipt is that of the
-//!   present program, with the serial of its install. Serials count changes, and a slot's noticed serial is that of its last install,
-//!   removal or commit with a notice.
-//! - A slot's ring holds the last eight commits of its program since its install, or since the slot was restored, each of which begins with
-//!   what the one before it left, and left what the program means for its request and its readings, which are its ticket's.
-//! - A turn goes to the first observer that is due, as a job that answers its request anew and asks for blocks of the size that was
-//!   registered; a tick to the first notification that is late, by slot and then by registration; a signal to the observers of every slot.
-//! - A commit of a GET that asks for it registers its client, or removes it, and says whether there was room.
-//! - A turn that is out tells its observer what its ticket's run means, or 4.04 where its taking found the slot empty, and is over. What
-//!   isn't a 2.05 Content has no sequence number, and removes the observer. A turn that is out no longer tells nothing, and a ticket of
-//!   another turn is refused.
-//! - No observer was sent a serial above its slot's. A shard that is passed as quiet has nothing to send again, and nobody who is due; and so
-//!   it has none before the moment that it tells (`quiet_until`), unless it is called.
-//! - Before a change is made, its update is known: the slot's next serial, and the variables that the change leaves. A store that applies
-//!   the update, with an image of the program, has the state of the changed slot.
-//! - A restored slot has the serial, the version and the variables of its stored state, and the program of its image, which is verified
-//!   again. Its serial is never lowered, and a slot that isn't restored stays as it was.
+//! - A snapshot has the slot's contents, with the readings that are passed to it. Its ticket has
+//!   these readings, its job's client and lease, and the request's token, block and Observe value.
+//! - A run with readings other than its ticket's doesn't match the ticket (`Stranger`). A commit
+//!   writes the variables of the program's meaning, to its slot alone, if nothing has changed since
+//!   the snapshot.
+//! - An install raises the serial by one, and sets the variables to zeros. If it keeps the
+//!   variables, they don't change if they have the new program's size.
+//! - The removal of a program leaves none, and raises the serial too.
+//! - A receipt is that of the present program, with the serial of its install.
+//! - Serials count changes. A slot's noticed serial is that of its last install, removal, or commit
+//!   whose run set the notify flag.
+//! - A slot's ring holds the last eight commits of its program since its install, or since the slot
+//!   was restored. Each begins with the variables that the one before it left. Each left the
+//!   variables that the program means for its request and its readings, which are its ticket's.
+//! - A lease goes to the first observer with a pending notification. Its job answers the observer's
+//!   request again, and requests blocks of the size that was registered.
+//! - A tick concerns the first notification that has timed out, by slot and then by registration. A
+//!   signal goes to the observers of every slot.
+//! - A commit of a GET registers its client or removes it, if the request asks for that. Its mark
+//!   has whether the client was registered; there may be no room.
+//! - The notification of an active lease has the meaning of its ticket's run, or 4.04 if its snapshot
+//!   found the slot empty. It ends the lease. A response that isn't 2.05 (Content) has no sequence
+//!   number, and removes the observer.
+//! - A lease that isn't active sends nothing. The ticket of another lease is refused.
+//! - No observer was sent a serial above its slot's. An idle shard has no retransmission to send,
+//!   and no observer with a pending notification. Unless it is called, it has none before the time
+//!   that `quiet_until` returns.
+//! - Before a change is made, its update is known: the slot's next serial, and the variables that
+//!   the change leaves. A store that applies the update, with an image of the program, has the
+//!   state of the changed slot.
+//! - A restored slot has the serial, the version and the variables of its stored state, and the
+//!   program of its image, which is verified again. Its serial is never lowered. A slot that isn't
+//!   restored doesn't change.
 //!
-//! By the contracts of `plan_install`, `plan_commit`, `plan_removal`, `Shard::restore`, `take`, `write_taking`, `would_write`, `commit`,
-//! `install`, `remove`, `receipt`, `next_due`, `note`, `give_up`, `signal`, `tick`, `advance_if_quiet`, `quiet_until`, `rings_are_chains`,
+//! By the contracts of `plan_install`, `plan_commit`, `plan_removal`, `Shard::restore`, `take`,
+//! `write_taking`, `would_write`, `commit`, `install`, `remove`, `receipt`, `next_due`, `note`,
+//! `give_up`, `signal`, `tick`, `advance_if_quiet`, `quiet_until`, `rings_are_chains`,
 //! `no_observer_is_ahead`, `laws`.
 #![tactic(auto)]
 
@@ -69,7 +84,7 @@ pub mod ticket;
 mod turn;
 
 pub use commit::{CommitOutcome, Committed};
-pub use job::{Ask, Job, Opening, Origin};
+pub use job::{Ask, InitialVars, Job, Opening, Origin};
 pub use note::{NoteOutcome, Noted, Notification};
 pub use observe::{CANCEL, REGISTER, has_observe};
 pub use plan::{plan_commit, plan_install, plan_removal};

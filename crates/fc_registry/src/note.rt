@@ -1,4 +1,4 @@
-//! Notifications of observers (RFC 7641, 4.2).
+//! Notifications of observers (RFC 7641, section 4.2).
 ghost use Rattle.std.specs.Prelude.{◌≡◌, ◌↔◌, ℕ, IsTrue, None, Some};
 ghost use Rattle.fc_observe.specs.Calls.{after_calls, observers_after};
 ghost use Rattle.fc_observe.specs.Views.{interest};
@@ -11,39 +11,43 @@ use coap_reply::{BodyBlock, Envelope, ran, text};
 use fc_machine::Outcome;
 use fc_observe::{Observer, Observers, Turn};
 
-/// What a turn tells its observer.
+/// The content of a lease's notification.
 #[derive(Drop)]
 pub enum Notification<'a> {
-    /// What a run of its ticket gave.
+    /// The response of a run of its ticket.
     Ran(&'a Outcome<'a>, &'a Ticket<'a>),
-    /// That its taking found the slot empty.
+    /// 4.04: its snapshot found the slot empty.
     Gone,
 }
 
-/// What becomes of a notification.
+/// The result of a notification.
 #[derive(Drop)]
 pub enum Noted {
-    /// It is sent, and the turn is over.
+    /// It is sent, and the lease is over.
     Send(Emission),
-    /// The turn is out no longer, or its taking didn't find the slot empty. No observer changed.
+    /// The lease isn't active, or its snapshot didn't find the slot empty.
+    ///
+    /// The second reason applies to [`Notification::Gone`] alone. No observer changed.
     Stale,
-    /// The ticket isn't of this turn, or the outcome isn't of the ticket. No observer changed.
+    /// The ticket isn't of this lease, or the outcome isn't of the ticket.
+    ///
+    /// No observer changed.
     Stranger,
 }
 
-/// What becomes of a notification whose emission is written over the caller's.
+/// The result of a notification written over the caller's emission.
 #[derive(Clone, Copy, PartialEq, Eq)]
 pub enum NoteOutcome {
-    /// It is to be sent, and the turn is over.
+    /// It is to be sent, and the lease is over.
     Sent,
-    /// As [`Noted::Stale`]. The emission stays as it was.
+    /// See [`Noted::Stale`]. The emission is unchanged.
     Stale,
-    /// As [`Noted::Stranger`]. The emission stays as it was.
+    /// See [`Noted::Stranger`]. The emission is unchanged.
     Stranger,
 }
 
-// Tells the observer that has a turn, at its shard's moment, where its slot is at this serial, and writes what it is sent over another
-// emission.
+// Notifies the observer that has this lease, at the shard's time and the slot's serial. Writes the
+// message over `emission`.
 pub(crate) fn note(
     watch: &mut Observers,
     now: u64,
@@ -85,7 +89,7 @@ pub(crate) fn note(
     }
 }
 
-// Ends a turn by what a run of it gave and these bytes told.
+// Ends a lease whose run has been sent to its observer in these bytes.
 fn end_turn(
     watch: &mut Observers,
     now: u64,
@@ -107,7 +111,7 @@ fn end_turn(
     }
 }
 
-// Tells the observer that its slot was found empty, and removes it.
+// Notifies the observer that its slot was found empty, and removes it.
 fn note_gone(watch: &mut Observers, turn: Turn, id: u16, emission: &mut Emission) -> NoteOutcome
     ensures sent { sent_of (noted_as result emission.new) ≡ note_in turn id None watch.old }
     ensures noted { IsSentOrStale (noted_as result emission.new) }
@@ -126,7 +130,7 @@ fn note_gone(watch: &mut Observers, turn: Turn, id: u16, emission: &mut Emission
     NoteOutcome::Sent
 }
 
-// Writes the notification of what a run gave.
+// Writes the notification of a run.
 fn write_run(
     observer: &Observer<'_>,
     id: u16,
@@ -152,7 +156,7 @@ fn write_run(
     emission.to = observer.endpoint;
 }
 
-// Writes that of a slot that was found empty.
+// Writes the notification of a slot that was found empty.
 fn write_gone(observer: &Observer<'_>, id: u16, emission: &mut Emission)
     ensures { emission.new ≡ note_to id observer.now.confirmable None (interest observer.now) }
 {
@@ -165,7 +169,7 @@ fn write_gone(observer: &Observer<'_>, id: u16, emission: &mut Emission)
     emission.to = observer.endpoint;
 }
 
-// Whom a notification is for.
+// Returns the header of an observer's notification.
 fn envelope<'a>(observer: &Observer<'a>, id: u16) -> Envelope<'a>
     ensures { result ≡ note_envelope id observer.now.confirmable (interest observer.now) }
 {
@@ -177,7 +181,7 @@ fn envelope<'a>(observer: &Observer<'a>, id: u16) -> Envelope<'a>
     }
 }
 
-// A notification is confirmable or not (RFC 7641, 4.5).
+// Returns the message type of a notification (RFC 7641, section 4.5).
 fn note_kind(confirmable: bool) -> MessageType
     ensures { result ≡ note_kind confirmable }
 {
@@ -188,7 +192,7 @@ fn note_kind(confirmable: bool) -> MessageType
     }
 }
 
-// Whether a ticket is of a turn, and the outcome of the ticket.
+// Returns whether the ticket is of the lease, and the outcome of the ticket.
 fn is_run_of_turn(outcome: &Outcome<'_>, ticket: &Ticket<'_>, turn: Turn, serial: u64) -> bool
     ensures own { IsTrue result ↔ IsRunOfTurn turn outcome.now ticket.now serial }
     ensures run { IsTrue result → outcome.now ≡ run_of ticket.now }

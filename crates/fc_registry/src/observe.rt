@@ -1,4 +1,4 @@
-//! Registration of a GET's client as an observer, and its end (RFC 7641).
+//! Registration and removal of a GET's client as an observer (RFC 7641).
 ghost use Rattle.std.specs.Prelude.{◌≡◌};
 ghost use Rattle.fc_observe.specs.Calls.{Register, after_calls, observers_after};
 ghost use Rattle.fc_observe.specs.Observers.{registration};
@@ -10,13 +10,13 @@ use coap_opts::Block;
 use fc_machine::Outcome;
 use fc_observe::{Observers, Registered};
 
-/// The value of Observe that registers (RFC 7641, 2).
+/// Value of the Observe option that registers (RFC 7641, section 2).
 pub const REGISTER: u32 = 0;
 
-/// The value that cancels.
+/// Value of the Observe option that cancels (RFC 7641, section 2).
 pub const CANCEL: u32 = 1;
 
-/// Returns whether an Observe option has a value.
+/// Returns whether an Observe option has this value.
 pub fn has_observe(value: u32, observe: Option<u32>) -> bool
     ensures { result ≡ has_observe value observe }
 {
@@ -26,8 +26,8 @@ pub fn has_observe(value: u32, observe: Option<u32>) -> bool
     }
 }
 
-// Registers the client of a run that has nothing to write, or removes its entry, where its request asks for that. Tells whether
-// it observes the slot from now on.
+// Registers the client of a run that has nothing to write, or removes its entry, if its request
+// asks for that. Returns whether the client observes the slot from now on.
 pub(crate) fn observe(
     watch: &mut Observers,
     now: u64,
@@ -47,7 +47,7 @@ pub(crate) fn observe(
     false
 }
 
-// Whether the client is to be an observer.
+// Returns whether the run registers its client as an observer.
 fn is_registration(outcome: &Outcome<'_>, ticket: &Ticket<'_>) -> bool
     requires { outcome.now ≡ run_of ticket.now }
     ensures { result ≡ is_registration ticket.now }
@@ -57,7 +57,7 @@ fn is_registration(outcome: &Outcome<'_>, ticket: &Ticket<'_>) -> bool
         && outcome.code() == Code::CONTENT.byte
 }
 
-// Tells whether there was room.
+// Registers the client. Returns whether there was room.
 fn register(watch: &mut Observers, now: u64, ticket: &Ticket<'_>) -> bool
     ensures room { result ≡ is_entered (registration ticket.now.origin.endpoint ticket.now.token.items watch.old) }
     ensures watch { watch.new ≡ observers_after

@@ -1,40 +1,41 @@
-//! The updates to save before changes of slots are made.
+//! Updates to save before slots are changed.
 ghost use Rattle.std.specs.Prelude.{◌≡◌, ◌+◌, ◌<◌, ◌≤◌, None, IfSome};
 ghost use Rattle.fc_registry.specs.Calls.{WouldWrite, commit_of, install_in, remove_from};
 ghost use Rattle.fc_registry.specs.Changes.{Committed};
 ghost use Rattle.fc_registry.specs.Plans.{HasImage, IsPlan, IsPlanned};
 ghost use Rattle.fc_registry.specs.Slots.{IsOwned, last_serial, slot_in};
 
+use crate::job::InitialVars;
 use crate::shard::Shard;
 use crate::slot::LAST_SERIAL;
 use crate::slot_number::SlotNumber;
 use crate::ticket::Ticket;
-use fc_help::vars::VARS;
 use fc_machine::Outcome;
 use fc_store::{ProgramUpdate, SlotUpdate};
 use fc_verify::Verified;
 
-/// The initial variables of a program, which has as many of them as its image says.
-const ZEROS: [u8; VARS] = [0; VARS];
-
 /// Returns the update of an install, or `None` if the slot is at its last serial.
 ///
-/// `image` is to be an image of `program`.
+/// The update has the variables that the install leaves. `image` should be an image of `program`.
 pub fn plan_install<'a>(
-    shard: &Shard,
+    shard: &'a Shard,
     slot: SlotNumber,
     image: &'a [u8],
     program: &Verified,
+    initial: InitialVars,
 ) -> Option<SlotUpdate<'a>>
     requires { IsOwned shard.now slot }
-    ensures plan { IsPlan (slot_in shard.entry.now slot) slot (install_in (slot_in shard.entry.now slot) program.now).changes result }
+    ensures plan { let old = slot_in shard.entry.now slot in
+        IsPlan old slot (install_in old program.now initial).changes result }
     ensures image { IfSome result (λ u. HasImage image.now u.program) }
 {
-    let zeros = &ZEROS[..usize::from(program.vars_size())];
-    plan(shard, slot, ProgramUpdate::Install(image, zeros))
+    let vars = shard.vars_installed(slot, program, initial);
+    plan(shard, slot, ProgramUpdate::Install(image, vars))
 }
 
-/// Returns the update of a removal, or `None` if the slot has no program or is at its last serial.
+/// Returns the update of a removal.
+///
+/// Returns `None` if the slot has no program, or is at its last serial.
 pub fn plan_removal<'a>(shard: &Shard, slot: SlotNumber) -> Option<SlotUpdate<'a>>
     requires { IsOwned shard.now slot }
     ensures { IsPlan (slot_in shard.entry.now slot) slot (remove_from (slot_in shard.entry.now slot)).changes result }
@@ -67,7 +68,7 @@ pub fn plan_commit<'a>(
     })
 }
 
-// An update at the slot's next serial; there is none after the last.
+// Returns an update at the slot's next serial, or `None` if the slot is at its last serial.
 fn plan<'a>(shard: &Shard, slot: SlotNumber, program: ProgramUpdate<'a>) -> Option<SlotUpdate<'a>>
     ensures none { result ≡ None → last_serial ≤ (slot_in shard.entry.now slot).serial }
     ensures some { IfSome result (λ u. ((slot_in shard.entry.now slot).serial < last_serial)

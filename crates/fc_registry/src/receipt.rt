@@ -1,10 +1,12 @@
-//! What a slot's program is told to be.
+//! Receipts: descriptions of installed programs.
 ghost use Rattle.std.specs.Prelude.{◌≡◌};
 ghost use Rattle.fc_registry.specs.Calls.{receipt_of};
 
 use fc_verify::Verified;
 
-/// What is told of an installed program: the serial of its install, its cost and budget in steps, and the size of its
+/// The description of an installed program.
+///
+/// It has the serial of the install, the program's cost and budget in steps, and the size of its
 /// variables in bytes.
 #[derive(Clone, Copy, PartialEq, Eq)]
 pub struct Receipt {

@@ -1,5 +1,5 @@
 //! Restoring the stored state of a slot.
-ghost use Rattle.std.specs.Prelude.{◌≡◌, ◌↔◌, [], replicate, IsTrue, IfErr, IfOk, Some};
+ghost use Rattle.std.specs.Prelude.{◌≡◌, ◌↔◌, [], IsTrue, IfErr, IfOk, Some};
 ghost use Rattle.fc_verify.specs.Accepted.{Accepts};
 ghost use Rattle.fc_verify.specs.Judged.{judged};
 ghost use Rattle.fc_store.specs.Stored.{StoredProgram};
@@ -14,10 +14,14 @@ use fc_verify::{Refusal, Verified, verify};
 use std::alloc::Global;
 use std::sync::Arc;
 
-/// Why a stored slot isn't restored. The slot is as it was.
+/// The reason why a stored slot isn't restored.
+///
+/// The slot is unchanged.
 #[derive(Clone, Copy, Debug, PartialEq, Eq)]
 pub enum RestoreError {
-    /// No history leaves this state: its serial, the program's version, or the variables are wrong.
+    /// No history can leave this state.
+    ///
+    /// Its serial, the program's version or the number of its variables is wrong.
     State,
     /// The verifier refuses the image.
     Image(Refusal),
@@ -67,18 +71,11 @@ fn restored_program(
     }
 }
 
-// Returns whether changes can leave a slot at `serial` with this state of its program.
+// Returns whether changes may leave a slot at `serial` with this state of its program.
 fn is_state(serial: u64, stored: &StoredProgram, program: &Verified) -> bool
     ensures { IsTrue result ↔ IsProgramState serial stored.now program.now }
 {
-    stored.version <= serial
+    stored.version > 0
+        && stored.version <= serial
         && stored.vars.len() == usize::from(program.vars_size())
-        && (stored.version != serial || are_zeros(stored.vars.as_slice(), program))
-}
-
-// Returns whether these are the initial variables of a program.
-fn are_zeros(vars: &[u8], program: &Verified) -> bool
-    ensures { IsTrue result ↔ (vars.now ≡ replicate program.now.vars_size 0) }
-{
-    vars == Vars::zeros(program.vars_size()).as_slice()
 }

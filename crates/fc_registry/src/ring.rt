@@ -1,4 +1,4 @@
-//! The latest commits of a slot.
+//! The last commits of a slot.
 ghost use Rattle.std.specs.Prelude.{◌≡◌, [], ◌∷◌, ◌++◌, IfOk};
 ghost use Rattle.circular_buffer.specs.Buffer.{keep_last};
 
@@ -7,11 +7,13 @@ use fc_help::{Readings, Request, Vars};
 use std::alloc::{AllocError, Global};
 use std::marker::Model;
 
-/// How many commits a slot remembers.
+/// Number of commits that a slot keeps.
 pub const RING: usize = 8;
 
-/// A commit: the slot's serial after it, the request that it answered, the readings of its taking, and the variables that it found
-/// and left.
+/// A commit in a slot's ring.
+///
+/// It has the slot's serial after it, the request that it answered, the readings of its snapshot,
+/// and the variables that it found and left.
 #[derive(Drop)]
 pub struct Entry {
     pub serial: u64,
@@ -46,14 +48,14 @@ impl Ring {
         Ok(Ring { entries })
     }
 
-    // Remembers a commit, and forgets the oldest where there are eight.
+    // Adds a commit, and drops the oldest if there are eight.
     pub(crate) fn push(&mut self, entry: Entry)
         ensures { self.new ≡ keep_last 8 (self.old ++ entry ∷ []) }
     {
         self.entries.push_back(entry);
     }
 
-    // Forgets all.
+    // Removes all commits.
     pub(crate) fn clear(&mut self)
         ensures { self.new ≡ [] }
     {

@@ -2,7 +2,7 @@
 ghost use Rattle.std.specs.Prelude.{◌≡◌, ◌↔◌, IsTrue, if◌then◌else◌, ℕ, ◌/◌, ◌<◌, ◌≤◌, false, length, map, IfErr, IfOk, IfSome, OnErr, OnOk};
 ghost use Rattle.fc_registry.specs.Shards.{empty_shard};
 ghost use Rattle.fc_registry.specs.Slots.{IsOwned, slot_in, with_slot, last_serial, version_in, vars_in};
-ghost use Rattle.fc_registry.specs.Changes.{after_changes};
+ghost use Rattle.fc_registry.specs.Changes.{after_changes, vars_installed};
 ghost use Rattle.fc_registry.specs.Calls.{TakesAt, CommitsTo, WouldWrite, install_in, receipt_at, remove_from, after_taking};
 ghost use Rattle.fc_registry.specs.Views.{HasSize, as_seen, taken_with};
 ghost use Rattle.fc_registry.specs.Plans.{IsRestoreError, RestoresTo};
@@ -14,13 +14,13 @@ ghost use Rattle.fc_registry.specs.Turns.{due_job, written_if};
 ghost use Rattle.fc_registry.specs.Watches.{AreWatched, IsSentUpTo, StaysQuietUntil, after_due, after_given_up, shard_after_tick, due_place, at_time, has_due, has_late, is_quiet, is_quiet_at, late_place, new_watches, noticed_at, signal_call, signalled, ticked_in, watch_at};
 
 use crate::commit::Committed;
-use crate::job::Job;
+use crate::job::{InitialVars, Job};
 use crate::note::{NoteOutcome, Noted, Notification, note};
 use crate::receipt::Receipt;
 use crate::restore::RestoreError;
 use crate::slot::{
     SlotState, clear, committed, empty_slot, find, install, noticed_of, receipt_in, restore,
-    serial_of, take_turn, vars_of, version_of, would_write,
+    serial_of, take_turn, vars_installed, vars_of, version_of, would_write,
 };
 use crate::slot_number::{SHARDS, SlotNumber};
 use crate::ticket::{Found, Ticket};
@@ -35,10 +35,12 @@ use std::alloc::{AllocError, Global};
 use std::marker::Model;
 use std::sync::Arc;
 
-// How many slots a shard has.
+// Number of slots of a shard.
 const PLACES: usize = 8;
 
-/// The slots of one shard: those whose remainder by 8 is the shard's index. Each has its observers.
+/// The slots of one shard, each with its observers.
+///
+/// They are the slots whose number has the shard's index as its remainder by 8.
 #[derive(Drop)]
 pub struct Shard {
     index: u8,
@@ -68,20 +70,22 @@ impl Model for Shard {
         × AreWatched s.watched s.watches.items };
 }
 
-/// What a taking gives.
+/// The result of a snapshot.
 #[derive(Drop)]
 pub enum Taken {
-    /// A program: its handle, beside what was written down.
+    /// A handle of the slot's program; [`Found`] has the rest.
     Given(Arc<Verified>),
     /// The slot is empty.
     Missing,
-    /// The turn is out no longer.
+    /// The lease isn't active.
     Stale,
-    /// There was no memory for another handle of the program.
+    /// Memory for another handle of the program can't be allocated.
     Refused,
 }
 
-/// What a taking gives, with what it wrote down. A clause sees the ticket, where there is one.
+/// The result of a snapshot, with the data that it wrote.
+///
+/// A clause sees the ticket, if there is one.
 #[derive(Drop)]
 pub struct Took {
     pub taken: Taken,
@@ -100,31 +104,34 @@ impl Model for Took {
     ghost invariant = { λ t. HasSize t.taken t.found };
 }
 
-/// What an install answers.
+/// The result of an install.
 #[derive(Clone, Copy, PartialEq, Eq)]
 pub enum Made {
     /// The slot's new serial, and whether it was empty before.
     Raised { serial: u64, created: bool },
-    /// The slot's serials are at their end; nothing changed.
+    /// The slot is at its last serial; nothing changed.
     AtEnd,
 }
 
-/// What a removal answers.
+/// The result of a removal.
 #[derive(Clone, Copy, PartialEq, Eq)]
 pub enum Removal {
-    /// The program is gone; the slot's new serial.
+    /// The program was removed; this is the slot's new serial.
     Removed { serial: u64 },
     /// The slot was empty; nothing changed.
     Absent,
-    /// The slot's serials are at their end; nothing changed.
+    /// The slot is at its last serial; nothing changed.
     AtEnd,
 }
 
 impl Shard {
-    /// Makes a shard of empty slots, each at this serial, whose notifications are confirmable after `confirm_after` milliseconds (see [`Observers::new`]).
+    /// Makes a shard of empty slots, each at `first_serial`.
+    ///
+    /// Its notifications are confirmable after `confirm_after` milliseconds (see
+    /// [`Observers::new`]).
     ///
     /// # Errors
-    /// There was no memory for it.
+    /// Returns `AllocError` if memory can't be allocated.
     pub fn new(
         alloc: Global,
         index: u8,
@@ -148,15 +155,20 @@ impl Shard {
         })
     }
 
-    /// Returns whether a commit of the run would write. It changes nothing.
+    /// Returns whether a commit of the run would write.
+    ///
+    /// It changes nothing.
     pub fn would_write(&self, outcome: &Outcome<'_>, ticket: &Ticket<'_>) -> bool
         ensures { IsTrue result ↔ WouldWrite outcome.now ticket.now (slot_in self.entry.now ticket.now.origin.slot) }
     {
         would_write(outcome, ticket, &self.slots[ticket.origin().slot.place()])
     }
 
-    /// Takes what a job finds in its slot, and keeps the readings that are handed in. Only a handle of the program asks for memory. A turn that is out no longer is stale, which
-    /// is looked at first, at the shard's moment; one that finds its slot empty keeps that. A request's taking changes nothing.
+    /// Takes a snapshot of the job's slot, with these readings.
+    ///
+    /// Only a handle of the program needs memory. The job's lease is checked first, at the shard's
+    /// time: if it isn't active, the result is `Stale`. If the snapshot of an active lease finds
+    /// the slot empty, the lease records that. The snapshot of a request changes nothing.
     pub fn take(&mut self, job: &Job, readings: &Readings) -> Took
         requires { IsOwned self.old job.now.origin.slot }
         ensures taken { TakesAt job.now readings.now self.old result }
@@ -167,8 +179,10 @@ impl Shard {
         Took { taken, found }
     }
 
-    /// Takes as `take` does, and writes down what is found over what another taking found: none is moved. Where a program is given, it and what
-    /// is written down are the ticket.
+    /// Takes a snapshot as `take` does, and writes it over `found`.
+    ///
+    /// The data is written in place, and isn't moved. If the result is a program, this program and
+    /// `found` are the ticket.
     pub fn write_taking(&mut self, job: &Job, readings: &Readings, found: &mut Found) -> Taken
         requires { IsOwned self.old job.now.origin.slot }
         ensures taken { TakesAt job.now readings.now self.old (taken_with result found.new) }
@@ -194,12 +208,23 @@ impl Shard {
         }
     }
 
-    /// Commits a run, at a moment in milliseconds: it writes where the run answered a POST with a code of class 2,
-    /// nothing has changed since the ticket was taken, and the slot's serials aren't at their end. `Overtaken`, `Ended`
-    /// and `Stranger`, which a turn's ticket is, leave the slot as it was. The shard advances to the moment, whatever it answers. What a GET's run wrote
-    /// to its variables is dropped, and so is its notice; that of a commit that writes makes the new serial the noticed one.
-    /// A GET with Observe 0 that is answered 2.05 from its first block on registers its client as an observer, where there is
-    /// room; Observe 1 removes the entry, whatever the code.
+    /// Commits a run, at a time in milliseconds.
+    ///
+    /// A run of the ticket writes exactly if these conditions hold:
+    ///
+    /// - It answered a POST with a code of class 2.
+    /// - Nothing has changed since the ticket's snapshot.
+    /// - The slot is below its last serial.
+    ///
+    /// `Overtaken`, `Ended` and `Stranger` leave the slot unchanged. The ticket of a lease gives
+    /// `Stranger`. The shard's clock advances to `now`, whatever the result.
+    ///
+    /// The variables that a GET's run wrote are dropped, and so is its notify flag. A commit that
+    /// writes makes the new serial the noticed one if its run set the flag.
+    ///
+    /// A GET with Observe 0 registers its client as an observer if its response is 2.05 (Content),
+    /// it requests the first block, and there is room. Observe 1 removes the entry, whatever the
+    /// code.
     pub fn commit(&mut self, now: u64, outcome: &Outcome<'_>, ticket: &Ticket<'_>) -> Committed
         requires { IsOwned self.old ticket.now.origin.slot }
         ensures { CommitsTo outcome.now ticket.now self.old now result self.new }
@@ -213,13 +238,15 @@ impl Shard {
         answer
     }
 
-    /// Restores a slot: to its stored serial and, if it has one, its program with version and variables.
+    /// Restores a slot from its stored state.
     ///
-    /// The image is verified again. The observers are as before, and the ring of the last commits is empty.
+    /// The slot has the stored serial and, if there is one, the stored program with its version and
+    /// variables. The image is verified again. The observers are unchanged, and the ring of the
+    /// last commits is empty.
     ///
     /// # Errors
-    /// Returns why the slot isn't restored; the shard is as before. `State` also says that the stored
-    /// serial is below the present one.
+    /// Returns why the slot isn't restored; the shard is unchanged. `State` is also returned if the
+    /// stored serial is below the present one.
     pub fn restore(
         &mut self,
         alloc: Global,
@@ -235,19 +262,29 @@ impl Shard {
         restore(state, alloc, stored)
     }
 
-    /// Installs a program, with variables of zeros. At the last serial it changes nothing, and answers `AtEnd`.
-    pub fn install(&mut self, slot: SlotNumber, program: Arc<Verified>) -> Made
+    /// Installs a program.
+    ///
+    /// Its variables are zeros. If the previous program's are kept and have its size, it has those
+    /// instead. At the last serial nothing changes, and the result is `AtEnd`.
+    pub fn install(
+        &mut self,
+        slot: SlotNumber,
+        program: Arc<Verified>,
+        initial: InitialVars,
+    ) -> Made
         requires { IsOwned self.old slot }
-        ensures answer { result ≡ (install_in (slot_in self.old slot) program.value).answer }
-        ensures slots { self.new ≡ with_slot self.old slot
-            (after_changes (slot_in self.old slot) (install_in (slot_in self.old slot) program.value).changes) }
+        ensures answer { result ≡ (install_in (slot_in self.old slot) program.value initial).answer }
+        ensures slots { let old = slot_in self.old slot in
+            self.new ≡ with_slot self.old slot (after_changes old (install_in old program.value initial).changes) }
     {
         let state = &mut self.slots[slot.place()];
-        install(state, program)
+        install(state, program, initial)
     }
 
-    /// Removes the program of a slot, with its variables and its ring. An empty slot stays as it is, and answers `Absent`; at
-    /// the last serial a program stays, and the answer is `AtEnd`.
+    /// Removes the program of a slot, with its variables and its ring.
+    ///
+    /// If the slot is empty, nothing changes, and the result is `Absent`. At the last serial a
+    /// program stays, and the result is `AtEnd`.
     pub fn remove(&mut self, slot: SlotNumber) -> Removal
         requires { IsOwned self.old slot }
         ensures answer { result ≡ (remove_from (slot_in self.old slot)).answer }
@@ -258,7 +295,7 @@ impl Shard {
         clear(state)
     }
 
-    /// Describes the program in a slot, where it has one.
+    /// Returns the receipt of the program in a slot, or `None` if it is empty.
     pub fn receipt(&self, slot: SlotNumber) -> Option<Receipt>
         ensures { result ≡ receipt_at (slot_in self.entry.now slot).present }
     {
@@ -266,7 +303,9 @@ impl Shard {
         receipt_in(state)
     }
 
-    /// Returns the serial of a slot of this shard. A slot that isn't is read as the one that stands at its place here.
+    /// Returns the serial of a slot of this shard.
+    ///
+    /// For the slot of another shard, it is the serial of the slot at the same place here.
     pub fn serial(&self, slot: SlotNumber) -> u64
         ensures { result ≡ (slot_in self.entry.now slot).serial }
     {
@@ -274,8 +313,10 @@ impl Shard {
         serial_of(state)
     }
 
-    /// Returns the serial of the last change of a slot of this shard that observers are told of: an install, a removal, or a commit
-    /// whose run gave a notice. It is the first serial before any.
+    /// Returns the noticed serial of a slot of this shard.
+    ///
+    /// It is the serial of the last change that observers are notified of: an install, a removal,
+    /// or a commit whose run set the notify flag. Before any, it is the first serial.
     pub fn noticed(&self, slot: SlotNumber) -> u64
         ensures { result ≡ (slot_in self.entry.now slot).noticed }
     {
@@ -283,12 +324,27 @@ impl Shard {
         noticed_of(state)
     }
 
-    /// Returns the version of the program in a slot, where it has one.
+    /// Returns the version of the program in a slot, or `None` if it is empty.
     pub fn version(&self, slot: SlotNumber) -> Option<u64>
         ensures { result ≡ version_in (slot_in self.entry.now slot).present }
     {
         let state = &self.slots[slot.place()];
         version_of(state)
+    }
+
+    /// Returns the variables of the program in a slot.
+    ///
+    /// There are no bytes if the slot is empty.
+    pub fn vars_installed(
+        &self,
+        slot: SlotNumber,
+        program: &Verified,
+        initial: InitialVars,
+    ) -> &[u8]
+        ensures { result.now ≡ vars_installed initial program.now (vars_in (slot_in self.entry.now slot).present) }
+    {
+        let state = &self.slots[slot.place()];
+        vars_installed(state, program, initial)
     }
 
     /// Returns the variables of the program in a slot; no bytes where it is empty.
@@ -299,8 +355,11 @@ impl Shard {
         vars_of(state)
     }
 
-    /// Gives a turn to the first observer that is due at a moment in milliseconds, by slot and then by registration: a job that
-    /// answers its request anew, from the first block on.
+    /// Grants a lease to the first observer with a pending notification.
+    ///
+    /// Observers are in the order of their slots, and then of their registrations. The time is in
+    /// milliseconds. The job answers the observer's request again, from the first block on. Returns
+    /// `None` if no lease is granted.
     pub fn next_due(&mut self, now: u64) -> Option<Job>
         ensures job { result ≡ due_job (due_place (at_time self.old now)) (at_time self.old now) }
         ensures after { self.new ≡ after_due (due_place (at_time self.old now)) (at_time self.old now) }
@@ -313,8 +372,10 @@ impl Shard {
         }
     }
 
-    /// Gives a turn as `next_due` does, and writes its job over another: none is moved. Tells whether one is given; else the job stays
-    /// as it was.
+    /// Grants a lease as `next_due` does, and writes its job over `job`.
+    ///
+    /// The job is written in place, and isn't moved. Returns whether a lease was granted; otherwise
+    /// `job` is unchanged.
     pub fn write_due(&mut self, now: u64, job: &mut Job) -> bool
         ensures job { written_if result job.new ≡ due_job (due_place (at_time self.old now)) (at_time self.old now) }
         ensures kept { result ≡ false → job.new ≡ job.old }
@@ -330,11 +391,18 @@ impl Shard {
         next_turn(watch, self.now, noticed, slot, job)
     }
 
-    /// Notifies the observer whose turn is out of what is told, by a message id, at a moment in milliseconds: the response, with the
-    /// serial found as its sequence number, where it is a 2.05 Content, and then the turn is over; another response, 4.04 of an empty
-    /// slot among them, has none, and removes the observer. It is confirmable the shard's `confirm_after` after the registration or
-    /// the last confirmable one (RFC 7641, 4.5), and then waits for an acknowledgement, by the random word. `Stale` and `Stranger`, tested in this
-    /// order, change no observer.
+    /// Notifies the observer that has this lease.
+    ///
+    /// The notification has the message ID `id`, and the time is in milliseconds. A 2.05 (Content)
+    /// response has the snapshot's serial as its sequence number, and then the lease is over. Any
+    /// other response, such as 4.04 for an empty slot, has no sequence number, and removes the
+    /// observer.
+    ///
+    /// The notification is confirmable if the shard's `confirm_after` has passed since the
+    /// registration or the last confirmable one (RFC 7641, section 4.5). Then it waits for an
+    /// acknowledgement, with a timeout that `random` determines.
+    ///
+    /// `Stale` is tested before `Stranger`. Neither changes an observer.
     pub fn note(
         &mut self,
         turn: Turn,
@@ -357,8 +425,10 @@ impl Shard {
         }
     }
 
-    /// Notifies an observer as `note` does, and writes what it is sent over another emission: none is moved. The emission stays as it
-    /// was where nothing is sent.
+    /// Notifies an observer as `note` does, and writes the message over `emission`.
+    ///
+    /// The message is written in place, and isn't moved. `emission` is unchanged if nothing is
+    /// sent.
     pub fn write_note(
         &mut self,
         turn: Turn,
@@ -379,7 +449,9 @@ impl Shard {
         note(watch, self.now, serial, turn, id, random, told, emission)
     }
 
-    /// Gives up a turn, at a moment in milliseconds. Its observer is due again at a later one.
+    /// Releases a lease, at a time in milliseconds.
+    ///
+    /// Its observer has a pending notification again at a later time.
     pub fn give_up(&mut self, turn: Turn, now: u64)
         requires { IsOwned self.old turn.slot }
         ensures { self.new ≡ after_given_up turn (at_time self.old now) }
@@ -388,15 +460,17 @@ impl Shard {
         self.watches[usize::from(turn.slot / SHARDS)].give_up(turn, self.now);
     }
 
-    /// Hands an Acknowledgement or a Reset message to the observers of every slot.
+    /// Passes an Acknowledgement or a Reset message to the observers of every slot.
     pub fn signal(&mut self, endpoint: Endpoint, id: u16, reset: bool)
         ensures { self.new ≡ signalled (signal_call reset endpoint id) self.old }
     {
         signal_all(&mut self.watches, endpoint, id, reset);
     }
 
-    /// Sends the first notification that is late at a moment in milliseconds again, or removes its observer: by slot, and then
-    /// by registration.
+    /// Retransmits the first notification that has timed out, or removes its observer.
+    ///
+    /// Notifications are in the order of their slots, and then of their observers' registrations.
+    /// The time is in milliseconds.
     pub fn tick(&mut self, now: u64) -> Ticked
         ensures answer { result ≡ ticked_in (late_place (at_time self.old now)) (at_time self.old now) }
         ensures after { self.new ≡ shard_after_tick (late_place (at_time self.old now)) (at_time self.old now) }
@@ -408,7 +482,7 @@ impl Shard {
         }
     }
 
-    // The noticed serial of the slot at a place.
+    // Returns the noticed serial of the slot at a place.
     fn noticed_at(&self, place: usize) -> u64
         requires { place < 8 }
         ensures { result ≡ noticed_at self.entry.now place }
@@ -417,8 +491,11 @@ impl Shard {
         noticed_of(state)
     }
 
-    /// Advances to a moment in milliseconds where no notification is late by then, and no observer is due: so `tick` and `next_due` would do
-    /// nothing else. Tells whether it did.
+    /// Advances the clock to `now`, in milliseconds, if the shard is idle then.
+    ///
+    /// It is idle if no notification has timed out and no observer has a pending one. Then `tick`
+    /// and `next_due` would do nothing but advance the clock. Returns whether the clock was
+    /// advanced.
     pub fn advance_if_quiet(&mut self, now: u64) -> bool
         ensures quiet { result ≡ is_quiet (at_time self.old now) }
         ensures after { self.new ≡ (if result then at_time self.old now else self.old) }
@@ -431,8 +508,10 @@ impl Shard {
         quiet
     }
 
-    /// Returns a moment before which no notification is late and no observer due, unless the shard is called: the first that is known, or 2^64 - 1 where
-    /// none is.
+    /// Returns a time before which the shard stays idle, unless it is called.
+    ///
+    /// Before it no notification has timed out, and no observer has a pending one. It is the
+    /// earliest time known at which this may change, in milliseconds, or 2^64 - 1 if none is known.
     pub fn quiet_until(&self) -> u64
         ensures { StaysQuietUntil result self.entry.now }
     {
@@ -445,7 +524,8 @@ impl Shard {
         until
     }
 
-    // Returns a moment before which no notification at a place is late, and no observer due.
+    // Returns a time before which no notification at a place has timed out, and no observer there
+    // has a pending one.
     fn quiet_until_at(&self, place: usize) -> u64
         requires { place < 8 }
         ensures { AreQuietUntil result (noticed_at self.entry.now place) (watch_at self.entry.now place).held }
@@ -453,7 +533,8 @@ impl Shard {
         self.watches[place].quiet_until(self.noticed_at(place))
     }
 
-    // Whether no notification is late at a moment, and no observer due, at any place. Then it is looked anew whether there is one.
+    // Returns whether the shard is idle at a time. If it is, looks again whether there are
+    // observers.
     fn check_quiet(&mut self, now: u64) -> bool
         ensures quiet { result ≡ is_quiet (record self.old { now = now }) }
         ensures after { self.new ≡ self.old }
@@ -470,7 +551,8 @@ impl Shard {
         true
     }
 
-    // Whether no notification is late at a moment, and no observer due, at a place.
+    // Returns whether no notification at a place has timed out at a time, and no observer there has
+    // a pending one.
     fn check_quiet_at(&mut self, now: u64, place: usize) -> bool
         requires { place < 8 }
         ensures quiet { result ≡ is_quiet_at (record self.old { now = now }) place }
@@ -481,7 +563,7 @@ impl Shard {
         watch.check_quiet(now, noticed)
     }
 
-    // Whether an observer at a place is due at a moment.
+    // Returns whether an observer at a place has a pending notification at a time.
     fn is_due_at(&self, now: u64, place: usize) -> bool
         requires { place < 8 }
         ensures { result ≡ has_due (record self.entry.now { now = now }) place }
@@ -489,7 +571,7 @@ impl Shard {
         self.watches[place].is_due(now, self.noticed_at(place))
     }
 
-    // Whether a notification at a place is late at a moment.
+    // Returns whether a notification at a place has timed out at a time.
     fn is_late_at(&self, now: u64, place: usize) -> bool
         requires { place < 8 }
         ensures { result ≡ has_late (record self.entry.now { now = now }) place }
@@ -497,7 +579,7 @@ impl Shard {
         self.watches[place].is_late(now)
     }
 
-    // The first place with an observer that is due at a moment.
+    // Returns the first place with an observer that has a pending notification at a time.
     fn due_place(&self, now: u64) -> Option<usize>
         ensures place { result ≡ due_place (record self.entry.now { now = now }) }
         ensures within { IfSome result (λ k. k < 8) }
@@ -505,7 +587,7 @@ impl Shard {
         (0..PLACES).find(|place| self.is_due_at(now, *place))
     }
 
-    // The first place with a notification that is late at a moment.
+    // Returns the first place with a notification that has timed out at a time.
     fn late_place(&self, now: u64) -> Option<usize>
         ensures place { result ≡ late_place (record self.entry.now { now = now }) }
         ensures within { IfSome result (λ k. k < 8) }
@@ -513,17 +595,21 @@ impl Shard {
         (0..PLACES).find(|place| self.is_late_at(now, *place))
     }
 
-    /// The ring of each slot is a chain: whatever was called, in whatever order, its entries are the commits of the present
-    /// program since its install, or since the slot was restored; each begins with what the one before it left, and the last
-    /// left the present variables.
+    /// The ring of each slot is a chain, after any calls in any order.
+    ///
+    /// Its entries are the last commits of the present program since its install, or since the slot
+    /// was restored. Each begins with the variables that the one before it left. The last left the
+    /// present variables.
     pub fn rings_are_chains(&self)
         ensures { (n : ℕ) → IsOwned self.entry.now n → IsRecord (slot_in self.entry.now n) }
     {
         let _ = &self.index;
     }
 
-    /// No observer of a slot was sent a serial above the slot's: whatever was called, in whatever order, what it was last sent, by
-    /// its registration's answer or a notification, is of no state that is yet to come.
+    /// No observer of a slot was sent a serial above the slot's.
+    ///
+    /// This holds after any calls in any order. The serial that an observer was last sent, by the
+    /// response to its registration or by a notification, is of no state that is yet to come.
     pub fn no_observer_is_ahead(&self)
         ensures { (n : ℕ) → IsOwned self.entry.now n → IsSentUpTo (slot_in self.entry.now n).serial (watch_at self.entry.now (n / 8)) }
     {
@@ -531,7 +617,7 @@ impl Shard {
     }
 }
 
-// No observers, of each of the shard's slots.
+// Makes the empty lists of observers of the shard's slots.
 fn make_watches(alloc: Global, index: u8, confirm_after: u64) -> Result<Vec<Observers>, AllocError>
     requires { index < 8 }
     ensures { IfOk result (λ w. w.items ≡ new_watches index confirm_after 8) }
@@ -543,14 +629,14 @@ fn make_watches(alloc: Global, index: u8, confirm_after: u64) -> Result<Vec<Obse
     Ok(watches)
 }
 
-// Whether a slot has an observer.
+// Returns whether a slot has an observer.
 fn have_observers(watches: &[Observers]) -> bool
     ensures { AreWatched result watches.now }
 {
     watches.iter().any(|watch| !watch.is_empty())
 }
 
-// Hands a signal to the observers of each slot.
+// Passes a signal to the observers of each slot.
 fn signal_all(watches: &mut [Observers], endpoint: Endpoint, id: u16, reset: bool)
     ensures { watches.new ≡ map (observers_after (signal_call reset endpoint id)) watches.old }
 {

@@ -7,11 +7,13 @@ use crate::shard::Shard;
 use crate::slot_number::SHARDS;
 use std::alloc::{AllocError, Global};
 
-/// Makes eight shards, in order of index, of empty slots that are each at the first serial, whose notifications are confirmable after `confirm_after`
-/// milliseconds.
+/// Makes eight shards, in the order of their indices.
+///
+/// Their slots are empty, each at `first_serial`. Their notifications are confirmable after
+/// `confirm_after` milliseconds.
 ///
 /// # Errors
-/// There was no memory for them.
+/// Returns `AllocError` if memory can't be allocated.
 pub fn make_shards(
     alloc: Global,
     first_serial: u64,

@@ -1,8 +1,8 @@
-//! Slots: what the jobs of a slot find in it, and what they change there.
-ghost use Rattle.std.specs.Prelude.{◌≡◌, ◌+◌, ◌<◌, ◌≤◌, ◌↔◌, [], ◌∷◌, true, false, length, IfErr, IfOk, IsTrue, OnErr, OnOk};
+//! Slots: the snapshots of their jobs, and the changes that they make.
+ghost use Rattle.std.specs.Prelude.{◌≡◌, ◌+◌, ◌<◌, ◌≤◌, ◌↔◌, [], ◌∷◌, true, false, length, replicate, IfErr, IfOk, IsTrue, OnErr, OnOk};
 ghost use Rattle.fc_machine.specs.Ran.{meaning_of};
 ghost use Rattle.fc_registry.specs.Slots.{new_slot, last_serial, version_in, vars_in};
-ghost use Rattle.fc_registry.specs.Changes.{Committed as Wrote, after_changes};
+ghost use Rattle.fc_registry.specs.Changes.{Committed as Wrote, after_changes, vars_installed};
 ghost use Rattle.fc_registry.specs.Calls.{IsCommit, ComesTo, IsOwn, IsCurrent, commit_calls, commit_of, is_observed, is_post, observe_calls, mark_of, install_in, receipt_at, remove_from, run_of, wants_by, IsFinding, IsTurnTaking, WouldWrite, turn_calls};
 ghost use Rattle.fc_registry.specs.Plans.{IsRestoreError, IsRestored};
 ghost use Rattle.fc_registry.specs.Record.{IsRecord};
@@ -11,13 +11,14 @@ ghost use Rattle.fc_observe.specs.Calls.{after_calls};
 
 use crate::body::Body;
 use crate::commit::{CommitOutcome, Committed};
-use crate::job::Job;
+use crate::job::{InitialVars, Job};
 use crate::observe::observe;
 use crate::receipt::Receipt;
 use crate::restore::{RestoreError, restored};
 use crate::ring::{Entry, Ring};
 use crate::shard::{Made, Removal, Taken};
 use crate::ticket::{Found, Mark, Ticket, is_run_of};
+use fc_help::vars::VARS;
 use fc_help::{Method, Readings, Vars};
 use fc_machine::Outcome;
 use fc_observe::{Observers, Turn};
@@ -26,10 +27,14 @@ use fc_verify::Verified;
 use std::alloc::{AllocError, Global};
 use std::sync::Arc;
 
+// The variables of the largest size that a program may have, each of them zero.
+const ZEROS: [u8; VARS] = [0; VARS];
+
 /// The greatest serial.
 pub const LAST_SERIAL: u64 = 9_223_372_036_854_775_807;
 
-// A slot: its serial, the serial of the last change that observers are told of, its program, and its latest commits.
+// A slot: its serial, the serial of the last change that observers are notified of, its program,
+// and its last commits.
 #[derive(Drop)]
 pub(crate) struct SlotState {
     pub(crate) serial: u64,
@@ -38,7 +43,7 @@ pub(crate) struct SlotState {
     pub(crate) ring: Ring,
 }
 
-// A slot that nothing was installed in.
+// Makes a slot in which nothing was installed.
 pub(crate) fn empty_slot(alloc: Global, serial: u64) -> Result<SlotState, AllocError>
     ensures { IfOk result (λ s. as_seen s ≡ new_slot serial) }
 {
@@ -50,21 +55,21 @@ pub(crate) fn empty_slot(alloc: Global, serial: u64) -> Result<SlotState, AllocE
     })
 }
 
-// The serial of a slot.
+// Returns the serial of a slot.
 pub(crate) fn serial_of(slot: &SlotState) -> u64
     ensures { result ≡ (as_seen slot.now).serial }
 {
     slot.serial
 }
 
-// The serial of its last change that observers are told of.
+// Returns the serial of its last change that observers are notified of.
 pub(crate) fn noticed_of(slot: &SlotState) -> u64
     ensures { result ≡ (as_seen slot.now).noticed }
 {
     slot.noticed
 }
 
-// The version of its program, where it has one.
+// Returns the version of its program, or `None` if it is empty.
 pub(crate) fn version_of(slot: &SlotState) -> Option<u64>
     ensures { result ≡ version_in (as_seen slot.now).present }
 {
@@ -74,7 +79,7 @@ pub(crate) fn version_of(slot: &SlotState) -> Option<u64>
     }
 }
 
-// The variables of its program; no bytes where it has none.
+// Returns the variables of its program, or no bytes if it is empty.
 pub(crate) fn vars_of(slot: &SlotState) -> &[u8]
     ensures { result.now ≡ vars_in (as_seen slot.now).present }
 {
@@ -84,7 +89,7 @@ pub(crate) fn vars_of(slot: &SlotState) -> &[u8]
     }
 }
 
-// What a turn finds in a slot, at its shard's moment.
+// Takes the snapshot of a lease, at its shard's time.
 pub(crate) fn take_turn(
     watch: &mut Observers,
     now: u64,
@@ -108,7 +113,7 @@ pub(crate) fn take_turn(
     find(job, readings, slot, found)
 }
 
-// What a job finds in a slot, which is written down over what was found before.
+// Takes a job's snapshot of a slot, and writes it over an earlier one.
 pub(crate) fn find(job: &Job, readings: &Readings, slot: &SlotState, found: &mut Found) -> Taken
     ensures taken { IsFinding job.now readings.now (as_seen slot.now) (taken_with result found.new) }
     ensures size { HasSize result found.new }
@@ -125,16 +130,44 @@ pub(crate) fn find(job: &Job, readings: &Readings, slot: &SlotState, found: &mut
     }
 }
 
+// Returns the variables that the install of a program leaves in a slot.
+pub(crate) fn vars_installed<'a>(
+    slot: &'a SlotState,
+    program: &Verified,
+    initial: InitialVars,
+) -> &'a [u8]
+    ensures vars { result.now ≡ vars_installed initial program.now (vars_in (as_seen slot.now).present) }
+    ensures few { length result.now ≤ VARS }
+{
+    let zeros = zeros(program);
+    let before = vars_of(slot);
+    match initial {
+        InitialVars::Zeros => zeros,
+        InitialVars::Kept if before.len() == zeros.len() => before,
+        InitialVars::Kept => zeros,
+    }
+}
+
+// Returns as many zeros as a program has variables.
+fn zeros(program: &Verified) -> &'static [u8]
+    ensures vars { result.now ≡ replicate program.now.vars_size 0 }
+    ensures size { length result.now ≡ program.now.vars_size }
+    ensures few { length result.now ≤ VARS }
+{
+    &ZEROS[..usize::from(program.vars_size())]
+}
+
 // Installs a program in a slot.
-pub(crate) fn install(slot: &mut SlotState, program: Arc<Verified>) -> Made
-    ensures answer { result ≡ (install_in (as_seen slot.old) program.value).answer }
-    ensures slot { as_seen slot.new ≡ after_changes (as_seen slot.old) (install_in (as_seen slot.old) program.value).changes }
+pub(crate) fn install(slot: &mut SlotState, program: Arc<Verified>, initial: InitialVars) -> Made
+    ensures answer { result ≡ (install_in (as_seen slot.old) program.value initial).answer }
+    ensures slot { let old = as_seen slot.old in
+        as_seen slot.new ≡ after_changes old (install_in old program.value initial).changes }
 {
     if slot.serial >= LAST_SERIAL {
         return Made::AtEnd;
     }
     let created = slot.body.is_none();
-    let vars = Vars::zeros(program.vars_size());
+    let vars = Vars::of(vars_installed(slot, &program, initial));
     let serial = slot.serial + 1;
     let body = Body {
         program,
@@ -145,7 +178,8 @@ pub(crate) fn install(slot: &mut SlotState, program: Arc<Verified>) -> Made
     Made::Raised { serial, created }
 }
 
-// Puts a program with its variables, or none, in a slot, at a serial that observers are told of. The ring begins anew.
+// Sets the program of a slot with its variables, or none, at a serial that observers are notified
+// of. The ring starts empty.
 fn put(slot: &mut SlotState, serial: u64, body: Option<Body>)
     ensures { as_seen slot.new ≡ record { serial = serial; noticed = serial; present = present_of body; ring = [] } }
 {
@@ -191,7 +225,7 @@ pub(crate) fn clear(slot: &mut SlotState) -> Removal
     Removal::Removed { serial }
 }
 
-// What the program in a slot is.
+// Returns the receipt of the program in a slot.
 pub(crate) fn receipt_in(slot: &SlotState) -> Option<Receipt>
     ensures { result ≡ receipt_at (as_seen slot.now).present }
 {
@@ -201,7 +235,8 @@ pub(crate) fn receipt_in(slot: &SlotState) -> Option<Receipt>
     }
 }
 
-// Whether the ticket is no turn's, the outcome is of its program, request, variables and readings, and its serial isn't above the slot's.
+// Returns whether the ticket is of no lease, the outcome is of its program, request, variables and
+// readings, and its serial isn't above the slot's.
 fn is_own(outcome: &Outcome<'_>, ticket: &Ticket<'_>, slot: &SlotState) -> bool
     ensures own { IsTrue result ↔ IsOwn outcome.now ticket.now (as_seen slot.now) }
     ensures run { IsTrue result → outcome.now ≡ run_of ticket.now }
@@ -209,21 +244,21 @@ fn is_own(outcome: &Outcome<'_>, ticket: &Ticket<'_>, slot: &SlotState) -> bool
     ticket.turn().is_none() && is_run_of(outcome, ticket, slot.serial)
 }
 
-// Whether the run answered a POST with a code of class 2.
+// Returns whether the run answered a POST with a code of class 2.
 fn wants(outcome: &Outcome<'_>) -> bool
     ensures { result ≡ wants_by outcome.now }
 {
     is_post(outcome.request().method()) && outcome.code() / 32 == 2
 }
 
-// Whether a request is a POST.
+// Returns whether a request is a POST.
 fn is_post(method: Method) -> bool
     ensures { result ≡ is_post method }
 {
     method == Method::Post
 }
 
-// Whether nothing has changed since the ticket was taken.
+// Returns whether nothing has changed since the ticket's snapshot.
 fn is_current(ticket: &Ticket<'_>, slot: &SlotState) -> bool
     ensures { IsTrue result ↔ IsCurrent ticket.now (as_seen slot.now) }
 {
@@ -238,7 +273,8 @@ fn is_current(ticket: &Ticket<'_>, slot: &SlotState) -> bool
     }
 }
 
-// What the commit of a ticket's run comes to. A run that has nothing to write compares nothing.
+// Returns the outcome of the commit of a ticket's run. A run that has nothing to write compares
+// nothing.
 fn outcome_of(outcome: &Outcome<'_>, ticket: &Ticket<'_>, slot: &SlotState) -> CommitOutcome
     requires { IsOwn outcome.now ticket.now (as_seen slot.now) }
     ensures { ComesTo ticket.now (as_seen slot.now) result }
@@ -254,7 +290,7 @@ fn outcome_of(outcome: &Outcome<'_>, ticket: &Ticket<'_>, slot: &SlotState) -> C
     }
 }
 
-// Commits to a slot and its observers, at the shard's moment.
+// Commits to a slot and its observers, at the shard's time.
 pub(crate) fn committed(
     slot: &mut SlotState,
     watch: &mut Observers,
@@ -276,7 +312,8 @@ pub(crate) fn committed(
     }
 }
 
-// Returns whether a commit of the run would write. A run that has nothing to write compares nothing.
+// Returns whether a commit of the run would write. A run that has nothing to write compares
+// nothing.
 pub(crate) fn would_write(outcome: &Outcome<'_>, ticket: &Ticket<'_>, slot: &SlotState) -> bool
     ensures { IsTrue result ↔ WouldWrite outcome.now ticket.now (as_seen slot.now) }
 {
@@ -285,7 +322,7 @@ pub(crate) fn would_write(outcome: &Outcome<'_>, ticket: &Ticket<'_>, slot: &Slo
         && matches!(outcome_of(outcome, ticket, slot), CommitOutcome::Writes)
 }
 
-// Leaves a slot as it is, and registers or removes the client of its run.
+// Leaves a slot unchanged, and registers or removes the client of its run.
 fn keep(
     slot: &SlotState,
     watch: &mut Observers,
@@ -301,7 +338,7 @@ fn keep(
     mark(ticket, slot.serial, false, observed)
 }
 
-// Writes what a run left to its slot, and remembers the commit.
+// Writes the variables that a run left to its slot, and adds the commit to the ring.
 fn write(slot: &mut SlotState, outcome: &Outcome<'_>, ticket: &Ticket<'_>) -> Mark
     requires own { IsOwn outcome.now ticket.now (as_seen slot.old) }
     requires current { IsCurrent ticket.now (as_seen slot.old) }
@@ -326,17 +363,17 @@ fn write(slot: &mut SlotState, outcome: &Outcome<'_>, ticket: &Ticket<'_>) -> Ma
     mark(ticket, slot.serial, true, false)
 }
 
-// The variables that a run left.
+// Returns the variables that a run left.
 fn vars_after(outcome: &Outcome<'_>) -> Vars
     ensures vars { result ≡ (meaning_of outcome.now).vars }
     ensures size { length result ≡ outcome.now.program.vars_size }
 {
-    // The checker learns from this call how many bytes they have at most.
+    // The checker learns their greatest number of bytes from this call.
     let _size = outcome.program().vars_size();
     Vars::of(outcome.after())
 }
 
-// What a commit leaves, by its ticket.
+// Makes the mark of a commit from its ticket.
 fn mark(ticket: &Ticket<'_>, serial: u64, changed: bool, observed: bool) -> Mark
     ensures { result ≡ mark_of ticket.now serial changed observed }
 {

@@ -3,13 +3,15 @@ ghost use Rattle.std.specs.Prelude.{◌≡◌, ◌<◌, ◌/◌, ◌%◌};
 
 use std::marker::Model;
 
-/// How many slots a server has.
+/// Number of slots of a server.
 pub const SLOTS: u8 = 64;
 
-/// How many shards a server has, and how many slots each of them.
+/// Number of shards of a server, and of slots of a shard.
 pub const SHARDS: u8 = 8;
 
-/// The number of a slot: 0 to 63. A clause sees the number itself.
+/// The number of a slot: 0 to 63.
+///
+/// A clause sees the number itself.
 #[derive(Clone, Copy, Default, PartialEq, Eq)]
 pub struct SlotNumber {
     number: u8,
@@ -28,7 +30,7 @@ impl Model for SlotNumber {
 }
 
 impl SlotNumber {
-    /// Makes the slot number of this number, which is below 64.
+    /// Makes a slot number from a number below 64.
     pub fn new(number: u8) -> Self
         requires { number < 64 }
         ensures { result ≡ number }

@@ -1,4 +1,4 @@
-//! What a taking finds, tickets and marks.
+//! The data of snapshots, tickets and marks.
 ghost use Rattle.std.specs.Prelude.{◌≡◌, ◌↔◌, IsTrue, length};
 ghost use Rattle.fc_kinds.specs.Meaning.{Program};
 ghost use Rattle.fc_registry.specs.Calls.{IsRunOf, request_of, run_of, ticket_of};
@@ -12,8 +12,10 @@ use fc_machine::Outcome;
 use fc_verify::Verified;
 use std::marker::Model;
 
-/// What a taking writes down of its job and of the slot that it finds; with the handle of the program, which the taking gives, that is a
-/// ticket. It is written over what the last taking found. What is installed or committed later doesn't alter it.
+/// The data that a snapshot writes: its job's, and that of the slot.
+///
+/// With the handle of the program, which is the snapshot's result, it is a ticket. It is written
+/// over the data of the last snapshot. Later installs and commits don't change it.
 #[derive(Drop)]
 pub struct Found {
     origin: Origin,
@@ -48,7 +50,7 @@ impl Model for Found {
 }
 
 impl Found {
-    /// Room for what a taking finds.
+    /// Makes a value for a snapshot to write over.
     pub fn blank() -> Found {
         Found {
             origin: Origin::default(),
@@ -64,7 +66,8 @@ impl Found {
         }
     }
 
-    // Writes down what a job finds in a slot of this serial, beside a program of which these are the version and the variables.
+    // Writes the data of a job, and of a slot at this serial, whose program has this version and
+    // these variables.
     pub(crate) fn write(
         &mut self,
         job: &Job,
@@ -89,7 +92,7 @@ impl Found {
     }
 }
 
-// Another copy of a token.
+// Returns a copy of a token.
 fn copy_token(token: &Token) -> Token
     ensures { result ≡ token.now }
 {
@@ -108,8 +111,11 @@ fn write_request(ask: &Ask, request: &mut Request)
     }
 }
 
-/// A view of a program and of what is written down beside it. Where one taking gave both, it is what that found in a slot, for a job. A commit compares
-/// its program, version, variables and serial with the slot's. What is installed or committed later doesn't alter it.
+/// A ticket: a view of a program, and of the data of a snapshot.
+///
+/// If one snapshot gave both, it is the slot's state that the snapshot found, for a job. A commit
+/// compares its program, version, variables and serial with the slot's. Later installs and commits
+/// don't change it.
 #[derive(Drop)]
 pub struct Ticket<'a> {
     program: &'a Verified,
@@ -129,7 +135,7 @@ impl<'a> Model for Ticket<'a> {
 }
 
 impl<'a> Ticket<'a> {
-    /// Returns the ticket of a program that a taking gave, and of what it wrote down.
+    /// Makes the ticket of a snapshot's program and data.
     pub fn of(program: &'a Verified, found: &'a Found) -> Ticket<'a>
         requires { IsSized program.now found.now }
         ensures { result ≡ ticket_with program.now found.now }
@@ -137,7 +143,7 @@ impl<'a> Ticket<'a> {
         Ticket { program, found }
     }
 
-    /// Returns the job that took it.
+    /// Returns the origin of the job that took the snapshot.
     pub fn origin(&self) -> Origin
         ensures { result ≡ self.now.origin }
     {
@@ -145,7 +151,7 @@ impl<'a> Ticket<'a> {
         found.origin
     }
 
-    /// Returns the number of the turn that its job is; none of a request.
+    /// Returns the number of the job's lease, or `None` for a request.
     pub fn turn(&self) -> Option<u64>
         ensures { result ≡ self.now.turn }
     {
@@ -161,7 +167,7 @@ impl<'a> Ticket<'a> {
         &found.request
     }
 
-    /// Returns the block of the reply that the job's request asks.
+    /// Returns the block of the response that the job's request asks for.
     pub fn block(&self) -> Option<Block>
         ensures { result ≡ self.now.block }
     {
@@ -185,7 +191,7 @@ impl<'a> Ticket<'a> {
         found.observe
     }
 
-    /// Returns the slot's serial when it was taken.
+    /// Returns the slot's serial at the snapshot.
     pub fn serial(&self) -> u64
         ensures { result ≡ self.now.serial }
     {
@@ -200,7 +206,7 @@ impl<'a> Ticket<'a> {
         self.program
     }
 
-    // Its version.
+    // Returns its version.
     pub(crate) fn version(&self) -> u64
         ensures { result ≡ self.now.found.version }
     {
@@ -217,7 +223,7 @@ impl<'a> Ticket<'a> {
         &found.vars
     }
 
-    /// Returns the readings that were handed in at the taking.
+    /// Returns the readings that were passed to the snapshot.
     pub fn readings(&self) -> &'a Readings
         ensures { result.now ≡ self.now.readings }
     {
@@ -226,7 +232,8 @@ impl<'a> Ticket<'a> {
     }
 }
 
-// Whether an outcome is of a ticket's program, request, variables and readings, and the ticket's serial isn't above this one.
+// Returns whether an outcome is of a ticket's program, request, variables and readings, and the
+// ticket's serial isn't above `serial`.
 pub(crate) fn is_run_of(outcome: &Outcome<'_>, ticket: &Ticket<'_>, serial: u64) -> bool
     ensures of { IsTrue result ↔ IsRunOf outcome.now ticket.now serial }
     ensures run { IsTrue result → outcome.now ≡ run_of ticket.now }
@@ -238,8 +245,10 @@ pub(crate) fn is_run_of(outcome: &Outcome<'_>, ticket: &Ticket<'_>, serial: u64)
         && ticket.serial() <= serial
 }
 
-/// What a commit leaves. An answer of a run spends it, so no such answer is made without its commit: only a commit makes a
-/// mark, it can't be copied, and it is used up only by `spend`.
+/// The mark of a commit: a token that the response of its run consumes.
+///
+/// No such response is made without its commit. Only a commit makes a mark, a mark can't be copied,
+/// and only `spend` consumes it.
 #[must_use]
 pub struct Mark {
     pub(crate) origin: Origin,
@@ -258,14 +267,14 @@ impl Model for Mark {
 }
 
 impl Mark {
-    /// Returns the job whose commit made it.
+    /// Returns the origin of the job whose commit made it.
     pub fn origin(&self) -> Origin
         ensures { result ≡ self.now.origin }
     {
         self.origin
     }
 
-    /// Returns the serial that the job's taking found.
+    /// Returns the serial that the job's snapshot found.
     pub fn found(&self) -> u64
         ensures { result ≡ self.now.found }
     {
@@ -293,7 +302,7 @@ impl Mark {
         self.observed
     }
 
-    /// Spends it: the serial that the job's taking found.
+    /// Consumes the mark, and returns the serial that the job's snapshot found.
     pub fn spend(self) -> u64
         ensures { result ≡ self.found }
     {

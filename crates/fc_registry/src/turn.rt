@@ -1,4 +1,4 @@
-//! Turns of observers, as jobs.
+//! Notification leases of observers, as jobs.
 ghost use Rattle.std.specs.Prelude.{◌≡◌, false};
 ghost use Rattle.fc_observe.specs.Calls.{NextDue, observers_after};
 ghost use Rattle.fc_observe.specs.Views.{interest};
@@ -13,8 +13,8 @@ use coap_opts::Block;
 use fc_help::Request;
 use fc_observe::{Observer, Observers};
 
-// Gives a turn to the first observer of a slot that is due where this serial is noticed, and writes its job over another. Tells
-// whether one is.
+// Grants a lease to the first observer of a slot that has a pending notification about this noticed
+// serial. Writes its job over `job`. Returns whether a lease was granted.
 pub(crate) fn next_turn(
     watch: &mut Observers,
     now: u64,
@@ -36,7 +36,7 @@ pub(crate) fn next_turn(
     true
 }
 
-// A job to write a turn's over.
+// Makes a job for `write_turn` to write over.
 pub(crate) fn no_job() -> Job {
     Job {
         origin: Origin::default(),
@@ -50,7 +50,8 @@ pub(crate) fn no_job() -> Job {
     }
 }
 
-// Writes the job of the turn of this number: the observer's request, answered from the first block on.
+// Writes the job of the lease with this number: the observer's request, answered from the first
+// block on.
 fn write_turn(observer: &Observer<'_>, number: u64, slot: SlotNumber, job: &mut Job)
     ensures { job.new ≡ turn_job slot number (interest observer.now) }
 {
@@ -77,7 +78,7 @@ fn write_token(token: &Token, over: &mut Token)
     let _fits = over.try_extend_from_slice(token.as_slice());
 }
 
-// Writes that a request is to be answered over another ask.
+// Sets the job's action to answering this request.
 fn ask_anew(request: &Request, ask: &mut Ask)
     ensures { ask.new ≡ Run request.now }
 {
@@ -93,7 +94,7 @@ fn ask_anew(request: &Request, ask: &mut Ask)
     }
 }
 
-// The first block of the size of this exponent, which has three bits.
+// Returns the first block of the size with this exponent, of which three bits count.
 fn first_block(szx: Option<u8>) -> Option<Block>
     ensures { result ≡ first_block szx }
 {

@@ -1,4 +1,4 @@
--- A policy whose networks and limits parts say.
+-- A policy with the networks and limits of some parts.
 use Rattle.std.proofs.Common.{◌≡◌, ℕ, ◌^◌, List, Option, Some, None, IfSome, MatchOption, refl, sym, subst}
 use Rattle.std.specs.Prelude.{codes}
 use Rattle.fc_core.specs.declared.policy.Policy.{Policy}

@@ -24,26 +24,26 @@ equals = 61
 abbrev pub comma : ℕ
 comma = 44
 
--- single spaces part the words of a line
+-- words of a line, which are separated by single spaces.
 abbrev pub line_words : Bytes → List Bytes
 line_words line = slice_split (λ b. b == space) line
 
--- words by their bytes
+-- words by their bytes.
 abbrev pub texts : List (Bor (List ℕ)) → List Bytes
 texts words = map (λ word. word.now) words
 
--- one of the parts is `key=value`
+-- one of the parts is `key=value`.
 abbrev pub HasPart : List Bytes → Bytes → Bytes → Type 0
 HasPart parts key value = Contains parts (key ++ (equals ∷ value))
 
--- a part is a number below a limit, in decimal digits
+-- a part is a number below a limit, in decimal digits.
 pub record HasNumber (parts : List Bytes) (key : Bytes) (limit n : ℕ) : Type 0 where
   pub value : Bytes
   pub part : HasPart parts key value
   pub digits : IsNumber value n
   pub below : n < limit
 
--- a part is 0 or 1
+-- a part is 0 or 1.
 abbrev pub flag_digit : Bool → Bytes
 flag_digit false = codes "0"
 flag_digit true = codes "1"
@@ -60,19 +60,20 @@ HasMoment parts now = HasNumber parts (codes "now") (2 ^ 64) now
 abbrev pub HasShard : List Bytes → ℕ → Type 0
 HasShard parts shard = HasNumber parts (codes "shard") 256 shard
 
--- a peer's endpoint is told by the last number of its address
+-- a peer's endpoint is given by the last number of its address.
 pub record HasEndpoint (parts : List Bytes) (endpoint : Endpoint) : Type 0 where
   pub peer : ℕ
   pub number : HasNumber parts (codes "ep") 256 peer
   pub endpoint_is : endpoint ≡ peer_endpoint peer
 
--- one of the words is `data=hex`, and the digits are those of the bytes
+-- one of the words is `data=hex`, and the digits are those of the bytes.
 pub record HasData (words : List Bytes) (bytes : List ℕ) : Type 0 where
   pub digits : Bytes
   pub part : HasPart words (codes "data") digits
   pub bytes_are : decode_of digits ≡ Ok bytes
 
--- beside a taking's job and memory one part more is `readings=hex`, with 128 hex digits, or there is none and they are zeros
+-- in addition to a snapshot's job and memory, one part is `readings=hex`, with 128 hex digits; or
+-- there is none, and the readings are zeros.
 pub record AreSpelled (parts : List Bytes) (readings : List ℕ) : Type 0 where
   pub digits : Bytes
   pub part : HasPart parts (codes "readings") digits
@@ -82,11 +83,11 @@ pub record AreSpelled (parts : List Bytes) (readings : List ℕ) : Type 0 where
 abbrev pub HasReadings : List Bytes → List ℕ → Type 0
 HasReadings parts readings = AreSpelled parts readings ⊎ ((length parts ≡ 2) × (readings ≡ no_readings))
 
--- a name with so many parts
+-- a name with this many parts.
 abbrev pub IsForm : Bytes → List Bytes → Bytes → ℕ → Type 0
 IsForm name parts wanted count = (name ≡ wanted) × (length parts ≡ count)
 
--- a name and its parts, in any order, say an event
+-- a name and its parts, in any order, are this event.
 abbrev pub IsEventOf : Bytes → List Bytes → Event → Type 0
 IsEventOf name parts (Deliver now endpoint sent) =
     IsForm name parts (codes "Deliver") 3 × HasMoment parts now × HasEndpoint parts endpoint × HasData (name ∷ parts) sent.now
@@ -111,19 +112,20 @@ IsEventOf name parts (Tick now) = IsForm name parts (codes "Tick") 1 × HasMomen
 IsEventOf name parts (ShardTick shard now) = IsForm name parts (codes "ShardTick") 2 × HasShard parts shard × HasMoment parts now
 IsEventOf name parts (Lose job) = IsForm name parts (codes "Lose") 1 × HasJob parts job
 
--- the words say it: the first is the name
+-- the words are this event: the first is the name.
 pub record AreOfEvent (words : List Bytes) (event : Event) : Type 0 where
   pub name : Bytes
   pub parts : List Bytes
   pub words_are : words ≡ name ∷ parts
   pub says : IsEventOf name parts event
 
--- the seconds after which a notification is confirmable: 86,400 if there are five parts, and the sixth's if there are six
+-- seconds after which a notification is confirmable: 86,400 if there are five parts, and the sixth
+-- part's if there are six.
 abbrev pub HasSeconds : List Bytes → ℕ → Type 0
 HasSeconds parts seconds =
     ((length parts ≡ 5) × (seconds ≡ 86400)) ⊎ ((length parts ≡ 6) × HasNumber parts (codes "confirm-after") (2 ^ 64) seconds)
 
--- a policy of these networks, whose limits two of the parts say
+-- a policy of these networks, with the limits of two of the parts.
 pub record HasLimits (parts networks : List Bytes) (policy : Policy) : Type 0 where
   pub seconds : ℕ
   pub exchanges : HasNumber parts (codes "exchanges") (2 ^ 64) policy.limits.exchanges
@@ -131,18 +133,18 @@ pub record HasLimits (parts networks : List Bytes) (policy : Policy) : Type 0 wh
   pub confirm_after : HasSeconds parts seconds
   pub is : IsPolicyOf networks policy.limits.exchanges policy.limits.share seconds policy
 
--- three of five parts, or four of six, are a policy's: commas part its networks
+-- three of five parts, or four of six, are a policy's; its networks are separated by commas.
 pub record SaysPolicy (parts : List Bytes) (policy : Policy) : Type 0 where
   pub networks : Bytes
   pub managers : HasPart parts (codes "managers") networks
   pub limits : HasLimits parts (slice_split (λ b. b == comma) networks) policy
 
--- or there are two parts, and it is the default policy
+-- or there are two parts, and it is the default policy.
 abbrev pub HasPolicy : List Bytes → Policy → Type 0
 HasPolicy parts policy = SaysPolicy parts policy ⊎ ((length parts ≡ 2) × (policy ≡ default_policy))
 
--- a name and its parts, in any order, say how a server begins: by the serial of its empty slots, by the first message id of its own, and
--- by its policy
+-- a name and its parts, in any order, are this initial state: the serial of its empty slots, the
+-- first message ID that it draws, and its policy.
 abbrev pub IsBeginOf : Bytes → List Bytes → Begin → Type 0
 IsBeginOf name parts begin =
     (name ≡ codes "Begin") × HasNumber parts (codes "serial") (2 ^ 64) begin.serial × (begin.serial ≤ last_serial)
@@ -154,7 +156,7 @@ pub record SaysBegin (words : List Bytes) (begin : Begin) : Type 0 where
   pub words_are : words ≡ name ∷ parts
   pub says : IsBeginOf name parts begin
 
--- a line by its words, with the datagram that they have
+-- a line by its words, with their datagram.
 pub record Line : Type 0 where
   pub words : List Bytes
   pub datagram : Option (List ℕ)

@@ -1,4 +1,4 @@
--- What a replay prints.
+-- Output of a replay.
 use Rattle.std.specs.Prelude.{◌≡◌, ℕ, List, [], ◌∷◌, ◌++◌, Option, Some, None, ◌==◌, if◌then◌else◌, codes}
 use Rattle.std.specs.Fmt.{decimal}
 use Rattle.coap_msg.specs.declared.types.Emission.{Emission}
@@ -7,23 +7,23 @@ use Rattle.fc_lines.specs.Emissions.{printed}
 use Rattle.fc_replay.specs.declared.printer.SlotLine.{SlotLine}
 use Rattle.hex.specs.Hex.{encode_lower}
 
--- what an event emitted
+-- output for the emission of an event.
 abbrev pub emitted_line : Option Emission → List ℕ
 emitted_line None = codes "none\n"
 emitted_line (Some emission) = printed emission
 
--- what is told of a slot is what it holds
+-- the printed data of a slot are its state.
 pub record IsSlotLine (slot : Slot) (line : SlotLine) : Type 0 where
   pub serial : line.serial ≡ slot.serial
   pub version : line.version ≡ version_in slot.present
   pub vars : line.vars.now ≡ vars_in slot.present
 
--- a version, or a dash where the slot is empty
+-- a version, or a dash if the slot is empty.
 abbrev pub version_text : Option ℕ → List ℕ
 version_text None = codes "-"
 version_text (Some version) = decimal version
 
--- variables in hex digits, or a dash where there are none
+-- variables in hex digits, or a dash if there are none.
 abbrev pub vars_text : List ℕ → List ℕ
 vars_text [] = codes "-"
 vars_text (b ∷ bs) = encode_lower (b ∷ bs)
@@ -33,6 +33,6 @@ line_at number serial version vars =
     codes "slot " ++ (decimal number ++ (codes " serial " ++ (decimal serial ++ (codes " version " ++ (version_text version
     ++ (codes " vars " ++ (vars_text vars ++ (10 ∷ []))))))))
 
--- a line for a slot that was changed: nothing at serial 0
+-- a line for a slot that was changed: nothing at serial 0.
 abbrev pub slot_text : ℕ → SlotLine → List ℕ
 slot_text number slot = if slot.serial == 0 then [] else line_at number slot.serial slot.version slot.vars.now

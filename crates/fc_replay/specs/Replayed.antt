@@ -1,4 +1,5 @@
--- What a list of events comes to: each line says its event, all of them are carried out on one server, and what comes of them is printed.
+-- Result of a list of events: each line is its event, all of them are executed on one server, and
+-- their results are printed.
 use Rattle.std.specs.Prelude.{◌≡◌, ◌≢◌, ◌⊎◌, All, ℕ, zero, suc, ◌<◌, ◌==◌, List, [], ◌∷◌, ◌++◌, flat_map, if◌then◌else◌, length, map, Option, IfSome}
 use Rattle.std.specs.Io.KnownBytes.{Appends}
 use Rattle.std.specs.List.{slice_split}
@@ -14,39 +15,40 @@ use Rattle.fc_world.specs.Histories.{history_from}
 use Rattle.fc_replay.specs.Listed.{AreOfEvent, Bytes, SaysBegin, line_words}
 use Rattle.fc_replay.specs.Printed.{emitted_line, line_at}
 
--- the lines of a list, which line feeds part
+-- lines of a list, which are separated by line feeds.
 abbrev pub listed_lines : Bytes → List Bytes
 listed_lines list = slice_split (λ b. b == 10) list
 
--- a text is a list, with a line feed at its end or without
+-- a text is a list, with or without a line feed at its end.
 abbrev pub IsText : Bytes → Bytes → Type 0
 IsText text list = (text ≡ list) ⊎ (text ≡ list ++ 10 ∷ [])
 
--- a text's first line, which has no line feed, and what stands behind it
+-- a text's first line, which has no line feed, and the text after it.
 abbrev pub IsFirstLine : Bytes → Bytes → Bytes → Type 0
 IsFirstLine text line rest = All (λ b. b ≢ 10) line × ((text ≡ line ++ 10 ∷ rest) ⊎ ((text ≡ line) × (rest ≡ [])))
 
--- the first line says how the server begins
+-- the first line is the server's initial state.
 pub record HasBeginLine (text : Bytes) (begin : Begin) (rest : Bytes) : Type 0 where
   pub line : Bytes
   pub first : IsFirstLine text line rest
   pub says : SaysBegin (line_words line) begin
 
--- how the server begins, and the text of the events: where no first line says it, at serial 0 and message id 0
+-- the server's initial state, and the text of the events: without such a first line, serial 0 and
+-- message ID 0.
 abbrev pub HasBeginning : Bytes → Begin → Bytes → Type 0
 HasBeginning text begin rest = ((rest ≡ text) × (begin ≡ record { serial = 0; id = 0; policy = default_policy })) ⊎ HasBeginLine text begin rest
 
--- each line says its event, by the words of the line
+-- each line is its event, by the words of the line.
 abbrev pub AreEvents : List (List Bytes) → List Event → Type 0
 AreEvents [] [] = Unit {0}
 AreEvents (words ∷ lines) (event ∷ events) = AreOfEvent words event × AreEvents lines events
 AreEvents lines events = ⊥
 
--- what is told of a slot that was changed
+-- output for a slot that was changed.
 abbrev pub told_of : ℕ → Slot → List ℕ
 told_of number slot = if slot.serial == 0 then [] else line_at number slot.serial (version_in slot.present) (vars_in slot.present)
 
--- of each slot below a number, in rising order
+-- for each slot below a number, in increasing order.
 abbrev pub told_below : ℕ → List Shard → List ℕ
 told_below zero shards = []
 told_below (suc n) shards = told_below n shards ++ told_of n (slot_in_shards shards n)
@@ -54,7 +56,8 @@ told_below (suc n) shards = told_below n shards ++ told_of n (slot_in_shards sha
 abbrev pub told_of_all : List Shard → List ℕ
 told_of_all shards = told_below 64 shards
 
--- the events of a list were carried out in their order, on a server that begins so: what they emitted was printed, and then what is told of each slot
+-- the events of a list were executed in their order, on a server with this initial state: their
+-- emissions were printed, and then the output for each slot.
 pub record AreReplayed (begin : Begin) (list : Bytes) (before after : Option (List ℕ)) : Type 0 where
   pub events : List Event
   pub say : AreEvents (map line_words (listed_lines list)) events
@@ -65,7 +68,7 @@ pub record AreReplayed (begin : Begin) (list : Bytes) (before after : Option (Li
   pub slots : (n : ℕ) → n < 64 → slot_in_shards shards n ≡ slot_at (seen (history_from begin events emissions)) n
   pub printed : Appends before after (flat_map emitted_line emissions ++ told_of_all shards)
 
--- a text was read and replayed; of one without events nothing is printed
+-- a text was read and replayed; for one without events nothing is printed.
 pub record IsReplayed (known before after : Option (List ℕ)) : Type 0 where
   pub text : Bytes
   pub read : IfSome known (λ bytes. text ≡ bytes)

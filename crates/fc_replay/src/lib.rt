@@ -1,10 +1,11 @@
-//! Lists of events as text: read, carried out, and what comes of them printed.
+//! Lists of events as text: parsed, executed, and their results printed.
 //!
 //! # What is proved
 //!
-//! - Each line of a list says its event, but for a first one that says how the server begins.
-//! - The events are carried out in their order on one server, and just what they emitted is printed, a line each, and then what each slot
-//!   holds that was changed.
+//! - Each line of a list has the form of its event, except for a first one with the server's
+//!   initial state.
+//! - The events are executed in their order on one server. Exactly their emissions are printed, a
+//!   line each, and then the state of each slot that was changed.
 //!
 //! By the contracts of `replay`, `ListedEvent`, `slot_line`.
 #![tactic(auto)]

@@ -17,7 +17,7 @@ use fc_world::Event;
 use std::alloc::{AllocError, Global};
 use std::marker::Model;
 
-/// A line's words, and its datagram where one of its parts is `data=hex`.
+/// A line's words, and its datagram if one of its parts is `data=hex`.
 #[derive(Drop)]
 pub struct ListedEvent<'a> {
     words: Vec<&'a str>,
@@ -37,10 +37,11 @@ impl<'a> Model for ListedEvent<'a> {
 }
 
 impl<'a> ListedEvent<'a> {
-    /// Reads a line: single spaces part its words.
+    /// Reads a line, whose words are separated by single spaces.
     ///
     /// # Errors
-    /// The line says no event, or its data are no hex digits, or there was no memory.
+    /// Returns that the line is no event, that its data aren't hex digits, or that memory couldn't
+    /// be allocated.
     pub fn read(alloc: Global, line: &'a [u8]) -> Result<ListedEvent<'a>, LineError>
         ensures { IfOk result (λ l. l.words ≡ line_words line.now) }
     {
@@ -53,7 +54,7 @@ impl<'a> ListedEvent<'a> {
         Ok(listed)
     }
 
-    /// Parses the event that the line says, where it says one.
+    /// Parses the event of the line, if it is one.
     pub fn event(&self) -> Option<Event<'_>>
         ensures { IfSome result (AreOfEvent self.now.words) }
     {
@@ -70,11 +71,15 @@ impl<'a> ListedEvent<'a> {
     }
 }
 
-/// Parses how a server begins from `Begin serial=S id=I`, its parts in any order. Three more parts may say its policy: `managers=A.B.C.D/BITS`, up to
-/// four of these parted by commas, `exchanges=N` and `share=N`. Returns `None` if the line is none of these.
+/// Parses a server's initial state from `Begin serial=S id=I`, in any order.
+///
+/// Three more parts may give its policy: `managers=A.B.C.D/BITS`, up to four of these separated by
+/// commas, `exchanges=N` and `share=N`. A fourth one may give the seconds until a notification is
+/// confirmable: `confirm-after=N`, by default 86,400. Returns `None` if the line has none of these
+/// forms.
 ///
 /// # Errors
-/// There was no memory.
+/// Returns `AllocError` if memory can't be allocated.
 pub fn begin_in(alloc: Global, line: &[u8]) -> Result<Option<Begin>, AllocError>
     ensures { IfOk result (λ found. IfSome found (SaysBegin (line_words line.now))) }
 {
@@ -97,7 +102,7 @@ fn begin_of(alloc: Global, words: &[&str]) -> Result<Option<Begin>, AllocError>
     }
 }
 
-// How a server begins, by two of the parts, with this policy.
+// Returns the initial state from two of the parts, with this policy.
 fn begin_with(name: &str, parts: &[&str], policy: Policy) -> Option<Begin>
     requires { HasPolicy (texts parts.now) policy }
     ensures { IfSome result (IsBeginOf name.now (texts parts.now)) }
@@ -112,7 +117,8 @@ fn begin_with(name: &str, parts: &[&str], policy: Policy) -> Option<Begin>
     }
 }
 
-// The policy: the default if there are two parts, and that of the other three or four if there are five or six.
+// Returns the policy: the default if there are two parts, and that of the other three or four if
+// there are five or six.
 fn policy_of(alloc: Global, parts: &[&str]) -> Result<Option<Policy>, AllocError>
     ensures { IfOk result (λ found. IfSome found (HasPolicy (texts parts.now))) }
 {
@@ -125,7 +131,8 @@ fn policy_of(alloc: Global, parts: &[&str]) -> Result<Option<Policy>, AllocError
     }
 }
 
-// The seconds after which a notification is confirmable: the default if there are five parts, and the sixth part's if there are six.
+// Returns the seconds after which a notification is confirmable: the default if there are five
+// parts, and the sixth part's if there are six.
 fn seconds(parts: &[&str]) -> Option<u64>
     ensures { IfSome result (HasSeconds (texts parts.now)) }
 {
@@ -136,7 +143,7 @@ fn seconds(parts: &[&str]) -> Option<u64>
     }
 }
 
-// The policy of three of five parts, or of four of six.
+// Returns the policy of three of five parts, or of four of six.
 fn policy_said(alloc: Global, parts: &[&str], seconds: u64) -> Result<Option<Policy>, AllocError>
     requires { HasSeconds (texts parts.now) seconds }
     ensures { IfOk result (λ found. IfSome found (SaysPolicy (texts parts.now))) }
@@ -148,7 +155,7 @@ fn policy_said(alloc: Global, parts: &[&str], seconds: u64) -> Result<Option<Pol
     Ok(policy_with(parts, list, &networks, seconds))
 }
 
-// The parts of a list, which single commas part.
+// Returns the parts of a list, which are separated by single commas.
 fn between_commas(alloc: Global, list: &str) -> Result<Vec<&str>, AllocError>
     ensures { IfOk result (λ v. texts v.items ≡ slice_split (λ b. b == comma) list.now) }
 {
@@ -158,7 +165,7 @@ fn between_commas(alloc: Global, list: &str) -> Result<Vec<&str>, AllocError>
     }
 }
 
-// The policy of the networks of a list, whose limits two of the parts say.
+// Returns the policy with the networks of a list and the limits of two of the parts.
 fn policy_with(parts: &[&str], list: &str, networks: &[&str], seconds: u64) -> Option<Policy>
     requires networks { texts networks.now ≡ slice_split (λ b. b == comma) list.now }
     requires seconds { HasSeconds (texts parts.now) seconds }
@@ -169,7 +176,7 @@ fn policy_with(parts: &[&str], list: &str, networks: &[&str], seconds: u64) -> O
     policy(networks, exchanges, share, seconds)
 }
 
-// A serial that slots may begin with.
+// Returns a serial that slots may begin with.
 fn serial(parts: &[&str]) -> Option<u64>
     ensures { IfSome result (λ n. HasNumber (texts parts.now) (codes "serial") (2 ^ 64) n × (n ≤ last_serial)) }
 {
@@ -181,7 +188,7 @@ fn serial(parts: &[&str]) -> Option<u64>
     }
 }
 
-// The words of a line, which single spaces part.
+// Returns the words of a line, which are separated by single spaces.
 fn words(alloc: Global, line: &[u8]) -> Result<Vec<&str>, LineError>
     ensures { IfOk result (λ v. texts v.items ≡ line_words line.now) }
 {
@@ -194,7 +201,7 @@ fn words(alloc: Global, line: &[u8]) -> Result<Vec<&str>, LineError>
     }
 }
 
-// The datagram of a line's words; none where none of them is `data=hex`.
+// Returns the datagram of a line's words; `None` if none of them is `data=hex`.
 fn datagram(alloc: Global, words: &[&str]) -> Result<Option<Vec<u8>>, LineError>
     ensures { IfOk result (λ found. IfSome found (λ v. HasData (texts words.now) v.items)) }
 {
@@ -204,14 +211,14 @@ fn datagram(alloc: Global, words: &[&str]) -> Result<Option<Vec<u8>>, LineError>
     }
 }
 
-// The value of the part of this name.
+// Returns the value of the part with this name.
 fn value<'a>(parts: &[&'a str], key: &str) -> Option<&'a str>
     ensures { IfSome result (λ value. HasPart (texts parts.now) key.now value.now) }
 {
     parts.iter().copied().find_map(|part| value_of(part, key))
 }
 
-// What stands behind `key=`.
+// Returns the text after `key=`.
 fn value_of<'a>(part: &'a str, key: &str) -> Option<&'a str>
     ensures { IfSome result (λ value. part.now ≡ key.now ++ (equals ∷ value.now)) }
 {
@@ -258,7 +265,7 @@ fn peer(parts: &[&str]) -> Option<Endpoint>
     Some(endpoint(octet(parts, "ep")?))
 }
 
-// The events of one part.
+// Returns an event with one part.
 fn with_one<'a>(name: &str, parts: &[&str]) -> Option<Event<'a>>
     requires { length parts.now ≡ 1 }
     ensures { IfSome result (IsEventOf name.now (texts parts.now)) }
@@ -283,7 +290,7 @@ fn with_one<'a>(name: &str, parts: &[&str]) -> Option<Event<'a>>
     }
 }
 
-// The events of two parts.
+// Returns an event with two parts.
 fn with_two<'a>(name: &str, parts: &[&str]) -> Option<Event<'a>>
     requires { length parts.now ≡ 2 }
     ensures { IfSome result (IsEventOf name.now (texts parts.now)) }
@@ -301,7 +308,7 @@ fn with_two<'a>(name: &str, parts: &[&str]) -> Option<Event<'a>>
     }
 }
 
-// The events of a job and one part more.
+// Returns an event with a job and one more part.
 fn of_job<'a>(name: &str, parts: &[&str], job: usize) -> Option<Event<'a>>
     requires count { length parts.now ≡ 2 }
     requires job { HasNumber (texts parts.now) (codes "job") (2 ^ 64) job }
@@ -341,7 +348,7 @@ fn of_job<'a>(name: &str, parts: &[&str], job: usize) -> Option<Event<'a>>
     }
 }
 
-// The events of three parts.
+// Returns an event with three parts.
 fn with_three<'a>(name: &str, parts: &[&str], datagram: &'a Option<Vec<u8>>) -> Option<Event<'a>>
     requires count { length parts.now ≡ 3 }
     requires datagram { IfSome datagram.now (λ v. HasData (name.now ∷ texts parts.now) v.items) }
@@ -370,7 +377,7 @@ fn with_three<'a>(name: &str, parts: &[&str], datagram: &'a Option<Vec<u8>>) -> 
     }
 }
 
-// The events of four parts.
+// Returns an event with four parts.
 fn with_four<'a>(name: &str, parts: &[&str]) -> Option<Event<'a>>
     requires { length parts.now ≡ 4 }
     ensures { IfSome result (IsEventOf name.now (texts parts.now)) }

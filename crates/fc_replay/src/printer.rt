@@ -1,4 +1,4 @@
-//! What a replay prints.
+//! The output of a replay.
 ghost use Rattle.std.specs.Prelude.{OnOk};
 ghost use Rattle.fc_registry.specs.Slots.{slot_in};
 ghost use Rattle.std.specs.Io.KnownBytes.{Appends};
@@ -12,18 +12,20 @@ use std::alloc::Global;
 use std::io;
 use std::io::Write;
 
-/// What is told of a slot: its serial, its program's version, where it has one, and its variables.
+/// The printed data of a slot.
+///
+/// They are its serial, its program's version, if it has one, and its variables.
 #[derive(Clone, Copy)]
 pub struct SlotLine<'a> {
-    /// How often it was changed.
+    /// The number of its changes.
     pub serial: u64,
-    /// The serial of its program's install, where it has a program.
+    /// The serial of its program's install, if it has a program.
     pub version: Option<u64>,
     /// The variables of its program.
     pub vars: &'a [u8],
 }
 
-/// Writes what is told of a slot of this shard.
+/// Returns the printed data of a slot of this shard.
 pub fn slot_line(shard: &Shard, slot: SlotNumber) -> SlotLine<'_>
     ensures { IsSlotLine (slot_in shard.entry.now slot) result }
 {
@@ -37,7 +39,7 @@ pub fn slot_line(shard: &Shard, slot: SlotNumber) -> SlotLine<'_>
 /// Prints `none`, or an emission as `peer hex`.
 ///
 /// # Errors
-/// The writer failed.
+/// Returns the writer's error.
 pub fn print_emitted<W: Write>(out: &mut W, emitted: &Option<Emission>) -> io::Result<()>
     ensures { OnOk result (Appends (W.contents out.old) (W.contents out.new) (emitted_line emitted.now)) }
 {
@@ -50,7 +52,7 @@ pub fn print_emitted<W: Write>(out: &mut W, emitted: &Option<Emission>) -> io::R
 /// Prints a line for a slot that was changed; nothing for one whose serial is 0.
 ///
 /// # Errors
-/// The writer failed, or there was no memory for the variables' digits.
+/// Returns the writer's error, or that memory for the variables' digits couldn't be allocated.
 pub fn print_slot<W: Write>(
     alloc: Global,
     out: &mut W,
@@ -71,7 +73,7 @@ pub fn print_slot<W: Write>(
     Ok(())
 }
 
-// Prints a version, or a dash where there is no program.
+// Prints a version, or a dash if there is no program.
 fn print_version<W: Write>(out: &mut W, version: Option<u64>) -> io::Result<()>
     ensures { OnOk result (Appends (W.contents out.old) (W.contents out.new) (version_text version)) }
 {
@@ -81,7 +83,7 @@ fn print_version<W: Write>(out: &mut W, version: Option<u64>) -> io::Result<()>
     }
 }
 
-// Prints variables by hex digits, or a dash where there are none.
+// Prints variables as hex digits, or a dash if there are none.
 fn print_vars<W: Write>(alloc: Global, out: &mut W, vars: &[u8]) -> Result<(), Stop>
     ensures { OnOk result (Appends (W.contents out.old) (W.contents out.new) (vars_text vars.now)) }
 {

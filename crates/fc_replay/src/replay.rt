@@ -1,4 +1,4 @@
-//! Replaying a list of events.
+//! Replays of lists of events.
 ghost use Rattle.std.specs.Prelude.{◌≡◌, ◌≤◌, flat_map, map, IfOk, IfSome, OnOk};
 ghost use Rattle.std.specs.Io.KnownBytes.{Appends};
 ghost use Rattle.fc_registry.specs.Shards.{AreShards};
@@ -20,11 +20,16 @@ use fc_world::{Event, run_world_from};
 use std::alloc::{AllocError, Global};
 use std::io::{Read, Write};
 
-/// Reads a list of events, one a line, carries it out, from empty slots at serial 0 unless a first line `Begin serial=S id=I` says another serial, 0 to 2^63 - 1, and
-/// the first message id of the server's own, and prints a line for each event, `none` or what it emitted as
-/// `peer hex`, and then one for each slot whose serial is above 0. It ends `Done` where all is printed; `Bad` where a
-/// line is bad, which `err` is told by its number from 1, and nothing is carried out; `Failed` where reading or writing
-/// failed, or there was no memory, which `err` is told as well.
+/// Replays a list of events, one a line, and prints the results.
+///
+/// The server begins with empty slots at serial 0. A first line `Begin serial=S id=I` gives another
+/// serial, 0 to 2^63 - 1, and the first message ID that the server draws. The output has a line for
+/// each event, `none` or its emission as `peer hex`, and then one for each slot whose serial is
+/// above 0. The result is:
+///
+/// - `Done` if everything is printed;
+/// - `Bad` if a line is bad: `err` gets its number, counted from 1, and nothing is executed;
+/// - `Failed` if reading or writing failed, or memory couldn't be allocated: `err` gets a message.
 pub fn replay<R: Read, W: Write, E: Write>(
     alloc: Global,
     input: &mut R,
@@ -53,7 +58,7 @@ fn replay_list<R: Read, W: Write>(alloc: Global, input: &mut R, out: &mut W) -> 
     Ok(())
 }
 
-// How the server of a text begins, and the text of its events.
+// Returns the initial state of a text's server, and the text of its events.
 fn begun(alloc: Global, text: &[u8]) -> Result<(Begin, &[u8]), AllocError>
     ensures begun { IfOk result (λ r. HasBeginning text.now r.0 r.1.now) }
     ensures can_begin { IfOk result (λ r. CanBegin r.0) }
@@ -65,7 +70,7 @@ fn begun(alloc: Global, text: &[u8]) -> Result<(Begin, &[u8]), AllocError>
     }
 }
 
-// The first line of a text, and what stands behind it.
+// Returns the first line of a text, and the text after it.
 fn first_line(text: &[u8]) -> (&[u8], &[u8])
     ensures { IsFirstLine text.now result.0.now result.1.now }
 {
@@ -75,7 +80,7 @@ fn first_line(text: &[u8]) -> (&[u8], &[u8])
     }
 }
 
-// All that a reader has.
+// Returns all bytes of a reader.
 fn read_text<R: Read>(alloc: Global, input: &mut R) -> Result<Vec<u8>, Stop>
     ensures { IfOk result (λ text. IfSome (R.remaining input.old) (λ bytes. text.items ≡ bytes)) }
 {
@@ -86,7 +91,7 @@ fn read_text<R: Read>(alloc: Global, input: &mut R) -> Result<Vec<u8>, Stop>
     }
 }
 
-// The list of a text, whose last line may end with a line feed or not.
+// Returns the list of a text, whose last line may end with a line feed or not.
 fn list_of(text: &[u8]) -> &[u8]
     ensures { IsText text.now result.now }
 {
@@ -96,7 +101,7 @@ fn list_of(text: &[u8]) -> &[u8]
     }
 }
 
-// Replays a list, before which so many lines stand.
+// Replays a list that follows `before` lines.
 fn replay_lines<W: Write>(
     alloc: Global,
     begin: &Begin,
@@ -115,7 +120,7 @@ fn replay_lines<W: Write>(
     Ok(())
 }
 
-// Prints a line for what each event emitted.
+// Prints a line for the emission of each event.
 fn print_emissions<W: Write>(out: &mut W, emissions: &[Option<Emission>]) -> Result<(), Stop>
     ensures { OnOk result (Appends (W.contents out.old) (W.contents out.new) (flat_map emitted_line emissions.now)) }
 {
@@ -125,7 +130,7 @@ fn print_emissions<W: Write>(out: &mut W, emissions: &[Option<Emission>]) -> Res
     Ok(())
 }
 
-// The lines of a list, each of which says an event. So many lines stand before them.
+// Returns the lines of a list, each of which is an event. They follow `before` lines.
 fn lines(alloc: Global, list: &[u8], before: u64) -> Result<Vec<ListedEvent<'_>>, Stop>
     ensures { IfOk result (λ v. map (λ l. l.words) v.items ≡ map line_words (listed_lines list.now)) }
 {
@@ -142,7 +147,7 @@ fn lines(alloc: Global, list: &[u8], before: u64) -> Result<Vec<ListedEvent<'_>>
     Ok(lines)
 }
 
-// The event of each line. So many lines stand before them.
+// Returns the event of each line. The lines follow `before` others.
 fn events<'a>(
     alloc: Global,
     lines: &'a [ListedEvent<'_>],
@@ -162,7 +167,7 @@ fn events<'a>(
     Ok(events)
 }
 
-// Prints each slot that was changed, in rising order.
+// Prints each slot that was changed, in increasing order.
 fn print_slots<W: Write>(alloc: Global, out: &mut W, shards: &[Shard]) -> Result<(), Stop>
     requires { AreShards shards.now }
     ensures { OnOk result (Appends (W.contents out.old) (W.contents out.new) (told_of_all shards.now)) }

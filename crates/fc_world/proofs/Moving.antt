@@ -1,4 +1,4 @@
--- What a call of the server does to one task is what its event does to the job of its number.
+-- The effect of a server's call on one task is that of its event on the job with its number.
 use Rattle.std.proofs.Common.{◌≡◌, ℕ, ◌<◌, List, Option, Some, length, get_or, set, refl, ◌∙◌}
 use Rattle.std.proofs.lemmas.List.{get_or_default}
 use Rattle.coap_msg.specs.declared.types.Emission.{Emission}
@@ -11,7 +11,7 @@ use Rattle.fc_server.specs.States.{ServerState, Works}
 use Rattle.fc_server.specs.Steps.{Done}
 use Rattle.fc_server.proofs.Others.{works_done}
 
--- the task at a place is the one of its number
+-- the task at a place is the one with its number.
 task_is : (tasks : List Task) (k : ℕ) (was : Task) → k < length tasks → was ≡ get_or tasks k was → was ≡ task_at tasks k
 task_is tasks k was lt is = is ∙ get_or_default tasks k was no_task lt
 

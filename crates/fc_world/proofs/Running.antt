@@ -1,15 +1,16 @@
--- One more event of a list is carried out, and then the whole list is.
+-- One more event of a list is executed, and then the whole list is.
 use Rattle.std.proofs.Common.{◌≡◌, ℕ, ◌+◌, ◌<◌, ◌≤◌, List, [], ◌∷◌, ◌++◌, Option, length, take, get_or, refl, sym, ap, ◌∙◌, subst, arith, length-append, length-take}
 use Rattle.std.proofs.lemmas.List.{take_all, take_more}
 use Rattle.coap_msg.specs.declared.types.Emission.{Emission}
-use Rattle.fc_registry.proofs.Rings.{rings_follow}
+use Rattle.fc_registry.proofs.Rings.{rings_begin, rings_follow}
+use Rattle.fc_registry.specs.Laws.{RingBegins}
 use Rattle.fc_registry.specs.Record.{IsChain, IsRing}
 use Rattle.fc_registry.specs.Shards.{slot_in_shards}
-use Rattle.fc_registry.specs.Slots.{new_slot}
+use Rattle.fc_registry.specs.Slots.{Slot, new_slot}
 use Rattle.fc_core.specs.declared.event.Event.{Event}
 use Rattle.fc_server.specs.States.{begin_of}
 use Rattle.fc_server.specs.declared.server.Begin.{Begin}
-use Rattle.fc_core.specs.History.{Entry, History, Then, did, history_after, seen}
+use Rattle.fc_core.specs.History.{Entry, History, Then, did, history_after, seen, slot_at}
 use Rattle.fc_core.specs.Legal.{AllMean, IsLegal}
 use Rattle.fc_core.specs.declared.stage.Task.{Task}
 use Rattle.fc_server.specs.Agreement.{Agrees, Parts}
@@ -17,7 +18,7 @@ use Rattle.fc_server.specs.Serving.{Serves, with_tasks}
 use Rattle.fc_server.specs.States.{ServerState}
 use Rattle.fc_server.specs.Steps.{Step}
 
--- what holds after so many events of a list
+-- state after this many events of a list.
 pub record RunsTo (b : Begin) (es : List Event) (i : ℕ) (os : List (Option Emission)) (w : Parts) : Type 0 where
   pub long : length os ≡ i
   pub legal : IsLegal (history_after (begin_of b) (take i es) os)
@@ -25,7 +26,7 @@ pub record RunsTo (b : Begin) (es : List Event) (i : ℕ) (os : List (Option Emi
   pub agrees : Agrees (seen (history_after (begin_of b) (take i es) os)) w
   pub first : (seen (history_after (begin_of b) (take i es) os)).first_serial ≡ b.serial
 
--- nothing is carried out yet
+-- nothing is executed yet.
 pub starts : (b : Begin) (es : List Event) (os : List (Option Emission)) (s : ServerState) (tasks : List Task) → os ≡ [] → Serves (begin_of b) s [] → tasks ≡ [] → RunsTo b es 0 os (with_tasks s tasks)
 unfolding seen
 starts b es os s tasks fresh v none =
@@ -54,7 +55,7 @@ runs_on b es i d os later o old new lt r pushed s =
       first = ap (λ (g : History). (seen g).first_serial) grows ∙ r.first;
     }
 
--- what holds at the end of a list
+-- state at the end of a list.
 pub record HasRun (b : Begin) (es : List Event) (os : List (Option Emission)) (w : Parts) : Type 0 where
   pub count : length os ≡ length es
   pub legal : IsLegal (history_after (begin_of b) es os)
@@ -62,6 +63,7 @@ pub record HasRun (b : Begin) (es : List Event) (os : List (Option Emission)) (w
   pub agrees : Agrees (seen (history_after (begin_of b) es os)) w
   pub chain : (n : ℕ) → IsChain (new_slot b.serial) ((seen (history_after (begin_of b) es os)).changes n)
   pub ring : (n : ℕ) → n < 64 → IsRing (slot_in_shards w.shards n)
+  pub begins : (n : ℕ) → n < 64 → RingBegins b.serial ((seen (history_after (begin_of b) es os)).changes n) (slot_in_shards w.shards n)
 
 pub has_run : {b : Begin} {es : List Event} {i : ℕ} {os : List (Option Emission)} {w : Parts} → RunsTo b es i os w → i ≤ length es → length es ≤ i → HasRun b es os w
 has_run {b} {es} {i} {os} {w} r within past =
@@ -76,4 +78,6 @@ has_run {b} {es} {i} {os} {w} r within past =
       agrees = agrees;
       chain = λ n. subst (λ (k : ℕ). IsChain (new_slot k) (s.changes n)) first (agrees.sound.chain n);
       ring = λ n lt. subst IsRing (sym (agrees.shards.slot n lt)) (rings_follow s.first_serial (s.changes n) (agrees.sound.chain n));
+      begins = λ n lt. subst (λ (x : Slot). RingBegins b.serial (s.changes n) x) (sym (agrees.shards.slot n lt))
+          (subst (λ (k : ℕ). RingBegins k (s.changes n) (slot_at s n)) first (rings_begin s.first_serial (s.changes n) (agrees.sound.chain n)));
     }

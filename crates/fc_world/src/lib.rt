@@ -1,15 +1,16 @@
-//! A whole list of events, carried out: what each emits, and what the slots are at the end.
+//! Execution of a whole list of events, with its emissions and final slots.
 //!
-//! [`run_world`] makes the same calls of a server that serving makes, over any list of events. Its contract is the promise
-//! of the whole: whatever the events, each emission is legal by the definitions of `fc_core`, each slot is what the history
-//! says, and each run of an accepted program reaches its exit within its budget.
+//! [`run_world`] makes the same calls of a server as a running server does, for any list of events.
+//! Its contract is the main guarantee of the server, for all lists of events. Each emission is
+//! legal by the definitions of `fc_core`. Each slot is that of the history. Each run of an accepted
+//! program reaches its exit within its budget.
 //!
 //! ```rust
 //! use coap_msg::{Emission, Endpoint};
 //! use fc_world::{Event, run_world};
 //! use std::alloc::{AllocError, Global};
 //!
-//! /// What a server sends where a first datagram comes and its job is never worked.
+//! /// Returns the response to a first datagram, whose job never runs.
 //! fn first_reply(
 //!     alloc: Global,
 //!     endpoint: Endpoint,
@@ -27,12 +28,14 @@
 //!
 //! # What is proved
 //!
-//! - For every list of events: each emission is legal, and there is one entry an event.
-//! - Each of the 64 slots and of the eight shards' moments is what the history says. A slot's commits are a chain, of which its ring has
-//!   the last.
-//! - Each taking that found a program has a meaning within its longest path, which is within its budget. A job that took again runs with,
-//!   and is answered by, the readings of its last taking.
-//! - `run_world_from` says the same of a server that begins at another serial and message id.
+//! - For every list of events: each emission is legal, and there is one entry for each event.
+//! - Each of the 64 slots and of the eight shards' times is that of the history. A slot's commits
+//!   are a chain, whose newest are in the slot's ring.
+//! - Each snapshot that found a program has a meaning within its longest path, which is within its
+//!   budget. A job with several snapshots runs with the readings of the last one, and its answer
+//!   comes from them.
+//! - `run_world_from` guarantees the same for a server that begins at another serial and message
+//!   ID.
 //!
 //! By the contracts of `run_world`, `run_world_from`.
 #![tactic(auto)]

@@ -1,5 +1,6 @@
-//! A whole list of events.
+//! Execution of a whole list of events.
 ghost use Rattle.std.specs.Prelude.{◌≡◌, ℕ, ◌<◌, ◌≤◌, length, IfOk};
+ghost use Rattle.fc_registry.specs.Laws.{RingBegins};
 ghost use Rattle.fc_registry.specs.Record.{IsChain, IsRing};
 ghost use Rattle.fc_registry.specs.Shards.{AreShards, shard_at, slot_in_shards};
 ghost use Rattle.fc_registry.specs.Slots.{new_slot};
@@ -15,22 +16,28 @@ use fc_registry::Shard;
 use fc_server::{Begin, DEFAULT_BEGIN};
 use std::alloc::{AllocError, Global};
 
-/// What each event emitted, and the eight shards at the end.
+/// The emission of each event, and the eight shards at the end.
 #[derive(Drop)]
 pub struct World {
     pub emissions: Vec<Option<Emission>>,
     pub shards: Vec<Shard>,
 }
 
-/// Carries out a list of events, whatever they are, from empty slots at serial 0.
+/// Executes a list of any events, from empty slots at serial 0.
 ///
-/// Where it answers, there is an entry for each event, its emission or none; each is legal by the history of the events
-/// before it; each of the 64 slots is what the history says, and its commits are a chain, of which its ring has the last;
-/// each shard's moment is the greatest handed to it; and each taking that found a program has a meaning: the run reaches its
-/// exit within the steps of its longest path, which are within its budget.
+/// If it succeeds:
+///
+/// - There is an entry for each event: its emission, or none.
+/// - Each emission is legal by the history of the events before it.
+/// - Each of the 64 slots is that of the history. Its commits are a chain, whose newest are in its
+///   ring. If the ring has all commits since the last install, the first found the variables that
+///   this install left.
+/// - Each shard's time is the latest that it was passed.
+/// - Each snapshot that found a program has a meaning: the run reaches its exit within the steps of
+///   its longest path, which are within its budget.
 ///
 /// # Errors
-/// There was no memory, and nothing is said.
+/// Returns `AllocError` if memory can't be allocated. Then nothing is guaranteed.
 pub fn run_world(alloc: Global, events: &[Event<'_>]) -> Result<World, AllocError>
     ensures legal { IfOk result (λ w. IsLegal (history_of events.now w.emissions.items)) }
     ensures count { IfOk result (λ w. length w.emissions.items ≡ length events.now) }
@@ -42,15 +49,20 @@ pub fn run_world(alloc: Global, events: &[Event<'_>]) -> Result<World, AllocErro
     ensures chains { IfOk result (λ w. (n : ℕ) → n < 64 →
         IsChain (new_slot 0) ((seen (history_of events.now w.emissions.items)).changes n)) }
     ensures rings { IfOk result (λ w. (n : ℕ) → n < 64 → IsRing (slot_in_shards w.shards.items n)) }
+    ensures begins { IfOk result (λ w. (n : ℕ) → n < 64 →
+        RingBegins 0 ((seen (history_of events.now w.emissions.items)).changes n) (slot_in_shards w.shards.items n)) }
     ensures means { IfOk result (λ w. AllMean (history_of events.now w.emissions.items)) }
 {
     run_world_from(alloc, &DEFAULT_BEGIN, events)
 }
 
-/// Carries out a list of events, as `run_world` does, from empty slots at a serial, on a server that draws this message id first and has this policy.
+/// Executes a list of any events, on a server with the initial state `begin`.
+///
+/// See [`run_world`]. The slots are empty at the serial of `begin`; the server has the policy of
+/// `begin`, and draws the message ID of `begin` first.
 ///
 /// # Errors
-/// There was no memory, and nothing is said.
+/// Returns `AllocError` if memory can't be allocated. Then nothing is guaranteed.
 pub fn run_world_from(
     alloc: Global,
     begin: &Begin,
@@ -67,6 +79,9 @@ pub fn run_world_from(
     ensures chains { IfOk result (λ w. (n : ℕ) → n < 64 →
         IsChain (new_slot begin.now.serial) ((seen (history_from begin.now events.now w.emissions.items)).changes n)) }
     ensures rings { IfOk result (λ w. (n : ℕ) → n < 64 → IsRing (slot_in_shards w.shards.items n)) }
+    ensures begins { IfOk result (λ w. (n : ℕ) → n < 64 →
+        let changes = (seen (history_from begin.now events.now w.emissions.items)).changes n in
+        RingBegins begin.now.serial changes (slot_in_shards w.shards.items n)) }
     ensures means { IfOk result (λ w. AllMean (history_from begin.now events.now w.emissions.items)) }
 {
     let mut state = WorldState::new(alloc, begin)?;

@@ -1,4 +1,4 @@
-//! The state of a world, and what each event does to it.
+//! The state of a world, and the effect of each event on it.
 ghost use Rattle.std.specs.Prelude.{◌≡◌, [], None, Some, length, IfOk, OnOk};
 ghost use Rattle.fc_core.specs.declared.event.Event.{Event};
 ghost use Rattle.fc_core.specs.Rows.{names};
@@ -15,14 +15,14 @@ use fc_registry::SHARDS;
 use fc_server::{Begin, Server};
 use std::alloc::{AllocError, Global};
 
-/// A server, and all the jobs that came, each at its stage.
+/// A server, and all jobs that arrived, each at its stage.
 #[derive(Drop)]
 pub struct WorldState {
     pub server: Server,
     pub tasks: Vec<Task>,
 }
 
-// What the calls of the server leave.
+// The effects of the server's calls.
 impl WorldState {
     fn deliver(
         &mut self,
@@ -99,7 +99,7 @@ impl WorldState {
         })
     }
 
-    // Carries an event out.
+    // Executes an event.
     pub(crate) fn step(
         &mut self,
         alloc: Global,
@@ -117,7 +117,7 @@ impl WorldState {
         self.server.work(alloc, event, &mut self.tasks[job])
     }
 
-    // Carries out an event that names no job.
+    // Executes an event that names no job.
     fn pass(&mut self, event: &Event<'_>) -> Result<Option<Emission>, AllocError>
         requires named { names event.now ≡ None }
         requires reached { IsReached (parts self.old) }

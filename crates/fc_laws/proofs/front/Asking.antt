@@ -1,8 +1,11 @@
--- A job of a delivery is that of its message's request, and asks what the message says.
+-- A job of a delivery has the request of its message.
 use Rattle.std.proofs.Common.{◌≡◌, ◌≢◌, ℕ, ◌+◌, ◌<◌, ◌≤◌, Bool, true, false, List, [], ◌∷◌, ◌++◌, length, map, Option, Some, None, Ok, refl, sym, ap, ◌∙◌, subst, arith, max, if◌then◌else◌}
-use Rattle.std.specs.Prelude.{◌↔◌, ◌==◌, ◌||◌, nat_lt}
+use Rattle.std.specs.Prelude.{◌↔◌, ◌==◌, ◌||◌, codes, if◌then◌else◌, nat_lt}
+use Rattle.std.specs.List.{flat_map, join_by}
+use Rattle.std.specs.Str.{bytes_eq}
+use Rattle.std.proofs.lemmas.Slice.Eq.{bytes_eq-Decides}
 use Rattle.std.proofs.lemmas.Bool.{le-ltb, ne_eqb}
-use Rattle.std.proofs.lemmas.List.{append_cancel_left}
+use Rattle.std.proofs.lemmas.List.{append-nil, append_cancel_left}
 use Rattle.coap_msg.specs.declared.types.Endpoint.{Endpoint}
 use Rattle.coap_msg.specs.declared.types.MessageType.{MessageType}
 use Rattle.coap_msg.specs.declared.types.MessageType.TheVariants.{Confirmable, NonConfirmable, Acknowledgement, Reset}
@@ -19,7 +22,7 @@ use Rattle.coap_opts.specs.Values.{Place}
 use Rattle.coap_opts.specs.declared.request.Action.{Action}
 use Rattle.coap_opts.specs.declared.request.Action.TheVariants as actions
 use Rattle.coap_opts.specs.Served.{action_of, resource_in}
-use Rattle.coap_opts.specs.Verdict.{Asked, Verdict, IsAsked, IsRefused, IsSilent, IsReset, IsSignal, IsIgnored, block_in, etags, number_in, observe_at, values, verdict}
+use Rattle.coap_opts.specs.Verdict.{Asked, Verdict, IsAsked, IsRefused, IsSilent, IsReset, IsSignal, IsIgnored, block_in, etags, number_in, observe_at, query, values, verdict}
 use Rattle.coap_opts.proofs.Paths.{path_named}
 use Rattle.coap_opts.proofs.Rows.{code_is}
 use Rattle.coap_opts.proofs.Within.{action_served, asked_made, asked_within}
@@ -27,9 +30,11 @@ use Rattle.coap_dedup.specs.Exchanges.{Look, IsNew, IsBusy, IsAgain, IsSilent as
 use Rattle.coap_block.specs.Uploads.{Add, Continues, IsWhole, IsIncomplete, IsBadLength, IsTooLarge, IsFull, add_of}
 use Rattle.fc_help.specs.declared.request.Method.{Method as Verb}
 use Rattle.fc_help.specs.declared.request.Method.TheVariants.{Get, Post}
+use Rattle.fc_registry.specs.Calls.{initial_vars_of}
 use Rattle.fc_registry.specs.declared.job.Ask.TheVariants.{Run, Install, Remove, Describe, Discover}
 use Rattle.fc_registry.specs.declared.job.Job.{Job}
 use Rattle.fc_registry.specs.declared.job.Opening.{Opening}
+use Rattle.fc_registry.specs.declared.job.InitialVars.TheVariants.{Kept, Zeros}
 use Rattle.fc_core.specs.declared.event.Event.{Event}
 use Rattle.fc_core.specs.declared.event.Event.TheVariants.{Deliver}
 use Rattle.fc_core.specs.declared.stage.Task.{Task}
@@ -38,7 +43,7 @@ use Rattle.fc_laws.specs.BodyLaws.{Asks, asked_at}
 use Rattle.fc_core.specs.Exchanges.{FrontState}
 use Rattle.fc_core.specs.History.{Entry, Seen, front_at, no_task, tasks_brought, tasks_moved}
 use Rattle.fc_core.specs.Policies.{is_allowed}
-use Rattle.fc_core.specs.Receiving.{Received, Opened, Refused, Silenced, add_in, ask_by, brought, etags_by, is_confirmable, job_of, look_in, looked, named_block, next_opening, observes, over_share, received, received_added, received_as, request_asked, request_received, slot_asked, slot_of_resource, received_if}
+use Rattle.fc_core.specs.Receiving.{Received, Opened, Refused, Silenced, add_in, ask_by, brought, etags_by, is_confirmable, job_of, look_in, looked, named_block, next_opening, observes, over_share, received, received_added, received_as, request_asked, request_received, slot_asked, slot_of_resource, received_if, initial_vars_by}
 use Rattle.fc_core.specs.Stages.{new_task}
 use Rattle.fc_core.specs.Rows.{names}
 use Rattle.fc_laws.proofs.front.Bodies.{anew_is}
@@ -55,7 +60,7 @@ one_job [] j e = absurd (cc e)
 one_job (x ∷ []) j e = ap (λ (y : Job). y ∷ []) (ap head_job e)
 one_job (x ∷ y ∷ l) j e = absurd (cc e)
 
--- what is received is carried out, and is this job
+-- the message is served, with this job.
 record IsOpened (x : Received) (o : Opening) (to : Endpoint) (j : Job) : Type 0 where
   message : Message
   asked : Asked
@@ -83,7 +88,7 @@ looked_opened (IsAgain bytes) m first new r body e = absurd (cc e)
 looked_opened IsTableFull m first new r body e = absurd (cc e)
 looked_opened IsOverShare m first new r body e = absurd (over_opened (is_confirmable m.kind) m first r body e)
 
--- a request of a message that is carried out with a body
+-- a request of a message that is served with a body.
 record IsCarriedOut (f : FrontState) (to : Endpoint) (m : Message) (v : Verdict) (first : Message) (r : Asked) (body : List ℕ) : Type 0 where
   message : m ≡ first
   asks : v ≡ IsAsked r
@@ -119,7 +124,7 @@ carried_out f to m IsReset first r body e = absurd (cc e)
 carried_out f to m (IsSignal reset) first r body e = absurd (cc e)
 carried_out f to m IsIgnored first r body e = absurd (cc e)
 
--- the job is that of a message's request, with its whole body
+-- the job is that of a message's request, with its complete body.
 pub record IsJobOf (f : FrontState) (to : Endpoint) (m : Message) (j : Job) : Type 0 where
   pub asked : Asked
   pub body : List ℕ
@@ -149,11 +154,11 @@ method_by m r code method made c is = let same : Some (method_in r.action) ≡ S
 resource_by : (m : Message) (r : Asked) (at : Resource) → IsMadeOf m r → values option.URI_PATH m ≡ path_of at → IsResource at → resource_in r.action ≡ at
 resource_by m r at made p within = let same : Some (resource_in r.action) ≡ Some at = sym made.resource_is ∙ (ap resource_of p ∙ path_named at within) in cc same
 
--- a job's request, made of its message
+-- a job's request, made from its message.
 fields_of : (f : FrontState) (to : Endpoint) (m : Message) (j : Job) (w : IsJobOf f to m j) → IsMadeOf m w.asked
 fields_of f to m j w = asked_made m w.asked w.asks
 
--- what its code and its path ask
+-- action of its code and its path.
 action_by : (m : Message) (r : Asked) (code : ℕ) (method : Method) (at : Resource) (action : Action) → IsMadeOf m r → m.code ≡ code → method_of code ≡ Some method → values option.URI_PATH m ≡ path_of at → IsResource at → action_of at method ≡ Some action → r.action ≡ action
 action_by m r code method at action made c is p within served =
     let same : Some r.action ≡ Some action = sym (action_served r.action) ∙ ((λ i. action_of (resource_by m r at made p within i) (method_by m r code method made c is i)) ∙ served) in
@@ -186,12 +191,62 @@ body_is : (f : FrontState) (to : Endpoint) (r : Asked) (body : List ℕ) → r.b
 body_is f to r body none e =
     whole_is (nat_lt 8208 (0 + length r.payload)) r.payload body (subst (λ (b : Option Place). add_of f.transfers f.now to (slot_asked r.action) b r.payload ≡ IsWhole body) none e)
 
-pub puts : (r : Entry) (s : Seen) (from : Endpoint) (m : Message) (j : Job) (n : ℕ) → n < 64 → BringsJob r s from m j → Requests m 3 (program_path n) → block_in option.BLOCK1 m ≡ None → j.ask ≡ Install (record { items = m.payload })
+pub puts : (r : Entry) (s : Seen) (from : Endpoint) (m : Message) (j : Job) (n : ℕ) → n < 64 → BringsJob r s from m j → Requests m 3 (program_path n) → block_in option.BLOCK1 m ≡ None
+    → j.ask ≡ Install (record { items = m.payload }) (initial_vars_by (query m))
 puts r s from m j n lt b q none =
     let w = job_brought r s from m j b in
     let fields = fields_of (front_at s b.now) from m j w in
+    let whole : w.body ≡ m.payload = body_is (front_at s b.now) from w.asked w.body (fields.block1_is ∙ none) w.whole ∙ fields.payload_is in
     asks_by (front_at s b.now) from m j w (actions.Install n) (action_by m w.asked 3 methods.Put (resources.Program n) (actions.Install n) fields q.code_is refl q.path_is lt refl)
-    ∙ ap (λ (body : List ℕ). Install (record { items = body })) (body_is (front_at s b.now) from w.asked w.body (fields.block1_is ∙ none) w.whole ∙ fields.payload_is)
+    ∙ (λ i. Install (record { items = whole i }) (initial_vars_by (fields.query_is i)))
+
+-- ---- whether a PUT keeps the variables
+
+-- a PUT's query determines what happens to the variables, whatever its body.
+put_variables : (r : Entry) (s : Seen) (from : Endpoint) (m : Message) (j : Job) (n : ℕ) → n < 64 → BringsJob r s from m j → Requests m 3 (program_path n)
+    → initial_vars_of j.ask ≡ initial_vars_by (query m)
+put_variables r s from m j n lt b q =
+    let w = job_brought r s from m j b in
+    let fields = fields_of (front_at s b.now) from m j w in
+    ap initial_vars_of (asks_by (front_at s b.now) from m j w (actions.Install n) (action_by m w.asked 3 methods.Put (resources.Program n) (actions.Install n) fields q.code_is refl q.path_is lt refl))
+    ∙ ap initial_vars_by fields.query_is
+
+zeroed_if : (b : Bool) → (b ≡ true → ⊥) → (if b then Kept else Zeros) ≡ Zeros
+zeroed_if true differs = absurd (differs refl)
+zeroed_if false differs = refl
+
+zeroed_by : (query : List ℕ) → (query ≡ codes "keep" → ⊥) → initial_vars_by query ≡ Zeros
+zeroed_by query differs = zeroed_if (bytes_eq query (codes "keep")) (λ e. differs ((bytes_eq-Decides query (codes "keep")).0 e))
+
+-- a `&` is among these bytes
+abbrev has_ampersand : List ℕ → Bool
+has_ampersand [] = false
+has_ampersand (b ∷ bytes) = (b == 38) || has_ampersand bytes
+
+either_true : (a b : Bool) → b ≡ true → (a || b) ≡ true
+either_true true b e = refl
+either_true false b e = e
+
+among : (before after : List ℕ) → has_ampersand (before ++ (38 ∷ after)) ≡ true
+among [] after = refl
+among (b ∷ before) after = either_true (b == 38) (has_ampersand (before ++ (38 ∷ after))) (among before after)
+
+no_ampersand : (before after : List ℕ) → before ++ (38 ∷ after) ≡ codes "keep" → ⊥
+no_ampersand before after e = let clash : true ≡ false = sym (among before after) ∙ ap has_ampersand e in cc clash
+
+-- so only one option makes it.
+joined_keep : (values : List (List ℕ)) → join_by (λ v. v) (codes "&") values ≡ codes "keep" → values ≡ codes "keep" ∷ []
+joined_keep [] e = absurd (cc e)
+joined_keep (value ∷ []) e = ap (λ (v : List ℕ). v ∷ []) (sym (append-nil value) ∙ e)
+joined_keep (value ∷ next ∷ more) e = absurd (no_ampersand value (next ++ flat_map (λ (v : List ℕ). codes "&" ++ v) more) e)
+
+pub keeps : (r : Entry) (s : Seen) (from : Endpoint) (m : Message) (j : Job) (n : ℕ) → n < 64 → BringsJob r s from m j → Requests m 3 (program_path n)
+    → values option.URI_QUERY m ≡ codes "keep" ∷ [] → initial_vars_of j.ask ≡ Kept
+keeps r s from m j n lt b q only = put_variables r s from m j n lt b q ∙ ap (λ (values : List (List ℕ)). initial_vars_by (join_by (λ v. v) (codes "&") values)) only
+
+pub keeps_not : (r : Entry) (s : Seen) (from : Endpoint) (m : Message) (j : Job) (n : ℕ) → n < 64 → BringsJob r s from m j → Requests m 3 (program_path n)
+    → values option.URI_QUERY m ≢ codes "keep" ∷ [] → initial_vars_of j.ask ≡ Zeros
+keeps_not r s from m j n lt b q other = put_variables r s from m j n lt b q ∙ zeroed_by (query m) (λ is. other (joined_keep (values option.URI_QUERY m) is))
 
 pub deletes : (r : Entry) (s : Seen) (from : Endpoint) (m : Message) (j : Job) (n : ℕ) → n < 64 → BringsJob r s from m j → Requests m 4 (program_path n) → j.ask ≡ Remove
 deletes r s from m j n lt b q =
@@ -298,7 +353,7 @@ no_block_is r s from m j b not_get not_put =
     let second = no_block methods.Get (method_in w.asked.action) w.asked.block2 within.block2 (λ e. not_get (code ∙ ap method_code e)) in
     ap (λ (x : Job). x.block) w.is ∙ (λ i. named_block (first i) (second i))
 
--- it is another resource than a run
+-- it is another resource than a run.
 abbrev IsElsewhere : Resource → Type 0
 IsElsewhere (resources.Run n) = ⊥
 IsElsewhere other = Unit {0}
@@ -308,7 +363,7 @@ elsewhere (resources.Run m) n w e = w
 elsewhere (resources.Program m) n w e = cc e
 elsewhere resources.Core n w e = cc e
 
--- of a run, the value of Observe counts
+-- for a run, the value of Observe counts.
 observed_by : (action : Action) (n : ℕ) (value : Option ℕ) → resource_in action ≡ resources.Run n → observe_at action value ≡ value
 observed_by (actions.Get k) n value e = refl
 observed_by (actions.Post k) n value e = refl
@@ -337,7 +392,7 @@ etags_are r s from m j b plain =
     let neither = ap observes fields.observe_is ∙ plain_by w.asked.action (number_in option.OBSERVE m) plain.no_registration plain.no_cancellation in
     ap (λ (x : Job). x.etags.items) w.is ∙ (λ i. etags_by (neither i) (fields.etags_are i))
 
--- where the client registers or cancels
+-- if the client registers or cancels.
 no_etags : (r : Entry) (s : Seen) (from : Endpoint) (m : Message) (j : Job) (n value : ℕ) → n < 64 → BringsJob r s from m j → values option.URI_PATH m ≡ run_path n → number_in option.OBSERVE m ≡ Some value → observes (Some value) ≡ true → j.etags.items ≡ []
 no_etags r s from m j n value lt b p is counts =
     let w = job_brought r s from m j b in
@@ -352,7 +407,7 @@ registers r s from m j code n lt b q is = no_etags r s from m j n 0 lt b q.path_
 pub cancels : (r : Entry) (s : Seen) (from : Endpoint) (m : Message) (j : Job) (code n : ℕ) → n < 64 → BringsJob r s from m j → Requests m code (run_path n) → number_in option.OBSERVE m ≡ Some 1 → j.etags.items ≡ []
 cancels r s from m j code n lt b q is = no_etags r s from m j n 1 lt b q.path_is is refl
 
--- ---- a job comes
+-- ---- a job arrives
 
 payload_whole : (s : Seen) (now : ℕ) (to : Endpoint) (m : Message) (q : Asked) → q.block1 ≡ None → length q.payload ≤ 1024 → asked_at s now to m q ≡ Opened m q q.payload
 payload_whole s now to m q none short =

@@ -1,4 +1,5 @@
--- Bodies that come in blocks: the moments of what is added never fall, and a request is carried out with the body that is whole.
+-- Bodies in blocks: the times of added payloads never decrease, and a request is served with the
+-- complete body.
 use Rattle.std.proofs.Common.{◌≡◌, ℕ, ◌<◌, ◌≤◌, ◌∙◌, min, max, Bool, true, false, if◌then◌else◌, List, [], ◌∷◌, ◌++◌, map, Option, Some, Result, Ok, Err, refl, sym, ap, subst, arith}
 use Rattle.std.specs.Prelude.{is_some}
 use Rattle.std.proofs.Math.Nat.{le-max_left, min-eq_left}
@@ -27,12 +28,12 @@ use Rattle.fc_laws.specs.ExchangeLaws.{IsOnRequest}
 use Rattle.fc_core.specs.History.{Entry, History, Begins, Then, Seen, and_then, did, front_at, received_at, seen, stage, at_front, moment_by, additions_by}
 use Rattle.fc_core.specs.Legal.{Emits}
 use Rattle.fc_core.specs.Policies.{is_allowed}
-use Rattle.fc_core.specs.Receiving.{Received, Silenced, Refused, Settled, Opened, add_in, added_by, addition_of, ask_by, brought, is_confirmable, job_of, look_in, looked, next_opening, over_share, received_added, received_as, received_read, request_received, sent, slot_asked, received_if}
+use Rattle.fc_core.specs.Receiving.{Received, Silenced, Refused, Settled, Opened, add_in, added_by, addition_of, ask_by, brought, is_confirmable, job_of, look_in, looked, next_opening, over_share, received_added, received_as, received_read, request_received, sent, slot_asked, received_if, initial_vars_by}
 use Rattle.coap_reply.specs.Responses.{settled_by}
 use Rattle.fc_core.specs.Stages.{content_at, needs_id, new_task}
 use Rattle.fc_laws.proofs.front.Repeats.{new_as, opening_is, opening_of, received_of}
 
--- ---- moments
+-- ---- times
 
 pub rises_later : (now later : ℕ) (h : List Addition) → now ≤ later → RisesTo now h → RisesTo later h
 rises_later now later [] le w = tt
@@ -62,7 +63,7 @@ rises (Then h r) = rises_on r.event (seen h) (rises h)
 pub rises_at : (h : History) (now : ℕ) → RisesTo (max (seen h).moment now) (seen h).additions
 rises_at h now = rises_later (seen h).moment (max (seen h).moment now) (seen h).additions (le-max_left (seen h).moment now) (rises h)
 
--- ---- what is carried out, and what goes on
+-- ---- served requests, and continued ones
 
 pub is_whole : (x : Add) (m : Message) (r : Asked) (body : List ℕ) → received_added x m r ≡ Opened m r body → x ≡ IsWhole body
 is_whole (IsWhole bytes) m r body e = cc e
@@ -75,7 +76,7 @@ is_whole IsFull m r body e = absurd (cc e)
 pub is_opened : (x : Add) (m : Message) (r : Asked) (body : List ℕ) → x ≡ IsWhole body → received_added x m r ≡ Opened m r body
 is_opened x m r body e = ap (λ (x : Add). received_added x m r) e
 
--- the code that is sent at once
+-- code that is sent immediately.
 abbrev pub settled_code : Received → ℕ
 settled_code (Settled m r response) = response.code
 settled_code other = 0
@@ -91,13 +92,13 @@ goes_on IsFull m r b e = let same : code 5 3 ≡ code 2 31 = ap settled_code e i
 pub is_continued : (x : Add) (m : Message) (r : Asked) (b : Place) → r.block1 ≡ Some b → x ≡ Continues → received_added x m r ≡ Settled m r (settled_by (code 2 31) (Some b))
 is_continued x m r b is e = ap (λ (x : Add). received_added x m r) e ∙ ap (λ (block : Option Place). Settled m r (settled_by (code 2 31) block)) is
 
--- what becomes of the block of a new request
+-- result for the block of a new request.
 pub added_block : (s : Seen) (now : ℕ) (to : Endpoint) (r : Asked) (b : Place) → r.block1 ≡ Some b → add_of (transfers s.additions) (max s.moment now) to (slot_asked r.action) r.block1 r.payload ≡ block_added (transfers s.additions) (max s.moment now) to (slot_asked r.action) b r.payload
 added_block s now to r b is = ap (λ (block : Option Place). add_of (transfers s.additions) (max s.moment now) to (slot_asked r.action) block r.payload) is
 
--- ---- what is added
+-- ---- added payloads
 
--- a request that is asked anew is what becomes of its payload
+-- the classification of a new request is the result for its payload.
 pub anew_is : (s : Seen) (now : ℕ) (to : Endpoint) (bytes : List ℕ) (m : Message) (r : Asked) → IsAskedAnew s now to bytes m r → received_at s now to bytes ≡ asked_at s now to m r
 anew_is s now to bytes m r w =
     let message : w.opens.message ≡ m = cc (sym w.opens.read ∙ w.read) in
@@ -106,7 +107,7 @@ anew_is s now to bytes m r w =
     ∙ (ap (λ (v : Verdict). new_as (front_at s now) to v m) w.asks
     ∙ ap (λ (b : Bool). received_if b (front_at s now) to m r) w.allowed))
 
--- whatever becomes of its payload, it is added
+-- whatever the result for its payload, it is added.
 added_anyway : (x : Add) (m : Message) (r : Asked) (at : ℕ) (to : Endpoint) → added_by (received_added x m r) at to ≡ addition_of at to r ∷ []
 added_anyway Continues m r at to = refl
 added_anyway (IsWhole body) m r at to = refl
@@ -162,14 +163,14 @@ adds_none s other not = refl
 pub others_add_nothing : (e : Entry) (s : Seen) → ((m : Message) (r : Asked) → Asks s e.event m r → ⊥) → (and_then e s).additions ≡ s.additions
 others_add_nothing e s not = ap (λ (l : List Addition). l ++ s.additions) (adds_none s e.event not)
 
--- ---- what comes of a block that fits
+-- ---- effects of a block that fits
 
 -- a PUT of slot N installs its body there
-put_asks : (o : Opening) (to : Endpoint) (m : Message) (r : Asked) (n : ℕ) (b : Place) (body : List ℕ) → PutsBlock r n b → (job_of o to m r body).ask ≡ Installs (record { items = body })
+put_asks : (o : Opening) (to : Endpoint) (m : Message) (r : Asked) (n : ℕ) (b : Place) (body : List ℕ) → PutsBlock r n b → (job_of o to m r body).ask ≡ Installs (record { items = body }) (initial_vars_by r.query)
 put_asks o to m r n b body w = λ i. ask_by (w.action i) r body
 
--- where this is so of each PUT at a moment, a block that fits and is the last brings its body
-pub put_brings : (e : Event) (o : Option Emission) (s : Seen) (m : Message) (r : Asked) (n : ℕ) (b : Place) (body : List ℕ) → ((now : ℕ) (to : Endpoint) → FitsBehind s.additions (addition_at s now to r) b body → asked_at s now to m r ≡ Opened m r body) → Asks s e m r → PutsBlock r n b → FitsBy s e r b body → BringsInstall (did e o) s n body
+-- if this holds for each PUT at a time, the last block that fits produces its body.
+pub put_brings : (e : Event) (o : Option Emission) (s : Seen) (m : Message) (r : Asked) (n : ℕ) (b : Place) (body : List ℕ) → ((now : ℕ) (to : Endpoint) → FitsBehind s.additions (addition_at s now to r) b body → asked_at s now to m r ≡ Opened m r body) → Asks s e m r → PutsBlock r n b → FitsBy s e r b body → BringsInstall (did e o) s r n body
 put_brings (Deliver now to bytes) o s m r n b body is w puts fits = record {
   job = job_of (next_opening (front_at s now)) to m r body;
   tasks = ap (λ (x : Received). s.tasks ++ map new_task (brought x (next_opening (front_at s now)) to)) (anew_is s now to bytes.now m r w ∙ is now to fits);
@@ -178,7 +179,8 @@ put_brings (Deliver now to bytes) o s m r n b body is w puts fits = record {
 }
 put_brings other o s m r n b body is w puts fits = absurd w
 
--- where this is so of each at a moment, one with more to come is answered at once, and brings nothing
+-- if this holds for each at a time, a block that isn't the last is answered immediately, and
+-- produces nothing.
 pub put_continues : (e : Event) (s : Seen) (m : Message) (r : Asked) (b : Place) (body : List ℕ) (emitted : Option Emission) → ((now : ℕ) (to : Endpoint) → FitsBehind s.additions (addition_at s now to r) b body → asked_at s now to m r ≡ Settled m r (settled_by (code 2 31) (Some b))) → Asks s e m r → FitsBy s e r b body → Emits s e emitted → emitted ≡ continue_by s e m b
 put_continues (Deliver now to bytes) s m r b body emitted is w fits legal = legal ∙ ap (λ (x : Received). sent x (front_at s now) to) (anew_is s now to bytes.now m r w ∙ is now to fits)
 put_continues other s m r b body emitted is w fits legal = absurd w
@@ -187,7 +189,7 @@ pub put_waits : (e : Event) (o : Option Emission) (s : Seen) (m : Message) (r : 
 put_waits (Deliver now to bytes) o s m r b body is w fits = ap (λ (x : Received). s.tasks ++ map new_task (brought x (next_opening (front_at s now)) to)) (anew_is s now to bytes.now m r w ∙ is now to fits) ∙ append-nil s.tasks
 put_waits other o s m r b body is w fits = absurd w
 
--- ---- what is cut
+-- ---- cuts
 
 pub asked_cut : (body : List ℕ) (p : Place) → p.szx < 7 → cut_for (Some p) body ≡ cut_at body p.number p.szx
 asked_cut body p lt = let same : min p.szx 6 ≡ p.szx = min-eq_left (omega (arith, lt)) in ap (λ (szx : ℕ). cut_at body p.number szx) same

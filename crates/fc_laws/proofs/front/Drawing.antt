@@ -1,4 +1,4 @@
--- An event draws a message id just where it needs one, and one is free.
+-- An event draws a message ID exactly if it needs one, and one is available.
 use Rattle.std.proofs.Common.{◌≡◌, ℕ, ◌+◌, ◌<◌, ◌≤◌, ◌∷◌, ◌⊎◌, inl, inr, List, length, Bool, true, false, Option, Some, None, Result, Ok, Err, refl, sym, ap, ◌∙◌, subst, max, if◌then◌else◌}
 use Rattle.std.specs.Borrow.{Bor}
 use Rattle.std.specs.Prelude.{◌==◌, ◌&&◌, filter, is_some, nat_lt}
@@ -38,14 +38,14 @@ use Rattle.fc_laws.proofs.front.Refusing.{refused_is}
 use Rattle.fc_laws.proofs.front.Repeats.{look_is, opening_of, received_of, room_in, table_at}
 use Rattle.fc_laws.proofs.front.Room.{full_is, over_draws}
 
--- the ids after an event are those after a draw at its moment
+-- the message IDs after an event are those after a draw at its time.
 abbrev DrawsOne : Seen → Event → Type 0
 DrawsOne s e = ids_by (at_front e) s ≡ drawn s.ids (moment_by (at_front e) s)
 
 abbrev DrawsNone : Seen → Event → Type 0
 DrawsNone s e = ids_by (at_front e) s ≡ s.ids
 
--- ---- where one is needed
+-- ---- if one is needed
 
 drawn_other : (c : Bool) (ids : Ids) (at : ℕ) → c ≡ false → drawn_for c ids at ≡ drawn ids at
 drawn_other c ids at is = ap (λ (b : Bool). drawn_for b ids at) is
@@ -83,14 +83,14 @@ needed_draws s e (AnswersInTime k now content event at kind in_time) = subst (Dr
     (lt-ltb (max s.moment now) (opened_at s k + 247000) in_time) kind)
 needed_draws s e (TellsTurn k now turn found event at) = subst (DrawsOne s) (sym event) (turn_draws_one (stage s k) turn found s.ids s.moment now at)
 
--- ---- where none is needed
+-- ---- if none is needed
 
--- ids are drawn for what isn't confirmable alone
+-- message IDs are drawn only for messages that aren't confirmable.
 kept_ids : (c : Bool) (ids : Ids) (at : ℕ) → (c ≡ false → ⊥) → drawn_for c ids at ≡ ids
 kept_ids true ids at not = refl
 kept_ids false ids at not = absurd (not refl)
 
--- whatever becomes of its payload, where it isn't answered at once
+-- for any result for its payload, if it isn't answered immediately.
 added_keeps : (a : Add) (m : Message) (r : Asked) (ids : Ids) (at : ℕ) → ((response : Response) → received_added a m r ≡ Settled m r response → is_confirmable m.kind ≡ false → ⊥)
     → drawn_by (received_added a m r) ids at ≡ ids
 added_keeps (IsWhole body) m r ids at not = refl
@@ -109,7 +109,7 @@ looked_keeps (IsAgain bytes) m new ids at crowded keeps = refl
 looked_keeps IsTableFull m new ids at crowded keeps = kept_ids (is_confirmable m.kind) ids at (crowded refl)
 looked_keeps IsOverShare m new ids at crowded keeps = over_draws (is_confirmable m.kind) m ids at refl
 
--- a look that tells of no place
+-- a search that finds no place.
 repeated_full : (c : Bool) (a : Option (ArrayVec ℕ)) → repeated_by c a ≡ IsTableFull → ⊥
 repeated_full c None e = absurd (cc e)
 repeated_full true (Some bytes) e = absurd (cc e)
@@ -206,9 +206,9 @@ others_keep s (Answer k now) not =
 others_keep s (Fresh k now) not = turn_keeps (stage s k) (drawn s.ids (max s.moment now)) s.ids (λ turn found at. not (TellsTurn k now turn found refl at))
 others_keep s other not = refl
 
--- ---- what was drawn
+-- ---- drawn message IDs
 
--- the draws after an event that leaves these ids
+-- draws after an event that leaves these message IDs.
 same_draws : (new old : Ids) (d : Draw) (ds : List Draw) → new ≡ old → draws_by (new.next == old.next) d ds ≡ ds
 same_draws new old d ds is = ap (λ (b : Bool). draws_by b d ds) (eq-eqb new.next old.next (ap (λ (x : Ids). x.next) is))
 

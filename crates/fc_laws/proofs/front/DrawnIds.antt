@@ -1,4 +1,4 @@
--- The message ids that are drawn come in order, and none comes twice in a window.
+-- The message IDs that are drawn are in order, and none is drawn twice within a lifetime.
 use Rattle.std.proofs.Common.{◌≡◌, ℕ, ◌+◌, ◌%◌, ◌<◌, ◌≤◌, ◌⊎◌, inl, inr, List, [], ◌∷◌, length, get_or, set, Bool, true, false, Option, Some, None, refl, sym, ap, ◌∙◌, subst, ⊎_elim, arith, max, if◌then◌else◌, length-set}
 use Rattle.std.specs.Prelude.{◌==◌, ◌↔◌, is_some}
 use borrow.Author.Tests.{ltb-false}
@@ -22,7 +22,8 @@ use Rattle.fc_core.specs.Receiving.{Received, Full, Refused, Settled, is_confirm
 use Rattle.fc_core.specs.Receiving as receiving
 use Rattle.fc_core.specs.Stages.{content_at, needs_id}
 
--- the ids after an event at a moment: as before, or after a draw of the next, which wasn't drawn in a window
+-- message IDs after an event at a time: unchanged, or after a draw of the next one, which wasn't
+-- drawn within a lifetime.
 data Draws (old : Ids) (at : ℕ) (new : Ids) : Type 0 where
   Same : (is : new ≡ old) → Draws old at new
   Next : (fresh : is_recent at (last_drawn old) ≡ false) (is : new ≡ record { next = (old.next + 1) % 65536; last = set old.last old.next (Some at) }) → Draws old at new
@@ -60,16 +61,16 @@ kept_by : (old new : Ids) (at : ℕ) → Draws old at new → free_id old at ≡
 kept_by old new at (Same is) none = is
 kept_by old new at (Next fresh is) none = absurd (cc (sym none ∙ ap (λ (b : Bool). if b then None else Some old.next) fresh))
 
--- where no id is free at its moment, an event draws none
+-- if no message ID is available at its time, an event draws none.
 pub kept_where_none_free : (e : Event) (s : Seen) → free_id s.ids (moment_by (at_front e) s) ≡ None → ids_by (at_front e) s ≡ s.ids
 kept_where_none_free e s none = kept_by s.ids (ids_by (at_front e) s) (moment_by (at_front e) s) (event_draws e s) none
 
--- each draw was at the moment at which its id was last drawn, or before
+-- each draw was at the time when its message ID was last drawn, or before.
 abbrev AllKept : List (Option ℕ) → List Draw → Type 0
 AllKept last [] = Unit {0}
 AllKept last (d ∷ ds) = ((at : ℕ) × (get_or last d.id None ≡ Some at) × (d.at ≤ at)) × AllKept last ds
 
--- each draw is at most at this moment
+-- each draw is at this time or earlier.
 abbrev AllAtMost : ℕ → List Draw → Type 0
 AllAtMost m [] = Unit {0}
 AllAtMost m (d ∷ ds) = (d.at ≤ m) × AllAtMost m ds
@@ -96,12 +97,12 @@ all_before : (last : List (Option ℕ)) (id at : ℕ) (ds : List Draw) → is_re
 all_before last id at [] e w = tt
 all_before last id at (d ∷ ds) e w = ((λ is. let past : w.0.0 + 247000 ≤ at = fresh_since at w.0.0 (get_or last id None) e (ap (λ (i : ℕ). get_or last i None) (sym is) ∙ w.0.1) in omega (arith, w.0.2, past)), all_before last id at ds e w.1)
 
--- some draw was of this id at this moment
+-- some draw had this message ID and this time.
 abbrev HasDraw : ℕ → ℕ → List Draw → Type 0
 HasDraw id a [] = ⊥
 HasDraw id a (d ∷ ds) = ((d.id ≡ id) × (d.at ≡ a)) ⊎ HasDraw id a ds
 
--- where an id was last drawn at a moment, there is that draw
+-- if a message ID was last drawn at a time, there is that draw.
 abbrev AreDraws : List (Option ℕ) → List Draw → Type 0
 AreDraws last ds = (id a : ℕ) → id < 65536 → get_or last id None ≡ Some a → HasDraw id a ds
 
@@ -120,7 +121,7 @@ recent_not : (at : ℕ) (o : Option ℕ) → ((a : ℕ) → o ≡ Some a → a +
 recent_not at None past = refl
 recent_not at (Some a) past = le-ltb at (a + 247000) (past a refl)
 
--- what is so of the draws of a history
+-- invariant of the draws of a history.
 record AreKept (first : ℕ) (ids : Ids) (moment : ℕ) (ds : List Draw) : Type 0 where
   next : ids.next ≡ (first + length ds) % 65536
   room : length ids.last ≡ 65536
@@ -176,7 +177,7 @@ all_kept (Then h r) lt = step (first_id h) (seen h).ids (and_then r (seen h)).id
 pub next_small : (h : History) → first_id h < 65536 → (seen h).ids.next < 65536
 next_small h lt = let next = (all_kept h lt).next in omega (arith, next)
 
--- ---- a turn's draw
+-- ---- a lease's draw
 
 pub by_test : (ids : Ids) (at id : ℕ) (b : Bool) → ids.next < 65536 → (if b then None else Some ids.next) ≡ Some id
     → (((if b then ids else record { next = (ids.next + 1) % 65536; last = set ids.last ids.next (Some at) }).next == ids.next) ≡ false) × (ids.next ≡ id)

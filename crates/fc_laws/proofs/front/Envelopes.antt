@@ -1,4 +1,4 @@
--- Whom an answer is for.
+-- The receiver of an answer.
 use Rattle.std.proofs.Common.{◌≡◌, ℕ, Bool, true, false, Option, Some, None, refl, sym, ap, ◌∙◌, subst, max}
 use Rattle.coap_msg.specs.declared.types.Emission.{Emission}
 use Rattle.coap_msg.specs.declared.types.Endpoint.{Endpoint}
@@ -19,7 +19,7 @@ use Rattle.fc_core.specs.Replies.{IsReplyTo}
 use Rattle.fc_laws.specs.ReplyLaws.{IsAnswerTo}
 use Rattle.fc_core.specs.Stages.{content_at}
 
--- an answer that goes out has a message id, and is a reply by it
+-- an answer that is sent has a message ID, and is a response with it.
 replies_by : (live : Bool) (id : Option ℕ) (j : Job) (content : Content) (e : Emission) → IsAnswered live id j content (Some e) → (own : ℕ) × (id ≡ Some own) × IsReplyTo j own content e
 replies_by true (Some id) j content e w = (id, refl, w)
 replies_by true None j content e w = absurd (cc w)
@@ -28,7 +28,7 @@ replies_by false id j content e w = absurd (cc w)
 answered_as : (s : Seen) (k now : ℕ) (content : Content) (o : Option Emission) → stage s k ≡ ToAnswer content → Emits s (Answer k now) o → AnswerEmits (Some content) (job s k) (front_at s now) o
 answered_as s k now content o is sent = subst (λ (st : Stage). AnswerEmits (content_at st) (job s k) (front_at s now) o) is sent
 
--- to a request that is confirmable or not
+-- to a request that is confirmable or not.
 replied : (s : Seen) (k now : ℕ) (content : Content) (e : Emission) (c : Bool) → stage s k ≡ ToAnswer content → (job s k).confirmable ≡ c → Emits s (Answer k now) (Some e) → (own : ℕ) × (reply_id c (job s k).origin.id (free_id s.ids (max s.moment now)) ≡ Some own) × IsAnswerTo (job s k) content (reply_kind c) own e
 replied s k now content e c is confirms sent =
     let j = job s k in
@@ -47,7 +47,7 @@ acknowledges s k now content e is confirms sent =
 pub answers_otherwise : (s : Seen) (k now : ℕ) (content : Content) (e : Emission) → stage s k ≡ ToAnswer content → (job s k).confirmable ≡ false → Emits s (Answer k now) (Some e) → (id : ℕ) × (free_id s.ids (max s.moment now) ≡ Some id) × IsAnswerTo (job s k) content NonConfirmable id e
 answers_otherwise s k now content e is confirms sent = replied s k now content e false is confirms sent
 
--- ---- at once
+-- ---- immediately
 
 pub acknowledges_at_once : (f : FrontState) (to : Endpoint) (m : Message) (response : Response) → m.kind ≡ Confirmable → told f to m response ≡ Some (sent_in (record { to = to; kind = Acknowledgement; id = m.id; token = m.token }) response)
 acknowledges_at_once f to m response kind =

@@ -1,4 +1,4 @@
--- What gets no answer.
+-- Messages without a response.
 use Rattle.std.proofs.Common.{◌≡◌, ℕ, List, Bool, Option, None, Ok, Err, ap, ◌∙◌}
 use Rattle.std.specs.Borrow.{Bor}
 use Rattle.coap_msg.specs.declared.types.Bad.TheVariants as bad

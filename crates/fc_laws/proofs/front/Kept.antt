@@ -1,4 +1,4 @@
--- When the answer of a job goes out, and what is kept of it.
+-- The time when the answer of a job is sent, and its stored bytes.
 use Rattle.std.proofs.Common.{◌≡◌, ℕ, zero, suc, ◌+◌, ◌<◌, List, [], ◌∷◌, ◌++◌, length, map, set, Bool, true, false, Option, Some, None, refl, sym, ap, ◌∙◌, subst, ◌⊎◌, inl, inr, arith, max, if◌then◌else◌}
 use Rattle.std.specs.Prelude.{is_some, ◌==◌}
 use Rattle.std.proofs.lemmas.Bool.{eq-eqb, ne_eqb, ltb-true, lt-ltb}
@@ -60,7 +60,7 @@ out_at (Some c) content j f o is lt has w = out_by (opening_is_live f.now j.orig
 pub goes_out : (s : Seen) (k now : ℕ) (content : Content) (o : Option Emission) → stage s k ≡ ToAnswer content → max s.moment now < opened_at s k + 247000 → HasId s k now → Emits s (Answer k now) o → is_some o ≡ true
 goes_out s k now content o is lt has w = out_at (content_at (stage s k)) content (job s k) (front_at s now) o (ap content_at is) lt has w
 
--- ---- numbers are places
+-- ---- numbers are positions
 
 abbrev AreNumbered : ℕ → List Exchange → Type 0
 AreNumbered from [] = Unit {0}
@@ -101,7 +101,7 @@ unfolding seen
 numbered (Begins serial id policy) = tt
 numbered (Then h r) = numbered_by r.event r.emitted (seen h) (numbered h)
 
--- ---- what is kept
+-- ---- stored answers
 
 abbrev answer_of : Exchange → Option (ArrayVec ℕ)
 answer_of e = e.answer
@@ -144,7 +144,7 @@ seam : (o : Option Emission) (kept : List (Option (ArrayVec ℕ))) (n : ℕ) →
 seam None kept n len = refl
 seam (Some em) kept n len = ap (λ (i : ℕ). set (kept ++ None ∷ []) i (Some em.bytes)) (sym len) ∙ set-append_seam kept None [] (Some em.bytes)
 
--- what went out of a new request is kept
+-- the datagram sent for a new request is stored.
 abbrev KeepsSent : Received → FrontState → Endpoint → Opening → Type 0
 KeepsSent x f to opening = (o : Option Emission) (kept : List (Option (ArrayVec ℕ))) (n : ℕ) → length kept ≡ n → o ≡ sent x f to → answers_with (kept_of x o) n (kept ++ map answer_of (opened_by x opening to)) ≡ kept ++ emitted_bytes o ∷ []
 

@@ -1,4 +1,4 @@
--- A job that changes a program is of a manager.
+-- A job that changes a program belongs to a manager.
 use Rattle.std.proofs.Common.{◌≡◌, ℕ, zero, suc, ◌+◌, ◌*◌, ◌<◌, List, [], ◌∷◌, ◌++◌, Bool, true, false, length, map, Option, Some, None, Result, Ok, Err, refl, sym, ap, ◌∙◌, subst, arith, max, append-nil}
 use Rattle.std.specs.Prelude.{slice_index_or, slice_set}
 use Rattle.std.specs.Borrow.{Bor}
@@ -106,7 +106,7 @@ received_managed : (f : FrontState) (to : Endpoint) (bytes : List ℕ) (o : Open
 unfolding received
 received_managed f to bytes o = read_managed f (reading_of bytes) o to
 
--- ---- a turn's job runs a program
+-- ---- a lease's job runs a program
 
 entry_managed : (managers : List Network) (n number : ℕ) (e : Option ObserverEntry) → Each (IsManaged managers) (option_to_list (option_map (turn_job n number) (option_map interest_of e)))
 entry_managed managers n number None = tt

@@ -1,4 +1,4 @@
--- The moments of the front and of the shards.
+-- The times of the front and of the shards.
 use Rattle.std.proofs.Common.{◌≡◌, ℕ, List, ◌++◌, Bool, true, false, Option, Some, None, refl, sym, ap, ◌∙◌, max, if◌then◌else◌, [], ◌∷◌}
 use Rattle.std.specs.Prelude.{is_some, nat_lt, ◌%◌, ◌==◌, ◌&&◌}
 use Rattle.fc_registry.specs.declared.job.Job.{Job}
@@ -58,7 +58,7 @@ shard_handed : (s : Seen) (e : Event) (o : Option ℕ) (i : ℕ) (ms : List ℕ)
 shard_handed s e None i ms is = is
 shard_handed s e (Some k) i ms is = shard_if s e k i (slot_of s k % 8 == i) ms is
 
--- the moment of an event of the shard itself
+-- the time of an event of the shard itself.
 handed_if : (b : Bool) (now m : ℕ) (ms : List ℕ) → m ≡ greatest ms → handed (if b then Some now else None) m ≡ greatest ((if b then now ∷ [] else []) ++ ms)
 handed_if true now m ms is = ap (λ (x : ℕ). max x now) is
 handed_if false now m ms is = is

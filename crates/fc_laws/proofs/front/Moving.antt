@@ -1,4 +1,4 @@
--- The front's moment never falls.
+-- The front's time never decreases.
 use Rattle.std.proofs.Common.{◌≡◌, ℕ, ◌≤◌, Bool, true, false, arith, max, if◌then◌else◌}
 use Rattle.std.specs.Prelude.{is_some}
 use Rattle.fc_core.specs.History.{AtFront, Receives, Answers, Draws, Passes, Rests, Seen, moment_by, stage}

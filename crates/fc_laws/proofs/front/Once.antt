@@ -1,4 +1,4 @@
--- Jobs of one endpoint and message id come at least a window apart.
+-- Jobs with one endpoint and message ID arrive at least a lifetime apart.
 use Rattle.std.proofs.Common.{◌≡◌, ℕ, zero, suc, ◌+◌, ◌*◌, ◌-◌, ◌<◌, ◌≤◌, List, [], ◌∷◌, ◌++◌, length, map, Bool, true, false, cond, Option, Some, None, Result, Ok, Err, refl, sym, ap, ◌∙◌, subst, ◌⊎◌, inl, inr, ⊎_elim, arith, max, get_or, length-append}
 use Rattle.std.specs.Prelude.{nat_eq, ◌==◌, ◌&&◌, find, is_some, if◌then◌else◌}
 use Rattle.std.specs.Option.{option_map, option_to_list}
@@ -41,7 +41,7 @@ use Rattle.fc_laws.proofs.jobs.Others.{job_stays}
 use Rattle.fc_laws.proofs.front.Repeats.{look_is, new_look, received_of, room_in}
 use Rattle.fc_laws.proofs.jobs.Steps.{moved_length}
 
--- one of them is so
+-- a property of one of them.
 abbrev Any : {X : Type 0} → (X → Type 0) → List X → Type 0
 Any P [] = ⊥
 Any P (x ∷ xs) = P x ⊎ Any P xs
@@ -65,7 +65,7 @@ not_found_if P p y ys true is rest e a = absurd (cc e)
 not_found_if P p y ys false is rest e (inl here) = (y, here, is)
 not_found_if P p y ys false is rest e (inr there) = rest e there
 
--- what is there and isn't found fails the test
+-- an element that exists and isn't found fails the test.
 not_found : {X : Type 0} (P : X → Type 0) (p : X → Bool) (xs : List X) → find p xs ≡ None → Any P xs → (x : X) × P x × (p x ≡ false)
 not_found P p [] e a = absurd a
 not_found P p (x ∷ xs) e a = not_found_if P p x xs (p x) refl (not_found P p xs) e a
@@ -77,7 +77,7 @@ each_at P (x ∷ xs) (suc i) d e lt = each_at P xs i d e.1 (omega arith)
 
 -- ---- the exchange of a job
 
--- the exchange that was opened for a job of this origin
+-- the exchange that was opened for a job with this origin.
 abbrev IsOf : Origin → Exchange → Type 0
 IsOf o e = (e.endpoint ≡ o.endpoint) × (e.id ≡ o.id) × (e.at ≡ o.opening.at)
 
@@ -102,7 +102,7 @@ still_open o other emitted s a = a
 
 -- ---- new jobs
 
--- a new job is no repeat, and its exchange is opened with it
+-- a new job is no duplicate, and its exchange is opened with it.
 record IsNewJob (s : Seen) (es : List Exchange) (j : Job) : Type 0 where
   moment : ℕ
   none : repeated s moment j.origin.endpoint j.origin.id ≡ None
@@ -163,7 +163,7 @@ module _ (s : Seen) (now : ℕ) (to : Endpoint) where
   new_tasks x emitted [] w = tt
   new_tasks x emitted (j ∷ js) w = (record { moment = w.0.moment; none = w.0.none; at_is = w.0.at_is; opened = kept_in j.origin (length s.exchanges) (kept_of x emitted) (s.exchanges ++ opened_by x opening to) (any_right (IsOf j.origin) s.exchanges (opened_by x opening to) w.0.opened) }, new_tasks x emitted js w.1)
 
--- a turn is no request
+-- a lease is no request.
 turn_isnt : (s : Seen) (es : List Exchange) (n number : ℕ) (o : Option Interest) → Each (λ t. t.job.turn ≡ None → IsNewJob s es t.job) (map new_task (option_to_list (option_map (turn_job n number) o)) ++ [])
 turn_isnt s es n number None = tt
 turn_isnt s es n number (Some o) = (λ is. absurd (cc is), tt)
@@ -226,7 +226,7 @@ unfolding seen
 opened_for (Begins serial id policy) k come asks = absurd (omega arith)
 opened_for (Then h r) k come asks = opened_after r (seen h) k come asks (opened_for h k)
 
--- ---- at most once in a window
+-- ---- at most once within a lifetime
 
 pub same_bytes : (xs : List ℕ) → pointwise nat_eq xs xs ≡ true
 same_bytes [] = refl
@@ -239,7 +239,7 @@ second_false : (a b : Bool) → (a && b) ≡ false → b ≡ true → a ≡ fals
 second_false true b e is = absurd (cc (e, is))
 second_false false b e is = refl
 
--- an exchange that isn't found for a repeat is a window old
+-- an exchange that isn't found for a duplicate is a lifetime old.
 past_window : (s : Seen) (at : ℕ) (o p : Origin) → repeated s at p.endpoint p.id ≡ None → Any (IsOf o) s.exchanges → o.endpoint ≡ p.endpoint → o.id ≡ p.id → o.opening.at + 247000 ≤ at
 past_window s at o p none a to id =
     let found = not_found (IsOf o) (λ e. is_within at e && is_of p.endpoint p.id e) s.exchanges none a in
@@ -248,7 +248,7 @@ past_window s at o p none a to id =
     let old : e.at + 247000 ≤ at = ltb-false at (e.at + 247000) (second_false (is_within at e) (is_of p.endpoint p.id e) found.2 passes) in
     subst (λ (n : ℕ). n + 247000 ≤ at) found.1.2 old
 
--- two jobs of requests with one endpoint and message id are a window apart
+-- two jobs of requests with one endpoint and message ID are a lifetime apart.
 abbrev AreApart : Seen → ℕ → ℕ → Type 0
 AreApart s j k = (job s j).turn ≡ None → (job s k).turn ≡ None → (job s j).origin.endpoint ≡ (job s k).origin.endpoint → (job s j).origin.id ≡ (job s k).origin.id → (job s j).origin.opening.at + 247000 ≤ (job s k).origin.opening.at
 

@@ -1,4 +1,4 @@
--- What a call that is refused leaves as it was.
+-- Effects of a call that is refused.
 use Rattle.std.proofs.Common.{◌≡◌, ℕ, ◌≤◌, List, [], ◌∷◌, ◌++◌, Bool, true, false, Option, Some, None, refl, sym, ap, ◌∙◌, subst, ◌⊎◌, inl, inr, ⊎_elim, if◌then◌else◌}
 use Rattle.std.specs.Prelude.{◌==◌, is_some, nat_lt}
 use Rattle.std.specs.Option.{option_map}
@@ -14,7 +14,8 @@ use Rattle.fc_observe.specs.declared.entry.Turn.{Turn}
 use Rattle.fc_observe.specs.Calls.{ObserverCall, Advance, observers}
 use Rattle.fc_observe.specs.Observers.{ObserverList, at_moment, entry_out, is_missing, must_confirm_turn}
 use Rattle.fc_observe.specs.Views.{interest_of}
-use Rattle.fc_registry.specs.Calls.{clear_by, commits, is_out_at, miss_calls, outcome_by, put_by}
+use Rattle.fc_registry.specs.declared.job.InitialVars.{InitialVars}
+use Rattle.fc_registry.specs.Calls.{clear_by, commits, is_out_at, miss_calls, outcome_by, put_by, initial_vars_of}
 use Rattle.fc_registry.specs.Changes.{Change}
 use Rattle.fc_registry.specs.Notes.{note_to, observer_told, told_calls}
 use Rattle.fc_registry.specs.Slots.{Present, Ticket, last_serial}
@@ -32,9 +33,9 @@ use Rattle.fc_core.specs.Steps.{Commits, Installs, Removes}
 use Rattle.fc_laws.specs.RefusalLaws.{HasNoId, HasNoTicket, IsRefusedCall, IsStaleNote, IsStaleTaking, LeavesAllButStage, NotAccepted, NotCommitted, NotDescribed, NotInstalled, NotRemoved, NotSent, NothingTaken}
 use Rattle.fc_laws.specs.TurnLaws.{moment_at}
 
--- ---- a move that changes nothing
+-- ---- a transition that changes nothing
 
--- it calls nothing on the slot's observers, or hands them a moment
+-- it makes no call on the slot's observers except to pass them a time.
 data IsQuiet (calls : List ObserverCall) : Type 0 where
   Nothing : (is : calls ≡ []) → IsQuiet calls
   Moment : (at : ℕ) (is : calls ≡ Advance at ∷ []) → IsQuiet calls
@@ -48,7 +49,7 @@ changes_still : (b : Bool) (cs own : List Change) → cs ≡ [] → (if b then c
 changes_still true cs own is = ap (λ (x : List Change). x ++ own) is
 changes_still false cs own is = refl
 
--- the observers of slot n after these calls are as they were, but for their moment
+-- the observers of slot n after these calls are unchanged, except for their time.
 abbrev AreLeft : ℕ → ℕ → List ObserverCall → List ObserverCall → Type 0
 AreLeft n confirm_after own calls =
     observers n confirm_after calls ≡ record (observers n confirm_after own) { moment = (observers n confirm_after calls).moment }
@@ -58,7 +59,7 @@ observers_still true cs own n confirm_after (Nothing is) = subst (λ (x : List O
 observers_still true cs own n confirm_after (Moment at is) = subst (λ (x : List ObserverCall). AreLeft n confirm_after own (x ++ own)) (sym is) refl
 observers_still false cs own n confirm_after q = refl
 
--- what an event is that names job k, and does nothing at the front but let an id be drawn
+-- an event that names job k, and has no effect on the front except a draw of a message ID.
 record IsOf (k : ℕ) (e : Event) (o : Option Emission) (s : Seen) : Type 0 where
   named : names e ≡ Some k
   brought : tasks_brought e s ≡ []
@@ -87,9 +88,9 @@ left k e o s of still = record {
   front = record { exchanges = of.kept; additions = ap (λ xs. xs ++ s.additions) of.added };
 }
 
--- ---- the moves of the calls that are refused
+-- ---- the transitions of refused calls
 
--- the move of an event of a job that is at this stage
+-- transition of an event of a job at this stage.
 abbrev move_at : Event → Scene → Stage → Move
 move_at e s x = move_of e s (call_at e s x)
 
@@ -100,24 +101,24 @@ uncommitted k now count t s true false w = record { changes = refl; calls = Noth
 uncommitted k now count t s true true (inl is) = absurd (cc is)
 uncommitted k now count t s true true (inr is) = absurd (cc is)
 
-unaccepted : (k : ℕ) (s : Scene) (memory : Bool) (j : Judgement) → ((p : Program) → j ≡ Accepts p → ⊥)
-    → IsStill (move_of (Install k memory) s (Some (install_if memory j s.slot)))
-unaccepted k s false j why = record { changes = refl; calls = Nothing refl; raises = refl }
-unaccepted k s true (Accepts p) why = absurd (why p refl)
-unaccepted k s true (Breaks rule slot) why = record { changes = refl; calls = Nothing refl; raises = refl }
-unaccepted k s true Untypable why = record { changes = refl; calls = Nothing refl; raises = refl }
+unaccepted : (k : ℕ) (s : Scene) (memory : Bool) (v : InitialVars) (j : Judgement) → ((p : Program) → j ≡ Accepts p → ⊥)
+    → IsStill (move_of (Install k memory) s (Some (install_if memory v j s.slot)))
+unaccepted k s false v j why = record { changes = refl; calls = Nothing refl; raises = refl }
+unaccepted k s true v (Accepts p) why = absurd (why p refl)
+unaccepted k s true v (Breaks rule slot) why = record { changes = refl; calls = Nothing refl; raises = refl }
+unaccepted k s true v Untypable why = record { changes = refl; calls = Nothing refl; raises = refl }
 
-at_end : (k : ℕ) (s : Scene) (p : Program) (b : Bool) → b ≡ false → IsStill (move_of (Install k true) s (Some (Installs p (put_by b s.slot p).answer)))
-at_end k s p true is = absurd (cc is)
-at_end k s p false is = record { changes = refl; calls = Nothing refl; raises = refl }
+at_end : (k : ℕ) (s : Scene) (p : Program) (v : InitialVars) (b : Bool) → b ≡ false → IsStill (move_of (Install k true) s (Some (Installs p v (put_by b s.slot p v).answer)))
+at_end k s p v true is = absurd (cc is)
+at_end k s p v false is = record { changes = refl; calls = Nothing refl; raises = refl }
 
-uninstalled : (k : ℕ) (s : Scene) (memory : Bool) (j : Judgement) → (memory ≡ false) ⊎ (last_serial ≤ s.slot.serial)
-    → IsStill (move_of (Install k memory) s (Some (install_if memory j s.slot)))
-uninstalled k s false j why = record { changes = refl; calls = Nothing refl; raises = refl }
-uninstalled k s true (Accepts p) (inl is) = absurd (cc is)
-uninstalled k s true (Accepts p) (inr last) = at_end k s p (nat_lt s.slot.serial last_serial) (le-ltb s.slot.serial last_serial last)
-uninstalled k s true (Breaks rule slot) why = record { changes = refl; calls = Nothing refl; raises = refl }
-uninstalled k s true Untypable why = record { changes = refl; calls = Nothing refl; raises = refl }
+uninstalled : (k : ℕ) (s : Scene) (memory : Bool) (v : InitialVars) (j : Judgement) → (memory ≡ false) ⊎ (last_serial ≤ s.slot.serial)
+    → IsStill (move_of (Install k memory) s (Some (install_if memory v j s.slot)))
+uninstalled k s false v j why = record { changes = refl; calls = Nothing refl; raises = refl }
+uninstalled k s true v (Accepts p) (inl is) = absurd (cc is)
+uninstalled k s true v (Accepts p) (inr last) = at_end k s p v (nat_lt s.slot.serial last_serial) (le-ltb s.slot.serial last_serial last)
+uninstalled k s true v (Breaks rule slot) why = record { changes = refl; calls = Nothing refl; raises = refl }
+uninstalled k s true v Untypable why = record { changes = refl; calls = Nothing refl; raises = refl }
 
 unremoved : (k serial : ℕ) (s : Scene) (b : Bool) (o : Option Present) → (o ≡ None) ⊎ (b ≡ false)
     → IsStill (move_of (Remove k) s (Some (Removes (clear_by b serial o).answer)))
@@ -130,7 +131,7 @@ present_missed : (b : Bool) (turn : Turn) (p : Present) → miss_calls b turn (S
 present_missed true turn p = refl
 present_missed false turn p = refl
 
--- nobody is told of a turn that is out no longer
+-- no observer is notified of a lease that isn't out any more.
 none_if : (b : Bool) (o : Option ObserverEntry) → o ≡ None → (if b then option_map interest_of o else None) ≡ None
 none_if true o is = ap (option_map interest_of) is
 none_if false o is = refl
@@ -146,7 +147,7 @@ unanswered false number o xs is = refl
 -- ---- each of them
 
 module _ (k : ℕ) (o : Option Emission) (s : Seen) where
-  -- of an event that comes at this stage of its job
+  -- for an event at this stage of its job.
   at_stage : (e : Event) (x : Stage) → IsOf k e o s → stage s k ≡ x → IsStill (move_at e (scene s k) x) → LeavesAllButStage k s (and_then (did e o) s)
   at_stage e x of at still = left k e o s of (subst (λ (y : Stage). IsStill (move_at e (scene s k) y)) (sym at) still)
 
@@ -165,10 +166,10 @@ module _ (k : ℕ) (o : Option Emission) (s : Seen) where
       (⊎_elim (λ ne. inl (ne_eqb (scene s k).slot.serial t.serial ne)) (λ last. inr (le-ltb (scene s k).slot.serial last_serial last)) why))))
   by_call e (NotAccepted memory is at why) = subst (λ (x : Event). LeavesAllButStage k s (and_then (did x o) s)) (sym is)
       (at_stage (Install k memory) ToInstall (record { named = refl; brought = refl; calm = λ n. refl; added = refl; kept = refl }) at
-      (unaccepted k (scene s k) memory (judged (image_of (job s k).ask)) why))
+      (unaccepted k (scene s k) memory (initial_vars_of (job s k).ask) (judged (image_of (job s k).ask)) why))
   by_call e (NotInstalled memory is at why) = subst (λ (x : Event). LeavesAllButStage k s (and_then (did x o) s)) (sym is)
       (at_stage (Install k memory) ToInstall (record { named = refl; brought = refl; calm = λ n. refl; added = refl; kept = refl }) at
-      (uninstalled k (scene s k) memory (judged (image_of (job s k).ask)) why))
+      (uninstalled k (scene s k) memory (initial_vars_of (job s k).ask) (judged (image_of (job s k).ask)) why))
   by_call e (NotRemoved is at why) = subst (λ (x : Event). LeavesAllButStage k s (and_then (did x o) s)) (sym is)
       (at_stage (Remove k) ToRemove (record { named = refl; brought = refl; calm = λ n. refl; added = refl; kept = refl }) at
       (unremoved k (scene s k).slot.serial (scene s k) (nat_lt (scene s k).slot.serial last_serial) (scene s k).slot.present

@@ -1,4 +1,4 @@
--- What is refused or rejected is answered at once, and brings no job.
+-- A refused or rejected message is answered immediately, and produces no job.
 use Rattle.std.proofs.Common.{◌≡◌, ℕ, ◌≤◌, List, ◌++◌, map, Bool, false, Option, Some, Ok, Err, refl, sym, ap, ◌∙◌, ◌⊎◌, inl, inr}
 use Rattle.std.specs.Prelude.{nat_lt, if◌then◌else◌}
 use Rattle.std.proofs.lemmas.Bool.{and_right, le-ltb}
@@ -25,7 +25,7 @@ use Rattle.fc_laws.proofs.front.Repeats.{new_as, opening_is, received_of}
 
 -- ---- a refusal
 
--- a request that is new is refused
+-- a new request is refused.
 refusal_is : (s : Seen) (now : ℕ) (to : Endpoint) (m : Message) (answer : ℕ) → IsRefusal s to m answer → new_as (front_at s now) to (verdict m) m ≡ Refused m answer
 refusal_is s now to m answer (inl is) = ap (λ (v : Verdict). new_as (front_at s now) to v m) is
 refusal_is s now to m answer (inr w) =
@@ -33,7 +33,7 @@ refusal_is s now to m answer (inr w) =
     ∙ (ap (λ (b : Bool). received_if b (front_at s now) to m w.asked) w.allowed
     ∙ ap (λ (n : ℕ). Refused m n) (sym w.answer_is))
 
--- it is received as a new request that is refused
+-- it is classified as a new request that is refused.
 pub refused_is : (s : Seen) (now : ℕ) (to : Endpoint) (bytes : List ℕ) (m : Message) (answer : ℕ) → IsRefusedAnew s now to bytes m answer → received_at s now to bytes ≡ Refused m answer
 refused_is s now to bytes m answer w =
     let same : w.opens.message ≡ m = cc (sym w.opens.read ∙ w.read) in

@@ -1,4 +1,4 @@
--- Which deliveries open an exchange, and which are repeats.
+-- The deliveries that open an exchange, and the duplicates.
 use Rattle.std.proofs.Common.{◌≡◌, ℕ, List, [], ◌∷◌, ◌++◌, length, map, Bool, true, false, cond, Option, Some, None, Result, Ok, Err, refl, sym, ap, ◌∙◌, subst, max}
 use Rattle.std.specs.Prelude.{nat_lt, ◌==◌, ◌&&◌, filter, find, is_some, if◌then◌else◌}
 use borrow.Author.Tests.{ltb-true, lt-ltb}
@@ -32,7 +32,7 @@ use Rattle.fc_core.specs.Receiving.{Received, add_in, added_by, is_confirmable, 
 use Rattle.fc_core.specs.Stages.{content_at, new_task}
 use Rattle.fc_core.specs.Rows.{names}
 
--- ---- what a request is to the exchanges
+-- ---- a request and the exchanges
 
 found_if : {X : Type 0} (p q : X → Bool) (x : X) (fs : List X) (o : Option X) (b : Bool) → find p fs ≡ o → find p (cond b (x ∷ fs) fs) ≡ cond (b && p x) (Some x) o
 found_if p q x fs o true is = ap (λ y. cond (p x) (Some x) y) is
@@ -42,7 +42,7 @@ find-filter : {X : Type 0} (p q : X → Bool) (xs : List X) → find p (filter q
 find-filter p q [] = refl
 find-filter p q (x ∷ xs) = found_if p q x (filter q xs) (find (λ y. q y && p y) xs) (q x) (find-filter p q xs)
 
--- what a request is where it is new
+-- classification of a new request.
 abbrev pub new_as : FrontState → Endpoint → Verdict → Message → Received
 new_as f to (IsAsked asked) m = request_received f to m asked
 new_as f to (IsRefused answer) m = Refused m answer
@@ -75,9 +75,9 @@ request_is s now to bytes m o read asks is =
     ∙ (asking_looked (front_at s now) to m (verdict m) asks
     ∙ ap (λ l. looked l m (new_as (front_at s now) to (verdict m) m)) (look_is s now to m ∙ ap (λ x. look_by x (room_in s (max s.moment now) to.ip)) is))
 
--- ---- repeats
+-- ---- duplicates
 
--- what a repeat is
+-- classification of a duplicate.
 abbrev repeat_as : Bool → Option (ArrayVec ℕ) → Received
 repeat_as true (Some bytes) = Again bytes.items
 repeat_as confirmable answer = Unanswered
@@ -88,7 +88,7 @@ repeat_looked false None m new = refl
 repeat_looked true (Some bytes) m new = refl
 repeat_looked false (Some bytes) m new = refl
 
--- a datagram that opens, keeps, draws, brings and adds nothing
+-- a datagram that opens, stores, draws, produces and adds nothing.
 record IsIdle (x : Received) : Type 0 where
   opens : (o : Opening) (to : Endpoint) → opened_by x o to ≡ []
   keeps : (emitted : Option Emission) → kept_of x emitted ≡ None
@@ -113,7 +113,7 @@ repeat_is s now to bytes e w = request_is s now to bytes w.message (Some e) w.re
 idle : (s : Seen) (now : ℕ) (to : Endpoint) (bytes : List ℕ) (e : Exchange) → IsRepeat s now to bytes e → IsIdle (received_at s now to bytes)
 idle s now to bytes e w = subst IsIdle (sym (repeat_is s now to bytes e w)) (repeat_idle e.confirmable e.answer)
 
--- what is kept of nothing leaves the exchanges as they are
+-- an answer of nothing doesn't change the exchanges.
 kept_nothing : (o : Option Emission) (n : ℕ) (new old : List Exchange) → o ≡ None → new ≡ [] → answered_in n o (old ++ new) ≡ old
 kept_nothing None n new old is none = ap (λ (l : List Exchange). old ++ l) none ∙ append-nil old
 kept_nothing (Some emission) n new old is none = absurd (cc)
@@ -157,7 +157,7 @@ repeats_emit_again r s e w legal = emits_again s r.event e r.emitted w legal
 
 -- ---- openings
 
--- an answer changes nothing of an exchange's arrival
+-- an answer doesn't change an exchange's arrival.
 answered_arrival : (b : Bool) (bytes : ArrayVec ℕ) (e : Exchange) → arrival_of (answered_if b bytes e) ≡ arrival_of e
 answered_arrival true bytes e = refl
 answered_arrival false bytes e = refl
@@ -177,7 +177,7 @@ received_arrivals s now to x o = kept_arrivals (length s.exchanges) (kept_of x o
 abbrev arrival_by : Message → Opening → Endpoint → Arrival
 arrival_by m o to = record { endpoint = to; id = m.id; confirmable = is_confirmable m.kind; at = o.at }
 
--- whatever becomes of its payload, a new request opens an exchange
+-- for any result for its payload, a new request opens an exchange.
 added_opens : (a : Add) (m : Message) (r : Asked) (o : Opening) (to : Endpoint) → map arrival_of (opened_by (received_added a m r) o to) ≡ arrival_by m o to ∷ []
 added_opens Continues m r o to = refl
 added_opens (IsWhole body) m r o to = refl
@@ -224,7 +224,7 @@ requests_open r s w =
     let one = opens_one s r.event r.emitted w in
     record { arrival = one.0; is = one.1; last = one.2 }
 
--- a look that tells of a new request
+-- a search that finds a new request.
 pub record IsNewLook (o : Option Exchange) (room : Room) : Type 0 where
   pub none : o ≡ None
   pub here : room ≡ Free
@@ -290,12 +290,12 @@ same_arrivals : (o : Option Emission) (es : List Exchange) (b : Bool) (i : ℕ) 
 same_arrivals o es true i = kept_arrivals i o es
 same_arrivals o es false i = refl
 
--- nothing was opened, so no arrival
+-- nothing was opened, so there is no arrival.
 no_arrival : (old : List Arrival) (es : List Exchange) → length es ≡ 0 → old ++ map arrival_of es ≡ old
 no_arrival old [] none = append-nil old
 no_arrival old (e ∷ es) none = absurd (cc none)
 
--- what isn't new opens nothing
+-- a request that isn't new opens nothing.
 pub opened_none : (s : Seen) (now : ℕ) (to : Endpoint) (bytes : List ℕ) → (IsOpening s now to bytes → ⊥) → length (opened_by (received_at s now to bytes) (next_opening (front_at s now)) to) ≡ 0
 opened_none s now to bytes not =
     ap (λ x. length (opened_by x (next_opening (front_at s now)) to)) (received_of (front_at s now) to bytes (reading_of bytes) refl)

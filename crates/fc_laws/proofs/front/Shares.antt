@@ -1,4 +1,4 @@
--- No more exchanges are held than the limit, and of no address more than its share.
+-- At most as many exchanges are stored as the limit, and of each address at most its share.
 use Rattle.std.proofs.Common.{◌≡◌, ℕ, zero, suc, ◌+◌, ◌*◌, ◌<◌, ◌≤◌, List, [], ◌∷◌, ◌++◌, Bool, true, false, cond, length, map, refl, sym, ap, ◌∙◌, subst, ⊎_elim, inl, inr, arith, max}
 use Rattle.std.specs.Prelude.{filter, nat_eq, nat_lt}
 use Rattle.std.specs.List.{Contains}
@@ -27,7 +27,7 @@ lives at a = nat_lt at (a.at + 247000)
 abbrev is_of : List ℕ → Arrival → Bool
 is_of ip a = pointwise nat_eq a.endpoint.ip ip
 
--- how many arrivals are less than a window old, and of these how many are of an address
+-- number of arrivals that are less than a lifetime old, and of those from an address.
 abbrev count : ℕ → List Arrival → ℕ
 count at xs = length (filter (lives at) xs)
 
@@ -58,7 +58,7 @@ count_is s at = ap length (lives_mapped at s.exchanges) ∙ same_length (filter 
 share_is : (s : Seen) (at : ℕ) (ip : List ℕ) → share at ip (arrivals s) ≡ shared_at s at ip
 share_is s at ip = ap (λ (l : List Arrival). length (filter (is_of ip) l)) (lives_mapped at s.exchanges) ∙ of_mapped ip (filter (is_within at) s.exchanges)
 
--- ---- xs time passes fewer are held
+-- ---- as time passes, fewer are stored
 
 cons_fewer : (b c : Bool) (n m : ℕ) → (b ≡ true → c ≡ true) → n ≤ m → cond b (suc n) n ≤ cond c (suc m) m
 cons_fewer true true n m w le = omega (arith, le)
@@ -84,7 +84,7 @@ count_falls at later (a ∷ xs) le =
     let two = long_if (lives at a) a (filter (lives at) xs) in
     omega (arith, more, first, two)
 
--- of an address, by each arrival
+-- for an address, by each arrival.
 abbrev both : ℕ → List ℕ → Arrival → Bool
 both at ip a = cond (lives at a) (is_of ip a) false
 
@@ -152,7 +152,7 @@ share_snoc at ip (x ∷ xs) a =
     let moved = cond_plus (both at ip x) n k in
     omega (arith, more, first, two, moved)
 
--- ---- an opening finds room
+-- ---- an opening finds space
 
 room_of : (s : Seen) (e : Event) → Opens s e → length (held_at s (moment_by (at_front e) s)) < (places_of s.policy.limits)
 room_of s (Deliver now to bytes) w = w.room

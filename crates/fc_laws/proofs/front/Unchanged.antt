@@ -1,4 +1,4 @@
--- What a refusal leaves as it was.
+-- Effects of a refusal.
 use Rattle.std.proofs.Common.{◌≡◌, ℕ, ◌≤◌, List, [], ◌∷◌, ◌++◌, map, cond, not, Bool, true, false, Option, Some, None, Ok, Err, refl, sym, ap, ◌∙◌, subst, max, arith}
 use Rattle.std.specs.Prelude.{filter, find}
 use Rattle.std.specs.Borrow.{Bor}
@@ -30,9 +30,9 @@ use Rattle.fc_laws.proofs.front.Refusing.{refused_brings, refused_is, rejected_i
 use Rattle.fc_laws.proofs.front.Repeats.{new_as, opening_is, received_of, requests_open}
 use Rattle.fc_laws.proofs.front.Room.{full_is, over_is}
 
--- ---- what is turned down
+-- ---- messages that are turned down
 
--- a datagram of which nothing comes
+-- a datagram without an effect.
 abbrev IsNothing : Received → Type 0
 IsNothing Ignored = Unit {0}
 IsNothing (Rejected id) = Unit {0}
@@ -106,7 +106,7 @@ turned_by e o s (IsAboveShare m w) = over_left e o s m w
 pub turned_down_left : (r : Entry) (s : Seen) → IsTurnedDown s r.event → LeavesAll s (and_then r s)
 turned_down_left r s w = turned_by r.event r.emitted s w
 
--- ---- what a check refuses
+-- ---- requests that a check refuses
 
 code_left : (e : Event) (o : Option Emission) (s : Seen) (m : Message) (answer : ℕ) → Refuses s e m answer → LeavesAllButExchange (did e o) s
 code_left (Deliver now to bytes) o s m answer w = record {
@@ -142,7 +142,7 @@ refused_left r s w = check_by r.event r.emitted s w
 
 -- ---- a block that is refused
 
--- of what is left without a key's transfer, none is of that key
+-- among the rest without a key's transfer, none has that key.
 gone_by : (p q : Transfer → Bool) (x : Transfer) (fs : List Transfer) (b c : Bool) → p x ≡ b → q x ≡ c → find p (filter q fs) ≡ None
     → find p (filter q (cond (not b) (x ∷ fs) fs)) ≡ None
 gone_by p q x fs true c is its none = none
@@ -169,7 +169,7 @@ nothing_kept false at to n IsTooLarge not_on = refl
 nothing_kept true at to n IsFull not_on = refl
 nothing_kept false at to n IsFull not_on = refl
 
--- the options that are sent at once
+-- options that are sent immediately.
 abbrev settled_options : Received → List (ℕ × List ℕ)
 settled_options (Settled m q response) = response.options
 settled_options other = []
@@ -177,7 +177,7 @@ settled_options other = []
 abbrev block1_of : Option Place → List (ℕ × List ℕ)
 block1_of p = (settled_by 95 p).options
 
--- what is answered by a code alone doesn't go on
+-- a request that is answered by a code alone doesn't continue.
 not_continued : (x : Add) (m : Message) (q : Asked) (b : Place) (answer : ℕ) → q.block1 ≡ Some b → received_added x m q ≡ Settled m q (bare answer)
     → x ≡ Continues → ⊥
 not_continued x m q b answer block is on =
@@ -197,7 +197,7 @@ module _ (s : Seen) (now : ℕ) (to : Endpoint) (bytes : Bor (List ℕ)) (o : Op
   abbrev held : List Transfer
   held = transfers s.additions
 
-  -- the transfers after it
+  -- the transfers after it.
   after_is : transfers (and_then (did (Deliver now to bytes) o) s).additions ≡ after_block held at to n b q.payload
   after_is =
       ap transfers (requests_add (did (Deliver now to bytes) o) s m q w)
@@ -216,7 +216,7 @@ module _ (s : Seen) (now : ℕ) (to : Endpoint) (bytes : Bor (List ℕ)) (o : Op
       ap (bytes_held at to n) (after_is ∙ left_is)
       ∙ ap (option_map (λ (t : Transfer). t.body.items)) (none_of_key to n at (live at held))
 
-  -- where the transfers of other endpoints and slots are left by any block
+  -- if any block leaves the transfers of other endpoints and slots unchanged.
   pub block_left : ((from : Endpoint) (k : ℕ) → same_key to n from k ≡ false → find (is_transfer_of from k)
       (live at (after_block held at to n b q.payload)) ≡ find (is_transfer_of from k) (live at held))
       → LeavesAllButTransfer (did (Deliver now to bytes) o) s to n
@@ -228,7 +228,7 @@ module _ (s : Seen) (now : ℕ) (to : Endpoint) (bytes : Bor (List ℕ)) (o : Op
     others = λ from k other. ap (bytes_held at from k) after_is ∙ ap (option_map (λ (t : Transfer). t.body.items)) (rest from k other);
   }
 
--- where any block leaves the transfers of other endpoints and slots
+-- any block leaves the transfers of other endpoints and slots unchanged.
 abbrev pub LeavesOthers : Type 0
 LeavesOthers = (held : List Transfer) (at now : ℕ) (from to : Endpoint) (m n : ℕ) (b : Place) (bytes : List ℕ) → at ≤ now → same_key from m to n ≡ false
     → find (is_transfer_of to n) (live now (after_block held at from m b bytes)) ≡ find (is_transfer_of to n) (live now held)

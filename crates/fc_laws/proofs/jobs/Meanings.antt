@@ -1,4 +1,5 @@
--- Each ticket that a job took has a meaning, where each taking that found a program found one with a meaning.
+-- Each ticket that a job took has a meaning, if each snapshot that found a program found one with a
+-- meaning.
 use Rattle.std.proofs.Common.{◌≡◌, ℕ, List, [], ◌∷◌, ◌++◌, Bool, true, false, Option, Some, None, refl, ap, subst, if◌then◌else◌}
 use Rattle.std.proofs.lemmas.Bool.{eqb-true}
 use Rattle.fc_observe.specs.declared.entry.Turn.{Turn}
@@ -20,7 +21,7 @@ abbrev AllMeant : List Taking → Type 0
 AllMeant [] = Unit {0}
 AllMeant (x ∷ xs) = IsMeant x.ticket × AllMeant xs
 
--- ---- what an event gives
+-- ---- the ticket of an event
 
 found_meant : (j : Job) (readings : List ℕ) (serial : ℕ) (p : Option Present) (cs : List Change) (ts : List Taking) → FoundMeans j readings serial p → AllMeant ts
     → AllMeant (finds j readings serial p cs ++ ts)
@@ -59,7 +60,7 @@ all_meant : (h : History) (k : ℕ) → AllMean h → AllMeant (takings_of h k)
 all_meant (Begins serial id policy) k m = tt
 all_meant (Then h r) k m = step_meant r.event (seen h) k ((seen h).changes (slot_of (seen h) k)) (takings_of h k) (is_named k r.event) refl m.0 (all_meant h k m.1)
 
--- ---- what a job holds
+-- ---- the ticket of a job
 
 newest_meant : (ts : List Taking) (t : Ticket) → IsNewest ts t → AllMeant ts → IsMeant t
 newest_meant [] t is w = absurd is

@@ -1,4 +1,4 @@
--- What an event leaves as it is.
+-- The parts that an event leaves unchanged.
 use Rattle.std.proofs.Common.{◌≡◌, ℕ, ◌<◌, ◌≤◌, List, [], ◌∷◌, ◌++◌, Bool, Some, None, refl, sym, ap, ◌∙◌, subst, ⊎_elim, length, arith, if◌then◌else◌}
 use Rattle.std.proofs.lemmas.Bool.{cases_lt, eq-eqb, ne_eqb}
 use Rattle.std.proofs.lemmas.List.{get_or_past}
@@ -37,7 +37,7 @@ other_slot r s k n named ne =
 pub no_slot : (r : Entry) (s : Seen) (n : ℕ) → names r.event ≡ None → (and_then r s).changes n ≡ s.changes n
 no_slot r s n none = λ i. changes_after (none i) r.event s n
 
--- a job that isn't gone came
+-- a job that hasn't ended has arrived.
 pub is_here : (s : Seen) (k : ℕ) (at : Stage) → stage s k ≡ at → (at ≡ Gone → ⊥) → HasCome s k
 is_here s k at is alive = ⊎_elim
     (λ (lt : k < length s.tasks). lt)
@@ -49,27 +49,27 @@ named_by r s k t (Moves same is) come named = ap (λ (x : Task). x.stage) is
 named_by r s k t (Stays other is) come named = absurd (other named)
 named_by r s k t (Comes new j is) come named = absurd (omega (arith, new, come))
 
--- where an event that names a job leaves it
+-- stage of a job after an event that names it.
 pub named_stage : (r : Entry) (s : Seen) (k : ℕ) → HasCome s k → names r.event ≡ Some k → stage (and_then r s) k ≡ (row r.event (scene s k)).stage
 named_stage r s k come named = named_by r s k (task_at (and_then r s).tasks k) (becomes r s k) come named
 
--- a job that came is there after an event
+-- a job that arrived exists after an event.
 pub still_here : (r : Entry) (s : Seen) (k : ℕ) → HasCome s k → HasCome (and_then r s) k
 still_here r s k come = omega (arith, tasks_grow r s, come)
 
--- what is so of the stage of a job that came, and that each row keeps, is so after an event
+-- a property of the stage of an existing job, which each transition keeps, holds after an event.
 pub kept_by : (Q : Stage → Type 0) → ((e : Event) (j : Job) (slot : Slot) (ws : Around) (at : Stage) → Q at → Q (row e (record { job = j; slot = slot; around = ws; stage = at })).stage) → (r : Entry) (s : Seen) (k : ℕ) (t : Task) → Becomes (names r.event) r.event s k t → HasCome s k → Q (stage s k) → Q t.stage
 kept_by Q keeps r s k t (Moves named is) come q = subst (λ (x : Task). Q x.stage) (sym is) (keeps r.event (job s k) (scene s k).slot (scene s k).around (stage s k) q)
 kept_by Q keeps r s k t (Stays other is) come q = subst (λ (x : Task). Q x.stage) (sym is) q
 kept_by Q keeps r s k t (Comes new j is) come q = absurd (omega (arith, new, come))
 
--- and after what follows
+-- and after the later events.
 pub kept_later : (Q : Stage → Type 0) → ((e : Event) (j : Job) (slot : Slot) (ws : Around) (at : Stage) → Q at → Q (row e (record { job = j; slot = slot; around = ws; stage = at })).stage) → (rs : List Entry) (h : History) (k : ℕ) → HasCome (seen h) k → Q (stage (seen h) k) → Q (stage (seen (followed_by h rs)) k)
 unfolding seen
 kept_later Q keeps [] h k come q = q
 kept_later Q keeps (r ∷ rs) h k come q = kept_later Q keeps rs (Then h r) k (still_here r (seen h) k come) (kept_by Q keeps r (seen h) k (task_at (and_then r (seen h)).tasks k) (becomes r (seen h) k) come q)
 
--- the changes of the slot of the job that an event names
+-- changes of the slot of the job that an event names.
 pub own_slot : (r : Entry) (s : Seen) (k : ℕ) → names r.event ≡ Some k → (and_then r s).changes (slot_of s k) ≡ (row r.event (scene s k)).changes ++ s.changes (slot_of s k)
 own_slot r s k named =
     (λ i. changes_after (named i) r.event s (slot_of s k))

@@ -1,4 +1,4 @@
--- Where each answer comes from.
+-- The cause of each answer.
 use Rattle.std.proofs.Common.{◌≡◌, ℕ, ◌+◌, ◌<◌, ◌≤◌, length, Bool, true, false, Option, Some, None, refl, sym, ap, ◌∙◌, subst, ◌⊎◌, inl, inr, arith, if◌then◌else◌, length-append}
 use Rattle.std.specs.Prelude.{List, [], ◌∷◌, ◌++◌, nat_lt, ◌==◌, ◌%◌, ◌&&◌, ◌||◌, is_none}
 use Rattle.std.specs.List.{list_any}
@@ -8,13 +8,14 @@ use Rattle.coap_msg.specs.declared.types.Emission.{Emission}
 use Rattle.fc_kinds.specs.Meaning.{Program}
 use Rattle.fc_verify.specs.Accepted.{Judgement, Accepts, Breaks, Untypable}
 use Rattle.fc_verify.specs.Judged.{judged}
+use Rattle.fc_registry.specs.declared.job.InitialVars.{InitialVars}
 use Rattle.fc_registry.specs.declared.job.Ask.{Ask}
 use Rattle.fc_registry.specs.declared.job.Ask.TheVariants.{Run}
 use Rattle.fc_registry.specs.declared.job.Job.{Job}
 use Rattle.fc_registry.specs.declared.commit.CommitOutcome.{CommitOutcome}
 use Rattle.fc_registry.specs.declared.commit.CommitOutcome.TheVariants.{Writes, Keeps, Overtakes, Ends}
 use Rattle.fc_registry.specs.Slots.{Slot, Present, Ticket, last_serial}
-use Rattle.fc_registry.specs.Calls.{is_observed, clear_by, outcome, outcome_by, put_by, receipt_at, receipt_of, taking, wants, readings_if}
+use Rattle.fc_registry.specs.Calls.{is_observed, clear_by, outcome, outcome_by, put_by, receipt_at, receipt_of, taking, wants, readings_if, initial_vars_of}
 use Rattle.fc_core.specs.declared.event.Event.{Event}
 use Rattle.fc_core.specs.declared.event.Event.TheVariants.{Peek, Take, Commit, Install, Remove, Receipt}
 use Rattle.fc_core.specs.Stage.{Stage}
@@ -44,14 +45,14 @@ abbrev at : Job → Slot → Around → Stage → Scene
 at job slot ws stage = record { job = job; slot = slot; around = ws; stage = stage }
 
 module _ (k : ℕ) (job : Job) (slot : Slot) (ws : Around) (taken : ℕ) where
-  -- it answers this for a reason
+  -- it answers this for a reason.
   abbrev Why : Event → Stage → Content → Type 0
   Why e s c = IsCause e k job slot ws.common.words s taken c
 
   abbrev Answered : Event → Stage → Stage → Content → Type 0
   Answered e s new c = answer_at new ≡ Some c → Why e s c
 
-  -- of the content that it is
+  -- for the content that it is.
   so : (e : Event) (s : Stage) (c d : Content) → Why e s c → Some c ≡ Some d → Why e s d
   so e s c d why is = let same : c ≡ d = cc is in subst (Why e s) same why
 
@@ -91,7 +92,7 @@ module _ (k : ℕ) (job : Job) (slot : Slot) (ws : Around) (taken : ℕ) where
   outcome_writes true true false e = absurd (cc)
   outcome_writes true true true e = (refl, refl)
 
-  -- a run's answer, where a run that wants to write may
+  -- a run's answer, if a run that wants to write may.
   ran_why : (now n : ℕ) (t : Ticket) (observed : Bool) (c : Content) → (wants t ≡ true → (slot.serial ≡ t.serial) × (slot.serial < last_serial)) → Answered (Commit k now) (ToCommit n t) (ToAnswer (run_content t observed)) c
   ran_why now n t observed c writes e = so (Commit k now) (ToCommit n t) (run_content t observed) c (record { now = now; count = n; ticket = t; event = refl; is = refl; code = refl; cut = refl; serial = refl; writes = writes }) e
 
@@ -107,17 +108,17 @@ module _ (k : ℕ) (job : Job) (slot : Slot) (ws : Around) (taken : ℕ) where
       let tests = outcome_ends (wants t) (slot.serial == t.serial) (nat_lt slot.serial last_serial) comes in
       so (Commit k now) (ToCommit n t) Unavailable c (LastCommit now n t refl refl tests.0 (ltb-false slot.serial last_serial tests.1)) e
 
-  put_why : (p : Program) (b : Bool) (c : Content) → judged (image_of job.ask) ≡ Accepts p → nat_lt slot.serial last_serial ≡ b → Answered (Install k true) ToInstall (made (receipt_of p 0) (put_by b slot p).answer) c
-  put_why p true c is lt e = so (Install k true) ToInstall (Made (record (receipt_of p 0) { version = slot.serial + 1 }) (is_none slot.present)) c (record { program = p; event = refl; is = refl; accepted = is; below = ltb-true slot.serial last_serial lt; version = refl; cost = refl; budget = refl; vars = refl; empty = refl }) e
-  put_why p false c is lt e = so (Install k true) ToInstall Unavailable c (LastInstall p refl refl is (ltb-false slot.serial last_serial lt)) e
+  put_why : (p : Program) (v : InitialVars) (b : Bool) (c : Content) → judged (image_of job.ask) ≡ Accepts p → nat_lt slot.serial last_serial ≡ b → Answered (Install k true) ToInstall (made (receipt_of p 0) (put_by b slot p v).answer) c
+  put_why p v true c is lt e = so (Install k true) ToInstall (Made (record (receipt_of p 0) { version = slot.serial + 1 }) (is_none slot.present)) c (record { program = p; event = refl; is = refl; accepted = is; below = ltb-true slot.serial last_serial lt; version = refl; cost = refl; budget = refl; vars = refl; empty = refl }) e
+  put_why p v false c is lt e = so (Install k true) ToInstall Unavailable c (LastInstall p refl refl is (ltb-false slot.serial last_serial lt)) e
 
-  installed_why : (j : Judgement) (c : Content) → judged (image_of job.ask) ≡ j → Answered (Install k true) ToInstall (next_stage (install_call j slot)) c
-  installed_why (Accepts p) c is e = put_why p (nat_lt slot.serial last_serial) c is refl e
-  installed_why (Breaks rule n) c is e = so (Install k true) ToInstall (Rejected rule n) c (record { event = refl; is = refl; judged_as = is }) e
-  installed_why Untypable c is e = so (Install k true) ToInstall Untyped c (record { event = refl; is = refl; judged_as = is }) e
+  installed_why : (v : InitialVars) (j : Judgement) (c : Content) → judged (image_of job.ask) ≡ j → Answered (Install k true) ToInstall (next_stage (install_call v j slot)) c
+  installed_why v (Accepts p) c is e = put_why p v (nat_lt slot.serial last_serial) c is refl e
+  installed_why v (Breaks rule n) c is e = so (Install k true) ToInstall (Rejected rule n) c (record { event = refl; is = refl; judged_as = is }) e
+  installed_why v Untypable c is e = so (Install k true) ToInstall Untyped c (record { event = refl; is = refl; judged_as = is }) e
 
-  verified_why : (memory : Bool) (c : Content) → Answered (Install k memory) ToInstall (next_stage (install_if memory (judged (image_of job.ask)) slot)) c
-  verified_why true c e = installed_why (judged (image_of job.ask)) c refl e
+  verified_why : (memory : Bool) (c : Content) → Answered (Install k memory) ToInstall (next_stage (install_if memory (initial_vars_of job.ask) (judged (image_of job.ask)) slot)) c
+  verified_why true c e = installed_why (initial_vars_of job.ask) (judged (image_of job.ask)) c refl e
   verified_why false c e = so (Install k false) ToInstall Unavailable c (NoMemory refl refl) e
 
   clear_why : (b : Bool) (o : Option Present) (c : Content) → nat_lt slot.serial last_serial ≡ b → slot.present ≡ o → Answered (Remove k) ToRemove (removed (clear_by b slot.serial o).answer) c
@@ -165,7 +166,8 @@ module _ (k : ℕ) (job : Job) (slot : Slot) (ws : Around) (taken : ℕ) where
       so (Peek k n) (ToList seen) (Listed (seen.items ++ word_at ws.common.words n ∷ [])) c
       (record { seen = seen; event = ap (Peek k) last; is = refl; list_is = ap (λ (i : ℕ). seen.items ++ word_at ws.common.words i ∷ []) last; count = count }) e
 
--- how many tickets a job took that is to commit; a job that lists head words has yet one to read
+-- number of tickets of a job that is to commit; a job that lists head words has at least one left
+-- to read.
 abbrev IsCount : Stage → ℕ → Type 0
 IsCount (ToCommit n t) taken = (taken ≡ n) × (n ≤ 8)
 IsCount (ToList seen) taken = length seen.items < 64
@@ -217,7 +219,7 @@ pub answers_have_causes : (h : History) (r : Entry) (k : ℕ) (c : Content) → 
 unfolding seen
 answers_have_causes h r k c e = why_by h r k c (task_at (and_then r (seen h)).tasks k) (becomes r (seen h) k) e
 
--- a taking that finds no program answers so
+-- a snapshot that finds no program has this answer.
 pub empty_misses : (s : Seen) (k count : ℕ) (memory : Bool) (readings : List ℕ) (o : Option Emission) → stage s k ≡ ToTake count → (slot_at s (slot_of s k)).present ≡ None → stage (and_then (did (Take k memory readings) o) s) k ≡ ToAnswer Missing
 empty_misses s k count memory readings o is empty = named_stage (did (Take k memory readings) o) s k (is_here s k (ToTake count) is (λ e. absurd (cc e))) refl
     ∙ (ap (λ (x : Stage). (row (Take k memory readings) (at (job s k) (slot_at s (slot_of s k)) (around s (slot_of s k)) x)).stage) is

@@ -1,4 +1,4 @@
--- What one event makes of each job.
+-- Effect of one event on each job.
 use Rattle.std.proofs.Common.{◌≡◌, ℕ, zero, suc, ◌<◌, ◌≤◌, ◌-◌, List, [], ◌∷◌, ◌++◌, length, map, Option, Some, None, refl, sym, ap, ◌∙◌, subst, ⊎_elim, arith, max, length-append, length-set}
 use Rattle.std.proofs.lemmas.Bool.{cases_eq, cases_lt}
 use Rattle.std.specs.Option.{option_to_list}
@@ -15,13 +15,13 @@ use Rattle.fc_core.specs.Receiving.{brought, next_opening}
 use Rattle.fc_core.specs.Stages.{new_task}
 use Rattle.fc_core.specs.Rows.{Around, task_moved, names, row, scene_at}
 
--- the task of a number after an event: the event moves it, it is as before, or it is new
+-- the task with a number after an event: the event changes it, it is unchanged, or it is new.
 pub data Becomes (o : Option ℕ) (e : Event) (s : Seen) (k : ℕ) (t : Task) : Type 0 where
   Moves : (named : o ≡ Some k) (is : t ≡ task_moved (task_at s.tasks k) (row e (scene s k))) → Becomes o e s k t
   Stays : (other : o ≡ Some k → ⊥) (is : t ≡ task_at s.tasks k) → Becomes o e s k t
   Comes : (new : length s.tasks ≤ k) (job : Job) (is : t ≡ new_task job) → Becomes o e s k t
 
--- a job that is gone stays gone, whatever names it
+-- a job that has ended remains so, whatever event names it.
 pub gone_stays : (e : Event) (job : Job) (slot : Slot) (ws : Around) → (row e (record { job = job; slot = slot; around = ws; stage = Gone })).stage ≡ Gone
 gone_stays (Lose k) job slot ws = refl
 gone_stays other job slot ws = refl
@@ -44,7 +44,7 @@ module _ (e : Event) (s : Seen) where
   moved_length None = refl
   moved_length (Some k) = length-set s.tasks k (task_moved (task_at s.tasks k) (row e (scene s k)))
 
-  -- past the tasks there is none, or one that is brought
+  -- past the tasks there is none, or a new one.
   past : (o : Option ℕ) (k : ℕ) (t : Task) → length s.tasks ≤ k → t ≡ no_task → Becomes o e s k t
   past None k t le is = Stays (λ named. absurd (cc named)) (is ∙ sym (get_or_past s.tasks k no_task le))
   past (Some j) k t le is = ⊎_elim
@@ -73,6 +73,6 @@ module _ (e : Event) (s : Seen) where
 pub becomes : (r : Entry) (s : Seen) (k : ℕ) → Becomes (names r.event) r.event s k (task_at (and_then r s).tasks k)
 becomes r s k = becomes_by r.event s (names r.event) k
 
--- jobs only come
+-- the number of jobs never decreases.
 pub tasks_grow : (r : Entry) (s : Seen) → length s.tasks ≤ length (and_then r s).tasks
 tasks_grow r s = omega (arith, length-append (tasks_moved (names r.event) r.event s) (tasks_brought r.event s), moved_length r.event s (names r.event))

@@ -1,4 +1,4 @@
--- A job takes at most eight tickets, and a run's answer is of the newest.
+-- A job takes at most eight tickets, and a run's answer comes from the newest.
 use Rattle.std.proofs.Common.{◌≡◌, ℕ, ◌<◌, ◌≤◌, List, [], ◌∷◌, ◌++◌, length, Bool, true, false, Option, Some, None, refl, sym, ap, ◌∙◌, subst, arith, if◌then◌else◌}
 use Rattle.std.specs.Prelude.{nat_lt, ◌==◌}
 use borrow.Author.Tests.{ltb-true, lt-ltb}
@@ -8,6 +8,7 @@ use Rattle.fc_kinds.specs.Meaning.{Program}
 use Rattle.fc_verify.specs.Accepted.{Judgement, Accepts, Breaks, Untypable}
 use Rattle.fc_verify.specs.Judged.{judged}
 use Rattle.fc_observe.specs.declared.entry.Turn.{Turn}
+use Rattle.fc_registry.specs.declared.job.InitialVars.{InitialVars}
 use Rattle.fc_registry.specs.declared.job.Ask.{Ask}
 use Rattle.fc_registry.specs.declared.job.Ask.TheVariants.{Run}
 use Rattle.fc_registry.specs.declared.job.Job.{Job}
@@ -16,7 +17,7 @@ use Rattle.fc_registry.specs.declared.commit.CommitOutcome.TheVariants.{Writes, 
 use Rattle.fc_registry.specs.Slots.{Slot, Present, Ticket, last_serial}
 use Rattle.fc_registry.specs.Changes.{Change}
 use Rattle.fc_registry.specs.declared.receipt.Receipt.{Receipt as Facts}
-use Rattle.fc_registry.specs.Calls.{is_observed, clear_by, meaning_at, outcome, outcome_by, put_by, is_out_at, receipt_at, receipt_of, taking, turn_taking, wants, readings_if}
+use Rattle.fc_registry.specs.Calls.{is_observed, clear_by, meaning_at, outcome, outcome_by, put_by, is_out_at, receipt_at, receipt_of, taking, turn_taking, wants, readings_if, initial_vars_of}
 use Rattle.fc_core.specs.declared.event.Event.{Event}
 use Rattle.fc_core.specs.declared.event.Event.TheVariants.{Take, Commit}
 use Rattle.fc_core.specs.Stage.{Stage}
@@ -36,12 +37,12 @@ use Rattle.fc_core.proofs.ByStep as steps
 use Rattle.fc_laws.proofs.jobs.Along.{IsTold, along}
 use Rattle.fc_laws.proofs.jobs.Others.{is_here, named_stage}
 
--- a run's answer is of the newest taking
+-- a run's answer comes from the newest snapshot.
 abbrev pub Says : List Taking → Content → Type 0
 Says ts (Ran run) = IsOfNewest ts run
 Says ts other = Unit {0}
 
--- a turn found the slot empty, or took one ticket
+-- a lease found the slot empty, or took one ticket.
 abbrev pub TookOne : List Taking → Option Ticket → Type 0
 TookOne ts None = length ts ≡ 0
 TookOne ts (Some t) = (length ts ≡ 1) × IsNewest ts t
@@ -88,7 +89,7 @@ taking_took false readings k job slot cs ws n ts None e is lt = (omega arith, tt
 taking_took true readings k job slot cs ws n ts (Some p) e is lt = (omega arith, omega arith, refl)
 taking_took false readings k job slot cs ws n ts (Some p) e is lt = (omega arith, tt)
 
--- the taking of a turn, with memory and without
+-- the snapshot of a lease, with memory and without.
 turn_taking_took : (out : Bool) (readings : List ℕ) (turn : Turn) (job : Job) (serial : ℕ) (cs : List Change) (ts : List Taking) (p : Option Present) → length ts ≡ 0 → Took (finds_if out job readings serial p cs ++ ts) (turn_took turn (turn_taking out (Some readings) job serial p))
 turn_taking_took false readings turn job serial cs ts p none = omega (arith, none)
 turn_taking_took true readings turn job serial cs ts None none = none
@@ -117,17 +118,17 @@ committed_took n ts t now serial ws Keeps is le e = (omega arith, newest_says ts
 committed_took n ts t now serial ws Overtakes is le e = retaken_took n ts (nat_lt n 8) refl is le
 committed_took n ts t now serial ws Ends is le e = (omega arith, tt)
 
-made_took : (b : Bool) (p : Program) (slot : Slot) (ts : List Taking) → length ts ≤ 8 → Took ts (made (receipt_of p 0) (put_by b slot p).answer)
-made_took true p slot ts le = (le, tt)
-made_took false p slot ts le = (le, tt)
+made_took : (b : Bool) (p : Program) (v : InitialVars) (slot : Slot) (ts : List Taking) → length ts ≤ 8 → Took ts (made (receipt_of p 0) (put_by b slot p v).answer)
+made_took true p v slot ts le = (le, tt)
+made_took false p v slot ts le = (le, tt)
 
-installed_took : (j : Judgement) (slot : Slot) (ts : List Taking) → length ts ≤ 8 → Took ts (next_stage (install_call j slot))
-installed_took (Accepts p) slot ts le = made_took (nat_lt slot.serial last_serial) p slot ts le
-installed_took (Breaks rule k) slot ts le = (le, tt)
-installed_took Untypable slot ts le = (le, tt)
+installed_took : (v : InitialVars) (j : Judgement) (slot : Slot) (ts : List Taking) → length ts ≤ 8 → Took ts (next_stage (install_call v j slot))
+installed_took v (Accepts p) slot ts le = made_took (nat_lt slot.serial last_serial) p v slot ts le
+installed_took v (Breaks rule k) slot ts le = (le, tt)
+installed_took v Untypable slot ts le = (le, tt)
 
-verified_took : (memory : Bool) (s : Scene) (ts : List Taking) → length ts ≤ 8 → Took ts (next_stage (install_if memory (judged (image_of s.job.ask)) s.slot))
-verified_took true s ts le = installed_took (judged (image_of s.job.ask)) s.slot ts le
+verified_took : (memory : Bool) (s : Scene) (ts : List Taking) → length ts ≤ 8 → Took ts (next_stage (install_if memory (initial_vars_of s.job.ask) (judged (image_of s.job.ask)) s.slot))
+verified_took true s ts le = installed_took (initial_vars_of s.job.ask) (judged (image_of s.job.ask)) s.slot ts le
 verified_took false s ts le = (le, tt)
 
 clear_took : (below : Bool) (serial : ℕ) (p : Option Present) (ts : List Taking) → length ts ≤ 8 → Took ts (removed (clear_by below serial p).answer)
@@ -166,7 +167,7 @@ row_took e job slot cs ws s ts =
     by_step (λ d st m. Took ts st → Took (gives d (at job slot ws st) cs ++ ts) m.stage) job slot ws (λ k c asked. step_took k c job slot cs ws ts)
     (λ d st rest f. subst (λ (l : List Taking). Took (l ++ ts) st) (sym (rest.given slot ws cs)) f) e s
 
--- nothing is given to a job that is gone
+-- a job that has ended gets nothing.
 gone_given : (e : Event) (job : Job) (slot : Slot) (ws : Around) (cs : List Change) → gives e (at job slot ws Gone) cs ≡ []
 gone_given (Take k true readings) job slot ws cs = refl
 gone_given (Take k false readings) job slot ws cs = refl
@@ -211,14 +212,14 @@ said ts (ToRaise word content) run f e = says_run ts content run e f.1
 said ts (ToAnswer content) run f e = says_run ts content run e f.1
 said ts other run f e = absurd (none_isnt e)
 
--- the ticket that a turn tells of
+-- the ticket that a lease notifies of.
 pub told_newest : (h : History) (k id : ℕ) (turn : Turn) (t : Ticket) → stage (seen h) k ≡ ToTell turn (turns.ToNote (Some t) id) → (length (takings_of h k) ≡ 1) × IsNewest (takings_of h k) t
 told_newest h k id turn t is = subst (Took (takings_of h k)) is (known h k)
 
 pub answers_newest : (h : History) (k : ℕ) (run : RunAnswer) → answer_at (stage (seen h) k) ≡ Some (Ran run) → IsOfNewest (takings_of h k) run
 answers_newest h k run e = said (takings_of h k) (stage (seen h) k) run (known h k) e
 
--- ---- the eighth overtaking
+-- ---- the eighth conflict
 
 overtaken_outcome : (t : Ticket) (slot : Slot) → wants t ≡ true → (slot.serial ≡ t.serial → ⊥) → outcome t slot ≡ Overtakes
 overtaken_outcome t slot wants other = ap (λ (w : Bool). outcome_by w (slot.serial == t.serial) (nat_lt slot.serial last_serial)) wants ∙ ap (λ (c : Bool). outcome_by true c (nat_lt slot.serial last_serial)) (ne_eqb slot.serial t.serial other)
@@ -226,7 +227,7 @@ overtaken_outcome t slot wants other = ap (λ (w : Bool). outcome_by w (slot.ser
 abbrev committing : ℕ → ℕ → Option Emission → Entry
 committing k now o = did (Commit k now) o
 
--- an overtaken commit leaves its job at this stage
+-- a commit with a conflict leaves its job at this stage.
 overtaken_stage : (s : Seen) (k now : ℕ) (o : Option Emission) (w : IsOvertaken s k) → stage (and_then (committing k now o) s) k ≡ retaken w.count
 overtaken_stage s k now o w =
     named_stage (committing k now o) s k (is_here s k (ToCommit w.count w.ticket) w.at (λ gone. absurd (cc gone))) refl

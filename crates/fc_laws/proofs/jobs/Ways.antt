@@ -1,4 +1,4 @@
--- Which way a job goes.
+-- The stages of a job.
 use Rattle.std.proofs.Common.{◌≡◌, ℕ, List, [], ◌∷◌, Bool, true, false, Option, refl, ap, ◌∙◌, ◌⊎◌, inl, inr, arith, nat_lt}
 use Rattle.std.specs.Prelude.{◌%◌, ◌==◌, ◌||◌}
 use Rattle.std.specs.List.{list_any}
@@ -22,7 +22,7 @@ use Rattle.fc_laws.proofs.jobs.Others.{is_here, named_stage}
 abbrev at : Job → Slot → Around → Stage → Scene
 at job slot ws stage = record { job = job; slot = slot; around = ws; stage = stage }
 
--- ---- a look that finds none of the ETags
+-- ---- a read that finds none of the ETags
 
 has_by : (x serial : ℕ) (xs : List ℕ) (b : Bool) → (x == serial) ≡ b → (list_any (λ y. y == serial) xs ≡ true → HasSerial xs serial)
     → (b || list_any (λ y. y == serial) xs) ≡ true → HasSerial (x ∷ xs) serial

@@ -1,5 +1,5 @@
--- What changes a slot.
-use Rattle.std.proofs.Common.{◌≡◌, ℕ, ◌+◌, ◌<◌, List, [], ◌∷◌, ◌++◌, Bool, true, false, Option, Some, None, refl, sym, ap, ◌∙◌, subst, ⊎_elim, replicate}
+-- The events that change a slot.
+use Rattle.std.proofs.Common.{◌≡◌, ℕ, ◌+◌, ◌<◌, List, [], ◌∷◌, ◌++◌, Bool, true, false, Option, Some, None, refl, sym, ap, ◌∙◌, subst, ⊎_elim}
 use Rattle.std.specs.Prelude.{nat_lt}
 use borrow.Author.Tests.{ltb-true}
 use Rattle.std.proofs.lemmas.Bool.{cases_eq}
@@ -10,8 +10,8 @@ use Rattle.fc_registry.specs.declared.job.Job.{Job}
 use Rattle.fc_registry.specs.declared.commit.CommitOutcome.{CommitOutcome}
 use Rattle.fc_registry.specs.declared.commit.CommitOutcome.TheVariants as outcomes
 use Rattle.fc_registry.specs.Slots.{Slot, Present, Ticket, last_serial, new_slot}
-use Rattle.fc_registry.specs.Changes.{Change, Installed, Committed, Removed, after_changes, with_vars}
-use Rattle.fc_registry.specs.Calls.{clear_by, commit_of, outcome, put_by}
+use Rattle.fc_registry.specs.Changes.{Change, Installed, Committed, Removed, after_changes, installed, with_vars}
+use Rattle.fc_registry.specs.Calls.{clear_by, commit_of, outcome, put_by, initial_vars_of}
 use Rattle.fc_core.specs.declared.event.Event.{Event}
 use Rattle.fc_core.specs.declared.event.Event.TheVariants.{Commit, Install, Remove}
 use Rattle.fc_core.specs.Stage.{Stage}
@@ -30,10 +30,10 @@ use Rattle.fc_laws.proofs.jobs.Others.{no_slot, other_slot, own_slot}
 abbrev at : Job → Slot → Around → Stage → Scene
 at job slot ws stage = record { job = job; slot = slot; around = ws; stage = stage }
 
--- what a row changes
+-- changes of a transition.
 data Makes (e : Event) (job : Job) (slot : Slot) (s : Stage) (cs : List Change) : Type 0 where
   None_made : (is : cs ≡ []) → Makes e job slot s cs
-  Puts : (k : ℕ) (p : Program) (event : e ≡ Install k true) (at : s ≡ ToInstall) (accepted : judged (image_of job.ask) ≡ Accepts p) (below : slot.serial < 9223372036854775807) (is : cs ≡ Installed p ∷ []) → Makes e job slot s cs
+  Puts : (k : ℕ) (p : Program) (event : e ≡ Install k true) (at : s ≡ ToInstall) (accepted : judged (image_of job.ask) ≡ Accepts p) (below : slot.serial < 9223372036854775807) (is : cs ≡ Installed p (initial_vars_of job.ask) ∷ []) → Makes e job slot s cs
   Takes_out : (k : ℕ) (p : Present) (event : e ≡ Remove k) (at : s ≡ ToRemove) (found : slot.present ≡ Some p) (below : slot.serial < 9223372036854775807) (is : cs ≡ Removed ∷ []) → Makes e job slot s cs
   Leaves : (k now n : ℕ) (t : Ticket) (event : e ≡ Commit k now) (at : s ≡ ToCommit n t) (is : cs ≡ Committed (commit_of t) ∷ []) → Makes e job slot s cs
 
@@ -43,16 +43,17 @@ committed_makes k now n t job slot ws outcomes.Keeps = None_made refl
 committed_makes k now n t job slot ws outcomes.Overtakes = None_made refl
 committed_makes k now n t job slot ws outcomes.Ends = None_made refl
 
-put_makes : (k : ℕ) (p : Program) (job : Job) (slot : Slot) (b : Bool) → judged (image_of job.ask) ≡ Accepts p → nat_lt slot.serial last_serial ≡ b → Makes (Install k true) job slot ToInstall (changes_told (call.Installs p (put_by b slot p).answer))
+put_makes : (k : ℕ) (p : Program) (job : Job) (slot : Slot) (b : Bool) → judged (image_of job.ask) ≡ Accepts p → nat_lt slot.serial last_serial ≡ b
+    → Makes (Install k true) job slot ToInstall (changes_told (call.Installs p (initial_vars_of job.ask) (put_by b slot p (initial_vars_of job.ask)).answer))
 put_makes k p job slot true is e = Puts k p refl refl is (ltb-true slot.serial last_serial e) refl
 put_makes k p job slot false is e = None_made refl
 
-installed_makes : (k : ℕ) (job : Job) (slot : Slot) (j : Judgement) → judged (image_of job.ask) ≡ j → Makes (Install k true) job slot ToInstall (changes_told (install_call j slot))
+installed_makes : (k : ℕ) (job : Job) (slot : Slot) (j : Judgement) → judged (image_of job.ask) ≡ j → Makes (Install k true) job slot ToInstall (changes_told (install_call (initial_vars_of job.ask) j slot))
 installed_makes k job slot (Accepts p) is = put_makes k p job slot (nat_lt slot.serial last_serial) is refl
 installed_makes k job slot (Breaks rule i) is = None_made refl
 installed_makes k job slot Untypable is = None_made refl
 
-verified_makes : (k : ℕ) (memory : Bool) (job : Job) (slot : Slot) (ws : Around) → Makes (Install k memory) job slot ToInstall (changes_told (install_if memory (judged (image_of job.ask)) slot))
+verified_makes : (k : ℕ) (memory : Bool) (job : Job) (slot : Slot) (ws : Around) → Makes (Install k memory) job slot ToInstall (changes_told (install_if memory (initial_vars_of job.ask) (judged (image_of job.ask)) slot))
 verified_makes k true job slot ws = installed_makes k job slot (judged (image_of job.ask)) refl
 verified_makes k false job slot ws = None_made refl
 
@@ -108,7 +109,7 @@ refused_by r s k n memory is refused (Clears w) = let e : Remove w.number ≡ In
 pub refused_stays : (r : Entry) (s : Seen) (k n : ℕ) (memory : Bool) → r.event ≡ Install k memory → ((p : Program) → judged (image_of (job s k).ask) ≡ Accepts p → ⊥) → (and_then r s).changes n ≡ s.changes n
 refused_stays r s k n memory is refused = refused_by r s k n memory is refused (does r s n)
 
--- ---- every program in a slot is of an image
+-- ---- every program in a slot is from an image
 
 images_by : (r : Entry) (s : Seen) (n : ℕ) → ChangesBy r s n → AllOfImages (s.changes n) → AllOfImages ((and_then r s).changes n)
 images_by r s n (Nothing is) a = subst AllOfImages (sym is) a
@@ -121,7 +122,7 @@ unfolding seen
 images (Begins serial id policy) n = tt
 images (Then h r) n = images_by r (seen h) n (does r (seen h) n) (images h n)
 
--- a program in the slot after these changes is of an image
+-- a program in the slot after these changes is from an image.
 present_by : (o : Option Present) (vars : List ℕ) (p : Present) → ((q : Present) → o ≡ Some q → IsOfImage q.program) → with_vars vars o ≡ Some p → IsOfImage p.program
 present_by None vars p before e = absurd (cc)
 present_by (Some q) vars p before e =
@@ -130,7 +131,7 @@ present_by (Some q) vars p before e =
 
 present_image : (first : ℕ) (cs : List Change) (p : Present) → AllOfImages cs → (after_changes (new_slot first) cs).present ≡ Some p → IsOfImage p.program
 present_image first [] p a e = absurd (cc)
-present_image first (Installed q ∷ cs) p a e = let is : (record { program = q; version = (after_changes (new_slot first) cs).serial + 1; vars = replicate q.vars_size 0 }) ≡ p = cc in subst (λ (x : Present). IsOfImage x.program) is a.0
+present_image first (Installed q v ∷ cs) p a e = let is : installed (after_changes (new_slot first) cs) q v ≡ p = cc in subst (λ (x : Present). IsOfImage x.program) is a.0
 present_image first (Committed c ∷ cs) p a e = present_by (after_changes (new_slot first) cs).present c.after p (λ q is. present_image first cs q a is) e
 present_image first (Removed ∷ cs) p a e = absurd (cc e)
 

@@ -5,11 +5,12 @@ use Rattle.std.proofs.lemmas.Bool.{cases_Bool, cases_lt, eqb-true}
 use Rattle.fc_kinds.specs.Meaning.{Program}
 use Rattle.fc_verify.specs.Accepted.{Judgement, Accepts, Breaks, Untypable}
 use Rattle.fc_verify.specs.Judged.{judged}
+use Rattle.fc_registry.specs.declared.job.InitialVars.{InitialVars}
 use Rattle.fc_registry.specs.declared.job.Job.{Job}
 use Rattle.fc_registry.specs.declared.commit.CommitOutcome.{CommitOutcome}
 use Rattle.fc_registry.specs.declared.commit.CommitOutcome.TheVariants.{Writes, Keeps, Overtakes, Ends}
 use Rattle.fc_registry.specs.Slots.{Slot, Present, Ticket, last_serial}
-use Rattle.fc_registry.specs.Calls.{clear_by, outcome, put_by, receipt_of, taking, readings_if}
+use Rattle.fc_registry.specs.Calls.{clear_by, outcome, put_by, receipt_of, taking, readings_if, initial_vars_of}
 use Rattle.fc_core.specs.declared.event.Event.{Event}
 use Rattle.fc_core.specs.declared.event.Event.TheVariants.{Deliver, Due, ShardTick, Signal, Take, Tick}
 use Rattle.fc_core.specs.Stage.{Stage}
@@ -33,7 +34,7 @@ use Rattle.fc_laws.proofs.jobs.Strays.{strays_stay}
 abbrev at : Job → Slot → Around → Stage → Scene
 at job slot ws stage = record { job = job; slot = slot; around = ws; stage = stage }
 
--- how many changes a job publishes at this stage
+-- number of changes that a job publishes at this stage.
 abbrev raises : Stage → ℕ
 raises (ToRaise word content) = 1
 raises other = 0
@@ -53,17 +54,17 @@ committed_raises n t now serial ws Keeps = refl
 committed_raises n t now serial ws Overtakes = retaken_raises n (nat_lt n 8)
 committed_raises n t now serial ws Ends = refl
 
-put_raises : (b : Bool) (slot : Slot) (p : Program) → length (changes_told (Installs p (put_by b slot p).answer)) ≡ raises (made (receipt_of p 0) (put_by b slot p).answer)
-put_raises true slot p = refl
-put_raises false slot p = refl
+put_raises : (b : Bool) (slot : Slot) (p : Program) (v : InitialVars) → length (changes_told (Installs p v (put_by b slot p v).answer)) ≡ raises (made (receipt_of p 0) (put_by b slot p v).answer)
+put_raises true slot p v = refl
+put_raises false slot p v = refl
 
-installed_raises : (j : Judgement) (slot : Slot) → length (changes_told (install_call j slot)) ≡ raises (next_stage (install_call j slot))
-installed_raises (Accepts p) slot = put_raises (nat_lt slot.serial last_serial) slot p
-installed_raises (Breaks rule k) slot = refl
-installed_raises Untypable slot = refl
+installed_raises : (v : InitialVars) (j : Judgement) (slot : Slot) → length (changes_told (install_call v j slot)) ≡ raises (next_stage (install_call v j slot))
+installed_raises v (Accepts p) slot = put_raises (nat_lt slot.serial last_serial) slot p v
+installed_raises v (Breaks rule k) slot = refl
+installed_raises v Untypable slot = refl
 
-verified_raises : (memory : Bool) (s : Scene) → length (changes_told (install_if memory (judged (image_of s.job.ask)) s.slot)) ≡ raises (next_stage (install_if memory (judged (image_of s.job.ask)) s.slot))
-verified_raises true s = installed_raises (judged (image_of s.job.ask)) s.slot
+verified_raises : (memory : Bool) (s : Scene) → length (changes_told (install_if memory (initial_vars_of s.job.ask) (judged (image_of s.job.ask)) s.slot)) ≡ raises (next_stage (install_if memory (initial_vars_of s.job.ask) (judged (image_of s.job.ask)) s.slot))
+verified_raises true s = installed_raises (initial_vars_of s.job.ask) (judged (image_of s.job.ask)) s.slot
 verified_raises false s = refl
 
 clear_raises : (below : Bool) (serial : ℕ) (p : Option Present) → length (changes_told (Removes (clear_by below serial p).answer)) ≡ raises (removed (clear_by below serial p).answer)
@@ -92,7 +93,7 @@ step_raises other job slot ws = refl
 true_isnt : true ≡ false → ⊥
 true_isnt e = cc e
 
--- an event that isn't a stray makes as many changes as it leaves to publish
+-- an event that isn't a stray makes as many changes as it leaves to publish.
 row_raises : (e : Event) (k : ℕ) (job : Job) (slot : Slot) (ws : Around) (s : Stage) → names e ≡ Some k → is_stray_at e job.origin.slot s ≡ false → length (row e (at job slot ws s)).changes ≡ raises (row e (at job slot ws s)).stage
 row_raises e k job slot ws s =
     by_step (λ d st m. names d ≡ Some k → is_stray_at d job.origin.slot st ≡ false → length m.changes ≡ raises m.stage) job slot ws
@@ -100,7 +101,7 @@ row_raises e k job slot ws s =
 
 -- ---- at most once
 
--- how many changes a job at this stage made
+-- number of changes that a job at this stage made.
 abbrev FitsChanges : ℕ → Stage → Type 0
 FitsChanges n (ToTake count) = n ≡ 0
 FitsChanges n (ToCommit count t) = n ≡ 0
@@ -230,7 +231,7 @@ came r s k named stray = ⊎_elim
 stray_is : (r : Entry) (s : Seen) (k : ℕ) → names r.event ≡ Some k → is_stray s r.event ≡ is_stray_at r.event (slot_of s k) (stage s k)
 stray_is r s k named = ap (λ (o : Option ℕ). is_stray_at r.event (own_of_named s o) (stage_named s o)) named
 
--- what an event that isn't a stray adds to its job's slot
+-- additions of an event that isn't a stray to its job's slot.
 adds : (r : Entry) (s : Seen) (k : ℕ) → names r.event ≡ Some k → is_stray_at r.event (slot_of s k) (stage s k) ≡ false → length ((and_then r s).changes (slot_of s k)) ≡ raises (stage (and_then r s) k) + length (s.changes (slot_of s k))
 adds r s k named stray =
     own_length r s k named ∙ ap (λ (n : ℕ). n + length (s.changes (slot_of s k)))

@@ -1,15 +1,16 @@
--- A slot is empty once a removal is answered so.
+-- A slot is empty after a removal has this answer.
 use Rattle.std.proofs.Common.{◌≡◌, ℕ, List, [], ◌∷◌, ◌++◌, Bool, true, false, Option, Some, None, length, refl, sym, ap, ◌∙◌, subst, ◌⊎◌, inl, inr, arith, if◌then◌else◌}
 use Rattle.std.specs.Prelude.{nat_lt}
 use Rattle.fc_kinds.specs.Meaning.{Program}
 use Rattle.fc_verify.specs.Accepted.{Judgement, Accepts, Breaks, Untypable}
 use Rattle.fc_verify.specs.Judged.{judged}
+use Rattle.fc_registry.specs.declared.job.InitialVars.{InitialVars}
 use Rattle.fc_registry.specs.declared.job.Job.{Job}
 use Rattle.fc_registry.specs.declared.commit.CommitOutcome.{CommitOutcome}
 use Rattle.fc_registry.specs.declared.commit.CommitOutcome.TheVariants.{Writes, Keeps, Overtakes, Ends}
 use Rattle.fc_registry.specs.Slots.{Slot, Present, Ticket, last_serial}
 use Rattle.fc_registry.specs.Changes.{after_changes}
-use Rattle.fc_registry.specs.Calls.{clear_by, outcome, put_by, receipt_at, receipt_of, taking, readings_if}
+use Rattle.fc_registry.specs.Calls.{clear_by, outcome, put_by, receipt_at, receipt_of, taking, readings_if, initial_vars_of}
 use Rattle.fc_core.specs.declared.event.Event.{Event}
 use Rattle.fc_core.specs.Stage.{Stage}
 use Rattle.fc_core.specs.Stage.{ToTake, ToInstall, ToList, ToAnswer, ToTell}
@@ -31,7 +32,7 @@ use Rattle.fc_laws.proofs.jobs.Steps.{Becomes, Moves, Stays, Comes, becomes}
 abbrev at : Job → Slot → Around → Stage → Scene
 at job slot ws stage = record { job = job; slot = slot; around = ws; stage = stage }
 
--- where the answer is so, the slot is empty
+-- if the answer is this, the slot is empty.
 abbrev IsEmptied : Slot → Stage → Type 0
 IsEmptied slot s = answer_at s ≡ Some Deleted → slot.present ≡ None
 
@@ -50,17 +51,17 @@ committed_empties slot n t now serial ws Keeps e = absurd (cc e)
 committed_empties slot n t now serial ws Overtakes e = retaken_empties slot n (nat_lt n 8) e
 committed_empties slot n t now serial ws Ends e = absurd (cc e)
 
-put_empties : (after slot : Slot) (p : Program) (b : Bool) → IsEmptied after (made (receipt_of p 0) (put_by b slot p).answer)
-put_empties after slot p true e = absurd (cc e)
-put_empties after slot p false e = absurd (cc e)
+put_empties : (after slot : Slot) (p : Program) (v : InitialVars) (b : Bool) → IsEmptied after (made (receipt_of p 0) (put_by b slot p v).answer)
+put_empties after slot p v true e = absurd (cc e)
+put_empties after slot p v false e = absurd (cc e)
 
-installed_empties : (after slot : Slot) (j : Judgement) → IsEmptied after (next_stage (install_call j slot))
-installed_empties after slot (Accepts p) e = put_empties after slot p (nat_lt slot.serial last_serial) e
-installed_empties after slot (Breaks rule k) e = absurd (cc e)
-installed_empties after slot Untypable e = absurd (cc e)
+installed_empties : (after slot : Slot) (v : InitialVars) (j : Judgement) → IsEmptied after (next_stage (install_call v j slot))
+installed_empties after slot v (Accepts p) e = put_empties after slot p v (nat_lt slot.serial last_serial) e
+installed_empties after slot v (Breaks rule k) e = absurd (cc e)
+installed_empties after slot v Untypable e = absurd (cc e)
 
-verified_empties : (after : Slot) (memory : Bool) (x : Scene) → IsEmptied after (next_stage (install_if memory (judged (image_of x.job.ask)) x.slot))
-verified_empties after true x e = installed_empties after x.slot (judged (image_of x.job.ask)) e
+verified_empties : (after : Slot) (memory : Bool) (x : Scene) → IsEmptied after (next_stage (install_if memory (initial_vars_of x.job.ask) (judged (image_of x.job.ask)) x.slot))
+verified_empties after true x e = installed_empties after x.slot (initial_vars_of x.job.ask) (judged (image_of x.job.ask)) e
 verified_empties after false x e = absurd (cc e)
 
 clear_empties : (slot : Slot) (b : Bool) (p : Option Present) → slot.present ≡ p → IsEmptied (after_changes slot (changes_told (Removes (clear_by b slot.serial p).answer))) (removed (clear_by b slot.serial p).answer)

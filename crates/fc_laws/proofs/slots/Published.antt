@@ -1,15 +1,16 @@
--- What a job is to raise is the head word of its slot's new state.
+-- The head word that a job is to raise is that of its slot's new state.
 use Rattle.std.proofs.Common.{◌≡◌, ℕ, ◌+◌, List, [], ◌∷◌, ◌++◌, Bool, true, false, Option, Some, None, length, refl, sym, ap, ◌∙◌, subst, inl, inr, arith, if◌then◌else◌}
 use Rattle.std.specs.Prelude.{nat_lt, is_some}
 use Rattle.fc_verify.specs.Accepted.{Judgement, Accepts, Breaks, Untypable}
 use Rattle.fc_verify.specs.Judged.{judged}
 use Rattle.fc_kinds.specs.Meaning.{Program}
+use Rattle.fc_registry.specs.declared.job.InitialVars.{InitialVars}
 use Rattle.fc_registry.specs.declared.job.Job.{Job}
 use Rattle.fc_registry.specs.declared.commit.CommitOutcome.{CommitOutcome}
 use Rattle.fc_registry.specs.declared.commit.CommitOutcome.TheVariants.{Writes, Keeps, Overtakes, Ends}
 use Rattle.fc_registry.specs.Slots.{Slot, Present, Ticket, last_serial, new_slot}
 use Rattle.fc_registry.specs.Changes.{after_changes, with_vars}
-use Rattle.fc_registry.specs.Calls.{clear_by, commit_of, outcome, put_by, receipt_of, taking, readings_if}
+use Rattle.fc_registry.specs.Calls.{clear_by, commit_of, outcome, put_by, receipt_of, taking, readings_if, initial_vars_of}
 use Rattle.fc_core.specs.declared.event.Event.{Event}
 use Rattle.fc_core.specs.Stage.{Stage}
 use Rattle.fc_core.specs.Stage.{ToMatch, ToTake, ToCommit, ToInstall, ToRemove, ToList, ToRaise, ToAnswer, ToTell}
@@ -33,7 +34,7 @@ use Rattle.fc_laws.proofs.jobs.Others.{own_slot}
 use Rattle.fc_laws.proofs.jobs.Steps.{Becomes, Moves, Stays, Comes, becomes}
 use Rattle.fc_laws.proofs.slots.Writing.{sound}
 
--- ---- what is raised
+-- ---- the raised head word
 
 abbrev at : Job → Slot → Around → Stage → Scene
 at job slot ws stage = record { job = job; slot = slot; around = ws; stage = stage }
@@ -59,17 +60,17 @@ committed_publishes job slot n t now ws Keeps is f = tt
 committed_publishes job slot n t now ws Overtakes is f = retaken_publishes slot (ToCommit n t) n (nat_lt n 8)
 committed_publishes job slot n t now ws Ends is f = tt
 
-put_publishes : (slot : Slot) (p : Program) (b : Bool) → PublishesAt (after_changes slot (changes_told (Installs p (put_by b slot p).answer))) ToInstall (made (receipt_of p 0) (put_by b slot p).answer)
-put_publishes slot p true = inr refl
-put_publishes slot p false = tt
+put_publishes : (slot : Slot) (p : Program) (v : InitialVars) (b : Bool) → PublishesAt (after_changes slot (changes_told (Installs p v (put_by b slot p v).answer))) ToInstall (made (receipt_of p 0) (put_by b slot p v).answer)
+put_publishes slot p v true = inr refl
+put_publishes slot p v false = tt
 
-installed_publishes : (slot : Slot) (j : Judgement) → PublishesAt (after_changes slot (changes_told (install_call j slot))) ToInstall (next_stage (install_call j slot))
-installed_publishes slot (Accepts p) = put_publishes slot p (nat_lt slot.serial last_serial)
-installed_publishes slot (Breaks rule k) = tt
-installed_publishes slot Untypable = tt
+installed_publishes : (slot : Slot) (v : InitialVars) (j : Judgement) → PublishesAt (after_changes slot (changes_told (install_call v j slot))) ToInstall (next_stage (install_call v j slot))
+installed_publishes slot v (Accepts p) = put_publishes slot p v (nat_lt slot.serial last_serial)
+installed_publishes slot v (Breaks rule k) = tt
+installed_publishes slot v Untypable = tt
 
-verified_publishes : (memory : Bool) (x : Scene) → PublishesAt (after_changes x.slot (changes_told (install_if memory (judged (image_of x.job.ask)) x.slot))) ToInstall (next_stage (install_if memory (judged (image_of x.job.ask)) x.slot))
-verified_publishes true x = installed_publishes x.slot (judged (image_of x.job.ask))
+verified_publishes : (memory : Bool) (x : Scene) → PublishesAt (after_changes x.slot (changes_told (install_if memory (initial_vars_of x.job.ask) (judged (image_of x.job.ask)) x.slot))) ToInstall (next_stage (install_if memory (initial_vars_of x.job.ask) (judged (image_of x.job.ask)) x.slot))
+verified_publishes true x = installed_publishes x.slot (initial_vars_of x.job.ask) (judged (image_of x.job.ask))
 verified_publishes false x = tt
 
 clear_publishes : (slot : Slot) (b : Bool) (p : Option Present) → PublishesAt (after_changes slot (changes_told (Removes (clear_by b slot.serial p).answer))) ToRemove (removed (clear_by b slot.serial p).answer)
@@ -85,7 +86,7 @@ listed_publishes : (slot : Slot) (old : Stage) (b : Bool) (words : List ℕ) →
 listed_publishes slot old true words = tt
 listed_publishes slot old false words = tt
 
--- what a row leaves to raise is the word of the slot after its changes
+-- the head word that a transition leaves to raise is that of the slot after its changes.
 step_publishes : (c : Step) (job : Job) (slot : Slot) (ws : Around) → FitsStage job slot (stage_by c) → PublishesAt (after_changes slot (move_by c job slot ws).changes) (stage_by c) (move_by c job slot ws).stage
 step_publishes (steps.Commits now n t) job slot ws f = committed_publishes job slot n t now ws (outcome t slot) refl f
 step_publishes (steps.Installs memory) job slot ws f = verified_publishes memory (at job slot ws ToInstall)
@@ -101,7 +102,7 @@ row_publishes e job slot ws s =
     by_move (λ st m. FitsStage job slot st → PublishesAt (after_changes slot m.changes) st m.stage) job slot ws
     (λ c asked. step_publishes c job slot ws) (λ st f. same_publishes slot st) e s
 
--- the slot of the job that an event names, after it
+-- the slot of the job that an event names, after it.
 pub own_after : (r : Entry) (s : Seen) (k : ℕ) → names r.event ≡ Some k → slot_at (and_then r s) (slot_of s k) ≡ after_changes (slot_at s (slot_of s k)) (row r.event (scene s k)).changes
 own_after r s k named = ap (after_changes (new_slot s.first_serial)) (own_slot r s k named) ∙ after_changes-append (new_slot s.first_serial) (row r.event (scene s k)).changes (s.changes (slot_of s k))
 

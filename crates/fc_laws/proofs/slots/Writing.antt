@@ -1,4 +1,4 @@
--- A commit writes exactly where its slot is as the job's last taking found it.
+-- A commit writes exactly if its slot is unchanged since the job's last snapshot.
 use Rattle.std.proofs.Common.{◌≡◌, ℕ, ◌+◌, ◌<◌, ◌≤◌, ◌⊎◌, List, [], ◌∷◌, ◌++◌, length, Bool, true, false, Option, Some, None, refl, sym, ap, ◌∙◌, subst, ⊎_elim, arith, if◌then◌else◌, length-append, append_assoc}
 use Rattle.std.specs.Prelude.{nat_lt, ◌==◌, ◌&&◌}
 use borrow.Author.Tests.{ltb-true, lt-ltb}
@@ -48,9 +48,9 @@ sound (Then h r) = still_sound r (seen h) (sound h)
 pub chains : (h : History) (n : ℕ) → IsChain (new_slot (seen h).first_serial) ((seen h).changes n)
 chains h n = (sound h).chain n
 
--- ---- a taking found its slot as it was before it
+-- ---- a snapshot found its slot as it was before it
 
--- the slot of the job has these changes since the taking, which found the serial that was before them
+-- the slot of the job has these changes since the snapshot, which found the serial before them.
 record IsSince (s : Seen) (k : ℕ) (t : Taking) : Type 0 where
   since : List Change
   is : s.changes (slot_of s k) ≡ since ++ t.changes
@@ -122,7 +122,7 @@ serial_by s k n t (x ∷ xs) took w same = ap (λ (cs : List Change). (after_cha
 took_at : (h : History) (k n : ℕ) (t : Ticket) → stage (seen h) k ≡ ToCommit n t → Took (takings_of h k) (ToCommit n t)
 took_at h k n t is = subst (Took (takings_of h k)) is (known h k)
 
--- a slot's changes are those before its job's last taking exactly where its serial is the ticket's
+-- a slot's changes are those before its job's last snapshot exactly if its serial is the ticket's.
 pub unchanged : (h : History) (k n : ℕ) (t : Ticket) → stage (seen h) k ≡ ToCommit n t → (slot_at (seen h) (slot_of (seen h) k)).serial ≡ t.serial → IsUnchanged (takings_of h k) ((seen h).changes (slot_of (seen h) k))
 unchanged h k n t is same = unchanged_by (seen h) k n t (takings_of h k) (took_at h k n t is) (all_since h k) same
 
@@ -152,7 +152,7 @@ pub commit_writes : (h : History) (k now n : ℕ) (o : Option Emission) (t : Tic
 unfolding seen
 commit_writes h k now n o t is w = commit_changes (seen h) k now n o t Writes is (written_outcome h k n t is w)
 
--- a GET and a code of another class than 2 want nothing written
+-- a GET and a code of another class than 2 write nothing.
 get_wants : (m : Method) (b : Bool) → m ≡ Get → (is_post m && b) ≡ false
 get_wants Get b g = refl
 get_wants Post b g = absurd (cc)
@@ -170,7 +170,7 @@ unwanted t e = ⊎_elim
 pub keeps_unwanted : (t : Ticket) (slot : Slot) (w : Bool) → wants t ≡ w → w ≡ false → outcome t slot ≡ Keeps
 keeps_unwanted t slot w is e = ap (λ (b : Bool). outcome_by b (slot.serial == t.serial) (nat_lt slot.serial last_serial)) (is ∙ e)
 
--- a slot whose job, or another's, commits what isn't wanted
+-- a slot whose job, or another's, makes an unwanted commit.
 kept_if : (s : Seen) (e : Event) (k n : ℕ) (b : Bool) (at : Scene) → (row e at).changes ≡ [] → (if b then (row e at).changes ++ s.changes n else s.changes n) ≡ s.changes n
 kept_if s e k n true at is = ap (λ (cs : List Change). cs ++ s.changes n) is
 kept_if s e k n false at is = refl

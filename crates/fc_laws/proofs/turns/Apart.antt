@@ -1,4 +1,4 @@
--- The job of a turn is told of its own turn, or gone.
+-- The job of a lease is at a stage of its own lease, or has ended.
 use Rattle.std.proofs.Common.{◌≡◌, ℕ, List, Option, Some, None, refl, sym, ap, ◌∙◌, subst, ◌⊎◌, inl, inr}
 use Rattle.coap_msg.specs.declared.types.Emission.{Emission}
 use Rattle.fc_observe.specs.declared.entry.Turn.{Turn}
@@ -30,9 +30,9 @@ use Rattle.fc_laws.proofs.slots.Writing.{sound}
 abbrev at : Job → Slot → Around → Stage → Scene
 at job slot ws stage = record { job = job; slot = slot; around = ws; stage = stage }
 
--- ---- what holds of each job of a history
+-- ---- a property of each job of a history
 
--- what holds of each job at its first stage, and what each row keeps, holds of each
+-- a property of each job at its first stage, which each transition keeps, holds for each job.
 module _ (Q : Job → Stage → Type 0) (gone : (j : Job) → Q j Gone) (first : (j : Job) → Q j (first_stage j)) (keeps : (e : Event) (j : Job) (slot : Slot) (ws : Around) (st : Stage) → Q j st → Q j (row e (at j slot ws st)).stage) where
   every_by : (r : Entry) (s : Seen) (k : ℕ) (t : Task) → Becomes (names r.event) r.event s k t → Q (job s k) (stage s k) → Q t.job t.stage
   every_by r s k t (Moves named is) q = subst (λ (x : Task). Q x.job x.stage) (sym is) (keeps r.event (job s k) (slot_at s (slot_of s k)) (around s (slot_of s k)) (stage s k) q)
@@ -44,9 +44,9 @@ module _ (Q : Job → Stage → Type 0) (gone : (j : Job) → Q j Gone) (first :
   every (Begins serial id policy) k = gone no_task.job
   every (Then h r) k = every_by r (seen h) k (task_at (and_then r (seen h)).tasks k) (becomes r (seen h) k) (every h k)
 
--- ---- the job of a turn
+-- ---- the job of a lease
 
--- a job at this stage is told of this turn, or gone
+-- a job at this stage has this lease, or has ended.
 abbrev pub IsToldOf : Turn → Stage → Type 0
 IsToldOf turn (ToTell own needs) = own ≡ turn
 IsToldOf turn Gone = Unit {0}
@@ -96,7 +96,7 @@ request_apart h k turn needs none is =
 
 -- ---- its end
 
--- a job that an event leaves gone is gone for ever
+-- a job that has ended after an event has ended for ever.
 gone_ever : (h : History) (r : Entry) (rs : List Entry) (k : ℕ) → HasCome (seen h) k → stage (and_then r (seen h)) k ≡ Gone → stage (seen (followed_by (Then h r) rs)) k ≡ Gone
 unfolding seen
 gone_ever h r rs k come gone = gone_later (Then h r) rs k (still_here r (seen h) k come) gone

@@ -1,4 +1,4 @@
--- The serials that one observer is sent rise, in every history.
+-- The serials that one observer is sent increase, in every history.
 use Rattle.std.proofs.Common.{◌≡◌, ℕ, ◌<◌, ◌≤◌, List, [], ◌∷◌, ◌++◌, Bool, true, false, Option, Some, None, max, refl, sym, ap, ◌∙◌, subst, arith, if◌then◌else◌}
 use Rattle.std.specs.Prelude.{◌==◌, ◌%◌, is_some}
 use Rattle.std.specs.List.{All}
@@ -47,7 +47,7 @@ miss_above true turn None m w = (λ k d lt. tt, (λ k d lt. tt, tt))
 miss_above true turn (Some p) m w = (λ k d lt. tt, tt)
 miss_above false turn present m w = (λ k d lt. tt, tt)
 
--- a notification is of a serial at least that for which its turn was given
+-- a notification has a serial at least that for which its lease was granted.
 told_above : (b : Bool) (turn : Turn) (id random m serial n confirm_after : ℕ) (e : Emission) (calls : List ObserverCall) → noticed_for turn.number n confirm_after calls ≤ serial → All (Above (told_call b turn id random m serial e.bytes) (at_moment m (observers n confirm_after calls))) (observers n confirm_after calls).held
 told_above true turn id random m serial n confirm_after e calls le = sent_above n confirm_after m turn serial (Advance m ∷ calls) le
 told_above false turn id random m serial n confirm_after e calls le = λ k d lt. tt
@@ -94,12 +94,12 @@ module _ (h : History) (r : Entry) (n : ℕ) where
   slot_above k true named is = row_above k (row r.event (scene s k)).calls named (eqb-true (slot_of s k) n is) (row_calls r.event (job s k) (slot_at s (slot_of s k)) (around s (slot_of s k)) (stage s k))
   slot_above k false named is = tt
 
-  -- the calls of the job that it names come after those of its shard, of which there are none
+  -- the calls of the job that it names come after those of its shard, of which there are none.
   named_above : (o : Option ℕ) → names r.event ≡ o → AreAbove (calls_named o r.event s n) (watch s n)
   named_above None named = tt
   named_above (Some k) named = slot_above k (slot_of s k == n) named refl
 
--- ---- what follows
+-- ---- later events
 
 module _ (n m : ℕ) (to : Endpoint) (token : List ℕ) where
   module _ (h : History) (r : Entry) (not : Registers r (seen h) n to token → ⊥) (from : All (SentFrom m to token) (watch (seen h) n).held) where
@@ -147,7 +147,7 @@ module _ (h : History) (k now random id : ℕ) (turn : Turn) (t : Ticket) (o : O
   abbrev sent : Option Emission
   sent = note_at turn id moment (Some t) (watch (seen h) n)
 
-  -- the moment is advanced once
+  -- the clock is advanced once.
   out_again : entry_out turn (at_moment moment (observers n confirm_after (Advance moment ∷ calls))) ≡ Some o
   out_again =
       let w = watch (seen h) n in

@@ -1,4 +1,4 @@
--- The observers of a slot are at no later moment than their shard.
+-- The time of a slot's observers is at most that of their shard.
 use Rattle.std.proofs.Common.{◌≡◌, ℕ, ◌+◌, ◌*◌, ◌%◌, ◌<◌, ◌≤◌, List, [], ◌∷◌, ◌++◌, Bool, true, false, Option, Some, None, max, refl, sym, ap, ◌∙◌, subst, arith, if◌then◌else◌}
 use Rattle.std.specs.Prelude.{◌==◌, ◌&&◌, nat_lt}
 use Rattle.std.proofs.lemmas.Bool.{and_from, eq-eqb, eqb-true, lt-ltb, ltb-true}
@@ -33,7 +33,7 @@ use Rattle.fc_core.proofs.Watches.{after_append}
 
 -- ---- a call
 
--- the moment that it hands in is at most this
+-- the time that it passes is at most this.
 abbrev ReachesTo : ℕ → ObserverCall → Type 0
 ReachesTo m (Advance now) = now ≤ m
 ReachesTo m (Register now to token request szx serial) = now ≤ m
@@ -73,7 +73,7 @@ reach_later : (m later : ℕ) (cs : List ObserverCall) → m ≤ later → Each 
 reach_later m later [] rises each = tt
 reach_later m later (c ∷ cs) rises each = (reaches_later m later c rises each.0, reach_later m later cs rises each.1)
 
--- ---- a row
+-- ---- a transition
 
 abbrev at : Job → Slot → Around → Stage → Scene
 at job slot ws stage = record { job = job; slot = slot; around = ws; stage = stage }
@@ -140,7 +140,7 @@ shard_is k i n low is =
     sym (ap (λ (x : ℕ). x % 8) turned ∙ mod-mul-add k 8 i low)
 
 module _ (s : Seen) where
-  -- the moment of a shard after an event
+  -- time of a shard after an event.
   abbrev later : Event → ℕ → ℕ
   later e i = handed (hands_by (at_shard e) i) (shard_moment_after (names e) e s i)
 
@@ -224,6 +224,6 @@ unfolding seen
 follows_shard (Begins serial id policy) n = omega arith
 follows_shard (Then h r) n = follows_after (seen h) r n (follows_shard h n)
 
--- the moment of a turn's observers, where their shard is handed one
+-- the time of a lease's observers, if their shard is passed one.
 pub turn_moment : (h : History) (k now : ℕ) → max (watch (seen h) (slot_of (seen h) k)).moment (moment_at (seen h) k now) ≡ moment_at (seen h) k now
 turn_moment h k now = let le = follows_shard h (slot_of (seen h) k) in omega (arith, le)

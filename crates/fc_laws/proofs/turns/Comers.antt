@@ -1,4 +1,4 @@
--- Who comes among the observers of a slot, and by which event.
+-- The clients that become observers of a slot, and the events.
 use Rattle.std.proofs.Common.{◌≡◌, ℕ, List, [], ◌∷◌, ◌++◌, Bool, true, false, Option, Some, None, max, refl, sym, ap, ◌∙◌, subst, ◌⊎◌, inl, inr, ⊎_elim, if◌then◌else◌}
 use Rattle.std.specs.Prelude.{◌==◌, ◌&&◌, ◌%◌, nat_eq}
 use Rattle.std.specs.Cmp.Lexicographic.{pointwise}
@@ -58,7 +58,7 @@ none_in (ShardTick shard now) s n to token =
     none_if (is_place_of (late_in s shard at) shard n) (TickObservers at) to token refl
 none_in other s n to token = tt
 
--- ---- who registers
+-- ---- registrations
 
 -- a commit's calls register this client, or they don't
 module _ (to : Endpoint) (token : List ℕ) (moment : ℕ) (t : Ticket) where
@@ -105,7 +105,7 @@ module _ (r : Entry) (s : Seen) (n : ℕ) (to : Endpoint) (token : List ℕ) whe
       (λ (own : Registers r s n to token). absurd (not own))
       (by_name (names r.event) refl)
 
-  -- where the event doesn't register it, it stays away
+  -- if the event doesn't register it, it remains absent.
   stays_away : RegistersNone to token (calls_named (names r.event) r.event s n) → is_held to token (watch s n) ≡ false → is_held to token (watch (and_then r s) n) ≡ false
   stays_away none away =
       let named = calls_named (names r.event) r.event s n in
@@ -123,7 +123,7 @@ module _ (r : Entry) (s : Seen) (n : ℕ) (to : Endpoint) (token : List ℕ) whe
       (by_name (names r.event) refl))
       (cases_Bool (is_held to token (watch s n)))
 
--- a client that isn't among them stays away until it registers
+-- a client that isn't among them remains absent until it registers.
 stays_by : (b : Bool) → (b ≡ true → ⊥) → b ≡ false
 stays_by true not = absurd (not refl)
 stays_by false not = refl

@@ -1,4 +1,4 @@
--- A notification that is no 2.05 Content removes its observer.
+-- A notification that isn't a 2.05 (Content) removes its observer.
 use Rattle.std.proofs.Common.{◌≡◌, ℕ, List, [], ◌∷◌, ◌++◌, Bool, false, Option, Some, None, refl, sym, ap, ◌∙◌}
 use Rattle.std.specs.Prelude.{if◌then◌else◌}
 use Rattle.std.proofs.lemmas.Bool.{eq-eqb}
@@ -24,7 +24,7 @@ use Rattle.fc_laws.specs.TurnLaws.{IsNoContent, moment_at}
 use Rattle.fc_laws.proofs.turns.Notices.{note_sends}
 use Rattle.fc_laws.proofs.turns.Turning.{at_stage}
 
--- how its turn ends
+-- end of its lease.
 turn_ends : (turn : Turn) (id random at : ℕ) (found : Option Ticket) (e : Emission) → IsNoContent found → note_calls turn id random at found (Some e) ≡ End turn ∷ Advance at ∷ []
 turn_ends turn id random at None e not = refl
 turn_ends turn id random at (Some t) e not = error_ends turn id random at t e not

@@ -1,4 +1,4 @@
--- What a turn's notification is, and whose.
+-- A lease's notification, and its receiver.
 use Rattle.std.proofs.Common.{◌≡◌, ℕ, ◌+◌, ◌*◌, ◌<◌, ◌≤◌, List, [], ◌∷◌, cond, subst, arith, Bool, true, false, Option, Some, None, refl, sym, ap, ◌∙◌, max, if◌then◌else◌}
 use Rattle.std.specs.Prelude.{◌==◌, find, is_some, nat_le, nat_lt}
 use Rattle.std.specs.List.{All, Contains}
@@ -49,7 +49,7 @@ kind_is true = refl
 kind_is false = refl
 
 module _ (turn : Turn) (id at : ℕ) (w : ObserverList) (found : Option Ticket) (e : Emission) (later : max w.moment at ≡ at) (confirm_after : ℕ) (after_is : w.confirm_after ≡ confirm_after) where
-  -- by the entry that has the turn out
+  -- by the entry that has the lease out.
   notifies_by : (x : Option Entry) → entry_out turn (at_moment at w) ≡ x → Some e ≡ option_map (note_to id (must_confirm_by x w.confirm_after (max w.moment at)) found) (option_map interest_of x) → Notifies turn id at confirm_after w (note_response found) e
   notifies_by None out sent = absurd (cc sent)
   notifies_by (Some o) out sent =
@@ -66,7 +66,7 @@ module _ (turn : Turn) (id at : ℕ) (w : ObserverList) (found : Option Ticket) 
   notifies_out : Some e ≡ option_map (note_to id (must_confirm_by (entry_out turn (at_moment at w)) w.confirm_after (max w.moment at)) found) (option_map interest_of (entry_out turn (at_moment at w))) → Notifies turn id at confirm_after w (note_response found) e
   notifies_out sent = notifies_by (entry_out turn (at_moment at w)) refl sent
 
-  -- of an empty slot, where the turn missed its program
+  -- for an empty slot, if the lease missed its program.
   notifies_if : (b : Bool) → Some e ≡ option_map (note_to id (must_confirm_by (entry_out turn (at_moment at w)) w.confirm_after (max w.moment at)) found) (if b then option_map interest_of (entry_out turn (at_moment at w)) else None) → Notifies turn id at confirm_after w (note_response found) e
   notifies_if true sent = notifies_out sent
   notifies_if false sent = absurd (cc sent)
@@ -75,7 +75,7 @@ sent_notifies : (turn : Turn) (id at : ℕ) (w : ObserverList) (found : Option T
 sent_notifies turn id at w None e later confirm_after after_is sent = notifies_if turn id at w None e later confirm_after after_is (is_missing turn (at_moment at w)) sent
 sent_notifies turn id at w (Some t) e later confirm_after after_is sent = notifies_out turn id at w (Some t) e later confirm_after after_is sent
 
--- what a turn that is to notify sends
+-- the emission of a lease that is to notify.
 pub note_sends : (s : Seen) (k now random id : ℕ) (turn : Turn) (found : Option Ticket) (o : Option Emission) → stage s k ≡ ToTell turn (turns.ToNote found id) → Emits s (Note k now random) o → o ≡ note_at turn id (moment_at s k now) found (watch s (slot_of s k))
 note_sends s k now random id turn found o is sent = sent ∙ ap (λ (st : Stage). notification now (scene s k) st) is
 
@@ -91,7 +91,7 @@ found_notifies h k now random id turn t e is sent = notifies h k now random id t
 pub empty_notifies : (h : History) (k now random id : ℕ) (turn : Turn) (e : Emission) → stage (seen h) k ≡ ToTell turn (turns.ToNote None id) → Emits (seen h) (Note k now random) (Some e) → NotifiesOf (seen h) k now turn id (bare 132) e
 empty_notifies h k now random id turn e is sent = notifies h k now random id turn None e is sent
 
--- ---- where it sends
+-- ---- the condition for sending
 
 mapped_some : {A B : Type 0} (f : A → B) (g : Entry → A) (x : Option Entry) → is_some (option_map f (option_map g x)) ≡ is_some x
 mapped_some f g None = refl
@@ -116,7 +116,7 @@ none_by : (o : Option Emission) → is_some o ≡ false → o ≡ None
 none_by None e = refl
 none_by (Some x) e = absurd (cc e)
 
--- a turn that has lapsed is out no longer
+-- a lease that has lapsed isn't out any more.
 lapsed_in : (slot m : ℕ) (turn : Turn) (o : Entry) → ((since : ℕ) (missing : Bool) → o.phase ≡ TurnOut turn.number since missing → since + 247000 ≤ m) → has_turn slot m turn o ≡ false
 lapsed_in slot m turn o lapsed = false_from_ne_true (has_turn slot m turn o) (λ out.
     let parts = and_parts (turn.slot == slot) (is_out_in m turn.number o.phase) out in
@@ -135,7 +135,7 @@ lapsed_silent h k now random id turn found o is sent lapsed =
     (All-weaker (HasLapsed turn at) (λ (e : Entry). is_out turn (at_moment at w) e ≡ false) (λ e over. lapsed_in w.slot (max w.moment at) turn e (subst (λ (m : ℕ). HasLapsed turn m e) (sym later) over)) w.held lapsed) in
     none_by o (sends_where_out h k now random id turn found o is sent ∙ ap (λ (x : Option Entry). is_some x) none)
 
--- a turn that was given up is at its end
+-- a lease that was released has ended.
 gone_stray : (s : Seen) (k now random : ℕ) → stage s k ≡ Gone → is_stray s (Note k now random) ≡ true
 gone_stray s k now random gone = ap (is_stray_at (Note k now random) (slot_of s k)) gone
 
@@ -154,7 +154,7 @@ found_if : (P : Entry → Type 0) (p : Entry → Bool) (o x : Entry) (os : List 
 found_if P p o x os true passes here rest found = let same : o ≡ x = cc found in (subst P same here, ap p (sym same) ∙ passes)
 found_if P p o x os false passes here rest found = rest found
 
--- what holds of each holds of the one that is found, which passes
+-- a property of each element holds for the one that is found, which passes.
 pub found_holds : (P : Entry → Type 0) (p : Entry → Bool) (os : List Entry) (x : Entry) → All P os → find p os ≡ Some x → P x × (p x ≡ true)
 found_holds P p [] x all found = absurd (cc found)
 found_holds P p (o ∷ os) x all found = found_if P p o x os (p o) refl (All-head P o os all) (found_holds P p os x (All-tail P o os all)) found
@@ -167,7 +167,7 @@ sent_above_last h k now id turn t o is out =
     let x = found_holds (λ (e : Entry). passes e ≡ true → e.serial < t.serial) passes w.held o (sent_above n (seen h).policy.confirm_after now turn t.serial ((seen h).calls n) (found_noticed h k id turn t is)) out in
     x.0 x.1
 
--- ---- who hears them
+-- ---- the receivers
 
 own_held : (w : ObserverList) (o : Entry) → Contains w.held o → is_held o.endpoint o.token.items w ≡ true
 own_held w o there = held_passes (is_entry_of o.endpoint o.token.items) w.held o there (own o)
@@ -185,7 +185,7 @@ goes_to_held turn id at confirm_after w response e n = record {
 pub notified_held : (h : History) (k now random id : ℕ) (turn : Turn) (found : Option Ticket) (e : Emission) → stage (seen h) k ≡ ToTell turn (turns.ToNote found id) → Emits (seen h) (Note k now random) (Some e) → IsToHeld (watch (seen h) (slot_of (seen h) k)) e
 notified_held h k now random id turn found e is sent = goes_to_held turn id (moment_at (seen h) k now) (seen h).policy.confirm_after (watch (seen h) (slot_of (seen h) k)) (note_response found) e (notifies h k now random id turn found e is sent)
 
--- the notification of an entry in this phase, sent again
+-- the notification of an entry in this phase, retransmitted.
 record ResendsIn (to : Endpoint) (p : Phase) (e : Emission) : Type 0 where
   sent_at : ℕ
   timeout : ℕ

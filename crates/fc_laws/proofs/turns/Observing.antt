@@ -1,4 +1,4 @@
--- What commits call on the observers of a slot.
+-- Calls of commits on the observers of a slot.
 use Rattle.std.proofs.Common.{◌≡◌, ℕ, ◌%◌, List, [], ◌∷◌, ◌++◌, length, Bool, true, false, Option, Some, None, max, refl, sym, ap, ◌∙◌, inl, if◌then◌else◌}
 use Rattle.std.specs.Prelude.{◌==◌, ◌&&◌, ◌||◌, nat_lt}
 use Rattle.std.specs.List.{list_any}
@@ -29,7 +29,7 @@ use Rattle.fc_laws.proofs.front.Once.{equal_endpoints, same_bytes}
 use Rattle.fc_laws.proofs.jobs.Others.{is_here, named_stage}
 use Rattle.fc_laws.proofs.slots.Writing.{keeps_unwanted, unwanted}
 
--- ---- who registers and who cancels
+-- ---- registrations and cancellations
 
 both : (a b : Bool) → (a && b) ≡ true → (a ≡ true) × (b ≡ true)
 both true b e = (refl, e)
@@ -65,7 +65,7 @@ not_true false not = refl
 abbrev at : Seen → ℕ → Stage → Scene
 at s k st = record { job = job s k; slot = slot_at s (slot_of s k); around = around s (slot_of s k); stage = st }
 
--- the observers of the job's slot, by what the commit comes to
+-- the observers of the job's slot, by the commit's outcome.
 watched : (s : Seen) (k now n : ℕ) (t : Ticket) (o : Option Emission) (x : CommitOutcome) → stage s k ≡ ToCommit n t → outcome t (slot_at s (slot_of s k)) ≡ x → watch (and_then (did (Commit k now) o) s) (slot_of s k) ≡ observers (slot_of s k) s.policy.confirm_after ((committed x n t now (slot_at s (slot_of s k)).serial (around s (slot_of s k))).calls ++ s.calls (slot_of s k))
 watched s k now n t o x is comes =
     let m = slot_of s k in
@@ -73,14 +73,14 @@ watched s k now n t o x is comes =
     ∙ (ap (λ (st : Stage). observers m s.policy.confirm_after ((row (Commit k now) (at s k st)).calls ++ s.calls m)) is
     ∙ ap (λ (y : CommitOutcome). observers m s.policy.confirm_after ((committed y n t now (slot_at s m).serial (around s m)).calls ++ s.calls m)) comes)
 
--- and where it leaves the job
+-- and the job's stage after it.
 leaves : (s : Seen) (k now n : ℕ) (t : Ticket) (o : Option Emission) (x : CommitOutcome) → stage s k ≡ ToCommit n t → outcome t (slot_at s (slot_of s k)) ≡ x → stage (and_then (did (Commit k now) o) s) k ≡ (committed x n t now (slot_at s (slot_of s k)).serial (around s (slot_of s k))).stage
 leaves s k now n t o x is comes =
     named_stage (did (Commit k now) o) s k (is_here s k (ToCommit n t) is (λ e. absurd (cc e))) refl
     ∙ (ap (λ (st : Stage). (row (Commit k now) (at s k st)).stage) is
     ∙ ap (λ (y : CommitOutcome). (committed y n t now (slot_at s (slot_of s k)).serial (around s (slot_of s k))).stage) comes)
 
--- a GET has nothing to write
+-- a GET has nothing to write.
 keeps : (s : Seen) (k : ℕ) (t : Ticket) → t.request.method ≡ Get → outcome t (slot_at s (slot_of s k)) ≡ Keeps
 keeps s k t get = keeps_unwanted t (slot_at s (slot_of s k)) (wants t) refl (unwanted t (inl get))
 
@@ -92,7 +92,7 @@ get_registers s k now n t o is get a =
     watched s k now n t o Keeps is (keeps s k t get)
     ∙ ap (λ (b : Bool). observers m s.policy.confirm_after (observe_calls_by b (is_cancellation t) (max (s.shard_moment (m % 8)) now) t ++ s.calls m)) (registers_asked t a)
 
--- an entry is of its own endpoint and token
+-- an entry has its own endpoint and token.
 pub own : (o : Entry) → is_entry_of o.endpoint o.token.items o ≡ true
 own o = λ i. equal_endpoints o.endpoint o.endpoint refl i && same_bytes o.token.items i
 
@@ -100,7 +100,7 @@ or_true : (b : Bool) → (b || true) ≡ true
 or_true true = refl
 or_true false = refl
 
--- who is entered is among those held
+-- a client that is entered is among the entries.
 entered_among : (o : Entry) (held : List Entry) (b : Bool) → list_any (is_entry_of o.endpoint o.token.items) held ≡ b → list_any (is_entry_of o.endpoint o.token.items) (without_those (is_entry_of o.endpoint o.token.items) held ++ o ∷ []) ≡ true
 entered_among o held b is =
     let p = is_entry_of o.endpoint o.token.items in
@@ -111,7 +111,7 @@ room_among o held true c known room = entered_among o held true known
 room_among o held false true known room = (λ i. list_any (is_entry_of o.endpoint o.token.items) (entered_by (if room i then Entered else Full) o.endpoint o.token.items o held)) ∙ (entered_among o held false known ∙ λ i. is_entered (if sym room i then Entered else Full))
 room_among o held false false known room = (λ i. list_any (is_entry_of o.endpoint o.token.items) (entered_by (if room i then Entered else Full) o.endpoint o.token.items o held)) ∙ (known ∙ λ i. is_entered (if sym room i then Entered else Full))
 
--- a client is told that it observes exactly where it is among the observers
+-- the answer says that a client observes exactly if it is among the observers.
 observed_among : (t : Ticket) (now : ℕ) (w : ObserverList) → is_registration t ≡ true → is_observed t w ≡ is_among t (registered t.origin.endpoint t.token t.request (szx_of t.block) t.serial (at_moment now w))
 observed_among t now w r =
     let p = is_entry_of t.origin.endpoint t.token.items in

@@ -1,4 +1,4 @@
--- Who stays among the observers of a slot, and which events take one from them.
+-- The observers that remain, and the events that remove one.
 use Rattle.std.proofs.Common.{◌≡◌, ℕ, ◌<◌, ◌≤◌, List, [], ◌∷◌, ◌++◌, Bool, true, false, Option, Some, None, max, refl, sym, ap, ◌∙◌, subst, ◌⊎◌, inl, inr, ⊎_elim, if◌then◌else◌}
 use Rattle.std.specs.Prelude.{◌==◌, ◌&&◌, ◌%◌, nat_eq, nat_lt}
 use Rattle.std.specs.Cmp.Lexicographic.{pointwise}
@@ -33,7 +33,7 @@ use Rattle.fc_core.proofs.OnShards.{named_calm}
 use Rattle.fc_core.proofs.Places.{place_is}
 use Rattle.fc_core.proofs.Watches.{after_append}
 
--- ---- calls that take none away
+-- ---- calls that remove none
 
 module _ (to : Endpoint) (token : List ℕ) where
   one_stays : (c : ObserverCall) (w : ObserverList) → (TakesAway to token c w → ⊥) → is_held to token w ≡ true → is_held to token (observers_after c w) ≡ true
@@ -48,7 +48,7 @@ module _ (to : Endpoint) (token : List ℕ) where
   one_if true c w not some = one_stays c w not some
   one_if false c w not some = some
 
-  -- a commit's, where the client is not the one that cancels
+  -- those of a commit, if the client isn't the one that cancels.
   observed_stays : (moment : ℕ) (t : Ticket) (w : ObserverList) (b c : Bool) → is_cancellation t ≡ c → is_held to token w ≡ true → (is_held to token (after_calls (observe_calls_by b c moment t) w) ≡ true) ⊎ ((is_cancellation t ≡ true) × ((same_endpoint t.origin.endpoint to && pointwise nat_eq t.token.items token) ≡ true))
   observed_stays moment t w true c is some = inl (one_stays (Register moment t.origin.endpoint t.token t.request (szx_of t.block) t.serial) w (λ x. x) some)
   observed_stays moment t w false true is some = ⊎_elim
@@ -57,7 +57,7 @@ module _ (to : Endpoint) (token : List ℕ) where
       (stays_or_goes to token (Cancel t.origin.endpoint t.token.items) w some)
   observed_stays moment t w false false is some = inl some
 
-  -- a notification's, where the client is not the one whose turn ends so
+  -- those of a notification, if the client isn't the one whose lease ends in this way.
   told_stays : (b : Bool) (turn : Turn) (id random moment serial : ℕ) (bytes : ArrayVec ℕ) (w : ObserverList) → is_held to token w ≡ true → (is_held to token (observers_after (told_call b turn id random moment serial bytes) (at_moment moment w)) ≡ true) ⊎ ((b ≡ false) × ((o : ObserverEntry) × (entry_out turn (at_moment moment w) ≡ Some o) × (is_entry_of to token o ≡ true)))
   told_stays true turn id random moment serial bytes w some = inl (one_stays (Notify moment turn id serial random bytes) (at_moment moment w) (λ x. x) some)
   told_stays false turn id random moment serial bytes w some = ⊎_elim
@@ -73,7 +73,7 @@ no_content : (found : Option Ticket) → keeps_observer found ≡ false → IsNo
 no_content None not = tt
 no_content (Some t) not = λ is. let yes = eq-eqb (meaning_at t).code 69 is in cc (yes, not)
 
--- ---- a notification that is late for the last time
+-- ---- a notification that has timed out for the last time
 
 record IsLast (p : Phase) : Type 0 where
   sent_at : ℕ
@@ -137,7 +137,7 @@ module _ (r : Entry) (s : Seen) (n : ℕ) (to : Endpoint) (token : List ℕ) whe
   by_slot k true named is some = by_row k (row r.event (scene s k)).calls named (eqb-true (slot_of s k) n is) (row_calls r.event (job s k) (slot_at s (slot_of s k)) (around s (slot_of s k)) (stage s k)) some
   by_slot k false named is some = inl some
 
-  -- that is of a shard of its own
+  -- that has a shard of its own.
   reset_by : (shard id : ℕ) (from : Endpoint) (b : Bool) → r.event ≡ Signal shard from id true → ((n % 8) == shard) ≡ b → is_held to token w ≡ true → Stays (if b then Reset from id ∷ [] else [])
   reset_by shard id from false event here some = inl some
   reset_by shard id from true event here some = ⊎_elim

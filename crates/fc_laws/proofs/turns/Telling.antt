@@ -1,4 +1,4 @@
--- Where the taking of a turn leaves its job: it is still to tell, or gone.
+-- The stage of a lease's job after its snapshot: it is still to notify, or has ended.
 use Rattle.std.proofs.Common.{ℕ, List, Option}
 use Rattle.fc_observe.specs.declared.entry.Turn.{Turn}
 use Rattle.fc_registry.specs.Taken.{Taken}
@@ -10,7 +10,7 @@ use Rattle.fc_registry.specs.Calls.{is_out_at, turn_taking}
 use Rattle.fc_core.specs.Stages.{turn_took}
 use Rattle.fc_core.specs.Rows.{Scene}
 
--- what holds of each of these stages
+-- a property of each of these stages.
 pub told_or_gone : (P : Stage → Type 0) → ((turn : Turn) (needs : TurnStage) → P (ToTell turn needs)) → P Gone → (turn : Turn) (x : Taken) → P (turn_took turn x)
 told_or_gone P told gone turn (Given t) = told turn _
 told_or_gone P told gone turn Missing = told turn _

@@ -1,5 +1,5 @@
--- What is known of the turn that a job is told of, in every history: it was given, for a serial that its taking found or a later one,
--- and where the taking found the slot empty it is missing.
+-- Facts about the lease of a job, in every history: it was granted for a serial that is at most its
+-- snapshot's, and if the snapshot found the slot empty it is marked as missing.
 use Rattle.std.proofs.Common.{◌≡◌, ℕ, ◌+◌, ◌*◌, ◌<◌, ◌≤◌, List, [], ◌∷◌, ◌++◌, Bool, true, false, cond, Option, Some, None, refl, sym, ap, ◌∙◌, subst, arith, map, max, if◌then◌else◌}
 use Rattle.std.specs.Prelude.{◌%◌, ◌==◌, ◌&&◌, is_some}
 use Rattle.std.specs.List.{All}
@@ -43,9 +43,9 @@ use Rattle.fc_core.proofs.OnShards.{named_calm}
 use Rattle.fc_core.proofs.Watches.{after_append}
 use Rattle.fc_laws.proofs.slots.Writing.{sound}
 
--- ---- what is known
+-- ---- the facts
 
--- of what its taking found
+-- facts about its snapshot.
 abbrev pub KnowsFound : ℕ → ℕ → List ObserverCall → Turn → Option Ticket → Type 0
 KnowsFound n confirm_after calls turn None = All (HasMissed turn.number) (observers n confirm_after calls).held
 KnowsFound n confirm_after calls turn (Some t) = noticed_for turn.number n confirm_after calls ≤ t.serial
@@ -55,7 +55,8 @@ KnowsTurn n confirm_after calls serial turn turns.ToTake = noticed_for turn.numb
 KnowsTurn n confirm_after calls serial turn (turns.ToDraw found) = KnowsFound n confirm_after calls turn found
 KnowsTurn n confirm_after calls serial turn (turns.ToNote found id) = KnowsFound n confirm_after calls turn found
 
--- of a job of slot n at this stage, after these calls on the slot's observers, where the slot is at this serial
+-- for a job of slot n at this stage, after these calls on the slot's observers, with the slot at
+-- this serial.
 abbrev pub Knows : ℕ → ℕ → List ObserverCall → ℕ → Stage → Type 0
 Knows n confirm_after calls serial (ToTell turn needs) = (turn.number < (observers n confirm_after calls).turns) × KnowsTurn n confirm_after calls serial turn needs
 Knows n confirm_after calls serial other = Unit {0}
@@ -68,7 +69,7 @@ turns_last n confirm_after number cs calls lt =
     let same = ap (λ (t : ObserverList). t.turns) (after_append n confirm_after cs calls) in
     omega (arith, lt, more, same)
 
--- a later turn has another number
+-- a later lease has another number.
 another_turn : (turns number noticed old : ℕ) (b : Bool) → number < turns → cond (b && (turns == number)) noticed old ≡ old
 another_turn turns number noticed old b lt =
     let other : (turns == number) ≡ false = false_from_ne_true (turns == number) (λ e. let same = eqb-true turns number e in absurd (omega (arith, same, lt))) in
@@ -94,7 +95,7 @@ lasts : (n confirm_after : ℕ) (cs calls : List ObserverCall) (serial later : �
 lasts n confirm_after cs calls serial later (ToTell turn needs) rises w = (turns_last n confirm_after turn.number cs calls w.0, turn_lasts n confirm_after cs calls serial later turn needs rises w.0 w.1)
 lasts n confirm_after cs calls serial later other rises w = tt
 
--- ---- each row
+-- ---- each transition
 
 abbrev at : Job → Slot → Around → Stage → Scene
 at job slot ws stage = record { job = job; slot = slot; around = ws; stage = stage }
@@ -142,7 +143,7 @@ KnowsAt s j st = Knows j.origin.slot s.policy.confirm_after (s.calls j.origin.sl
 abbrev KnowsTask : Seen → Task → Type 0
 KnowsTask s t = KnowsAt s t.job t.stage
 
--- a request's job is told of no turn
+-- a request's job has no lease.
 not_told : (n confirm_after serial : ℕ) (calls : List ObserverCall) (j : Job) (slot : Slot) (s : Stage) → j.turn ≡ None → FitsStage j slot s → Knows n confirm_after calls serial s
 not_told n confirm_after serial calls j slot (ToTell turn needs) none fits = absurd (cc (none, fits.1))
 not_told n confirm_after serial calls j slot other none fits = tt
@@ -160,7 +161,7 @@ module _ (r : Entry) (s : Seen) where
       let same = ap (λ (x : Slot). x.serial) (slot_grows s e (names e) n g) in
       omega (arith, same, after_rises (slot_at s n) g.made)
 
-  -- what was known is known
+  -- earlier facts still hold.
   still_known : (t : Task) → KnowsTask s t → KnowsTask after t
   still_known t w =
       let n = t.job.origin.slot in
@@ -182,7 +183,7 @@ module _ (r : Entry) (s : Seen) where
       (lasts n s.policy.confirm_after [] ((row e (scene s k)).calls ++ s.calls n) (slot_at s n).serial (slot_at after n).serial (row e (scene s k)).stage (serial_rises n)
       (row_knows n s.policy.confirm_after (s.calls n) (common s) (s.shard_moment (n % 8)) e (job s k) (slot_at s n) (turn_of (job s k) number) (stage s k) (own number of_turn) w))
 
-  -- ---- what it brings
+  -- ---- the new lease
 
   asked_known : (j : Job) → j.turn ≡ None → KnowsTask after (new_task j)
   asked_known j none =
@@ -252,7 +253,7 @@ unfolding seen
 known (Begins serial id policy) k = tt
 known (Then h r) k = all_known r (seen h) (sound h) (is_told_of h) (known h) k
 
--- ---- of a turn that is to notify
+-- ---- a lease that is to notify
 
 module _ (h : History) (k id : ℕ) (turn : Turn) where
   abbrev own_slot : ℕ

@@ -1,4 +1,5 @@
--- The ticket of a turn asks the first block, or none: so what its run means is told whole, or its first block.
+-- The ticket of a lease requests the first block, or none: so the response to its run is sent
+-- complete, or its first block is.
 use Rattle.std.proofs.Common.{◌≡◌, ℕ, ◌+◌, ◌*◌, List, [], ◌++◌, length, map, Bool, true, false, Option, Some, None, max, refl, sym, ap, ◌∙◌, subst, if◌then◌else◌}
 use Rattle.std.specs.Prelude.{◌==◌, ◌&&◌, nat_lt, not}
 use Rattle.std.specs.Option.{option_map, option_to_list}
@@ -41,7 +42,7 @@ use Rattle.fc_laws.proofs.slots.Writing.{sound}
 abbrev at : Job → Slot → Around → Stage → Scene
 at job slot ws stage = record { job = job; slot = slot; around = ws; stage = stage }
 
--- ---- the block of a turn's job
+-- ---- the block of a lease's job
 
 abbrev AsksFirst : Job → Type 0
 AsksFirst j = (number : ℕ) → j.turn ≡ Some number → IsFirst j.block

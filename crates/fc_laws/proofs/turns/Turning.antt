@@ -1,4 +1,4 @@
--- Who gets a turn, the job that it brings, and who loses it.
+-- The observer that gets a lease, the job of the lease, and the observer that loses one.
 use Rattle.std.proofs.Common.{◌≡◌, ℕ, ◌+◌, ◌*◌, ◌%◌, ◌<◌, List, [], ◌∷◌, ◌++◌, map, Bool, true, false, cond, Option, Some, None, max, refl, sym, ap, ◌∙◌, arith, if◌then◌else◌}
 use Rattle.std.specs.Prelude.{◌==◌, ◌&&◌, ◌||◌, find, is_some, nat_lt}
 use Rattle.std.specs.List.{All, list_any}
@@ -59,7 +59,7 @@ pub late_none : (s : Seen) (i at : ℕ) → i < 8 → late_in s i at ≡ None �
 unfolding late_in
 late_none s i at low e = none_by (is_late_at s i at) i (nat_lt i 8) refl low e
 
--- ---- the turn that is given is out
+-- ---- the lease that is granted is out
 
 any_by : (p : Entry → Bool) (o : Entry) (os : List Entry) (b : Bool) → (list_any p os ≡ true → (x : Entry) × (find p os ≡ Some x)) → (b || list_any p os) ≡ true → (x : Entry) × (cond b (Some o) (find p os) ≡ Some x)
 any_by p o os true rest e = (o, refl)
@@ -75,7 +75,7 @@ found_if p q g o x os true not new rest e =
     ap (λ (b : Bool). cond b (Some (g o)) (find q os)) (new o) ∙ ap (λ (y : Entry). Some (g y)) same
 found_if p q g o x os false not new rest e = ap (λ (b : Bool). cond b (Some o) (find q (at_first p (λ y. g y ∷ []) os))) not ∙ rest e
 
--- what becomes of the first that passes p is the one that passes q
+-- the result for the first element that passes p is the one that passes q.
 first_found : (p q : Entry → Bool) (g : Entry → Entry) (x : Entry) (os : List Entry) → All (λ o. q o ≡ false) os → ((y : Entry) → q (g y) ≡ true) → find p os ≡ Some x → find q (at_first p (λ y. g y ∷ []) os) ≡ Some (g x)
 first_found p q g x [] none new e = absurd (cc)
 first_found p q g x (o ∷ os) none new e = found_if p q g o x os (p o) (All-head (λ y. q y ≡ false) o os none) new (first_found p q g x os (All-tail (λ y. q y ≡ false) o os none) new) e
@@ -110,7 +110,7 @@ module _ (n confirm_after at noticed : ℕ) (h : List ObserverCall) where
   gives_by true e = refl
   gives_by false e = absurd (cc e)
 
-  -- the job of the first that is due
+  -- the job of the first observer with a pending notification.
   given_job : is_some (next_turn noticed (at_moment at w)) ≡ true → (x : Entry) × (find (is_due m noticed) w.held ≡ Some x) × (turn_given_to n at noticed w ≡ Some (turn_job n w.turns (interest_of x)))
   given_job e =
       let gives = gives_by (gives_turn noticed (at_moment at w)) e in
@@ -135,7 +135,7 @@ module _ (s : Seen) (i k now : ℕ) (o : Option Emission) where
         comes = ap (λ (j : Option Job). s.tasks ++ (map new_task (option_to_list j) ++ [])) brought;
       }
 
-  -- the calls of a shard that is asked, by the place that is due
+  -- the calls of a shard that is asked, by the place with a pending notification.
   asked_by : (n : ℕ) (p q : Option ℕ) → p ≡ q → observers n s.policy.confirm_after ((if is_place_of p i n then NextDue at (slot_at s n).noticed ∷ [] else []) ++ s.calls n) ≡ observers n s.policy.confirm_after ((if is_place_of q i n then NextDue at (slot_at s n).noticed ∷ [] else []) ++ s.calls n)
   asked_by n p q is = ap (λ (x : Option ℕ). observers n s.policy.confirm_after ((if is_place_of x i n then NextDue at (slot_at s n).noticed ∷ [] else []) ++ s.calls n)) is
 
@@ -153,7 +153,7 @@ no_job_due s i now o e =
     let at = max (s.shard_moment i) now in
     ap (λ (p : Option ℕ). s.tasks ++ (map new_task (option_to_list (turn_at p s i at)) ++ [])) e ∙ append-nil s.tasks
 
--- ---- a turn that is given up, or lost
+-- ---- a lease that is released, or lost
 
 abbrev pub at_stage : Seen → ℕ → Stage → Scene
 at_stage s k st = record { job = job s k; slot = slot_at s (slot_of s k); around = around s (slot_of s k); stage = st }
@@ -169,7 +169,7 @@ module _ (s : Seen) (k now : ℕ) (turn : Turn) (needs : TurnStage) (o : Option 
   given_up_gone = named_stage (did (GiveUp k now) o) s k (is_here s k (ToTell turn needs) is (λ e. absurd (cc e))) refl
       ∙ ap (λ (st : Stage). (row (GiveUp k now) (at_stage s k st)).stage) is
 
--- ---- a turn that draws a message id
+-- ---- a lease that draws a message ID
 
 module _ (s : Seen) (k now : ℕ) (turn : Turn) (found : Option Ticket) (o : Option Emission) (is : stage s k ≡ ToTell turn (turns.ToDraw found)) where
   drew_stage : stage (and_then (did (Fresh k now) o) s) k ≡ ToTell turn (with_id found (free_id s.ids (max s.moment now)))

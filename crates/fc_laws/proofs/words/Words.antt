@@ -1,10 +1,12 @@
--- The head words are the greatest that were raised, and one that an ETag names makes a Valid.
+-- The head words are the greatest that were raised, and one that an ETag names results in a Valid.
 use Rattle.std.proofs.Common.{◌≡◌, ℕ, ◌+◌, ◌*◌, ◌<◌, ◌≤◌, List, [], ◌∷◌, ◌++◌, length, Bool, true, false, Option, Some, None, refl, sym, ap, ◌∙◌, subst, ⊎_elim, arith, max, length-set, if◌then◌else◌}
 use Rattle.std.specs.Prelude.{◌/◌, ◌%◌, ◌==◌, ◌&&◌, ◌||◌}
 use Rattle.std.specs.List.{list_any}
 use Rattle.std.proofs.lemmas.Bool.{cases_eq, eq-eqb, ne_eqb}
 use Rattle.std.proofs.lemmas.List.{get_or-replicate, get_or-set_same, get_or-set_other, length-replicate}
 use Rattle.coap_msg.specs.declared.types.Emission.{Emission}
+use Rattle.fc_registry.specs.Calls.{initial_vars_of}
+use Rattle.fc_registry.specs.declared.job.InitialVars.{InitialVars}
 use Rattle.fc_registry.specs.declared.job.Job.{Job}
 use Rattle.fc_registry.specs.Slots.{Slot}
 use Rattle.fc_verify.specs.Accepted.{Judgement, Accepts, Breaks, Untypable}
@@ -29,15 +31,15 @@ use Rattle.fc_laws.proofs.jobs.Others.{is_here, named_stage}
 abbrev at : Job → Slot → Around → Stage → Scene
 at job slot ws stage = record { job = job; slot = slot; around = ws; stage = stage }
 
--- ---- what a row raises
+-- ---- the head word that a transition raises
 
-installed_raises : (j : Judgement) (slot : Slot) → word_told (install_call j slot) ≡ None
-installed_raises (Accepts p) slot = refl
-installed_raises (Breaks rule k) slot = refl
-installed_raises Untypable slot = refl
+installed_raises : (v : InitialVars) (j : Judgement) (slot : Slot) → word_told (install_call v j slot) ≡ None
+installed_raises v (Accepts p) slot = refl
+installed_raises v (Breaks rule k) slot = refl
+installed_raises v Untypable slot = refl
 
-verified_raises : (memory : Bool) (x : Scene) → word_told (install_if memory (judged (image_of x.job.ask)) x.slot) ≡ None
-verified_raises true x = installed_raises (judged (image_of x.job.ask)) x.slot
+verified_raises : (memory : Bool) (x : Scene) → word_told (install_if memory (initial_vars_of x.job.ask) (judged (image_of x.job.ask)) x.slot) ≡ None
+verified_raises true x = installed_raises (initial_vars_of x.job.ask) (judged (image_of x.job.ask)) x.slot
 verified_raises false x = refl
 
 abbrev raise_by : Event → Stage → Option ℕ
@@ -73,7 +75,7 @@ unfolding seen
 sixty_four (Begins serial id policy) = length-replicate {A = ℕ} 64 0
 sixty_four (Then h r) = words_length (names r.event) r.event (seen h) ∙ sixty_four h
 
--- the words that are raised, by the option of one
+-- head words that are raised, by the option of one.
 abbrev words_in : Bool → Option ℕ → List ℕ
 words_in true (Some w) = w ∷ []
 words_in b o = []
@@ -144,7 +146,7 @@ pub words_rise : (h : History) (r : Entry) (n : ℕ) → n < 64 → word_at (see
 unfolding seen
 words_rise h r n lt = omega (arith, word_after r.event (seen h) n (subst (λ (i : ℕ). n < i) (sym (sixty_four h)) lt))
 
--- ---- a look that finds an ETag
+-- ---- a read that finds an ETag
 
 or_true : (b : Bool) → (b || true) ≡ true
 or_true true = refl

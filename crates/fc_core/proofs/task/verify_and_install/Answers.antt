@@ -16,10 +16,10 @@ use Rattle.fc_core.proofs.Rejections.{rejected_call, same_slot}
 use Rattle.fc_core.proofs.task.verify_and_install.Goals as goal
 
 -- the call of the refusal
-rejects : (c : goal.After-rejected) → Rejects (refused (Broken c.in-Err-Broken.fault)) ≡ install_call (judged c.args.image.now) (slot_in c.args.shard.now c.args.slot)
+rejects : (c : goal.After-rejected) → Rejects (refused (Broken c.in-Err-Broken.fault)) ≡ install_call c.args.initial (judged c.args.image.now) (slot_in c.args.shard.now c.args.slot)
 rejects c =
     let is : IsFaultOf c.args.image.now (judged c.args.image.now) c.in-Err-Broken.fault = subst (λ (r : Refusal). IsRefusal c.args.image.now r) c.in-Err-Broken.field-0-is c.in-Err-Broken.ensures.refused in
-    rejected_call c.args.image.now (judged c.args.image.now) c.in-Err-Broken.fault (slot_in c.args.shard.now c.args.slot) is
+    rejected_call c.args.image.now c.args.initial (judged c.args.image.now) c.in-Err-Broken.fault (slot_in c.args.shard.now c.args.slot) is
 
 pub returns-in-Err-Broken-clause-stage : goal.returns-in-Err-Broken-clause-stage
 returns-in-Err-Broken-clause-stage c = c.rejected.ensures ∙ (ap (λ (f : Fault). ToAnswer (refused (Broken f))) c.in-Err-Broken.fault-is ∙ ap next_stage (rejects c))
@@ -31,5 +31,5 @@ returns-in-Err-Broken-clause-shard c = λ s.
 
 pub returns-in-Ok-clause-shard : goal.returns-in-Ok-clause-shard
 returns-in-Ok-clause-shard c =
-    subst (λ (j : Judgement). OnOk c.install_program.result ((s : Scene) → c.install_program.new.shard ≡ shard_moved (install_move j (record s { slot = slot_in c.args.shard.now c.args.slot })) c.args.slot c.args.shard.now))
+    subst (λ (j : Judgement). OnOk c.install_program.result ((s : Scene) → c.install_program.new.shard ≡ shard_moved (install_move c.args.initial j (record s { slot = slot_in c.args.shard.now c.args.slot })) c.args.slot c.args.shard.now))
     (sym c.in-Ok.ensures.judged) c.install_program.ensures.shard

@@ -3,6 +3,6 @@ use Rattle.std.specs.Io.KnownBytes.{Appends}
 use Rattle.fc_replay.specs.Printed.{emitted_line}
 use Rattle.fc_replay.proofs.replay.print_emissions.Given as goal
 
--- those so far were printed
+-- the emissions so far were printed.
 abbrev pub invariant-loop-emitted : goal.invariant-loop-emitted
 invariant-loop-emitted g l = Appends (g.W.Write.contents l.fn.out) (g.W.Write.contents l.out) (flat_map emitted_line (take l.emitted-index l.emissions))

@@ -1,7 +1,10 @@
 use Rattle.std.proofs.Common.{List, sym, ap, subst, ◌∙◌}
+use Rattle.fc_registry.specs.Laws.{RingBegins}
 use Rattle.fc_registry.specs.Record.{IsRing}
 use Rattle.fc_registry.specs.Shards.{AreShards, shard_at, slot_in_shards}
 use Rattle.fc_registry.specs.Slots.{Shard}
+use Rattle.fc_core.specs.History.{history_after, seen}
+use Rattle.fc_server.specs.States.{begin_of}
 use Rattle.fc_world.proofs.Running.{has_run, runs_on, starts}
 use Rattle.fc_world.specs.Parts.{parts}
 use Rattle.fc_world.proofs.run.run_world_from.Goals as goal
@@ -40,3 +43,7 @@ returns-clause-rings c = let run = has_run c.loop-event.invariant c.loop-event.a
 
 pub returns-clause-means : goal.returns-clause-means
 returns-clause-means c = (has_run c.loop-event.invariant c.loop-event.auto.event-index-end c.loop-event-test.false).means
+
+pub returns-clause-begins : goal.returns-clause-begins
+returns-clause-begins c = let run = has_run c.loop-event.invariant c.loop-event.auto.event-index-end c.loop-event-test.false in λ n lt.
+    subst (λ (xs : List Shard). RingBegins c.args.begin.now.serial ((seen (history_after (begin_of c.args.begin.now) c.args.events.now c.loop-event.emissions.items)).changes n) (slot_in_shards xs n)) (sym c.into_shards.ensures) (run.begins n lt)
