@@ -1,1 +1,2 @@
 pub mod Takings
+mod Confirming

@@ -1,4 +1,4 @@
--- A request's taking changes nothing.
+-- A request's snapshot changes nothing.
 use Rattle.std.proofs.Common.{◌≡◌, ◌∙◌, ℕ, ◌/◌, List, Option, None, ap}
 use Rattle.fc_registry.specs.declared.job.Job.{Job}
 use Rattle.fc_registry.specs.Calls.{after_taking, taking_calls_by}

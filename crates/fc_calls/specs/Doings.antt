@@ -1,4 +1,5 @@
--- What each call of a shard does: the shard before, what it answers, and the shard after; and what each call of a front does.
+-- Effect of each call of a shard: the shard before, the result, and the shard after; and the effect
+-- of each call of a front.
 use Rattle.std.specs.Prelude.{◌≡◌, ℕ, Bool, false, if◌then◌else◌, List, Option, Some, None}
 use Rattle.coap_msg.specs.declared.types.Emission.{Emission}
 use Rattle.coap_msg.specs.declared.types.Endpoint.{Endpoint}
@@ -24,101 +25,105 @@ use Rattle.fc_registry.specs.declared.shard.Removal.{Removal}
 use Rattle.fc_registry.specs.Taken.{Found, Taken}
 use Rattle.fc_registry.specs.Views.{HasSize, taken_with}
 use Rattle.fc_registry.specs.declared.shard.Taken as handles
-use Rattle.fc_registry.specs.Calls.{CommitsTo, TakesAt, after_taking, install_in, receipt_at, remove_from, run_of}
+use Rattle.fc_registry.specs.Calls.{CommitsTo, TakesAt, after_taking, install_in, receipt_at, remove_from, run_of, initial_vars_of}
 use Rattle.fc_registry.specs.Changes.{after_changes}
 use Rattle.fc_registry.specs.Notes.{NotesTo}
 use Rattle.fc_registry.specs.Slots.{Shard, Ticket, slot_in, with_slot}
 use Rattle.fc_registry.specs.Turns.{due_job}
 use Rattle.fc_registry.specs.Watches.{StaysQuietUntil, after_due, after_given_up, shard_after_tick, due_place, at_time, is_quiet, late_place, signal_call, signalled, ticked_in}
 
--- a run is committed at a moment
+-- a run is committed at this time.
 abbrev pub CommitsAt : ℕ → Ran → Ticket → Shard → Committed → Shard → Type 0
 CommitsAt now ran ticket before committed after = CommitsTo ran ticket before now committed after
 
--- the first notification that is late at a moment is sent again
+-- the first notification that has timed out at this time is retransmitted, or its observer is
+-- removed.
 abbrev pub TicksAt : ℕ → Shard → Ticked → Shard → Type 0
 TicksAt now before ticked after =
     let at = at_time before now in
     (ticked ≡ ticked_in (late_place at) at) × (after ≡ shard_after_tick (late_place at) at)
 
--- a moment is kept where nothing is late then and nobody is due
+-- the clock is advanced to this time if the shard is idle then.
 abbrev pub PassesIfQuiet : ℕ → Shard → Bool → Shard → Type 0
 PassesIfQuiet now before quiet after =
     let at = at_time before now in
     (quiet ≡ is_quiet at) × (after ≡ (if quiet then at else before))
 
--- it is told until when nothing is late and nobody is due
+-- a time is returned before which the shard is idle.
 abbrev pub TellsQuietUntil : Shard → ℕ → Shard → Type 0
 TellsQuietUntil before until after = StaysQuietUntil until before × (after ≡ before)
 
--- the first observer that is due at a moment gets the turn
+-- the first observer with a pending notification at this time gets a lease.
 abbrev pub GivesTurnAt : ℕ → Shard → Option Job → Shard → Type 0
 GivesTurnAt now before job after =
     let at = at_time before now in
     (job ≡ due_job (due_place at) at) × (after ≡ after_due (due_place at) at)
 
--- a signal reaches the observers of every slot. It is no abbreviation, nor is the next: who asks for another call has to say so
+-- a signal reaches the observers of every slot. It isn't an abbreviation, nor is the next one: a
+-- proof about another call has to state which call it is.
 unfoldable pub HandsOn : Bool → Endpoint → ℕ → Shard → Shard → Type 0
 HandsOn reset from id before after = after ≡ signalled (signal_call reset from id) before
 
--- a turn is given up at a moment
+-- a lease is released at this time.
 unfoldable pub GivesUpAt : ℕ → Turn → Shard → Shard → Type 0
 GivesUpAt now turn before after = after ≡ after_given_up turn (at_time before now)
 
--- a job takes what it finds in its slot, with these readings
+-- a job takes a snapshot of its slot, with these readings.
 abbrev pub TakesTo : Job → List ℕ → Shard → Taken → Shard → Type 0
 TakesTo job readings before taken after = TakesAt job readings before taken × (after ≡ after_taking job before)
 
--- it takes so, where what it gives stands beside what was written down; a program that is given has as many variables as were written down
+-- it does so, with the variables written to the snapshot's memory; a program in the snapshot has as
+-- many variables as were written.
 abbrev pub TakesInto : Job → List ℕ → Shard → handles.Taken → Found → Shard → Type 0
 TakesInto job readings before taken found after = TakesTo job readings before (taken_with taken found) after × HasSize taken found
 
--- a program is installed in the slot of a job
+-- a program is installed in the slot of a job, which determines the variables that it leaves.
 abbrev pub InstallsTo : Job → Program → Shard → Made → Shard → Type 0
 InstallsTo job program before made after =
     let slot = job.origin.slot in
-    let called = install_in (slot_in before slot) program in
+    let called = install_in (slot_in before slot) program (initial_vars_of job.ask) in
     (made ≡ called.answer) × (after ≡ with_slot before slot (after_changes (slot_in before slot) called.changes))
 
--- the program of the slot of a job is removed
+-- the program in a job's slot is removed.
 abbrev pub RemovesFrom : Job → Shard → Removal → Shard → Type 0
 RemovesFrom job before removal after =
     let slot = job.origin.slot in
     let called = remove_from (slot_in before slot) in
     (removal ≡ called.answer) × (after ≡ with_slot before slot (after_changes (slot_in before slot) called.changes))
 
--- what the program in the slot of a job is
+-- the receipt of the program in a job's slot.
 abbrev pub DescribesTo : Job → Shard → Option Receipt → Shard → Type 0
 DescribesTo job before receipt after = (receipt ≡ receipt_at (slot_in before job.origin.slot).present) × (after ≡ before)
 
--- the observer of a turn is notified at a moment, by this message id
+-- the observer of a lease is notified at this time, with this message ID.
 abbrev pub NotesAt : Turn → ℕ → ℕ → ℕ → Notification → Shard → Noted → Shard → Type 0
 NotesAt turn id now random told before noted after = NotesTo told turn id random before now noted after
 
--- what is told is the run of the ticket that was found, or that the slot was found empty
+-- the notification comes from the run of the snapshot's ticket, or says that the slot was empty.
 abbrev pub SaysFound : Notification → Option Ticket → Type 0
 SaysFound (tells.Ran outcome ticket) found = (found ≡ Some ticket.now) × (outcome.now ≡ run_of ticket.now)
 SaysFound tells.Gone found = found ≡ None
 
 -- ---- the front
 
--- a datagram is taken in at a moment, and brings this
+-- a datagram is handled at this time, with this result.
 abbrev pub HearsAt : ℕ → Endpoint → List ℕ → Delivered → FrontState → FrontState → Type 0
 HearsAt now from bytes brings before after =
     let at = advanced before now in
     (brings ≡ delivered at from bytes) × (after ≡ after_delivered at from bytes)
 
--- a front is advanced to a moment. It is no abbreviation, so that no other call of a front is one
+-- a front is advanced to this time. It isn't an abbreviation, so that no other call of a front is
+-- one.
 unfoldable pub AdvancesTo : ℕ → FrontState → FrontState → Type 0
 AdvancesTo now before after = after ≡ advanced before now
 
--- a message id is drawn at a moment, or none is free
+-- a message ID is drawn at this time, or none is available.
 abbrev pub DrawsAt : ℕ → Option ℕ → FrontState → FrontState → Type 0
 DrawsAt now id before after =
     let at = advanced before now in
     (id ≡ free_id at.ids at.now) × (after ≡ record at { ids = drawn_for false at.ids at.now })
 
--- a job is answered at a moment, and this is to be sent, or nothing
+-- a job is answered at this time, and this is to be sent, or nothing.
 pub record AnswersAt (now : ℕ) (job : Job) (content : Content) (sent : Option Emission) (before after : FrontState) : Type 0 where
   pub answered : Answered
   pub answers : AnswersIn (advanced before now) job content answered

@@ -1,4 +1,4 @@
--- Calls that threads make of a server, each with its arguments and its answer.
+-- Calls that threads make of a server, each with its arguments and its result.
 use Rattle.std.specs.Prelude.{ℕ, Bool, List, Option}
 use Rattle.coap_msg.specs.declared.types.Emission.{Emission}
 use Rattle.coap_msg.specs.declared.types.Endpoint.{Endpoint}
@@ -18,41 +18,41 @@ use Rattle.fc_registry.specs.declared.shard.Removal.{Removal}
 use Rattle.fc_registry.specs.Taken.{Taken}
 use Rattle.fc_registry.specs.Slots.{Ticket}
 
--- a call that may change something, or whose answer is soon out of date
+-- a call that may change something, or whose result is soon out of date.
 pub data LoggedCall : Type 0 where
-  -- a datagram is taken in at a moment: what it brings
+  -- a datagram is handled at this time, with this result.
   HearsDatagram : (now : ℕ) (from : Endpoint) (bytes : List ℕ) (brings : Delivered) → LoggedCall
-  -- the front is advanced to a moment
+  -- the front is advanced to this time.
   AdvancesFront : (now : ℕ) → LoggedCall
-  -- a message id is drawn at a moment, or none is free
+  -- a message ID is drawn at this time, or none is available.
   DrawsId : (now : ℕ) (id : Option ℕ) → LoggedCall
-  -- a job is answered at a moment: what is to be sent
+  -- a job is answered at this time, and this is to be sent, or nothing.
   AnswersRequest : (now : ℕ) (job : Job) (content : Content) (sent : Option Emission) → LoggedCall
-  -- what the program in the slot of a job is
+  -- the receipt of the program in a job's slot.
   TellsReceipt : (job : Job) (receipt : Option Receipt) → LoggedCall
-  -- the readings of the device
+  -- the readings of the device.
   GivesReadings : (readings : List ℕ) → LoggedCall
-  -- a look at the head word of a slot
+  -- the head word of a slot is read.
   LooksAt : (slot word : ℕ) → LoggedCall
-  -- a job takes what it finds in its slot, with these readings
+  -- a job takes a snapshot of its slot, with these readings.
   TakesForJob : (job : Job) (readings : List ℕ) (taken : Taken) → LoggedCall
-  -- a run is committed at a moment, by its ticket
+  -- a run is committed at this time, by its ticket.
   CommitsRun : (now : ℕ) (ran : Ran) (ticket : Ticket) (committed : Committed) → LoggedCall
-  -- a program is installed in the slot of a job
+  -- a program is installed in the slot of a job.
   InstallsProgram : (job : Job) (program : Program) (made : Made) → LoggedCall
-  -- the program of the slot of a job is removed
+  -- the program in a job's slot is removed.
   RemovesProgram : (job : Job) (removal : Removal) → LoggedCall
-  -- a shard is handed a Reset message or an Acknowledgement, by its endpoint and message id
+  -- a shard is passed a Reset message or an Acknowledgement, by its endpoint and message ID.
   HandsSignal : (shard : ℕ) (from : Endpoint) (id : ℕ) (reset : Bool) → LoggedCall
-  -- a shard that is quiet at a moment is advanced to it
+  -- a shard that is idle at this time is advanced to it.
   AdvancesQuiet : (shard now : ℕ) → LoggedCall
-  -- a shard is advanced to a moment: what it sends again
+  -- a shard is advanced to this time, with this result.
   AdvancesShard : (shard now : ℕ) (ticked : Ticked) → LoggedCall
-  -- a shard is asked at a moment who is due
+  -- a shard is asked at this time for its next lease.
   GivesTurn : (shard now : ℕ) (turn : Option Job) → LoggedCall
-  -- the observer of a turn is notified at a moment, by this message id
+  -- the observer of a lease is notified at this time, with this message ID.
   NotesTurn : (turn : Turn) (id now random : ℕ) (told : Notification) (noted : Noted) → LoggedCall
-  -- a turn is given up at a moment
+  -- a lease is released at this time.
   GivesUpTurn : (turn : Turn) (now : ℕ) → LoggedCall
-  -- the head word of a slot is raised to this word
+  -- the head word of a slot is raised to this word.
   RaisesWord : (slot word : ℕ) → LoggedCall

@@ -5,7 +5,7 @@ ghost use Rattle.fc_registry.specs.Slots.{Shard};
 ghost use Rattle.fc_registry.specs.Taken.{Taken};
 ghost use Rattle.fc_calls.specs.Doings.{TakesTo};
 
-/// A request's job that takes what its slot holds leaves the shard as it is.
+/// A request's job that takes a snapshot of its slot leaves the shard unchanged.
 pub fn requests_take_and_change_nothing()
     ensures { (job : Job) (readings : List ℕ) (before after : Shard) (taken : Taken) → job.turn ≡ None →
         TakesTo job readings before taken after → after ≡ before }

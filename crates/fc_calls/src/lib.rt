@@ -1,13 +1,21 @@
-//! Calls that threads make of a server's parts, and what each does to its part, as definitions.
+//! Definitions of threads' calls of a server's parts, and of their effects.
 //!
-//! `specs/Logged.antt` has a call with its arguments and its answer, for each kind of call that a thread's log has.
-//! `specs/Doings.antt` has the effect of each: the part before, the answer, and the part after.
+//! `specs/Logged.antt` has a call with its arguments and its result, for each kind of call in a
+//! thread's log. `specs/Doings.antt` has the effect of each: the part before, the result, and the
+//! part after. Each call of a shard is a struct of its own ([`ShardCall`]).
 //!
 //! # What is proved
 //!
-//! - A request's job that takes leaves its shard as it is. A turn's job doesn't, since its turn may have timed out.
+//! - A request's job that takes a snapshot leaves its shard unchanged. A lease's job doesn't, since
+//!   its lease may have timed out.
+//! - A call of a shard has its effect. The shard keeps its index, its eight slots and the time of its
+//!   confirmable notifications. Its serials increase by the changes that the result reports; if
+//!   there are none, its slots don't change.
 //!
-//! By the contracts of `laws`.
+//! By the contracts of `laws`, `ShardCall::call`, `Change::has_changed`.
 #![tactic(auto)]
 
+pub mod calls;
 pub mod laws;
+
+pub use calls::{Change, ShardCall};

@@ -34,7 +34,7 @@ or_none false c d x y = rw (x, y) refl
 or_last : (a b c : Bool) → a ≡ false → b ≡ false → c ≡ (a || (b || c))
 or_last a b c x y = rw (x, y) refl
 
--- what is on the front's track is of the front, and on a shard's of the shard
+-- operations on the front's track belong to the front, and those on a shard's track to the shard.
 front_key : (p : ServerPart) (who : ℕ) → 9 ≤ who → is_front p ≡ (part_key who p == 0)
 front_key FrontPart who le = refl
 front_key (ShardPart i) who le = sym (not_same (i + 1) 0 (λ e. absurd (omega (arith, e))))

@@ -11,7 +11,7 @@ use Rattle.fc_filed.specs.declared.entry.FiledEntry.{FiledEntry}
 use Rattle.fc_filed.specs.Entries.{AreKeyed, IsKeyed, is_of_job, part_key}
 use Rattle.fc_filed.specs.Threads.{MayFile, entry_by, key_of_first}
 
--- an operation of a shard is of one of the eight
+-- an operation of a shard belongs to one of the eight.
 abbrev pub IsLow : ServerPart → Type 0
 IsLow (ShardPart index) = index < 8
 IsLow other = Unit {0}
@@ -38,7 +38,7 @@ low_of (Logged (RaisesWord slot word)) p = tt
 low_of (RejectsImage job content) p = tt
 low_of (LacksMemory job) p = tt
 
--- no part's track is a job's
+-- no part's track is a job's.
 pub part_below : (p : ServerPart) (who first_job : ℕ) → IsLow p → 9 ≤ who → who < first_job → part_key who p < first_job
 part_below FrontPart who first_job low le lt = omega (arith, le, lt)
 part_below (ShardPart i) who first_job low le lt = omega (arith, low, le, lt)

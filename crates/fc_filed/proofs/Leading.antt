@@ -1,4 +1,5 @@
--- Operations that lead a part from one state to another, one more of them, and the log that fc_linear's law has of them.
+-- Operations that lead a part from one state to another, one more of them, and their log, to which
+-- the law of fc_linear applies.
 use Rattle.std.proofs.Common.{◌≡◌, ℕ, Bool, true, false, List, [], ◌∷◌, ◌++◌, refl, sym, subst}
 use Rattle.std.specs.Prelude.{if◌then◌else◌}
 use Rattle.std.specs.List.{filter}
@@ -14,7 +15,7 @@ module _ {S : Type 0} (Does : Operation → S → S → Type 0) where
   leads_more [] e x y z r d = (z, subst (λ (s : S). Does e.operation s z) r d, refl)
   leads_more (f ∷ fs) e x y z r d = (r.0, r.1, leads_more fs e r.0 y z r.2 d)
 
-  -- a part's calls with one more
+  -- a part's calls with one more.
   pub leads_filed : (es calls : List FiledEntry) (e : FiledEntry) (x y z : S) → calls ≡ es ++ e ∷ [] → OperationsLead Does es x y → Does e.operation y z → OperationsLead Does calls x z
   leads_filed es calls e x y z is r d = subst (λ (l : List FiledEntry). OperationsLead Does l x z) (sym is) (leads_more es e x y z r d)
 
@@ -22,7 +23,7 @@ module _ {S : Type 0} (Does : Operation → S → S → Type 0) where
   lead_log first_job [] x y r = r
   lead_log first_job (e ∷ es) x y r = (r.0, r.1, lead_log first_job es r.0 y r.2)
 
--- the log's operations of the head words lead these as all do
+-- the log's operations of the head words lead these as all do.
 abbrev of_heads : List FiledEntry → List FiledEntry
 of_heads log = filter (λ e. is_words (part_of e.operation)) log
 

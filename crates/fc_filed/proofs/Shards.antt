@@ -3,7 +3,7 @@ use Rattle.std.proofs.Common.{◌≡◌, ℕ, ◌+◌, ◌<◌, List, [], ◌∷
 use Rattle.fc_registry.specs.Shards.{shard_at}
 use Rattle.fc_registry.specs.Slots.{Shard}
 use Rattle.fc_server.specs.declared.server.Begin.{Begin}
-use Rattle.fc_workers.specs.Counts.{HasEightSlots}
+use Rattle.fc_calls.specs.Kept.{HasEightSlots}
 use Rattle.fc_linear.specs.Operations.{ShardDoes}
 use Rattle.fc_linear.specs.Parts.{first_server}
 use Rattle.fc_filed.specs.declared.entry.FiledEntry.{FiledEntry}

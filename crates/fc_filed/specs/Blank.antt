@@ -1,4 +1,4 @@
--- What a name stands for, if nothing chooses it.
+-- The meaning of a name that no call chooses.
 use Rattle.std.specs.Prelude.{[]}
 use Rattle.fc_core.specs.Policies.{default_policy}
 use Rattle.fc_server.specs.declared.server.Begin.{Begin}

@@ -1,4 +1,4 @@
--- The rule of a server's book, whose words are the head words, and what is attested of it.
+-- The rule of a server's book, whose words are the head words, and its attested history.
 use Rattle.std.specs.Prelude.{◌≡◌, ℕ, ◌<◌, ◌≤◌, List, [], ◌∷◌, drop, length}
 use lib.ListN.{get_elem?}
 use mathlib.Core.Option.{some}
@@ -10,37 +10,38 @@ use Rattle.fc_linear.specs.Parts.{BringsItsJob}
 use Rattle.fc_filed.specs.declared.entry.FiledEntry.{FiledEntry}
 use Rattle.fc_filed.specs.Entries.{AreKeyed, ChangesWords, OperationsLead, entry_keys, log_of}
 
--- the table's words after the first eight, which are padding: the head words of slots 0 to 63
+-- the table's words after the first eight, which are padding: the head words of slots 0 to 63.
 abbrev pub heads_in : List ℕ → List ℕ
 heads_in words = drop 8 words
 
--- a track is right for its job: the first entry brings the job, and the others follow its stages
+-- a track is right for its job: the first entry produces the job, and the others follow its stages.
 abbrev pub IsRightForJob : ℕ → List FiledEntry → Type 0
 IsRightForJob first_job entries = BringsItsJob (log_of first_job entries)
 
 -- ---- jobs that no thread has
 
--- one of the view's own tracks is a thread's
+-- one of the view's own tracks is a thread's.
 abbrev pub HasThread : ℕ → BookView FiledEntry → Type 0
 HasThread first_job v = (t : ℕ) × ((9 ≤ t) × ((t < first_job) × HasKey t v.own))
 
--- a view has this track and a thread's
+-- a view has this track and a thread's.
 abbrev pub IsWithThread : ℕ → List (BookView FiledEntry) → ℕ → Type 0
 IsWithThread first_job views k = (i : ℕ) × ((v : BookView FiledEntry) × ((get_elem? views i ≡ some v) × (HasThread first_job v × HasKey k v.own)))
 
--- a job's track that no thread has, as that of a message that is lost, is right for its job
+-- a job's track that no thread has, such as that of a lost message, is right for its job.
 abbrev pub AreSent : ℕ → List FiledEntry → List (BookView FiledEntry) → Type 0
 AreSent first_job log views = (k : ℕ) → first_job ≤ k → (IsWithThread first_job views k → ⊥) → IsRightForJob first_job (on entry_keys k log)
 
--- if there is a first track, it is a job's, and right for the job
+-- if there is a first track, it is a job's, and right for the job.
 abbrev pub IsFirstSent : ℕ → List (Track FiledEntry) → Type 0
 IsFirstSent first_job [] = Unit {0}
 IsFirstSent first_job (t ∷ ts) = (first_job ≤ t.key) × IsRightForJob first_job t.entries
 
 -- ---- the rule
 
--- there is one history, each view is one of it, and no two have the same track; the history's looks and raises lead the head words from 0 to those
--- of the table; each entry has keys of its kind; and a job's track that no thread has is right for its job
+-- there is one history, each view is one of it, and no two have the same track. The history's looks
+-- and raises lead the head words from 0 to those of the table. Each entry has keys of its kind. A
+-- job's track that no thread has is right for its job.
 pub record HaveServerHistory (first_job : ℕ) (words : List ℕ) (views : List (BookView FiledEntry)) : Type 0 where
   pub log : List FiledEntry
   pub views_of : AreViewsOf entry_keys log views
@@ -49,7 +50,8 @@ pub record HaveServerHistory (first_job : ℕ) (words : List ℕ) (views : List 
   pub keyed : AreKeyed first_job log
   pub sent : AreSent first_job log views
 
--- the view is one of such a history. If all threads' tracks are its own, then each job's track is its own or is right for its job
+-- the view is one of such a history. If all threads' tracks are its own, then each job's track is
+-- its own or is right for its job.
 pub record HasServerHistory (first_job : ℕ) (v : BookView FiledEntry) : Type 0 where
   pub log : List FiledEntry
   pub is : IsViewOf entry_keys log v

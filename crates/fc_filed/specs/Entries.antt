@@ -1,4 +1,6 @@
--- The entries of a server's history: their keys, what each does to its part, and the log that fc_linear's law has of them.
+-- Entries of a server's history: their keys, and their effects on parts.
+--
+-- The last section has their log, to which the law of fc_linear applies.
 use Rattle.std.specs.Prelude.{◌≡◌, ℕ, ◌+◌, ◌-◌, ◌<◌, ◌≤◌, ◌||◌, Bool, true, false, List, [], ◌∷◌, map, is_some}
 use Rattle.fc_book.specs.Tracks.{EntryKeys}
 use Rattle.fc_linear.specs.Operations.{LogEntry, Operation, ServerPart, FrontPart, ShardPart, WordsPart, NoPart, IsEvent, WordsDo, is_for_job, is_words, job_brought, part_of}
@@ -7,7 +9,8 @@ use Rattle.fc_filed.specs.Blank.{no_operation}
 
 -- ---- keys
 
--- the key of a part: the front's is 0, and shard i's i + 1. What is of no locked part is on the track of its thread
+-- the key of a part: the front's is 0, and shard i's i + 1. An operation of no locked part is on
+-- the track of its thread.
 abbrev pub part_key : ℕ → ServerPart → ℕ
 part_key who FrontPart = 0
 part_key who (ShardPart index) = index + 1
@@ -17,11 +20,11 @@ part_key who NoPart = who
 abbrev pub entry_keys : FiledEntry → EntryKeys
 entry_keys e = record { part = part_key e.who (part_of e.operation); who = e.who; job = e.job }
 
--- it is for a job that came before, or brings one
+-- it is for a job that came before, or produces one.
 abbrev pub is_of_job : Operation → Bool
 is_of_job operation = is_for_job operation || is_some (job_brought operation)
 
--- keys 0 to 8 are of parts, those below the first job's are of threads, and the others of jobs
+-- keys 0 to 8 are of parts, those below the first job's are of threads, and the others of jobs.
 pub record IsKeyed (first_job : ℕ) (e : FiledEntry) : Type 0 where
   pub who : (9 ≤ e.who) × (e.who < first_job)
   pub job : is_of_job e.operation ≡ true → first_job ≤ e.job
@@ -35,7 +38,7 @@ AreKeyed first_job (e ∷ es) = IsKeyed first_job e × AreKeyed first_job es
 abbrev pub blank_entry : FiledEntry
 blank_entry = record { who = 0; job = 0; operation = no_operation }
 
--- ---- the log of the entries, whose jobs have the numbers from 0 on
+-- ---- the log of the entries, whose jobs have the numbers from 0 up
 
 abbrev pub log_entry : ℕ → FiledEntry → LogEntry
 log_entry first_job e = record { job = e.job - first_job; operation = e.operation }
@@ -43,14 +46,14 @@ log_entry first_job e = record { job = e.job - first_job; operation = e.operatio
 abbrev pub log_of : ℕ → List FiledEntry → List LogEntry
 log_of first_job log = map (log_entry first_job) log
 
--- ---- what they do to a part
+-- ---- their effects on a part
 
--- the operations, in order, lead a part from one state to another
+-- the operations, in order, lead a part from one state to another.
 abbrev pub OperationsLead : {S : Type 0} → (Operation → S → S → Type 0) → List FiledEntry → S → S → Type 0
 OperationsLead Does [] x y = y ≡ x
 OperationsLead {S} Does (e ∷ es) x y = (m : S) × Does e.operation x m × OperationsLead Does es m y
 
--- an operation of the head words does what it does to them, and any other leaves them
+-- an operation of the head words has its effect on them, and any other leaves them unchanged.
 abbrev pub WordsDoIf : Bool → Operation → List ℕ → List ℕ → Type 0
 WordsDoIf true operation ws vs = WordsDo operation ws vs
 WordsDoIf false operation ws vs = vs ≡ ws

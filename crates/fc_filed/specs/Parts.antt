@@ -1,4 +1,4 @@
--- A front and a shard that lie under a lock together with the track of their calls, as a clause sees them.
+-- The views of a front and a shard that are under a lock with the track of their calls.
 use Rattle.std.specs.Prelude.{◌≡◌, ℕ, ◌+◌, ◌<◌, ◌≤◌, Bool, List}
 use Rattle.fc_registry.specs.declared.job.Job.{Job}
 use Rattle.fc_registry.specs.declared.shard.Taken.{Taken}
@@ -10,48 +10,50 @@ use Rattle.fc_core.specs.Exchanges.{FrontState}
 use Rattle.fc_registry.specs.Slots.{Shard}
 use Rattle.fc_registry.specs.Shards.{shard_at}
 use Rattle.fc_server.specs.declared.server.Begin.{Begin}
-use Rattle.fc_workers.specs.Counts.{HasEightSlots}
+use Rattle.fc_calls.specs.Kept.{HasEightSlots}
 use Rattle.fc_linear.specs.Parts.{first_server}
 use Rattle.fc_linear.specs.Operations.{Operation, ShardPart, IsEvent, ShardDoes, part_of}
 use Rattle.fc_filed.specs.declared.entry.FiledEntry.{FiledEntry}
 use Rattle.fc_filed.specs.Entries.{OperationsLead, is_of_job}
 
--- a front, and the operations that led to it from the server's first
+-- a front, and the operations that led to it from the server's first front.
 pub record FrontCalls : Type 0 where
   pub front : FrontState
   pub calls : List FiledEntry
 
--- a shard, and the operations that led to it from the server's first of its index
+-- a shard, and the operations that led to it from the server's first shard of its index.
 pub record ShardCalls : Type 0 where
   pub shard : Shard
   pub calls : List FiledEntry
 
--- the operation is one of this shard, is of a job or isn't, and led from one state of the shard to the other
+-- the operation is one of this shard, for a job or for none, and led from one state of the shard to
+-- the other.
 pub record IsOperationOf (of_job : Bool) (operation : Operation) (before after : Shard) : Type 0 where
   pub does : ShardDoes operation before after
   pub part : part_of operation ≡ ShardPart before.index
   pub job : is_of_job operation ≡ of_job
   pub event : before.index < 8 → IsEvent operation
 
--- the operations lead to the shard from a new server's first of its index, 0 to 7, whose key is one more
+-- the operations lead to the shard from a new server's first shard of its index, 0 to 7; the key is
+-- one more.
 abbrev pub AreCallsOf : Begin → ℕ → List FiledEntry → Shard → Type 0
 AreCallsOf begin key calls shard =
     HasEightSlots shard × (shard.index < 8) × (key ≡ shard.index + 1)
     × OperationsLead ShardDoes calls (shard_at (first_server begin).shards shard.index) shard
 
--- ---- what a program costs that a snapshot finds
+-- ---- the cost of a snapshot's program
 
--- it is of a program that takes so many steps or more
+-- it has a program that takes this number of steps or more.
 abbrev pub CostsFrom : ℕ → Taken → Type 0
 CostsFrom least (Given program) = least ≤ program.value.cost
 CostsFrom least other = ⊥
 
--- it isn't
+-- it hasn't.
 abbrev pub IsCheap : ℕ → Taken → Type 0
 IsCheap least (Given program) = program.value.cost < least
 IsCheap least other = Unit {0}
 
--- the job would find a program that takes so many steps or more
+-- a snapshot for the job would have a program that takes this number of steps or more.
 pub record IsDearIn (least : ℕ) (job : Job) (readings : List ℕ) (shard : Shard) : Type 0 where
   pub taken : Taken
   pub found : Found

@@ -1,4 +1,4 @@
--- What a thread files, by the tracks that it has.
+-- The entries that a thread files, by its tracks.
 use Rattle.std.specs.Prelude.{◌≡◌, ℕ, ◌<◌, ◌≤◌, Bool, true, false, if◌then◌else◌, List, [], ◌∷◌}
 use Rattle.fc_book.specs.declared.view.Track.{Track}
 use Rattle.fc_book.specs.declared.view.BookView.{BookView}
@@ -10,35 +10,37 @@ use Rattle.fc_linear.specs.Operations.{IsEvent, Logged, Operation}
 use Rattle.fc_filed.specs.declared.entry.FiledEntry.{FiledEntry}
 use Rattle.fc_filed.specs.Entries.{entry_keys, is_of_job}
 
--- the key of the first track
+-- the key of the first track.
 abbrev pub key_of_first : List (Track FiledEntry) → ℕ
 key_of_first [] = 0
 key_of_first (t ∷ ts) = t.key
 
--- the entry of an operation of thread `who`: its job is the one whose track is the first of the thread's own; an operation of no job has the thread's key
+-- the entry of an operation of thread `who`. Its job is the one whose track is the first of the
+-- thread's own; an operation of no job has the thread's key.
 abbrev pub entry_by : ℕ → BookView FiledEntry → Operation → FiledEntry
 entry_by who v operation = record { who = who; job = if is_of_job operation then key_of_first v.own else who; operation = operation }
 
--- the thread's tracks after it has filed the operation
+-- the thread's tracks after it has filed the operation.
 abbrev pub did_by : ℕ → Operation → BookView FiledEntry → BookView FiledEntry
 did_by who operation v = with_filed entry_keys (entry_by who v operation) v
 
--- the thread has its own track
+-- the thread has its own track.
 pub record HasOwnTrack (first_job who : ℕ) (v : BookView FiledEntry) : Type 0 where
   pub key : (9 ≤ who) × (who < first_job)
   pub own : HasKey who v.own
 
--- the first of its own tracks is a job's
+-- the first of its own tracks is a job's.
 abbrev pub HasJobFirst : ℕ → BookView FiledEntry → Type 0
 HasJobFirst first_job v = first_job ≤ key_of_first v.own
 
--- the thread may file the operation: it has its own track, and an operation of a job needs the job's track first
+-- the thread may file the operation: it has its own track, and an operation of a job needs the
+-- job's track first.
 pub record MayFile (first_job who : ℕ) (v : BookView FiledEntry) (operation : Operation) : Type 0 where
   pub thread : HasOwnTrack first_job who v
   pub job : is_of_job operation ≡ true → HasJobFirst first_job v
   pub event : IsEvent operation
 
--- the track of a job begins if there is one
+-- the track of a job begins if there is one.
 abbrev pub begun_if : Bool → BookView FiledEntry → BookView FiledEntry
 begun_if brings v = if brings then with_begun v else v
 

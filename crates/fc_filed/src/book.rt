@@ -43,7 +43,7 @@ impl ServerName for Brand {
     ghost begin = { some_begin };
 }
 
-/// A book with an empty history and no name yet.
+/// A book with an empty history and without a name yet.
 #[derive(Drop)]
 pub struct NewServerBook {
     words: FiledWords,
@@ -65,7 +65,9 @@ pub struct ServerBook<J: ServerName> {
     ghost size: { words.shared.table_id.words ≡ 72 },
 }
 
-/// The tracks that a thread or a message owns. It has no bytes; a clause sees its view.
+/// The tracks that a thread or a message owns.
+///
+/// It has no bytes; a clause sees its view.
 #[derive(Drop)]
 pub struct ServerTracks<J: ServerName> {
     seat: FiledSeat,
@@ -84,7 +86,7 @@ impl<J: ServerName> Model for ServerTracks<J> {
     ghost invariant = { λ t. (t.seat.table_id ≡ J.table) × (t.seat.me.1 ≡ []) × (t.seat.me.0.locked ≡ []) };
 }
 
-/// The track of a part, kept under the part's lock.
+/// The track of a part, stored under the part's lock.
 ///
 /// It has no bytes; a clause sees the entries on it, oldest first.
 #[derive(Drop)]
@@ -178,7 +180,8 @@ impl<J: ServerName> ServerTracks<J> {
 
     /// Splits off the first of its own tracks, a job's, and returns it for a message.
     ///
-    /// The track is right for its job. So if the message is lost, the history has the job as it was sent.
+    /// The track is right for its job. So if the message is lost, the history has the job as it was
+    /// sent.
     pub fn split_first(&mut self, book: &ServerBook<J>) -> ServerTracks<J>
         requires { IsFirstSent J.first_job self.old.own }
         ensures first { result ≡ first_own self.old }
@@ -216,7 +219,7 @@ impl<J: ServerName> ServerTracks<J> {
         steps::attest::<J>(&book.words, &mut self.seat);
     }
 
-    /// Reads the head word of `slot`, 0 to 63, and files that. It takes no lock.
+    /// Reads the head word of `slot`, 0 to 63, and files that, without a lock.
     ///
     /// The entry is for the job whose track is first.
     pub fn look(&mut self, book: &ServerBook<J>, who: u64, slot: usize) -> u64
@@ -240,7 +243,7 @@ impl<J: ServerName> ServerTracks<J> {
         raise_as::<Brand, J>(book, self, who, slot, word);
     }
 
-    /// Files that the image of an install's `job` breaks a rule, and is answered so.
+    /// Files that the image of an install's `job` breaks a rule, with its `answer`.
     pub fn reject_image(&mut self, book: &ServerBook<J>, who: u64, job: &Job, answer: &Answer)
         requires thread { HasOwnTrack J.first_job who self.old }
         requires job { HasJobFirst J.first_job self.old }
@@ -259,7 +262,7 @@ impl<J: ServerName> ServerTracks<J> {
     }
 }
 
-/// Files the operation that `X` names, of no part.
+/// Files the operation that `X` names, which belongs to no part.
 ///
 /// It becomes the last entry on the tracks of thread `who` and of the job whose track is first.
 fn file_alone_as<X: FiledName, J: ServerName>(
@@ -276,7 +279,9 @@ fn file_alone_as<X: FiledName, J: ServerName>(
     steps::file_alone::<X>(&book.words, &mut tracks.seat);
 }
 
-/// Files a rejected image, as [`ServerTracks::reject_image`], with the entry named by `X`.
+/// Files a rejected image, with the entry named by `X`.
+///
+/// See [`ServerTracks::reject_image`].
 fn reject_as<X: FiledName, J: ServerName>(
     book: &ServerBook<J>,
     tracks: &mut ServerTracks<J>,
@@ -293,7 +298,9 @@ fn reject_as<X: FiledName, J: ServerName>(
     file_alone_as::<X, J>(book, tracks, who);
 }
 
-/// Files refused memory, as [`ServerTracks::lack_memory`], with the entry named by `X`.
+/// Files refused memory, with the entry named by `X`.
+///
+/// See [`ServerTracks::lack_memory`].
 fn lack_as<X: FiledName, J: ServerName>(
     book: &ServerBook<J>,
     tracks: &mut ServerTracks<J>,
@@ -310,7 +317,8 @@ fn lack_as<X: FiledName, J: ServerName>(
 
 /// Files the operation that `X` names, of a part whose lock the caller holds.
 ///
-/// It becomes the last entry on the tracks of its part, of thread `who` and of the job whose track is first.
+/// It becomes the last entry on the tracks of its part, of thread `who` and of the job whose track
+/// is first.
 pub fn file_as<X: FiledName, J: ServerName, P: Part>(
     book: &ServerBook<J>,
     tracks: &mut ServerTracks<J>,

@@ -1,10 +1,10 @@
-//! The calls of a shard that are filed whatever they are answered.
+//! The calls of a shard that are filed with any answer.
 ghost use Rattle.std.specs.Prelude.{true, false, ⊤, refl};
 ghost use Rattle.fc_registry.specs.Slots.{IsOwned};
 ghost use Rattle.fc_linear.specs.Operations.{Logged, ShardPart};
 
 use crate::shard::FiledCall;
-use fc_workers::calls::{Commit, Describe, GiveUp, Install, Note, Remove, Signal, Take, Tick};
+use fc_calls::calls::{Commit, Describe, GiveUp, Install, Note, Remove, Signal, Take, Tick};
 
 impl<'a> FiledCall for Take<'a> {
     ghost use Rattle.fc_registry.specs.Views.{taken_with};

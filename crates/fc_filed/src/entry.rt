@@ -1,7 +1,9 @@
 //! Entries of a server's history.
 use std::marker::Model;
 
-/// An operation of a server, as a clause sees it. No value of it is made.
+/// An operation of a server, as a clause sees it.
+///
+/// No value of it is made.
 pub struct FiledOperation {
     bits: u8,
 }
@@ -16,7 +18,9 @@ impl Model for FiledOperation {
     ghost view = { any_operation };
 }
 
-/// An entry: the keys of the thread that made a call and of its job, and the operation. No value of it is made.
+/// An entry: the keys of the calling thread and of its job, and the operation.
+///
+/// No value of it is made.
 pub struct FiledEntry {
     pub who: u64,
     pub job: u64,

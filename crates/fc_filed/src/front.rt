@@ -29,7 +29,9 @@ impl<J: ServerName> Part for FrontOf<J> {
     ghost key = { 0 };
 }
 
-/// A front, and the track of its calls, which lead to it from the server's first.
+/// A front and the track of its calls.
+///
+/// The calls lead to it from the server's first front.
 #[derive(Drop)]
 pub struct FiledFront<J: ServerName> {
     front: Front,
@@ -51,7 +53,7 @@ impl<J: ServerName> Model for FiledFront<J> {
 }
 
 impl<J: ServerName> FiledFront<J> {
-    /// Takes the server's first front, with an empty track.
+    /// Makes a filed front of the server's first front, with an empty track.
     pub fn new(front: Front, track: FiledTrack<FrontOf<J>>) -> FiledFront<J>
         requires front { front ≡ (first_server J.begin).front }
         requires track { track ≡ [] }
@@ -60,9 +62,9 @@ impl<J: ServerName> FiledFront<J> {
         FiledFront { front, track }
     }
 
-    /// Takes a datagram in at `now` ms, as [`Front::hear`], and files that.
+    /// Handles a datagram at `now` ms, as [`Front::hear`] does, and files that.
     ///
-    /// A job that it brings begins a track.
+    /// A job that the datagram produces begins a track.
     pub fn hear(
         &mut self,
         book: &ServerBook<J>,
@@ -97,7 +99,7 @@ impl<J: ServerName> FiledFront<J> {
         outcome
     }
 
-    /// Advances the clock to `now` ms, as [`Front::tick`], and files that.
+    /// Advances the clock to `now` ms, as [`Front::tick`] does, and files that.
     pub fn tick(&mut self, book: &ServerBook<J>, tracks: &mut ServerTracks<J>, who: u64, now: u64)
         requires { HasOwnTrack J.first_job who tracks.old }
         ensures filed { tracks.new ≡ did_by who (Logged (AdvancesFront now)) tracks.old }
@@ -106,7 +108,7 @@ impl<J: ServerName> FiledFront<J> {
         file_tick::<Brand, J>(book, tracks, &mut self.track, who, now);
     }
 
-    /// Allocates a message ID at `now` ms, as [`Front::fresh_id`], and files that.
+    /// Allocates a message ID at `now` ms, as [`Front::fresh_id`] does, and files that.
     pub fn fresh_id(
         &mut self,
         book: &ServerBook<J>,
@@ -123,7 +125,7 @@ impl<J: ServerName> FiledFront<J> {
         id
     }
 
-    /// Answers the job at `now` ms, as [`Front::respond`], and files that.
+    /// Answers the job at `now` ms, as [`Front::respond`] does, and files that.
     pub fn respond(
         &mut self,
         book: &ServerBook<J>,
@@ -155,7 +157,7 @@ impl<J: ServerName> FiledFront<J> {
         outcome
     }
 
-    /// Gives the front's track to `tracks`, and returns the front.
+    /// Moves the front's track to `tracks`, and returns the front.
     pub fn close(self, book: &ServerBook<J>, tracks: &mut ServerTracks<J>) -> Front
         ensures front { result ≡ self.front }
         ensures led { OperationsLead FrontDoes self.calls (first_server J.begin).front result }
@@ -167,7 +169,7 @@ impl<J: ServerName> FiledFront<J> {
     }
 }
 
-/// Begins the track of the job that a datagram brings, if it brings one.
+/// Begins the track of the job that a datagram produces, if it produces one.
 fn begin_if_job<J: ServerName>(book: &ServerBook<J>, tracks: &mut ServerTracks<J>, outcome: &Heard)
     requires { tracks.old.may_begin ≡ true }
     ensures { tracks.new ≡ begun_if (brings_job outcome.now) tracks.old }

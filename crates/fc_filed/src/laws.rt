@@ -11,16 +11,17 @@ ghost use Rattle.fc_filed.specs.Tracked.{AreTracksRight, OwnsAll};
 
 /// Right tracks of a new server are one legal history.
 ///
-/// It leaves the server as its parts are.
+/// The history leaves the server in the state of its parts.
 pub fn tracks_are_one_history()
     ensures { (first_job : ℕ) (log : List FiledEntry) (b : Begin) (end : ServerState) → AreTracksRight first_job log (first_server b) end →
         IsHistoryOf (history_on (begin_of b) (log_of first_job log)) end }
 {}
 
-/// An attested history is legal if its owner has the tracks of all parts and threads.
+/// An attested history is legal if its owner has the parts' and threads' tracks.
 ///
-/// Each job's track that the owner has is to be right, and the jobs have to come in the order of their keys.
-/// A job's track that it doesn't have, as that of a lost message, is right by the rule.
+/// The owner has to have the tracks of all parts and threads. Each job's track that it has is
+/// required to be right, and the jobs have to come in the order of their keys. A job's track that
+/// it doesn't have, such as that of a lost message, is right by the rule.
 pub fn attested_tracks_are_one_history()
     ensures { (first_job : ℕ) (b : Begin) (v : BookView FiledEntry) (end : ServerState) (h : HasServerHistory first_job v) →
         end.words ≡ h.words → HaveNextNumbers 0 (bringing (log_of first_job h.log)) → OwnsAll first_job v (first_server b) end →

@@ -1,11 +1,13 @@
-//! A server's calls, filed in one history as they are made: its front, its shards and its head words.
+//! A server's calls, filed in one history as they are made.
 //!
-//! [fc_book](../../fc_book/src/lib.rt) keeps one history by tracks that change owners. This is such a
-//! book over a server's operations. The front and each shard lie under their locks together with the
-//! tracks of their calls ([`FiledFront`], [`FiledShard`]), so each call is filed before the lock is
-//! free. The table's words are the head words, so a look or a raise is filed in the step that makes
-//! it ([`ServerTracks::look`]). A filed call costs three loads of one word; a look or a raise costs
-//! nothing more than the step itself.
+//! The calls are those of its front, its shards and its head words.
+//!
+//! [fc_book](../../fc_book/src/lib.rt) keeps one history by tracks that change owners. This is such
+//! a book over a server's operations. The front and each shard are under their locks together with
+//! the tracks of their calls ([`FiledFront`], [`FiledShard`]). So each call is filed before the
+//! lock is free. The table's words are the head words, so a look or a raise is filed in the step
+//! that makes it ([`ServerTracks::look`]). A filed call costs three loads of one word; a look or a
+//! raise costs nothing more than the step itself.
 //!
 //! The front's track has key 0, shard i's `i + 1`, and the threads' have 9 and up. From the *first
 //! job's* key on, each job has its own. The rule is `HaveServerHistory` (`specs/Books.antt`).
@@ -21,7 +23,7 @@
 //!
 //! use fc_filed::{FiledFront, ServerBook, ServerName, ServerTracks};
 //!
-//! /// Thread `who`, which has the front's lock, draws a message ID for the job at work.
+//! /// Thread `who`, which holds the front's lock, draws a message ID for the running job.
 //! ///
 //! /// The call is then the last entry on the tracks of both.
 //! fn draw_id<J: ServerName>(
@@ -41,21 +43,21 @@
 //!
 //! # What is proved
 //!
-//! - Each call of a front or a shard is the last entry on the tracks of its part, its thread and its
-//!   job, with its arguments and its answer. A part's calls lead from the server's first front, or
-//!   shard, to the one under the lock.
-//! - A look at a head word and a raise are entries too, made in the step itself: the history's looks
-//!   and raises lead the head words from 0 to those of the table. So are a rejected image and refused
-//!   memory, which are of no part.
-//! - Under every schedule there is one history, of which each track is just the entries with its key.
-//!   No track has two owners. The keys of each entry are of their kind.
-//! - A job's track that no thread has, as that of a lost message, is right for its job.
-//! - A request's snapshot of an expensive program is dropped under the lock. It changes nothing and is
-//!   not filed.
-//! - A history whose tracks are each right, of a new server, is legal, and leaves the server as its
-//!   parts are.
-//! - So is an attested history whose owner has the tracks of all parts and threads, if the jobs came in
-//!   the order of their keys.
+//! - Each call of a front or a shard becomes the last entry on the tracks of its part, thread and
+//!   job. The entry has its arguments and its answer. A part's calls lead from the server's first
+//!   front, or shard, to the one under the lock.
+//! - A look at a head word and a raise are entries too, made in the step itself. The history's
+//!   looks and raises lead the head words from 0 to those of the table. A rejected image and
+//!   refused memory are also entries; they belong to no part.
+//! - Under every schedule there is one history, and each track has exactly the entries with its
+//!   key. No track has two owners. The keys of each entry are of their kind.
+//! - A job's track that no thread has, such as that of a lost message, is right for its job.
+//! - A request's snapshot of an expensive program is dropped under the lock. It changes nothing and
+//!   is not filed.
+//! - A history of a new server is legal if each of its tracks is right. It leaves the server in the
+//!   state of its parts.
+//! - The same holds for an attested history if its owner has the tracks of all parts and threads,
+//!   and the jobs came in the order of their keys.
 //!
 //! Not proved yet: that a server's threads make such tracks. That takes the workers' own contracts.
 //!

@@ -6,7 +6,7 @@ ghost use Rattle.fc_registry.specs.Turns.{written_if};
 ghost use Rattle.fc_registry.specs.Views.{taken_with};
 ghost use Rattle.fc_book.specs.Tracks.{part_view, with_part};
 ghost use Rattle.fc_calls.specs.Logged.{AdvancesQuiet, GivesTurn, TakesForJob};
-ghost use Rattle.fc_workers.specs.Counts.{HasEightSlots};
+ghost use Rattle.fc_calls.specs.Kept.{HasEightSlots};
 ghost use Rattle.fc_calls.specs.Doings.{PassesIfQuiet};
 ghost use Rattle.fc_linear.specs.Operations.{Logged, Operation, ShardDoes, is_words, part_of};
 ghost use Rattle.fc_linear.specs.Parts.{first_server};
@@ -17,29 +17,30 @@ ghost use Rattle.fc_filed.specs.Threads.{HasJobFirst, HasOwnTrack, MayFile, begu
 use crate::book::{FiledTrack, ServerBook, ServerName, ServerTracks, file_as};
 use crate::view::FiledName;
 use fc_book::Part;
+use fc_calls::ShardCall;
+use fc_calls::calls::{AdvanceIfQuiet, NextDue, Take};
 use fc_help::Readings;
 use fc_registry::{Found, Job, Shard, Taken};
-use fc_workers::ShardCall;
-use fc_workers::calls::{AdvanceIfQuiet, NextDue, Take};
 use std::marker::{Brand, Model, PhantomData};
 
-/// A call of a shard that is filed, whatever it is answered.
+/// A call of a shard that is filed with any answer.
 pub trait FiledCall: ShardCall {
-    // It is of this shard.
+    // The call belongs to this shard.
     ghost is_of: { Self → Seen → Type 0 };
 
-    // It is for a job, or for none.
+    // The call is for a job, or for none.
     ghost of_job: { Bool };
 
-    // The operation that is filed, by the shard's index, the answer and the contents of the caller's room.
+    // The operation that is filed, by the shard's index, the answer and the contents of the
+    // caller's buffer.
     ghost operation: { ℕ → Self → Self.Answer → Self.Room → Operation };
 
-    // That is its effect on the shard.
+    // The operation is the call's effect on the shard.
     ghost right: { (call : Self) (before : Seen) (answer : Self.Answer) (room : Self.Room) (after : Seen) → is_of call before → Self.does call before answer room after
         → IsOperationOf of_job (operation before.index call answer room) before after };
 }
 
-/// The name of an operation, by an answer and the contents of a room.
+/// The name of an operation, by an answer and the contents of a buffer.
 ///
 /// Each call of [`FiledShard::ask`] chooses it.
 pub trait OperationName<A, B> {
@@ -65,7 +66,9 @@ impl<J: ServerName, const INDEX: u8> Part for ShardOf<J, INDEX> {
     ghost key = { INDEX + 1 };
 }
 
-/// A shard, and the track of its calls, which lead to it from the server's first.
+/// A shard and the track of its calls.
+///
+/// The calls lead to it from the server's first shard of its index.
 #[derive(Drop)]
 pub struct FiledShard<J: ServerName, P: Part> {
     shard: Shard,
@@ -86,7 +89,9 @@ impl<J: ServerName, P: Part> Model for FiledShard<J, P> {
 }
 
 impl<J: ServerName, P: Part> FiledShard<J, P> {
-    /// Takes the server's first shard of an index, with an empty track.
+    /// Makes a filed shard of the server's first shard of an index.
+    ///
+    /// Its track is empty.
     pub fn new(shard: Shard, track: FiledTrack<P>) -> FiledShard<J, P>
         requires index { shard.index < 8 }
         requires key { P.key ≡ shard.index + 1 }
@@ -123,7 +128,8 @@ impl<J: ServerName, P: Part> FiledShard<J, P> {
 
     /// Leases the first pending notification at `now` ms, and files that.
     ///
-    /// See [`Shard::write_due`]. The notification's job, if there is one, is written into `job`, and begins a track.
+    /// See [`Shard::write_due`]. The notification's job, if there is one, is written to `job`, and
+    /// begins a track.
     pub fn next_due(
         &mut self,
         book: &ServerBook<J>,
@@ -178,10 +184,10 @@ impl<J: ServerName, P: Part> FiledShard<J, P> {
         is_quiet
     }
 
-    /// Takes a snapshot of the slot of a request's `job` unless its program is dear.
+    /// Takes a snapshot of a request's slot unless its program is expensive.
     ///
-    /// See [`Shard::write_taking`]. If the program takes `least` steps or more, the snapshot is dropped and
-    /// nothing is filed: a worker will take its own.
+    /// See [`Shard::write_taking`]. The slot is that of `job`. If the program takes `least` steps
+    /// or more, the snapshot is dropped and nothing is filed: a worker will take its own.
     pub fn take_unless_dear(
         &mut self,
         book: &ServerBook<J>,
@@ -218,7 +224,7 @@ impl<J: ServerName, P: Part> FiledShard<J, P> {
         Some(taken)
     }
 
-    /// Gives the shard's track to `tracks`, and returns the shard.
+    /// Moves the shard's track to `tracks`, and returns the shard.
     pub fn close(self, book: &ServerBook<J>, tracks: &mut ServerTracks<J>) -> Shard
         requires { P.table ≡ J.table }
         ensures shard { result ≡ self.shard }
@@ -235,7 +241,9 @@ impl<J: ServerName, P: Part> FiledShard<J, P> {
     }
 }
 
-/// Makes a call of the shard, as [`FiledShard::ask`], with the operation named by `X`.
+/// Makes a call of the shard, with the operation named by `X`.
+///
+/// See [`FiledShard::ask`].
 fn ask_as<C: FiledCall, J: ServerName, P: Part, X: OperationName<C::Answer, C::Room>>(
     this: &mut FiledShard<J, P>,
     book: &ServerBook<J>,
@@ -295,7 +303,7 @@ fn begin_if<J: ServerName>(book: &ServerBook<J>, tracks: &mut ServerTracks<J>, i
     }
 }
 
-/// Returns whether a snapshot is of a program that takes `least` steps or more.
+/// Returns whether a snapshot has a program that takes `least` steps or more.
 fn is_dear(taken: &Taken, least: u32) -> bool
     ensures { MatchBool result (CostsFrom least taken.now) (IsCheap least taken.now) }
 {

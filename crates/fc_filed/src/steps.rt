@@ -1,6 +1,7 @@
 //! The steps of seats at a server's book.
 //!
-//! Each loads or raises one word of the table. Those that need no head word load the first, which is padding.
+//! Each loads or raises one word of the table. A step that needs no head word loads the first word,
+//! which is padding.
 ghost use Rattle.std.specs.Prelude.{◌≡◌, ◌<◌, ◌≤◌, [], true, false};
 ghost use Rattle.fc_book.specs.Tracks.{AreSingle, HasKey, filed_with, first_own, locked_of, merged_with, no_tracks, own_view, part_view, with_begun, with_filed, with_next, with_part, without_first, without_locked};
 ghost use Rattle.fc_linear.specs.Operations.{NoPart, is_words, part_of};
@@ -37,7 +38,7 @@ pub(crate) fn empty_seat(words: &FiledWords, seat: &mut FiledSeat) -> FiledSeat
     words.shared.split_seat::<MakesEmpty>(seat)
 }
 
-/// Takes a part's track in, and files an entry.
+/// Takes over a part's track, and files an entry.
 pub(crate) fn file<X: FiledName>(words: &FiledWords, seat: &mut FiledSeat, part: FiledSeat)
     requires size { words.now.shared.table_id.words ≡ 72 }
     requires table { seat.old.table_id ≡ words.now.shared.table_id }
@@ -54,7 +55,7 @@ pub(crate) fn file<X: FiledName>(words: &FiledWords, seat: &mut FiledSeat, part:
     words.shared.join_seat::<FilesEntry<X>>(seat, part);
 }
 
-/// Files an entry of no part.
+/// Files an entry that belongs to no part.
 pub(crate) fn file_alone<X: FiledName>(words: &FiledWords, seat: &mut FiledSeat)
     requires size { words.now.shared.table_id.words ≡ 72 }
     requires table { seat.old.table_id ≡ words.now.shared.table_id }
@@ -121,7 +122,7 @@ pub(crate) fn split_first(words: &FiledWords, seat: &mut FiledSeat) -> FiledSeat
     words.shared.split_seat::<SplitsFirst>(seat)
 }
 
-/// Merges another's tracks into the owner's.
+/// Merges another owner's tracks into the owner's.
 pub(crate) fn merge(words: &FiledWords, seat: &mut FiledSeat, other: FiledSeat)
     requires size { words.now.shared.table_id.words ≡ 72 }
     requires table { seat.old.table_id ≡ words.now.shared.table_id }

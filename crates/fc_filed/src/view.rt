@@ -19,7 +19,9 @@ impl TableRule<u8, BookView<FiledEntry>, u64> for ServerRule {
     ghost first = { λ first_job. first_view };
 }
 
-/// The name of an entry that is filed. Each call that files chooses it.
+/// The name of an entry that is filed.
+///
+/// Each call that files chooses it.
 pub trait FiledName {
     ghost use Rattle.fc_filed.specs.declared.entry.FiledEntry.{FiledEntry};
 
@@ -32,7 +34,7 @@ impl FiledName for Brand {
     ghost entry = { blank_entry };
 }
 
-/// Takes a part's track in, and files an entry.
+/// Takes over a part's track, and files an entry.
 pub(crate) struct FilesEntry<X: FiledName> {
     of: PhantomData<X>,
 }
@@ -46,7 +48,9 @@ impl<X: FiledName> Join<BookView<FiledEntry>> for FilesEntry<X> {
     ghost spent = { no_tracks };
 }
 
-/// Files an entry of no part, in a load of a word that is never written.
+/// Files an entry that belongs to no part.
+///
+/// It is filed in a load of a word that is never written.
 pub(crate) struct FilesAlone<X: FiledName> {
     of: PhantomData<X>,
 }

@@ -1,4 +1,4 @@
--- What is sensed is what a reader gave, with zeros behind it.
+-- The sensor readings are the bytes that a reader gave, and zeros follow them.
 use Rattle.std.proofs.Common.{◌≡◌, ℕ, ◌≤◌, List, ◌++◌, length, take, drop, Option, arith, ap, ◌∙◌}
 use Rattle.std.specs.Prelude.{replicate}
 use Rattle.std.specs.Io.KnownBytes.{Consumes}

@@ -1,18 +1,18 @@
--- The readings of a device that has a clock, and sensors or none.
+-- The readings of a device with a clock, and with sensors or none.
 use Rattle.std.specs.Prelude.{◌≡◌, ℕ, ◌-◌, ◌≤◌, List, ◌++◌, length, replicate, Option}
 use Rattle.std.specs.Int.{w64, to_le_bytes}
 use Rattle.std.specs.Io.KnownBytes.{Consumes}
 use Rattle.fc_workers.specs.declared.call_log.CallLog.{CallLog}
 
--- where there are no sensors
+-- the sensor readings if there are no sensors.
 abbrev pub no_sensors : List ℕ
 no_sensors = replicate 56 0
 
--- the moment in milliseconds, in eight bytes, the least first; and what the sensors say
+-- the time in milliseconds, in eight bytes, least significant first; and the sensor readings.
 abbrev pub device_readings : ℕ → List ℕ → List ℕ
 device_readings now sensed = to_le_bytes w64 now ++ sensed
 
--- the moment was asked for, and these readings are of it and of what sensors said
+-- the clock was read, and these readings have its time and readings of the sensors.
 abbrev pub AreReadAt : (ℕ → CallLog → CallLog → Type 0) → (List ℕ → Type 0) → List ℕ → CallLog → CallLog → Type 0
 AreReadAt IsMoment AreSensed readings before after =
     (now : ℕ) × (sensed : List ℕ) × IsMoment now before after × AreSensed sensed × (readings ≡ device_readings now sensed)
@@ -20,7 +20,7 @@ AreReadAt IsMoment AreSensed readings before after =
 abbrev pub clock_readings : ℕ → List ℕ
 clock_readings now = device_readings now no_sensors
 
--- a reader gave this many bytes, 56 at most; zeros stand for those that are missing
+-- a reader gave this number of bytes, at most 56; the missing bytes are zeros.
 pub record AreSensed (had left : Option (List ℕ)) (count : ℕ) (sensed : List ℕ) : Type 0 where
   pub given : List ℕ
   pub count_is : length given ≡ count

@@ -1,4 +1,4 @@
--- Timers: requests that a server makes itself, each at every so many milliseconds.
+-- Timers: periodic requests that a server makes itself.
 use Rattle.std.specs.Prelude.{◌≡◌, ◌⊎◌, ◌+◌, ◌-◌, ◌*◌, ◌/◌, ◌%◌, ◌<◌, ◌≤◌, min, fold, nat_lt, if◌then◌else◌, ℕ, Bool, true, List, [], ◌∷◌, Option, Some, None, slice_index_or, slice_set, length}
 use Rattle.std.specs.List.{All}
 use Rattle.coap_msg.specs.declared.types.Emission.{Emission}
@@ -8,51 +8,53 @@ use Rattle.fc_host.specs.declared.timers.Timers.{Timers}
 use Rattle.fc_host.specs.Sockets.{Incoming, Receive}
 use Rattle.fc_workers.specs.declared.call_log.CallLog.{CallLog}
 
--- the endpoint of timers, 0.0.0.0:0: no peer has it (RFC 1122, 3.2.1.3)
+-- the endpoint of timers, 0.0.0.0:0: no peer has it (RFC 1122, section 3.2.1.3).
 abbrev pub timers : Endpoint
 timers = record { ip = 0 ∷ 0 ∷ 0 ∷ 0 ∷ []; port = 0 }
 
 -- ---- the request
 
--- a number below 100 in decimal, as the value of a Uri-Path option after another one (RFC 7252, 3.1)
+-- a number below 100 in decimal, as the value of a Uri-Path option after another one (RFC 7252,
+-- section 3.1).
 abbrev pub number_option : ℕ → List ℕ
 number_option n = if nat_lt n 10 then (1 ∷ (48 + n % 10) ∷ []) else (2 ∷ (48 + n / 10) ∷ (48 + n % 10) ∷ [])
 
--- a non-confirmable POST of /r/N, without a token, a query and a payload (RFC 7252, 3)
+-- a non-confirmable POST of /r/N, without a token, a query and a payload (RFC 7252, section 3).
 abbrev pub request_bytes : ℕ → ℕ → List ℕ
 request_bytes id slot = 80 ∷ 2 ∷ (id / 256) ∷ (id % 256) ∷ 177 ∷ 114 ∷ number_option slot
 
--- ---- when
+-- ---- times
 
--- no timer is at a place
+-- the timer at a place without one.
 abbrev pub no_timer : Timer
 no_timer = record { every = 1; slot = 0; due = 0 }
 
 abbrev pub timer_at : List Timer → ℕ → Timer
 timer_at ts k = slice_index_or ts k no_timer
 
--- a timer is due first after its period
+-- a timer is first due after its period.
 abbrev pub new_timer : ℕ → ℕ → Timer
 new_timer every slot = record { every = every; slot = slot; due = every }
 
--- the first beat of a timer after a moment: a beat that was missed is none. It stays below 2^64
+-- the first beat of a timer after a time; missed beats are skipped. It stays below 2^64.
 abbrev pub next_beat : ℕ → Timer → ℕ
 next_beat now t = min (t.due + (now - t.due) / t.every * t.every + t.every) 18446744073709551615
 
 abbrev pub put_off : ℕ → Timer → Timer
 put_off now t = record t { due = next_beat now t }
 
--- none of the timers is due at a moment
+-- none of the timers is due at a time.
 abbrev pub NoneDue : ℕ → List Timer → Type 0
 NoneDue now ts = All (λ t. now < t.due) ts
 
--- the timer at a place is due at a moment, and none before it
+-- the timer at a place is due at a time, and none before that place is.
 pub record IsFirstDue (now : ℕ) (ts : List Timer) (k : ℕ) : Type 0 where
   pub within : k < length ts
   pub due : (timer_at ts k).due ≤ now
   pub first : (j : ℕ) → j < k → now < (timer_at ts j).due
 
--- the first timer that is due at a moment makes its request, and is put off; the next message id is one more
+-- the first timer that is due at a time makes its request, and is set to its next beat; the next
+-- message ID is one more.
 pub record Asks (now : ℕ) (old new : Timers) (bytes : List ℕ) : Type 0 where
   pub place : ℕ
   pub is_due : IsFirstDue now old.timers.items place
@@ -60,39 +62,40 @@ pub record Asks (now : ℕ) (old new : Timers) (bytes : List ℕ) : Type 0 where
   pub timers_are : new.timers.items ≡ slice_set old.timers.items place (put_off now (timer_at old.timers.items place))
   pub id : new.next_id ≡ (old.next_id + 1) % 65536
 
--- ---- how long a datagram is waited for
+-- ---- how long a receive waits
 
--- so many milliseconds at most
+-- at most this number of milliseconds.
 abbrev pub at_most : ℕ → Option ℕ → Option ℕ
 at_most ms None = Some ms
 at_most ms (Some wait) = Some (min wait ms)
 
--- from a moment on, no longer than until the first timer is due
+-- from a time, no longer than until the first timer is due.
 abbrev pub until_due : ℕ → List Timer → Option ℕ → Option ℕ
 until_due now ts wait = fold (λ waits t. at_most (t.due - now) waits) wait ts
 
--- a wait that ends after so many milliseconds, or before
+-- a wait that ends after this number of milliseconds, or earlier.
 abbrev pub EndsWithin : ℕ → Option ℕ → Type 0
 EndsWithin ms None = ⊥
 EndsWithin ms (Some wait) = wait ≤ ms
 
 -- ---- a receive
 
--- the request of a timer came at a moment, or no timer is due
+-- the request of a timer came at a time, or no timer is due.
 abbrev pub ComesByTimer : ℕ → Timers → Timers → Option Incoming → Type 0
 ComesByTimer now old new None = NoneDue now old.timers.items × (new ≡ old)
 ComesByTimer now old new (Some came) = (came.from ≡ timers) × Asks now old new came.bytes
 
--- a datagram of a source came: one that names the endpoint of timers is dropped
+-- a datagram of a source came; one with the endpoint of timers is dropped.
 abbrev pub ComesByPeer : Option Incoming → Incoming → Type 0
 ComesByPeer came given = ((given.from ≡ timers) × (came ≡ None)) ⊎ ((given.from ≡ timers → ⊥) × (came ≡ Some given))
 
--- the source gave a datagram, or nothing in time: then the clock is read once more, and a timer that is due makes its request
+-- the source gave a datagram, or nothing in time: then the clock is read once more, and a timer
+-- that is due makes its request.
 abbrev pub ComesThen : (ℕ → CallLog → CallLog → Type 0) → Option Incoming → Timers → Timers → Option Incoming → CallLog → CallLog → Type 0
 ComesThen IsMoment (Some given) old new came before after = ComesByPeer came given × (new ≡ old) × (after ≡ before)
 ComesThen IsMoment None old new came before after = (now : ℕ) × IsMoment now before after × ComesByTimer now old new came
 
--- no timer is due, and the source is asked, for no longer than until one is
+-- no timer is due, and the source is called, for no longer than until one is.
 pub record AsksSource (IsMoment : ℕ → CallLog → CallLog → Type 0) (Received : Receive → CallLog → CallLog → Type 0) (now : ℕ) (old new : Timers) (receive : Receive) (before after : CallLog) : Type 0 where
   pub none : NoneDue now old.timers.items
   pub given : Option Incoming
@@ -100,7 +103,7 @@ pub record AsksSource (IsMoment : ℕ → CallLog → CallLog → Type 0) (Recei
   pub received : Received (record { wait = until_due now old.timers.items receive.wait; came = given }) before log
   pub next : ComesThen IsMoment given old new receive.came log after
 
--- the clock is read; a timer that is due makes its request, or the source is asked
+-- the clock is read; a timer that is due makes its request, or the source is called.
 pub record IsTimed (IsMoment : ℕ → CallLog → CallLog → Type 0) (Received : Receive → CallLog → CallLog → Type 0) (old new : Timers) (receive : Receive) (before after : CallLog) : Type 0 where
   pub now : ℕ
   pub log : CallLog
@@ -108,7 +111,7 @@ pub record IsTimed (IsMoment : ℕ → CallLog → CallLog → Type 0) (Received
   pub comes : ((after ≡ log) × (came : Incoming) × (receive.came ≡ Some came) × ComesByTimer now old new (Some came))
       ⊎ AsksSource IsMoment Received now old new receive log after
 
--- so for some timers
+-- the same for some timers.
 pub record IsTimedReceive (IsMoment : ℕ → CallLog → CallLog → Type 0) (Received : Receive → CallLog → CallLog → Type 0) (receive : Receive) (before after : CallLog) : Type 0 where
   pub old : Timers
   pub new : Timers
@@ -116,7 +119,8 @@ pub record IsTimedReceive (IsMoment : ℕ → CallLog → CallLog → Type 0) (R
 
 -- ---- the responses
 
--- what goes to timers is sent to nobody, and counts as sent; all else is handed to the sink, once
+-- a datagram to the endpoint of timers isn't passed to the sink, and counts as sent; any other is
+-- passed to the sink, once.
 abbrev pub GoesPastTimers : (Emission → Bool → CallLog → CallLog → Type 0) → Emission → Bool → CallLog → CallLog → Type 0
 GoesPastTimers Went emission out before after =
     ((emission.to ≡ timers) × (out ≡ true) × (after ≡ before)) ⊎ ((emission.to ≡ timers → ⊥) × Went emission out before after)

@@ -1,4 +1,6 @@
-//! The board, which stands for clock, sensors and socket where lines are played: who plays them waits there for the worker that has a line's job.
+//! A board: the clock, sensors and transmitter of a server that plays lines.
+//!
+//! The player waits at the board for the worker that runs a line's job.
 use coap_msg::Emission;
 use fc_core::front::blank_emission;
 use fc_help::{NO_READINGS, Readings};
@@ -6,7 +8,8 @@ use fc_workers::{CallLog, Device, Moments, Wire};
 use std::sync::atomic::{AtomicU64, Ordering};
 use std::sync::{Condvar, Mutex, Wait};
 
-// Whether a worker is at a line's job, what it has sent, and the readings that takings are handed.
+// Whether a worker is running a line's job, the datagram it has sent, and the readings for
+// snapshots.
 #[derive(Drop)]
 struct Work {
     busy: bool,
@@ -14,7 +17,9 @@ struct Work {
     readings: Readings,
 }
 
-/// Where the player waits for the worker that has a line's job. The moment is that of the line.
+/// A place where the player waits for the worker that runs a line's job.
+///
+/// Its time is that of the line.
 #[derive(Drop)]
 pub struct Board {
     work: Mutex<Work>,
@@ -23,7 +28,7 @@ pub struct Board {
 }
 
 impl Board {
-    /// Has no job, moment 0, and readings of zeros.
+    /// Makes a board without a job, with time 0 and readings of zeros.
     pub fn new() -> Board {
         let work = Work {
             busy: false,
@@ -37,13 +42,13 @@ impl Board {
         }
     }
 
-    /// Has the takings from now on handed these readings.
+    /// Sets the readings for snapshots from now on.
     pub fn set<R: Wait>(&self, rt: &R, readings: Readings) {
         let mut work = self.work.lock(rt);
         work.readings = readings;
     }
 
-    /// Says that a job of this moment, in milliseconds, is about to be sent. What was sent before is forgotten.
+    /// Announces a job at `now`, in milliseconds, and forgets earlier emissions.
     pub fn begin<R: Wait>(&self, rt: &R, now: u64) {
         self.now.store(now, Ordering::SeqCst);
         let mut work = self.work.lock(rt);
@@ -51,7 +56,7 @@ impl Board {
         work.reply = None;
     }
 
-    /// Waits until the job was worked off, and takes what was sent for it last, if anything was.
+    /// Waits until the job was run, and returns the last emission sent for it, if any.
     pub fn wait<R: Wait>(&self, rt: &R) -> Option<Emission> {
         let mut work = self
             .done
@@ -85,7 +90,7 @@ impl Moments for Board {
         self.now.load(Ordering::SeqCst)
     }
 
-    // What is printed is to be the same each time.
+    // Returns 0, since the output is to be the same each time.
     fn random<R: Wait>(&self, rt: &R) -> u16 {
         let _ = rt;
         0

@@ -1,4 +1,4 @@
-//! The monotonic clock: moments since a start, and the readings of a device that has a clock.
+//! The monotonic clock: times since a start, and readings of a device with a clock.
 ghost use Rattle.std.specs.Prelude.{◌≡◌};
 ghost use Rattle.fc_host.specs.Clocks.{AreReadAt, device_readings};
 
@@ -9,10 +9,12 @@ use std::io;
 use std::sync::Wait;
 use std::time::{Clock, Instant};
 
-/// The bytes of the readings that are the clock's.
+/// The number of bytes of the clock in the readings.
 const CLOCK: usize = 8;
 
-/// Milliseconds since a start, by the monotonic clock. It is 0 where the clock can't be read.
+/// The milliseconds since a start, by the monotonic clock.
+///
+/// The time is 0 if the clock can't be read.
 #[derive(Drop)]
 pub struct Elapsed<'a, R: Clock> {
     clock: &'a R,
@@ -23,7 +25,7 @@ impl<'a, R: Clock> Elapsed<'a, R> {
     /// Starts now.
     ///
     /// # Errors
-    /// The clock couldn't be read.
+    /// The clock can't be read.
     pub fn start(clock: &'a R) -> io::Result<Elapsed<'a, R>> {
         let start = Instant::now(clock)?;
         Ok(Elapsed { clock, start })
@@ -47,14 +49,14 @@ impl<'a, C: Clock> Moments for Elapsed<'a, C> {
         self.milliseconds()
     }
 
-    // The clock's low bits.
+    // Returns the low bits of the clock.
     fn random<R: Wait>(&self, rt: &R) -> u16 {
         let _ = rt;
         (self.milliseconds() % 0x1_0000) as u16
     }
 }
 
-/// A device that has a clock, and sensors or none.
+/// A device with a clock, and with sensors or none.
 #[derive(Drop)]
 pub struct SensingDevice<'a, M: Moments, Z: Sensors> {
     pub moments: &'a M,
@@ -70,7 +72,9 @@ impl<'a, M: Moments, Z: Sensors> Device for SensingDevice<'a, M, Z> {
     }
 }
 
-/// Returns the readings at a moment in milliseconds: the moment in eight bytes, the least first, and what the sensors say.
+/// Returns the readings at `now`, in milliseconds.
+///
+/// They are the time in eight bytes, least significant first, and the sensor readings.
 pub fn device_readings(now: u64, sensed: &Sensed) -> Readings
     ensures { result ≡ device_readings now sensed.now }
 {

@@ -1,4 +1,4 @@
-//! What the definitions of readings and datagrams come to, in plainer words: each function is a law, and its contract says it.
+//! Consequences of the host's definitions: each function's contract is a law.
 ghost use Rattle.std.specs.Prelude.{◌≡◌, ◌+◌, ◌*◌, ◌-◌, ◌<◌, ◌≤◌, ◌^◌, ℕ, [], ◌∷◌, List, None, Option, Some, length};
 ghost use Rattle.std.specs.List.{All};
 ghost use Rattle.coap_msg.specs.Wire.{Message, SpellsMessage};
@@ -8,34 +8,44 @@ ghost use Rattle.fc_host.specs.declared.timer.Timer.{Timer};
 
 use crate::socket::{BUFFER, SHORTEST_WAIT};
 
-/// The readings of a device have 64 bytes: the moment in milliseconds in eight bytes, the least first, and the 56 that its sensors say, zeros where it has none.
+/// The readings of a device have 64 bytes.
+///
+/// They are the time in milliseconds in eight bytes, least significant first, and 56 bytes of its
+/// sensors. These are zeros if it has none.
 pub fn readings_are_the_clock_and_the_sensors()
     ensures clock { (sensed : List ℕ) → device_readings 258 sensed ≡ 2 ∷ 1 ∷ 0 ∷ 0 ∷ 0 ∷ 0 ∷ 0 ∷ 0 ∷ sensed }
     ensures sensors { (now : ℕ) (sensed : List ℕ) → length sensed ≡ 56 → length (device_readings now sensed) ≡ 64 }
     ensures none { length no_sensors ≡ 56 }
 {}
 
-/// A datagram is received into a buffer of 1,281 bytes, one more than the longest message has. So bytes that fill it spell no message: of a longer datagram the
+/// Bytes that fill the receive buffer are no message.
+///
+/// The buffer has 1,281 bytes, one more than the longest message has. Of a longer datagram the
 /// first 1,281 bytes are received, and these are never taken for a message.
 pub fn cut_datagrams_spell_no_message()
     ensures buffer { BUFFER ≡ 1281 }
     ensures filled { (bytes : List ℕ) (m : Message) → SpellsMessage bytes m → length bytes < BUFFER }
 {}
 
-/// The shortest time that a server waits for a datagram is 100 ms.
+/// The shortest time that a receive waits is 100 ms.
 pub fn shortest_wait_is_100_ms()
     ensures { SHORTEST_WAIT ≡ 100 }
 {}
 
-/// A timer's request is a non-confirmable message of version 1 without a token, with the method POST, a message id of two bytes, and the Uri-Path options
-/// `r` and the slot's number (RFC 7252, 3 and 5.10).
+/// A timer's request is a non-confirmable POST to its slot.
+///
+/// It is a message of version 1 without a token, with a message ID of two bytes. Its Uri-Path
+/// options are `r` and the slot's number (RFC 7252, sections 3 and 5.10).
 pub fn timers_post_to_their_slot()
     ensures seven { request_bytes 0 7 ≡ 0x50 ∷ 0x02 ∷ 0 ∷ 0 ∷ 0xb1 ∷ 0x72 ∷ 0x01 ∷ 0x37 ∷ [] }
     ensures last { request_bytes 258 63 ≡ 0x50 ∷ 0x02 ∷ 1 ∷ 2 ∷ 0xb1 ∷ 0x72 ∷ 0x02 ∷ 0x36 ∷ 0x33 ∷ [] }
 {}
 
-/// A timer of 1,000 ms is due at 1,000 ms first, and then at 2,000 ms; if it is late by 3,300 ms, it is due at 5,000 ms next: beats that were missed are none. Each timer is put off to
-/// a later moment, by whole periods, and by no more than one period from now on.
+/// A timer skips the beats that it missed.
+///
+/// A timer of 1,000 ms is due at 1,000 ms first, and then at 2,000 ms. If it is 3,300 ms overdue,
+/// it is due at 5,000 ms next. Each timer is set to a later time, by whole periods, and by no more
+/// than one period from now on.
 pub fn timers_keep_their_beat()
     ensures first { (slot : ℕ) → (new_timer 1000 slot).due ≡ 1000 }
     ensures next { (slot : ℕ) → (put_off 1000 (new_timer 1000 slot)).due ≡ 2000 }
@@ -45,7 +55,10 @@ pub fn timers_keep_their_beat()
     ensures whole { (now : ℕ) (t : Timer) → t.due ≤ now → now + t.every < 2 ^ 64 → (beats : ℕ) × (next_beat now t ≡ t.due + beats * t.every) }
 {}
 
-/// At 4,200 ms, with timers due at 5,000 and 7,000 ms, a datagram is waited for 800 ms at most, and no longer than it would be without them. No wait goes on after a timer is due.
+/// A receive waits no longer than until a timer is due.
+///
+/// At 4,200 ms, with timers due at 5,000 and 7,000 ms, it waits at most 800 ms, and no longer than
+/// it would without them.
 pub fn waits_end_when_a_timer_is_due()
     ensures endless { (t : Timer) → until_due 4200 (record t { due = 5000 } ∷ record t { due = 7000 } ∷ []) None ≡ Some 800 }
     ensures shorter { (t : Timer) → until_due 4200 (record t { due = 5000 } ∷ record t { due = 7000 } ∷ []) (Some 100) ≡ Some 100 }

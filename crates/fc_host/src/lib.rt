@@ -1,4 +1,6 @@
-//! What a server has of its host: the clock, a file of what its sensors say, and sockets; and the board that stands for these where lines are played.
+//! The host of a server: its clock, a file of sensor readings, and sockets.
+//!
+//! When lines are played, a board replaces these.
 //!
 //! ```rust
 //! use coap_msg::Endpoint;
@@ -7,7 +9,7 @@
 //! use std::io;
 //! use std::net::{Net, SocketAddrV4};
 //!
-//! /// Whom a datagram comes from that is received at an address of this host within 100 ms, if one is.
+//! /// Returns the sender of a datagram received within 100 ms, if there is one.
 //! fn first_sender<R: Net>(rt: &R, address: SocketAddrV4) -> io::Result<Option<Endpoint>> {
 //!     let socket = open(rt, address)?;
 //!     let mut buffer = [0; BUFFER];
@@ -20,20 +22,30 @@
 //!
 //! # What is proved
 //!
-//! - **Readings** are some moment in eight bytes, the least first, and what the sensors said: zeros where there are none. What is read of a
-//!   file is what one call of its reader gave, 56 bytes at most, and zeros behind.
-//! - **A datagram** that is received lies at the start of its buffer, which has 1,281 bytes, one more than it may have (`laws`). A source whose
-//!   receives are known says of each how long it was to wait, and what came; those of a socket of the system aren't.
-//! - **An endpoint** has the address and the port of the socket address that a datagram came from, and a reply goes to the address and the port of its endpoint.
-//! - **A reply** that a wire of workers sends is handed to its sink, once, with the log that the wire is handed; the sink tells whether it
-//!   went out. Where a job ends, nothing is.
-//! - **A timer** asks at its beats: none is early, none is asked twice for one beat, and beats that were missed are skipped. A datagram is waited for no longer than until
-//!   a timer is due. Its request is a non-confirmable POST of its slot's resource. A response to it reaches nobody. `Timed::next` says so of its timers. `Source` has no
-//!   clause on them: of a receive by the trait it is known for some timers.
-//! - Not claimed, but tested: that a moment is the clock's and a random word its low bits, that a file is read anew, at which address and port a socket is opened, what it sends and
-//!   how long it waits. Not claimed: that a board gives the reply that was sent and the readings that were set.
+//! - **Readings** are some time in eight bytes, least significant first, and the sensor readings.
+//!   These are zeros if there are no sensors. The bytes read from a file are those of one call of
+//!   its reader, at most 56; zeros follow them.
+//! - **A datagram** that is received is at the start of its buffer. The buffer has 1,281 bytes, one
+//!   more than a datagram may have (`laws`). A source whose receives are known gives the timeout of
+//!   each, and the datagram received. The receives of a real socket are unknown.
+//! - **An endpoint** has the address and the port of the socket address that a datagram came from.
+//!   A reply is sent to the address and the port of its endpoint.
+//! - **A reply** that a workers' transmitter sends is passed to its sink, once, with the
+//!   transmitter's log. The sink returns whether the reply was sent. If a job ends, nothing is
+//!   passed.
+//! - **A timer** makes a request at its beats. No request is early, no beat has two requests, and
+//!   missed beats are skipped. A receive waits no longer than until a timer is due. A timer's
+//!   request is a non-confirmable POST of its slot's resource. A response to it isn't passed to the
+//!   sink. `Timed::next` guarantees this for its timers. `Source` has no clause on timers: by the
+//!   trait, a receive has this for some timers.
+//! - **Tested, not proved**: a time is the clock's, and a random word is its low bits. A file is
+//!   read again. A socket is opened at its address and port; tests show what it sends and how long
+//!   it waits.
+//! - **Not claimed**: that a board returns the reply that was sent and the readings that were set.
 //!
-//! By the contracts of `clock::SensingDevice`, `sensors::NoSensors`, `read_sensed`, `socket::Source`, `endpoint_of`, `address_of`, `Replying`, `timers::Timers`, `Timed`, `PastTimers`, `laws`.
+//! By the contracts of `clock::SensingDevice`, `sensors::NoSensors`, `read_sensed`,
+//! `socket::Source`, `endpoint_of`, `address_of`, `Replying`, `timers::Timers`, `Timed`,
+//! `PastTimers`, `laws`.
 #![tactic(auto)]
 
 pub mod board;

@@ -1,4 +1,6 @@
-//! Sensors: what a device reads behind its clock. A file has what they say, which a driver or a script keeps; or there are none.
+//! Sensors: the readings of a device after its clock.
+//!
+//! A driver or a script keeps the sensor readings in a file; or there are no sensors.
 ghost use Rattle.std.specs.Prelude.{◌≡◌, ⊤, ℕ, List, IfOk, OnErr};
 ghost use Rattle.fc_host.specs.Clocks.{AreSensed, no_sensors};
 
@@ -9,21 +11,21 @@ use std::sync::{Mutex, Wait};
 use std::{fs, io};
 use thiserror::Error;
 
-/// The bytes of the readings behind the clock's.
+/// The number of bytes of the readings after the clock's.
 pub const SENSED: usize = 56;
 
-/// What the sensors say.
+/// The sensor readings.
 pub type Sensed = [u8; SENSED];
 
-/// What is read where there is no sensor.
+/// The sensor readings if there are no sensors.
 const NOTHING: Sensed = [0; SENSED];
 
 /// The sensors of a device.
 pub trait Sensors {
-    // What they have said.
+    // The readings that they have returned.
     ghost are_sensed: { List ℕ → Type 0 } = { λ _. ⊤ };
 
-    /// What they say, at a moment in milliseconds.
+    /// Returns the sensor readings at `now`, in milliseconds.
     fn sense<R: Wait>(&self, rt: &R, now: u64) -> Sensed
         ensures { are_sensed result };
 }
@@ -42,7 +44,7 @@ impl Sensors for NoSensors {
     }
 }
 
-// Why a file doesn't say what the sensors say.
+// The reason why a file doesn't give the sensor readings.
 #[derive(Debug, Drop, Error)]
 enum Trouble {
     #[error("{0}")]
@@ -63,7 +65,7 @@ impl Trouble {
     }
 }
 
-// Whether a file says what the sensors say.
+// Whether a file gives the sensor readings.
 #[derive(Clone, Copy, PartialEq, Eq)]
 enum FileState {
     Whole,
@@ -72,7 +74,7 @@ enum FileState {
     Short,
 }
 
-// What a file said last, at which moment, and in which state it was then.
+// The last readings of a file, their time, and the file's state then.
 #[derive(Drop)]
 struct KeptReadings {
     at: Option<u64>,
@@ -80,9 +82,12 @@ struct KeptReadings {
     state: FileState,
 }
 
-/// Sensors whose first 56 bytes a file has: it is read when they are asked for, and again at a later moment: where moments come out of order, an earlier
-/// one reads what a later one has read. Zeros stand for what is missing. Standard error gets a line when the file can't be read, is a FIFO or is too short, and
-/// another one at each change of that.
+/// Sensors whose readings are the first 56 bytes of a file.
+///
+/// The file is read at the first call, and again at each later time. If times come out of order, a
+/// call with an earlier time gets the readings of a later one. Missing bytes are zeros. A line is
+/// written to standard error if the file can't be read, is a FIFO or is too short. Each later
+/// change of this is reported too.
 #[derive(Drop)]
 pub struct FileSensors<'a, F: Files + Eprint> {
     files: &'a F,
@@ -91,7 +96,7 @@ pub struct FileSensors<'a, F: Files + Eprint> {
 }
 
 impl<'a, F: Files + Eprint> FileSensors<'a, F> {
-    /// Names the sensors of the file of this path.
+    /// Makes the sensors of the file at `path`.
     pub fn new(files: &'a F, path: &'a str) -> FileSensors<'a, F> {
         let kept = KeptReadings {
             at: None,
@@ -105,7 +110,7 @@ impl<'a, F: Files + Eprint> FileSensors<'a, F> {
         }
     }
 
-    // Reads the file: its first bytes, with zeros behind them.
+    // Reads the first bytes of the file; zeros follow them.
     fn read(&self, sensed: &mut Sensed) -> Result<(), Trouble> {
         *sensed = NOTHING;
         if fs::metadata(self.files, self.path)?.file_type().is_fifo() {
@@ -133,7 +138,7 @@ impl<'a, F: Files + Eprint> FileSensors<'a, F> {
 impl<'a, F: Files + Eprint> Sensors for FileSensors<'a, F> {
     fn sense<R: Wait>(&self, rt: &R, now: u64) -> Sensed {
         let mut kept = self.kept.lock(rt);
-        // a moment that is passed is that of a run which was held up: what was read since is newer
+        // an earlier time is that of a delayed run: the kept readings are newer
         if kept.at < Some(now) {
             kept.at = Some(now);
             let read = self.read(&mut kept.sensed);
@@ -150,7 +155,8 @@ impl<'a, F: Files + Eprint> Sensors for FileSensors<'a, F> {
     }
 }
 
-// Reads what one call of a reader gives, 56 bytes at most, with zeros behind them: how many it gave.
+// Reads the bytes of one call of a reader, at most 56; zeros follow them. Returns the number of
+// bytes read.
 fn read_sensed<R: Read>(reader: &mut R, sensed: &mut Sensed) -> io::Result<usize>
     ensures given { IfOk result (λ count. AreSensed (R.remaining reader.old) (R.remaining reader.new) count sensed.new) }
     ensures none { OnErr result (sensed.new ≡ no_sensors) }

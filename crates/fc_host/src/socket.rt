@@ -1,4 +1,4 @@
-//! Where a server's datagrams come from and go: a socket, or what a test puts in its place.
+//! The source and the sink of a server's datagrams: a socket, or a test's stand-in.
 ghost use Rattle.std.specs.Net.Addr.{ipv4_octets};
 ghost use Rattle.std.specs.Net.Socket.{v4_ip, v4_port};
 ghost use Rattle.std.specs.Prelude.{◌≡◌, ◌≤◌, ⊤, [], ◌∷◌, Bool, IfSome, List, None, Option, length};
@@ -14,25 +14,34 @@ use std::net::{Ipv4Addr, Net, SocketAddr, SocketAddrV4, UdpSocket};
 use std::sync::Wait;
 use std::time::Duration;
 
-/// The shortest time that a server waits for a datagram, in milliseconds, before time passes without one.
+/// The shortest time that a receive waits for a datagram, in milliseconds.
+///
+/// If no datagram is received in this time, time passes.
 pub const SHORTEST_WAIT: u64 = 100;
 
-/// One byte more than a datagram may have: a longer one is seen to be too long, and ignored.
+/// The length of a receive buffer: one byte more than a datagram may have.
+///
+/// A longer datagram fills the buffer, so it is recognised as too long and ignored.
 pub const BUFFER: usize = DATAGRAM + 1;
 
-/// What a datagram is received into.
+/// A receive buffer.
 pub type Buffer = [u8; BUFFER];
 
-/// Where datagrams come from.
+/// A source of datagrams.
 pub trait Source {
-    // Its receives so far, where they are known: how long each was to wait, and of the datagram that came what fitted the buffer.
+    // The receives so far, if they are known. Each has its timeout, and the part of the received
+    // datagram that fitted the buffer.
     ghost came: { Self → Option (List Receive) } = { λ _. None };
 
-    // Which receives it was asked for, each from one state of the caller's log to the next.
+    // The receives that the source was called for, each from one state of the caller's log to the
+    // next.
     ghost received: { Receive → Log → Log → Type 0 } = { λ receive before after. ⊤ };
 
-    /// Waits for a datagram, so many milliseconds or, for `None`, without end: how many bytes at the start of the buffer it is, and who sent it. What doesn't fit the
-    /// buffer is lost. `None` where nothing came in time, or it couldn't be received.
+    /// Waits `wait` milliseconds for a datagram, or without limit if `wait` is `None`.
+    ///
+    /// Returns the number of its bytes at the start of `buffer`, and its sender. Bytes that don't
+    /// fit the buffer are lost. Returns `None` if no datagram came in time or it couldn't be
+    /// received.
     fn receive(
         &mut self,
         wait: Option<u64>,
@@ -44,17 +53,18 @@ pub trait Source {
         ensures logged { received (record { wait = wait; came = incoming_in buffer.new result }) log.old log.new };
 }
 
-/// Where datagrams go.
+/// A sink of datagrams.
 pub trait Sink {
-    // Which datagrams were handed to it, each from one state of the caller's log to the next: it says of one whether it was told to go out.
+    // The datagrams passed to the sink, each from one state of the caller's log to the next. The
+    // sink returns whether each was sent.
     ghost went: { Emission → Bool → Log → Log → Type 0 } = { λ emission out before after. ⊤ };
 
-    /// Sends a datagram. Tells whether it went out.
+    /// Sends a datagram, and returns whether it was sent.
     fn send(&self, emission: &Emission, log: &mut CallLog) -> bool
         ensures { went emission.now result log.old log.new };
 }
 
-/// A socket that datagrams are received from, and how long its receives wait.
+/// A socket that datagrams are received from, and the timeout of its receives.
 #[derive(Drop)]
 pub struct Receiving<'a> {
     socket: &'a UdpSocket,
@@ -62,7 +72,7 @@ pub struct Receiving<'a> {
 }
 
 impl<'a> Receiving<'a> {
-    /// Receives from a socket whose receives wait 100 ms, as [`open`] gives it.
+    /// Receives from a socket whose receives wait 100 ms, as those of [`open`] do.
     pub fn new(socket: &'a UdpSocket) -> Receiving<'a> {
         Receiving {
             socket,
@@ -70,7 +80,8 @@ impl<'a> Receiving<'a> {
         }
     }
 
-    // Has receives wait so long. Where the system refuses that, they wait as long as before, and it is asked again at the next.
+    // Sets the timeout of receives. If the system refuses that, the previous timeout stays, and the
+    // timeout is set again before the next receive.
     fn set_wait(&mut self, wait: Option<u64>) {
         if self.wait != wait
             && self
@@ -83,7 +94,7 @@ impl<'a> Receiving<'a> {
     }
 }
 
-/// What came to a socket of the system isn't known.
+/// The datagrams received from a real socket are unknown.
 impl<'a> Source for Receiving<'a> {
     ghost received = { λ receive before after. after ≡ before };
 
@@ -110,10 +121,13 @@ impl Sink for UdpSocket {
     }
 }
 
-/// Binds a UDP socket at an address and a port of this host, or at a port that is free for port 0. A receive waits 100 ms.
+/// Binds a UDP socket at an address and a port of this host, or at a free port.
+///
+/// Port 0 requests a free port. A receive waits 100 ms.
 ///
 /// # Errors
-/// The address is none of this host, the port is taken or may not be had, or there is no socket.
+/// The address isn't one of this host, the port is used or not permitted, or the system gives no
+/// socket.
 pub fn open<R: Net>(rt: &R, address: SocketAddrV4) -> io::Result<UdpSocket> {
     let socket = UdpSocket::bind(rt, address)?;
     socket.set_read_timeout(Some(Duration::from_millis(SHORTEST_WAIT)))?;
@@ -136,7 +150,9 @@ fn address_of(endpoint: Endpoint) -> SocketAddrV4
     SocketAddrV4::new(Ipv4Addr::new(a, b, c, d), endpoint.port)
 }
 
-/// Where the workers' replies go: to a sink. Nobody waits for a job.
+/// A transmitter that passes the workers' replies to a sink.
+///
+/// No caller waits for a job.
 #[derive(Drop)]
 pub struct Replying<'a, K: Sink> {
     pub sink: &'a K,

@@ -1,8 +1,8 @@
-//! A timer: a slot whose program is asked again and again.
+//! A timer: a slot whose program is called periodically.
 use fc_registry::SlotNumber;
 use std::marker::Model;
 
-/// A time from one beat of a timer to the next, in milliseconds: 1 at least.
+/// The time from one beat of a timer to the next, in milliseconds: at least 1.
 #[derive(Clone, Copy)]
 pub struct Period {
     milliseconds: u64,
@@ -23,7 +23,7 @@ impl Model for Period {
 impl Period {
     ghost use Rattle.std.specs.Prelude.{◌≡◌, ◌<◌, MatchOption};
 
-    /// Makes a period of so many milliseconds. Returns `None` exactly if that is 0.
+    /// Makes a period of `milliseconds`, or returns `None` exactly if that is 0.
     pub fn new(milliseconds: u64) -> Option<Period>
         ensures { MatchOption result (milliseconds ≡ 0) (λ p. p ≡ milliseconds) }
     {
@@ -41,7 +41,9 @@ impl Period {
     }
 }
 
-/// A slot whose program is asked at every beat of a period, and when it is due next, in milliseconds since the start.
+/// A slot, the period of its program's calls, and the time of the next call.
+///
+/// The time is in milliseconds since the start.
 #[derive(Clone, Copy)]
 pub struct Timer {
     pub every: Period,

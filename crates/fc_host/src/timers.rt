@@ -1,4 +1,6 @@
-//! Timers: requests that a server makes itself, each at every so many milliseconds. They reach the server as datagrams do, between those of a source.
+//! Timers: periodic requests that a server makes itself.
+//!
+//! They reach the server as datagrams do, between those of a source.
 ghost use Rattle.std.specs.Prelude.{◌≡◌, ◌<◌, ◌≤◌, ◌/◌, ◌+◌, ◌⊎◌, IfSome, MatchOption, length, take};
 ghost use Rattle.fc_host.specs.Sockets.{incoming_in};
 ghost use Rattle.fc_host.specs.Timers.{Asks, AsksSource, ComesByTimer, GoesPastTimers, IsFirstDue, IsTimed, IsTimedReceive, NoneDue, at_most, new_timer, put_off};
@@ -12,14 +14,16 @@ use fc_registry::SlotNumber;
 use fc_workers::{CallLog, Moments};
 use std::sync::Wait;
 
-/// The endpoint of timers, 0.0.0.0:0: no peer has it (RFC 1122, 3.2.1.3). A datagram that names it otherwise is dropped.
+/// The endpoint of timers, 0.0.0.0:0, which no peer has.
+///
+/// See RFC 1122, section 3.2.1.3. A datagram of a source that has this endpoint is dropped.
 pub const TIMERS: Endpoint = Endpoint {
     ip: [0; 4],
     port: 0,
 };
 
 impl Timer {
-    /// Makes a timer that is due first after one period.
+    /// Makes a timer that is first due after one period.
     pub fn new(every: Period, slot: SlotNumber) -> Timer
         ensures { result ≡ new_timer every slot }
     {
@@ -30,14 +34,17 @@ impl Timer {
         }
     }
 
-    /// Returns how many exchanges its requests hold at a time, at most, if each comes at its beat: each holds one for 247 s. A late request may be one more.
+    /// Returns the most exchanges that its requests hold at a time.
+    ///
+    /// Each request comes at its beat and holds an exchange for 247 s. A delayed request may be one
+    /// more.
     pub fn exchanges(&self) -> u64
         ensures { result ≡ 247000 / self.now.every + 1 }
     {
         WINDOW / self.every.milliseconds() + 1
     }
 
-    // Puts it off to its first beat after a moment at which it is due.
+    // Sets the timer to its first beat after `now`, a time at which it is due.
     fn put_off(&mut self, now: u64)
         requires { self.old.due ≤ now }
         ensures { self.new ≡ put_off now self.old }
@@ -48,7 +55,9 @@ impl Timer {
     }
 }
 
-/// Timers, and the message id of their next request. An id is used again after 65,536 requests.
+/// Timers, and the message ID of their next request.
+///
+/// An ID is used again after 65,536 requests.
 #[derive(Drop)]
 pub struct Timers {
     timers: Vec<Timer>,
@@ -56,14 +65,15 @@ pub struct Timers {
 }
 
 impl Timers {
-    /// Takes timers, whose first request has message id 0.
+    /// Makes timers whose first request has message ID 0.
     pub fn new(timers: Vec<Timer>) -> Timers
         ensures { result ≡ record { timers = timers; next_id = 0 } }
     {
         Timers { timers, next_id: 0 }
     }
 
-    // Writes the request of the first timer that is due at a moment, and puts it off. Returns how many bytes the request has.
+    // Writes the request of the first timer that is due at `now`, and sets the timer to its next
+    // beat. Returns the number of bytes of the request.
     fn ask(&mut self, now: u64, buffer: &mut Buffer) -> Option<usize>
         ensures fits { IfSome result (λ count. count ≤ length buffer.new) }
         ensures asked { MatchOption result (NoneDue now self.old.timers.items × (self.new ≡ self.old))
@@ -77,14 +87,14 @@ impl Timers {
         Some(write_request(id, slot, buffer))
     }
 
-    // Finds the first timer that is due at a moment.
+    // Finds the first timer that is due at a time.
     fn first_due(&self, now: u64) -> Option<usize>
         ensures { MatchOption result (NoneDue now self.now.timers.items) (IsFirstDue now self.now.timers.items) }
     {
         self.timers.iter().position(|timer| timer.due <= now)
     }
 
-    // Returns for how long a datagram is waited for, from a moment on: no longer than until the first timer is due.
+    // Returns how long a receive waits from a time: no longer than until the first timer is due.
     fn until_due(&self, now: u64, wait: Option<u64>) -> Option<u64>
         ensures { result ≡ until_due now self.now.timers.items wait }
     {
@@ -95,7 +105,7 @@ impl Timers {
     }
 }
 
-// Shortens a wait to so many milliseconds. `None` is without end.
+// Shortens a wait to at most `ms` milliseconds. `None` is unlimited.
 fn at_most(ms: u64, wait: Option<u64>) -> Option<u64>
     ensures { result ≡ at_most ms wait }
 {
@@ -105,7 +115,8 @@ fn at_most(ms: u64, wait: Option<u64>) -> Option<u64>
     }
 }
 
-// Writes a non-confirmable POST of a slot's resource, without a token and a payload. Returns how many bytes it has (RFC 7252, 3).
+// Writes a non-confirmable POST of a slot's resource, without a token and a payload (RFC 7252,
+// section 3). Returns the number of its bytes.
 fn write_request(id: u16, slot: SlotNumber, buffer: &mut Buffer) -> usize
     ensures fits { result ≤ 9 }
     ensures bytes { take result buffer.new ≡ request_bytes id slot }
@@ -115,7 +126,7 @@ fn write_request(id: u16, slot: SlotNumber, buffer: &mut Buffer) -> usize
     count
 }
 
-// The bytes of a request, and how many of them it has: eight, or nine if its slot has two digits.
+// Returns the bytes of a request, and their number: eight, or nine if its slot has two digits.
 fn request(id: u16, slot: u8) -> ([u8; REQUEST], usize)
     requires { slot < 64 }
     ensures fits { (result.1 ≡ 8) ⊎ (result.1 ≡ 9) }
@@ -134,20 +145,23 @@ fn request(id: u16, slot: u8) -> ([u8; REQUEST], usize)
     )
 }
 
-// The most bytes of a request.
+// The maximum number of bytes of a request.
 const REQUEST: usize = 9;
 
-// Version 1, a non-confirmable message without a token (RFC 7252, 3).
+// Version 1, a non-confirmable message without a token (RFC 7252, section 3).
 const NON: u8 = 0x50;
 
-// The method POST (RFC 7252, 12.1.1).
+// The method POST (RFC 7252, section 12.1.1).
 const POST: u8 = 2;
 
-// A Uri-Path option of one byte as the first option (RFC 7252, 3.1 and 5.10). The next Uri-Path option has its length alone in its first byte.
+// A Uri-Path option of one byte as the first option (RFC 7252, sections 3.1 and 5.10). The first
+// byte of the next Uri-Path option has only its length.
 const FIRST_SEGMENT: u8 = 0xb1;
 
-/// A source, and timers, whose requests come when they are due: a datagram of the source is waited for no longer than until the next is. What names the
-/// endpoint of timers at the source is dropped.
+/// A source, together with timers, whose requests come when they are due.
+///
+/// A receive of the source waits no longer than until the next timer is due. A datagram of the
+/// source with the endpoint of timers is dropped.
 #[derive(Drop)]
 pub struct Timed<'a, S: Source + Drop, M: Moments, R: Wait> {
     pub source: S,
@@ -157,7 +171,7 @@ pub struct Timed<'a, S: Source + Drop, M: Moments, R: Wait> {
 }
 
 impl<'a, S: Source + Drop, M: Moments, R: Wait> Timed<'a, S, M, R> {
-    // The request of a timer that is due, or the next datagram of the source.
+    // Returns the request of a timer that is due, or the next datagram of the source.
     fn next(
         &mut self,
         wait: Option<u64>,
@@ -174,7 +188,7 @@ impl<'a, S: Source + Drop, M: Moments, R: Wait> Timed<'a, S, M, R> {
         self.wait_for(now, wait, buffer, log)
     }
 
-    // The request of a timer that is due at a moment.
+    // Returns the request of a timer that is due at a time.
     fn ask(&mut self, now: u64, buffer: &mut Buffer) -> Option<(usize, Endpoint)>
         ensures fits { IfSome result (λ r. r.0 ≤ length buffer.new) }
         ensures asked { ComesByTimer now self.old.timers self.new.timers (incoming_in buffer.new result) }
@@ -205,7 +219,7 @@ impl<'a, S: Source + Drop, M: Moments, R: Wait> Timed<'a, S, M, R> {
     }
 }
 
-/// What came to it is unknown, as it is of a socket of the system.
+/// The received datagrams are unknown, as those of a real socket are.
 impl<'a, S: Source + Drop, M: Moments, R: Wait> Source for Timed<'a, S, M, R> {
     ghost received = { IsTimedReceive M.is_moment S.received };
 
@@ -219,7 +233,7 @@ impl<'a, S: Source + Drop, M: Moments, R: Wait> Source for Timed<'a, S, M, R> {
     }
 }
 
-// A datagram of a source, or `None` if it names the endpoint of timers.
+// Returns a datagram of a source, or `None` if it has the endpoint of timers.
 fn of_peer(came: (usize, Endpoint)) -> Option<(usize, Endpoint)>
     ensures { MatchOption result (came.1 ≡ timers) (λ r. (r ≡ came) × (r.1 ≡ timers → ⊥)) }
 {
@@ -229,7 +243,9 @@ fn of_peer(came: (usize, Endpoint)) -> Option<(usize, Endpoint)>
     Some(came)
 }
 
-/// A sink that the responses to timers don't reach, since nobody waits for them. Each counts as sent.
+/// A sink that drops the responses to timers.
+///
+/// No client waits for them. Each counts as sent.
 #[derive(Drop)]
 pub struct PastTimers<'a, K: Sink> {
     pub sink: &'a K,

@@ -1,4 +1,4 @@
--- What goes out of a job that was worked off.
+-- The messages that are sent for jobs that were run.
 use Rattle.std.proofs.Common.{◌≡◌, inl, inr, ℕ, Bool, Option, Some, None, sym, subst}
 use Rattle.coap_msg.specs.declared.types.Emission.{Emission}
 use Rattle.fc_observe.specs.declared.entry.Turn.{Turn}
@@ -49,13 +49,13 @@ module _ {T : Type 0} (s : Shop T) where
   worked_is_reply None number job before after e w = inl (record { now = w.answered.now; job = job; content = w.content; answer = w.answered.answer })
   worked_is_reply (Some turn) number job before after e w = turn_is_reply (turn_of job turn) w.taken e w.log after.log w.told
 
-  -- what a job that was worked off sends is a reply
+  -- the message for a job that was run is a reply.
   pub goes_out : (number : ℕ) (job : Job) (before after : Share T) {reply : Option Emission} (e : Emission) → IsWorked s number job before after reply
       → reply ≡ Some e → GoesOut e
   goes_out number job before after e w is = worked_is_reply job.turn number job before after e
       (subst (λ (r : Option Emission). IsWorked s number job before after r) is w)
 
-  -- it was sent and counted, or there was nothing to send
+  -- it was sent and counted, or there was nothing to send.
   pub sends_reply : (number : ℕ) (before : Share T) {reply : Option Emission} (e : Emission) (out : Bool) (log : CallLog) {after : Share T}
       → s.wire (SendsReply number e out) before.log log → reply ≡ Some e → after ≡ with_reply out (record before { log = log })
       → IsSent s number reply before after

@@ -1,4 +1,4 @@
--- What is true of all items, after one was popped or pushed.
+-- Items that all satisfy a property still do after one was popped or pushed.
 use Rattle.std.proofs.Common.{◌≡◌, ℕ, List, [], ◌∷◌, ◌++◌, take, subst, sym}
 use Rattle.std.specs.List.{All}
 use Rattle.std.proofs.lemmas.List.Elements.{All-push, All-take}

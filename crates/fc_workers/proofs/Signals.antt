@@ -1,4 +1,4 @@
--- A signal that is handed to one shard after the other.
+-- A signal that is passed to one shard after the other.
 use Rattle.std.proofs.Common.{ℕ, ◌+◌, suc, Bool, refl, arith, subst}
 use Rattle.coap_msg.specs.declared.types.Endpoint.{Endpoint}
 use Rattle.fc_workers.specs.declared.call_log.CallLog.{CallLog}
@@ -6,7 +6,7 @@ use Rattle.fc_calls.specs.Logged.{HandsSignal}
 use Rattle.fc_workers.specs.Called.{Shop}
 use Rattle.fc_workers.specs.Dispatch.{AreSignalled}
 
--- none had it yet
+-- no shard has it yet.
 pub no_signals : {T : Type 0} (s : Shop T) (from : Endpoint) (id : ℕ) (reset : Bool) (log : CallLog) → AreSignalled s 0 from id reset log log
 unfolding AreSignalled
 no_signals s from id reset log = refl
@@ -16,7 +16,7 @@ next_signal : {T : Type 0} (s : Shop T) (n : ℕ) (from : Endpoint) (id : ℕ) (
 unfolding AreSignalled
 next_signal s n from id reset before now after are hands = (now, are, hands)
 
--- one shard more
+-- one more shard.
 pub signals_on : {T : Type 0} (s : Shop T) (n : ℕ) (from : Endpoint) (id : ℕ) (reset : Bool) (before now after : CallLog) → AreSignalled s n from id reset before now
     → s.logged (HandsSignal n from id reset) now after → AreSignalled s (n + 1) from id reset before after
 signals_on s n from id reset before now after are hands =

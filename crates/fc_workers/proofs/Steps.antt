@@ -1,4 +1,4 @@
--- The steps of a job's work, and the list of its calls.
+-- The steps of a job, and the list of its calls.
 use Rattle.std.proofs.Common.{◌≡◌, ℕ, ◌+◌, ◌<◌, ◌≤◌, Bool, true, false, if◌then◌else◌, refl, sym, ap, subst, ◌∙◌, arith, List, [], ◌∷◌, ◌++◌, Option, Some, None, append_assoc, length-append}
 use Rattle.std.specs.Prelude.{length, nat_lt, ◌==◌, ◌%◌}
 use borrow.Author.Tests.{ltb-true}
@@ -27,7 +27,7 @@ use Rattle.arrayvec.specs.ArrayVec.{ArrayVec}
 use Rattle.fc_registry.specs.declared.commit.Committed.{Committed}
 use Rattle.fc_registry.specs.declared.commit.Committed.TheVariants.{Done, Overtaken, Ended, Stranger}
 use Rattle.fc_registry.specs.Slots.{Present, Slot, Ticket}
-use Rattle.fc_registry.specs.Calls.{is_out_at, readings_if, receipt_of, run_of, taking, taking_by as taking_of_job, turn_of, turn_taking}
+use Rattle.fc_registry.specs.Calls.{is_out_at, readings_if, receipt_of, run_of, taking, taking_by as taking_of_job, turn_of, turn_taking, initial_vars_of}
 use Rattle.fc_registry.specs.Taken.{Found}
 use Rattle.fc_core.specs.declared.stage.Step.{Step}
 use Rattle.fc_core.specs.Room.{stage_of}
@@ -39,37 +39,38 @@ use Rattle.fc_core.specs.Ends.{refused, refused_by}
 use Rattle.fc_core.specs.Stages.{asked_stage, first_by, image_of, listed, matched, matched_by, run_content, removed, told, took, after_commit, made, takings}
 use Rattle.fc_core.specs.Steps.{Call, Takes, Commits, Installs, Lists, Matches, Rejects, Refuses, Removes, Describes, Raises}
 use Rattle.fc_workers.specs.declared.share.Share.{Share}
-use Rattle.fc_workers.specs.Answers.{AreTallied, commit_changes, commit_overtakings, ended_by, install_changes, removal_changes, saturated, taking_refusals, IsTakingWith, IsSomeInstall, IsSomeReceipt, IsSomeRemoval, IsSomeTaking}
+use Rattle.fc_workers.specs.Answers.{AreTallied, commit_overtakings, ended_by, saturated, taking_refusals, IsTakingWith, IsSomeInstall, IsSomeReceipt, IsSomeRemoval, IsSomeTaking}
+use Rattle.fc_calls.specs.Kept.{commit_changes, install_changes, removal_changes}
 use Rattle.fc_workers.specs.declared.call_log.CallLog.{CallLog}
 use Rattle.fc_calls.specs.Logged.{InstallsProgram, LoggedCall, LooksAt, RaisesWord, RemovesProgram, TellsReceipt}
 use Rattle.fc_workers.specs.Called.{Shop}
 use Rattle.fc_workers.specs.Steps.{AreSeen, AsksRun, Follows, IsReady, IsStep, IsUntaken, ListsOn, Walked, taken_at}
 use Rattle.fc_workers.specs.Work.{AreCalls, IsCallAt, IsCommitted, IsWorkedOff, HasCounted, stage_after, change_by, overtaking_by, refusal_by, takings_made, total}
 
--- ---- a step in its room
+-- ---- a step, stored in the job's state
 
--- a stage is what its step is, with what else the room holds
+-- a stage is its step, with the other data that the state stores.
 pub stands_at : (stage : Stage) (step needs : Step) (f : Found) (seen : ArrayVec ℕ) (content : Content) → stage_of step f seen content ≡ stage
     → step ≡ needs → stage ≡ stage_of needs f seen content
 stands_at stage step needs f seen content view is = sym view ∙ ap (λ (s : Step). stage_of s f seen content) is
 
--- ---- what a step counts
+-- ---- counts of a step
 
 none_tallied : (b : Bool) (x : ℕ) → x ≡ x + (if b then 0 else 0)
 none_tallied true x = omega arith
 none_tallied false x = omega arith
 
--- a call that changes no slot
+-- a call that changes no slot.
 same_tallies : (changes : ℕ → ℕ) (n : ℕ) → AreTallied changes changes n 0
 same_tallies changes n = λ shard less. none_tallied (shard == n % 8) (changes shard)
 
--- one call's changes
+-- the changes of one call.
 one_tallied : (before after : ℕ → ℕ) (n k : ℕ) → AreTallied before after n k → AreTallied before after n (0 + k)
 one_tallied before after n k rises = subst (λ (x : ℕ). AreTallied before after n x) (omega arith) rises
 
--- ---- where a call leads to
+-- ---- the stage after a call
 
--- a ticket is of the job that took it
+-- a ticket belongs to the job that took the snapshot.
 taking_follows : (kept : Option (List ℕ)) (job : Job) (n serial : ℕ) (p : Option Present) → n < takings
     → Follows job (ToTake n) 1 (took n (taking kept job serial p))
 taking_follows kept job n serial None less = record { ready = tt; fewer = omega (arith, less); few = omega (arith, less) }
@@ -91,7 +92,7 @@ took_follows : (job : Job) (n : ℕ) (readings : List ℕ) (x : Taken) → n < t
 took_follows job n readings x less is = subst (λ (x : Taken). Follows job (ToTake n) 1 (took n x)) (sym is.taking.1)
     (by_turn_follows job.turn (readings_if is.taking.0 readings) job n is.slot is.now is.watch less)
 
--- a request's taking is never stale
+-- a request's snapshot is never stale.
 finding_ends : (kept : Option (List ℕ)) (job : Job) (serial ended : ℕ) (p : Option Present) → ended_by (taking kept job serial p) ended ≡ ended
 finding_ends kept job serial ended None = refl
 finding_ends (Some readings) job serial ended (Some p) = refl
@@ -149,13 +150,13 @@ rejected_follows job f false = record { ready = tt; fewer = omega arith; few = o
 -- ---- a step of each stage
 
 module _ {T : Type 0} (shop : Shop T) (number : ℕ) (job : Job) where
-  -- a step to a stage and a share that are these
+  -- a step to a stage and statistics that equal these.
   is_step : (old : Stage) {new next : Stage} {before after counted : Share T} → new ≡ next → after ≡ counted → IsStep shop number job old next before counted
       → IsStep shop number job old new before after
   is_step old {new} {next} {before} {after} {counted} e c s = subst (λ (x : Stage). IsStep shop number job old x before after) (sym e)
       (subst (λ (p : Share T). IsStep shop number job old next before p) (sym c) s)
 
-  -- a step from a stage that is this one
+  -- a step from a stage that equals this one.
   pub from_stage : {old at next : Stage} {before after : Share T} → old ≡ at → IsStep shop number job at next before after
       → IsStep shop number job old next before after
   from_stage {old} {at} {next} {before} {after} e s = subst (λ (x : Stage). IsStep shop number job x next before after) (sym e) s
@@ -202,11 +203,11 @@ module _ {T : Type 0} (shop : Shop T) (number : ℕ) (job : Job) where
   })
 
   pub install_step : (program : Program) (x : Made) (p : Share T) (tallies : T) (log : CallLog) {next : Stage} → judged (image_of job.ask) ≡ Accepts program
-      → shop.logged (InstallsProgram job program x) p.log log → IsSomeInstall program x → AreTallied (shop.changes p.tallies) (shop.changes tallies) job.origin.slot (install_changes x)
+      → shop.logged (InstallsProgram job program x) p.log log → IsSomeInstall (initial_vars_of job.ask) program x → AreTallied (shop.changes p.tallies) (shop.changes tallies) job.origin.slot (install_changes x)
       → next ≡ made (receipt_of program 0) x → IsStep shop number job ToInstall next p (record p { tallies = tallies; log = log })
   install_step program x p tallies log accepted installs is rises e = is_step ToInstall e refl (record {
-    call = Installs program x;
-    is = (refl, (accepted, installs, is));
+    call = Installs program (initial_vars_of job.ask) x;
+    is = (refl, (accepted, refl, installs, is));
     next = refl;
     follows = made_follows job (receipt_of program 0) x;
     counted = record {
@@ -237,7 +238,7 @@ module _ {T : Type 0} (shop : Shop T) (number : ℕ) (job : Job) where
     };
   })
 
-  -- calls that count nothing
+  -- calls that count nothing.
   logged_only : (call : Call) (p : Share T) (log : CallLog) → change_by call ≡ 0 → refusal_by call ≡ 0 → overtaking_by call ≡ 0
       → HasCounted shop job.origin.slot (call ∷ []) p (record p { log = log })
   logged_only call p log none no_refusal no_overtaking = record {
@@ -280,7 +281,7 @@ module _ {T : Type 0} (shop : Shop T) (number : ℕ) (job : Job) where
     counted = logged_only (Lists seen word) p log refl refl refl;
   })
 
-  -- an image that breaks a rule
+  -- an image that breaks a rule.
   pub reject_step : (f : Fault) (p : Share T) {next : Stage} → IsRefusal (image_of job.ask) (Broken f) → next ≡ ToAnswer (refused (Broken f))
       → IsStep shop number job ToInstall next p p
   reject_step f p is e = is_step ToInstall e refl (record {
@@ -298,7 +299,7 @@ module _ {T : Type 0} (shop : Shop T) (number : ℕ) (job : Job) where
     };
   })
 
-  -- memory that was refused
+  -- a refused allocation.
   pub refuse_step : (p : Share T) {next : Stage} {after : Share T} → IsRefusal (image_of job.ask) NoMemory → next ≡ ToAnswer Unavailable
       → after ≡ record p { refusals = saturated (p.refusals + 1) } → IsStep shop number job ToInstall next p after
   refuse_step p is e c = is_step ToInstall e c (record {
@@ -333,7 +334,7 @@ module _ {T : Type 0} (shop : Shop T) (number : ℕ) (job : Job) where
     };
   }
 
--- an outcome of the ticket's program, request, variables and readings is that of its run
+-- an outcome of the ticket's program, request, variables and readings is that of its run.
 pub is_run : (r : Ran) (t : Ticket) (p : Program) (request : Request) (vars readings : List ℕ) → r ≡ ran p request vars readings → p ≡ t.found.program
     → request ≡ t.request → vars ≡ t.found.vars → readings ≡ t.readings → r ≡ run_of t
 is_run r t p request vars readings e by for on with_them = e ∙ λ i. ran (by i) (for i) (on i) (with_them i)
@@ -390,7 +391,7 @@ counts_on shop n calls call before now after c d = record {
   failed = d.failed ∙ c.failed;
 }
 
--- one more step, from a stage that is this one
+-- one more step, from a stage that equals this one.
 pub walks_on : {T : Type 0} (shop : Shop T) (number : ℕ) (job : Job) {stage at next : Stage} {before now after : Share T} → stage ≡ at
     → Walked shop number job stage before now → IsStep shop number job at next now after → Walked shop number job next before after
 walks_on shop number job {stage} {at} {next} {before} {now} {after} e w s =
@@ -407,7 +408,7 @@ walks_on shop number job {stage} {at} {next} {before} {now} {after} e w s =
 
 -- ---- a job that was begun
 
--- a run that its slot's head word may answer
+-- a run that its slot's head word may answer.
 asks_first : (ask : Ask) (serials : List ℕ) → first_by ask serials ≡ ToMatch → AsksRun ask
 asks_first (Run request) serials is = tt
 asks_first Discover serials is = absurd (let n = is in cc)
@@ -423,11 +424,11 @@ match_untaken : (job : Job) (b : Bool) (word : ℕ) → AsksRun job.ask → IsUn
 match_untaken job true word asks = tt
 match_untaken job false word asks = (refl, asks)
 
--- no call was made yet
+-- no call was made yet.
 pub asked_untaken : (job : Job) {stage : Stage} → stage ≡ asked_stage job → IsUntaken job stage
 asked_untaken job is = subst (IsUntaken job) (sym is) (first_untaken job job.ask job.etags.items refl)
 
--- it looked at the head word of its slot
+-- the head word of its slot was read.
 pub matched_untaken : (job : Job) (word : ℕ) {stage : Stage} → asked_stage job ≡ ToMatch → stage ≡ matched word job.etags.items → IsUntaken job stage
 matched_untaken job word first is = subst (IsUntaken job) (sym is)
     (match_untaken job (is_match word job.etags.items) word (asks_first job.ask job.etags.items first))
@@ -443,7 +444,7 @@ arrives shop number job stage content before now e w = record {
   counted = w.counted;
 }
 
--- the words that were seen, and one more
+-- the words that were read, and one more.
 pub more_seen : (Logged : LoggedCall → CallLog → CallLog → Type 0) (n word : ℕ) (words : List ℕ) (before now after : CallLog) → AreSeen Logged n words before now
     → Logged (LooksAt (n + length words) word) now after → AreSeen Logged n (words ++ word ∷ []) before after
 more_seen Logged n word [] before now after seen looks =
@@ -455,7 +456,7 @@ more_seen Logged n word (w ∷ ws) before now after seen looks = (
 )
 
 module _ {T : Type 0} (shop : Shop T) (number : ℕ) (job : Job) where
-  -- a look at each head word that is left
+  -- the reads of all head words that are left.
   walks_list : (seen : ArrayVec ℕ) (more : List ℕ) (log : CallLog) {stage : Stage} {before now : Share T} → stage ≡ ToList seen
       → AreSeen shop.logged (length seen.items) more now.log log → 0 < length more → length (seen.items ++ more) ≡ 64 → Walked shop number job stage before now
       → Walked shop number job (ToAnswer (Listed (seen.items ++ more))) before (record now { log = log })

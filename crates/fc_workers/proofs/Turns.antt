@@ -18,7 +18,7 @@ more_turns : {T : Type 0} (shop : Shop T) (ns : List Numbered) (n : Numbered) (b
 unfolding AreTurns
 more_turns shop ns n before now after turns turn = (now, (turns, turn))
 
--- a worker that hasn't begun
+-- a worker that hasn't begun.
 pub sets_out : {T : Type 0} (shop : Shop T) (s : Share T) → HasEnded shop s s
 sets_out shop s = record {
   jobs = [];
@@ -27,7 +27,7 @@ sets_out shop s = record {
   count = omega arith;
 }
 
--- one job more
+-- one more job.
 pub turns_on : {T : Type 0} (shop : Shop T) (n : Numbered) (before now after : Share T) → HasEnded shop before now → IsTurn shop n now after
     → after.got ≡ with_got now.got n.number n.job → HasEnded shop before after
 turns_on shop n before now after h turn got = record {

@@ -1,6 +1,6 @@
--- What is known of calls of a server behind locks: what each did, to the shard of which index, or to the front. In which state it found that isn't said, since
--- others change it between two calls.
-use Rattle.std.specs.Prelude.{◌≡◌, ℕ, ◌%◌, ◌<◌, true, false, List, map, replicate}
+-- Contracts of the calls of a server with locks: the effect of each, on the shard of which index or
+-- on the front. The state before a call isn't stated, since others change it between two calls.
+use Rattle.std.specs.Prelude.{◌≡◌, ℕ, ◌%◌, ◌<◌, true, false, List, replicate}
 use Rattle.fc_core.specs.Exchanges.{FrontState}
 use Rattle.fc_workers.specs.Fronts.{BeganAt, Beginning}
 use Rattle.fc_workers.specs.declared.call_log.CallLog.{CallLog}
@@ -8,13 +8,10 @@ use Rattle.fc_registry.specs.Slots.{Shard}
 use Rattle.fc_workers.specs.Called.{BenchCall, LeavesUnquiet, LooksAhead}
 use Rattle.fc_calls.specs.Logged.{LoggedCall, HearsDatagram, DrawsId, AnswersRequest, TakesForJob, CommitsRun, InstallsProgram, RemovesProgram, TellsReceipt}
 use Rattle.fc_calls.specs.Logged.{GivesReadings, LooksAt, AdvancesFront, HandsSignal, AdvancesQuiet, AdvancesShard, GivesTurn, NotesTurn, GivesUpTurn, RaisesWord}
+use Rattle.fc_calls.specs.Kept.{confirm_times}
 use Rattle.fc_calls.specs.Doings.{AdvancesTo, AnswersAt, CommitsAt, DescribesTo, DrawsAt, GivesTurnAt, GivesUpAt, HandsOn, HearsAt, InstallsTo, NotesAt, PassesIfQuiet, RemovesFrom, TakesTo, TellsQuietUntil, TicksAt}
 
--- after how many ms a notification of each slot of a shard is confirmable again (RFC 7641, 4.5)
-abbrev pub confirm_times : Shard → List ℕ
-confirm_times shard = map (λ watch. watch.confirm_after) shard.watches
-
--- a call that does this to a shard was asked of the shard of an index, 0 to 7, whose server began so
+-- a call with this effect was made on the shard with this index, 0 to 7, of a server that began so.
 pub record IsAsked (first : Beginning) (index : ℕ) (Does : Shard → Shard → Type 0) : Type 0 where
   pub before : Shard
   pub after : Shard
@@ -22,20 +19,21 @@ pub record IsAsked (first : Beginning) (index : ℕ) (Does : Shard → Shard →
   pub confirms : confirm_times before ≡ replicate 8 first.confirm_after
   pub does : Does before after
 
--- a call that does this to the front was asked of it, which began as this one
+-- a call with this effect was made on a front that began in this state.
 pub record IsFrontAsked (first : FrontState) (Does : FrontState → FrontState → Type 0) : Type 0 where
   pub before : FrontState
   pub after : FrontState
   pub began : ∥ BeganAt first before ∥₁
   pub does : Does before after
 
--- what a call of a server that began so says: the shard of that index was asked, or of that slot
+-- the meaning of an unlogged call of a server that began so: the shard with this index was called.
 abbrev pub IsServerCall : Beginning → BenchCall → Type 0
 IsServerCall first (LeavesUnquiet shard now) = IsAsked first shard (λ before after. PassesIfQuiet now before false after)
 IsServerCall first (LooksAhead shard until) = IsAsked first shard (λ before after. TellsQuietUntil before until after)
 
--- and of each that a worker's log has: its readings are of the device, and the front or a shard was asked. A look at a head word and a raise take no lock: what they find and do is said
--- of the worker's seat
+-- the meaning of a call in a worker's log: its readings are the device's, or the front or a shard
+-- was called. The read of a head word and a raise take no lock: their effects are stated of the
+-- worker's handle.
 abbrev pub IsLoggedCall : Beginning → (List ℕ → CallLog → CallLog → Type 0) → LoggedCall → CallLog → CallLog → Type 0
 IsLoggedCall first AreReadings (GivesReadings readings) before after = AreReadings readings before after
 IsLoggedCall first AreReadings (TellsReceipt job receipt) before after = IsAsked first (job.origin.slot % 8) (λ before after. DescribesTo job before receipt after)

@@ -1,25 +1,30 @@
--- Calls that workers make, each with what it was handed and what it answered; and what is known of who makes them.
+-- The calls that workers make, each with its arguments and its result, and the contracts of the
+-- called parts.
 use Rattle.std.specs.Prelude.{ℕ, Bool}
 use Rattle.coap_msg.specs.declared.types.Emission.{Emission}
 use Rattle.fc_calls.specs.Logged.{LoggedCall}
 use Rattle.fc_workers.specs.declared.call_log.CallLog.{CallLog}
 
--- a call of a bench that changes nothing, and is in no log: that it was made is known, and not how often or when
+-- a call of a backend that changes nothing, and is in no log. It is known that the call was made,
+-- but not how often or when.
 pub data BenchCall : Type 0 where
-  -- a shard that isn't quiet at a moment is left as it is
+  -- a shard that isn't idle at this time is unchanged.
   LeavesUnquiet : (shard now : ℕ) → BenchCall
-  -- until when a shard is quiet
+  -- the time until which a shard stays idle.
   LooksAhead : (shard until : ℕ) → BenchCall
 
--- a call of a wire for the job of a number
+-- a call of a transmitter for the job with this number.
 pub data WireCall : Type 0 where
-  -- its reply is sent: whether it goes out
+  -- the job's reply is sent; the result says whether it went out.
   SendsReply : (number : ℕ) (reply : Emission) (out : Bool) → WireCall
-  -- the job has ended
+  -- the job has ended.
   EndsJob : (number : ℕ) → WireCall
 
--- how a worker's tallies are read, and which calls were made: of the bench, and of who tells random words; and those of the bench, of who tells moments, of the gate, by a job's number,
--- and of the wire, that each led from one state of the worker's log to the next
+-- the ghost view of a worker context: how a worker's tallies are read, and which calls were made.
+-- The calls without a log are those of the backend that change nothing, and those for random words.
+-- Each logged call leads from one state of the worker's log to the next. These are the other calls
+-- of the backend, those for times, those of the gate by a job's number, and those of the
+-- transmitter.
 pub record Shop (T : Type 0) : Type 1 where
   pub changes : T → ℕ → ℕ
   pub ended : T → ℕ

@@ -1,10 +1,12 @@
--- What a server comes to whose workers have come to their end.
+-- The result of closing a server whose workers have ended.
 use Rattle.std.specs.Prelude.{◌≡◌, ℕ, ◌*◌, List, map}
 use Rattle.fc_workers.specs.declared.closed.ClosedServer.{ClosedServer}
 use Rattle.fc_workers.specs.Answers.{saturated}
-use Rattle.fc_workers.specs.Counts.{serials, sums}
+use Rattle.fc_workers.specs.Counts.{sums}
+use Rattle.fc_calls.specs.Kept.{serials}
 
--- the serials of each shard have risen by just the changes that were counted of it, which are shown
+-- the serials of each shard have risen by exactly its counted changes, and the result has these
+-- counts.
 pub record HasCountedAll (closed : ClosedServer) : Type 0 where
   pub changes : List ℕ
   pub risen : map serials closed.shards ≡ sums (map (λ n. 8 * n) closed.first_serials) changes

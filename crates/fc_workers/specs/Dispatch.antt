@@ -1,4 +1,4 @@
--- What becomes of the jobs that come to a dispatcher: each goes to a worker, or is worked off where it came.
+-- The effect of a dispatcher on its jobs: each goes to a worker, or the dispatcher runs it.
 use Rattle.std.specs.Prelude.{◌≡◌, ◌⊎◌, ◌+◌, ◌≤◌, ℕ, zero, suc, Bool, true, false, List, Option, Some, None}
 use Rattle.coap_msg.specs.declared.types.Emission.{Emission}
 use Rattle.coap_msg.specs.declared.types.Endpoint.{Endpoint}
@@ -22,36 +22,38 @@ use Rattle.fc_workers.specs.Steps.{AsksRun, HasTaken}
 use Rattle.fc_workers.specs.Work.{IsReplied}
 use Rattle.fc_workers.specs.declared.share.Share.{Share}
 
--- it stands at the commit of a ticket whose program runs for so many instructions at most, or more
+-- the stage is the commit of a ticket whose program may run for this many instructions or more.
 abbrev pub IsDearAt : ℕ → Stage → Type 0
 IsDearAt least (ToCommit count t) = least ≤ t.found.program.cost
 IsDearAt least other = ⊥
 
--- the number of a job that isn't sent to the workers
+-- the number of a job that isn't sent to the workers.
 abbrev pub unsent : ℕ
 unsent = 18446744073709551615
 
--- a dispatcher whose log is at this state
+-- a dispatcher whose log is in this state.
 abbrev pub logged_at : {T : Type 0} → CallLog → Dispatched T → Dispatched T
 logged_at log done = record done { share = record done.share { log = log } }
 
--- it has done nothing but make calls
+-- it has only made calls.
 abbrev pub HasCalled : {T : Type 0} → Dispatched T → Dispatched T → Type 0
 HasCalled before after = after ≡ logged_at after.share.log before
 
 module _ {T : Type 0} (s : Shop T) where
-  -- a job of a run, and the receipt that was told of its slot when it came, of a cost of so many instructions or more. The log has no other call
+  -- the job of a run, with the receipt that was returned for its slot when it arrived. The
+  -- receipt's cost is this number of instructions or more. The log has no other call.
   pub record IsDear (least : ℕ) (job : Job) (before after : CallLog) : Type 0 where
     pub asks : AsksRun job.ask
     pub receipt : Receipt
     pub told : s.logged (TellsReceipt job (Some receipt)) before after
     pub cost : least ≤ receipt.cost
 
-  -- the receipt of a job's slot was told, or it wasn't asked for. The log has no other call
+  -- the receipt of a job's slot was returned, or it wasn't requested. The log has no other call.
   abbrev pub IsPriced : Job → CallLog → CallLog → Type 0
   IsPriced job before after = (after ≡ before) ⊎ ((receipt : Option Receipt) × s.logged (TellsReceipt job receipt) before after)
 
-  -- a request's job of a run was looked up here, or wasn't, and took once, and what it found costs so many instructions or more. The log has no other call
+  -- a request's job of a run was looked up here, or wasn't, and took one snapshot. The snapshot's
+  -- program has this cost or more. The log has no other call.
   pub record IsFoundDear (least : ℕ) (job : Job) (before after : Share T) : Type 0 where
     pub asks : AsksRun job.ask
     pub request : job.turn ≡ None
@@ -60,18 +62,20 @@ module _ {T : Type 0} (s : Shop T) where
     pub dear : IsDearAt least stage
     pub ended : s.ended after.tallies ≡ s.ended before.tallies
 
-  -- it may go to workers, by what was done for it here: nothing, its slot's receipt was told, or it took
+  -- the job may go to workers, by the calls that were made for it here: none, a receipt of its
+  -- slot, or a snapshot.
   abbrev pub MayGo : Handover → Job → Share T → Share T → Type 0
   MayGo Every job before after = after ≡ before
   MayGo (Dear least) job before after = (IsDear least job before.log after.log × (after ≡ record before { log = after.log })) ⊎ IsFoundDear least job before after
   MayGo Never job before after = ⊥
 
-  -- a job that may was sent to the workers, under the next number
+  -- a job that may go was sent to the workers, under the next number.
   pub record IsHandedOver (handover : Handover) (job : Job) (before after : Dispatched T) : Type 0 where
     pub sent : after.sent ≡ with_sent before.sent job
     pub may_go : MayGo handover job before.share after.share
 
-  -- a job was worked off here, after its slot's receipt was told, if it was asked for, and ended; its reply is sent and counted
+  -- a job was run here and ended, after its slot's receipt was returned, if it was requested. Its
+  -- reply is sent and counted.
   pub record IsWorkedHere (job : Job) (before after : Dispatched T) : Type 0 where
     pub sent : after.sent ≡ before.sent
     pub log : CallLog
@@ -79,22 +83,23 @@ module _ {T : Type 0} (s : Shop T) where
     pub worked : IsReplied s unsent job (record before.share { log = log }) after.share
     pub ends : s.ended after.share.tallies ≡ saturated (s.ended before.share.tallies + 1)
 
-  -- it went to the workers, where it may, or was worked off here
+  -- the job went to the workers, which the policy allows, or was run here.
   abbrev pub IsDispatched : Handover → Job → Dispatched T → Dispatched T → Type 0
   IsDispatched handover job before after = IsHandedOver handover job before after ⊎ IsWorkedHere job before after
 
-  -- a Reset message or an Acknowledgement was handed once to each of the first n shards, in order
+  -- a Reset message or an Acknowledgement was passed once to each of the first n shards, in order.
   unfoldable pub AreSignalled : ℕ → Endpoint → ℕ → Bool → CallLog → CallLog → Type 0
   AreSignalled zero from id reset before after = after ≡ before
   AreSignalled (suc n) from id reset before after = (log : CallLog) × AreSignalled n from id reset before log × s.logged (HandsSignal n from id reset) log after
 
-  -- the job that a delivery brings is dispatched, and what signals observers reaches all of them; else nothing is done
+  -- the job that results from a delivery is dispatched, and a signal reaches the observers of all
+  -- shards; otherwise nothing is done.
   abbrev pub IsDone : Handover → Endpoint → Delivered → Dispatched T → Dispatched T → Type 0
   IsDone handover from (Brings job) before after = IsDispatched handover job before after
   IsDone handover from (Signal id reset) before after = AreSignalled 8 from id reset before.share.log after.share.log × HasCalled before after
   IsDone handover from other before after = after ≡ before
 
-  -- a delivery at a moment to some front brought this, and it is done
+  -- the result of a delivery at this time is that of some front, and it is processed.
   pub record IsTakenIn (handover : Handover) (now : ℕ) (from : Endpoint) (bytes : List ℕ) (result : Heard) (reply : Emission)
       (before after : Dispatched T) : Type 0 where
     pub job : Job
@@ -103,12 +108,13 @@ module _ {T : Type 0} (s : Shop T) where
     pub delivery : IsSomeDelivery now from bytes (heard result job reply)
     pub done : IsDone handover from (heard result job reply) (logged_at log before) after
 
-  -- a turn that a shard gave is dispatched; where it gave none, none is
+  -- the job of a lease is dispatched; if no lease was granted, no job is.
   abbrev pub IsTurnDone : Handover → Option Job → Bool → Dispatched T → Dispatched T → Type 0
   IsTurnDone handover (Some job) given before after = (given ≡ true) × IsDispatched handover job before after
   IsTurnDone handover None given before after = (given ≡ false) × (after ≡ before)
 
-  -- a shard, as some shard does, gave this turn at a moment, or none, and it is dispatched
+  -- a shard granted this lease at this time, or none, as some shard does, and its job is
+  -- dispatched.
   pub record IsTurnAsked (handover : Handover) (shard now : ℕ) (given : Bool) (before after : Dispatched T) : Type 0 where
     pub turn : Option Job
     pub log : CallLog

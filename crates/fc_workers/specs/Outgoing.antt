@@ -1,4 +1,4 @@
--- What goes out for a job: the answer that some front gives it, or the notification of its turn.
+-- The message that is sent for a job: the answer of some front, or the notification for its lease.
 use Rattle.std.specs.Prelude.{◌≡◌, ◌⊎◌, ◌+◌, ℕ, Bool, if◌then◌else◌, Option, Some, None}
 use Rattle.coap_msg.specs.declared.types.Emission.{Emission}
 use Rattle.fc_observe.specs.declared.entry.Turn.{Turn}
@@ -18,14 +18,15 @@ use Rattle.fc_workers.specs.declared.call_log.CallLog.{CallLog}
 use Rattle.fc_calls.specs.Logged.{AnswersRequest, DrawsId, GivesUpTurn, NotesTurn}
 use Rattle.fc_workers.specs.Called.{SendsReply, Shop}
 
--- a share that has counted a reply by whether it went out
+-- statistics that count one more reply, by whether it went out.
 abbrev pub with_reply : {T : Type 0} → Bool → Share T → Share T
 with_reply out share = if out then record share { sent = saturated (share.sent + 1) } else record share { failed = saturated (share.failed + 1) }
 
 module _ {T : Type 0} (s : Shop T) where
-  -- ---- a request
+  -- ---- requests
 
-  -- the moment was asked for, and then some front answers the job so at it, and this is to go out, or nothing
+  -- the time was requested, and then some front answered the job at it, and this is to be sent, or
+  -- nothing.
   pub record GivesAnswer (job : Job) (content : Content) (reply : Option Emission) (before after : CallLog) : Type 0 where
     pub now : ℕ
     pub asked : CallLog
@@ -33,9 +34,10 @@ module _ {T : Type 0} (s : Shop T) where
     pub answers : s.logged (AnswersRequest now job content reply) asked after
     pub answer : IsSomeAnswer now job content reply
 
-  -- ---- a turn
+  -- ---- leases
 
-  -- the moment was asked for, and then this is told the observer of the turn at it, by this message id, and this is to go out, or nothing
+  -- the time was requested, and then the lease's observer was notified of this at it, with this
+  -- message ID. The reply is to be sent, or nothing.
   pub record IsNoteSent (told : Notification) (turn : Turn) (id : ℕ) (reply : Option Emission) (before after : CallLog) : Type 0 where
     pub now : ℕ
     pub asked : CallLog
@@ -47,7 +49,8 @@ module _ {T : Type 0} (s : Shop T) where
     pub note : IsSomeNote now told turn id noted
     pub reply_is : reply ≡ sent_of noted
 
-  -- the moment was asked for, a message id was drawn at it, and what was found is told by this message id
+  -- the time was requested, a message ID was drawn at it, and the observer was notified of the
+  -- snapshot with this message ID.
   pub record IsNotification (turn : Turn) (found : Option Ticket) (reply : Option Emission) (before after : CallLog) : Type 0 where
     pub drawn : ℕ
     pub asked : CallLog
@@ -60,7 +63,7 @@ module _ {T : Type 0} (s : Shop T) where
     pub tells : SaysFound told found
     pub noted : IsNoteSent told turn id reply log after
 
-  -- the moment was asked for, and then the turn was given up at it, and nothing goes out
+  -- the time was requested, and then the lease was released at it. Nothing is sent.
   pub record IsGivenUp (turn : Turn) (reply : Option Emission) (before after : CallLog) : Type 0 where
     pub now : ℕ
     pub asked : CallLog
@@ -68,7 +71,7 @@ module _ {T : Type 0} (s : Shop T) where
     pub gives_up : s.logged (GivesUpTurn turn now) asked after
     pub nothing : reply ≡ None
 
-  -- no message id was free, and the turn was given up
+  -- no message ID was available, and the lease was released.
   pub record IsStarved (turn : Turn) (reply : Option Emission) (before after : CallLog) : Type 0 where
     pub now : ℕ
     pub asked : CallLog
@@ -81,31 +84,33 @@ module _ {T : Type 0} (s : Shop T) where
   abbrev pub IsFoundTold : Turn → Option Ticket → Option Emission → CallLog → CallLog → Type 0
   IsFoundTold turn found reply before after = IsNotification turn found reply before after ⊎ IsStarved turn reply before after
 
-  -- by what the turn's taking answered: where memory was refused the turn is given up, and where it is stale nothing is left to do
+  -- the effect by the result of the lease's snapshot. If memory was refused, the lease is released.
+  -- If the snapshot is stale, nothing is left to do.
   abbrev pub IsTurnReply : Turn → Taken → Option Emission → CallLog → CallLog → Type 0
   IsTurnReply turn (Given t) reply before after = IsFoundTold turn (Some t) reply before after
   IsTurnReply turn Missing reply before after = IsFoundTold turn None reply before after
   IsTurnReply turn Stale reply before after = (reply ≡ None) × (after ≡ before)
   IsTurnReply turn Refused reply before after = IsGivenUp turn reply before after
 
-  -- ---- sending it
+  -- ---- sending
 
-  -- a reply was sent once, under its job's number, and is counted by whether it went out; where there is none, nothing was called and nothing is counted
+  -- a reply was sent once, under its job's number, and is counted by whether it went out. If there
+  -- is no reply, nothing was called and nothing is counted.
   abbrev pub IsSent : ℕ → Option Emission → Share T → Share T → Type 0
   IsSent number None before after = after ≡ before
   IsSent number (Some reply) before after =
       (out : Bool) × (log : CallLog) × s.wire (SendsReply number reply out) before.log log × (after ≡ with_reply out (record before { log = log }))
 
--- ---- a reply
+-- ---- replies
 
--- some front answers some job by this
+-- some front's answer to some job.
 pub record IsAnswer (emission : Emission) : Type 0 where
   pub now : ℕ
   pub job : Job
   pub content : Content
   pub answer : IsSomeAnswer now job content (Some emission)
 
--- some shard notifies the observer of some turn by this
+-- some shard's notification to the observer of some lease.
 pub record IsNote (emission : Emission) : Type 0 where
   pub now : ℕ
   pub told : Notification
@@ -113,6 +118,6 @@ pub record IsNote (emission : Emission) : Type 0 where
   pub id : ℕ
   pub note : IsSomeNote now told turn id (Send emission)
 
--- what may go out of a workshop
+-- an emission that a worker may send.
 abbrev pub GoesOut : Emission → Type 0
 GoesOut emission = IsAnswer emission ⊎ IsNote emission

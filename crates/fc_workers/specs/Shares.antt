@@ -1,4 +1,4 @@
--- What a worker's share says of the jobs that it got.
+-- The statistics of a worker, related to the jobs that it received.
 use Rattle.std.specs.Prelude.{◌≡◌, ℕ, ◌+◌, ◌<◌, List, [], ◌∷◌, ◌++◌, length, map, reverse, slice_index_or}
 use Rattle.std.specs.List.{All}
 use Rattle.fc_jobs.specs.Ends.{Channel, Got, nothing_got, with_got}
@@ -10,39 +10,40 @@ use Rattle.fc_workers.specs.Answers.{HasRisen, saturated}
 use Rattle.fc_workers.specs.Called.{Shop}
 use Rattle.fc_workers.specs.Work.{IsReplied}
 
--- the share of a worker that hasn't begun
+-- the statistics of a worker that hasn't begun.
 abbrev pub new_share : {T : Type 0} → Got → T → CallLog → Share T
 new_share got tallies log = record { tallies = tallies; log = log; got = got; sent = 0; failed = 0; refusals = 0; overtakings = 0 }
 
--- a seat for each of these tallies, whose worker has got nothing yet
+-- a seat for each of these tallies, whose worker has received nothing yet.
 pub record AreNewSeats {T : Type 0} (channel : Channel) (tallies : List T) (seats : List (Seat T)) : Type 0 where
   pub got : All (λ (s : Seat T). s.got ≡ nothing_got channel) seats
   pub tallies_are : map (λ (s : Seat T). s.tallies) seats ≡ tallies
 
 module _ {T : Type 0} (s : Shop T) where
-  -- the worker got a job, worked it off under its number, and ended it; its reply is sent and counted
+  -- the worker received a job, ran it under its number, and ended it. Its reply is sent and
+  -- counted.
   pub record IsTurn (n : Numbered) (before after : Share T) : Type 0 where
     pub worked : IsReplied s n.number n.job (record before { got = with_got before.got n.number n.job }) after
     pub ends : s.ended after.tallies ≡ saturated (s.ended before.tallies + 1)
 
-  -- one job after the other, the newest first
+  -- one job after the other, the newest first.
   unfoldable pub AreTurns : List Numbered → Share T → Share T → Type 0
   AreTurns [] before after = after ≡ before
   AreTurns (n ∷ ns) before after = (now : Share T) × (AreTurns ns before now × IsTurn n now after)
 
-  -- the worker got these jobs besides, worked each off, and has ended as many
+  -- the worker received these further jobs, ran each, and has ended as many.
   pub record HasEnded (before after : Share T) : Type 0 where
     pub jobs : List Numbered
     pub turns : AreTurns jobs before after
     pub got : after.got ≡ record before.got { got = before.got.got ++ reverse jobs }
     pub count : HasRisen (s.ended before.tallies) (length jobs) (s.ended after.tallies)
 
-  -- the share of the worker at a seat, whose log is new
+  -- the statistics of the worker with this seat, whose log is new.
   pub record IsShareOf (seat : Seat T) (share : Share T) : Type 0 where
     pub log : CallLog
     pub ended : HasEnded (new_share seat.got seat.tallies log) share
 
-  -- each seat's share, in the order of the seats
+  -- the statistics for each seat, in the order of the seats.
   pub record AreSharesOf (seats : List (Seat T)) (shares : List (Share T)) : Type 0 where
     pub count : length shares ≡ length seats
     pub each : (i : ℕ) (seat : Seat T) (share : Share T) → i < length seats → IsShareOf (slice_index_or seats i seat) (slice_index_or shares i share)

@@ -1,4 +1,4 @@
--- One step of a job's work, as the worker's loop keeps it.
+-- One step of a job, in the form of the worker's loop invariant.
 use Rattle.std.specs.Prelude.{◌≡◌, ◌⊎◌, ℕ, ◌+◌, ◌*◌, ◌-◌, ◌<◌, ◌≤◌, List, [], ◌∷◌, ◌++◌, length}
 use Rattle.fc_registry.specs.declared.job.Ask.{Ask}
 use Rattle.fc_registry.specs.declared.job.Ask.TheVariants.{Run}
@@ -14,13 +14,13 @@ use Rattle.fc_calls.specs.Logged.{LoggedCall, LooksAt}
 use Rattle.fc_workers.specs.Called.{Shop}
 use Rattle.fc_workers.specs.Work.{AreCalls, HasCounted, IsCallAt, stage_after, takings_made, total}
 
--- it asks for a run
+-- it requests a run.
 abbrev pub AsksRun : Ask → Type 0
 AsksRun (Run request) = Unit {0}
 AsksRun other = ⊥
 
--- a job that is to take may take once more; a ticket is its job's, and so is an answer; a job that lists head words has yet one
--- to read
+-- a job before a snapshot may take one more. A ticket belongs to its job, and so does an answer. A
+-- job that lists head words has at least one left to read.
 abbrev pub IsReady : Job → Stage → Type 0
 IsReady job (ToTake n) = n < takings
 IsReady job (ToCommit n t) = (n ≤ takings) × (t.origin ≡ job.origin)
@@ -34,7 +34,7 @@ IsReady job (ToAnswer content) = IsOf job content
 IsReady job (ToTell turn needs) = ⊥
 IsReady job Gone = ⊥
 
--- how many calls there can still be
+-- an upper bound on the number of calls that are left.
 abbrev pub calls_left : Stage → ℕ
 calls_left (ToTake n) = 2 * (takings - n) + 2
 calls_left (ToCommit n t) = 2 * (takings - n) + 3
@@ -46,20 +46,21 @@ calls_left (ToList seen) = 64 - length seen.items
 calls_left (ToRaise word content) = 1
 calls_left other = 0
 
--- how many takings there can have been
+-- an upper bound on the number of snapshots so far.
 abbrev pub taken_at : Stage → ℕ
 taken_at ToMatch = 0
 taken_at (ToTake n) = n
 taken_at (ToCommit n t) = n
 taken_at other = takings
 
--- a stage that a call, of so many takings, can lead to: the job is ready for it, and it is nearer to the end
+-- a stage that can follow a call with this number of snapshots: the job is ready for it, and it is
+-- nearer to the end.
 pub record Follows (job : Job) (old : Stage) (takes : ℕ) (new : Stage) : Type 0 where
   pub ready : IsReady job new
   pub fewer : calls_left new < calls_left old
   pub few : taken_at old + takes ≤ taken_at new
 
--- a call for the job of this number, and the stage and the share that it leaves
+-- a call for the job with this number, and the stage and statistics after it.
 pub record IsStep {T : Type 0} (s : Shop T) (number : ℕ) (job : Job) (old new : Stage) (before after : Share T) : Type 0 where
   pub call : Call
   pub is : IsCallAt s number job old call before.log after.log
@@ -67,7 +68,7 @@ pub record IsStep {T : Type 0} (s : Shop T) (number : ℕ) (job : Job) (old new 
   pub follows : Follows job old (takings_made call) new
   pub counted : HasCounted s job.origin.slot (call ∷ []) before after
 
--- the calls so far, and where they led the job
+-- the calls so far, and the stage that they led the job to.
 pub record Walked {T : Type 0} (s : Shop T) (number : ℕ) (job : Job) (stage : Stage) (before now : Share T) : Type 0 where
   pub calls : List Call
   pub are : AreCalls s number job calls before.log now.log
@@ -76,33 +77,35 @@ pub record Walked {T : Type 0} (s : Shop T) (number : ℕ) (job : Job) (stage : 
   pub few : total takings_made calls ≤ taken_at stage
   pub counted : HasCounted s job.origin.slot calls before now
 
--- it stands at a taking
+-- its next step is a snapshot.
 abbrev pub IsToTake : Stage → Type 0
 IsToTake (ToTake n) = Unit {0}
 IsToTake other = ⊥
 
--- it stands at a commit
+-- its next step is a commit.
 abbrev pub IsToCommit : Stage → Type 0
 IsToCommit (ToCommit n t) = Unit {0}
 IsToCommit other = ⊥
 
--- it stands at an answer of its own
+-- its next step is an answer that belongs to the job.
 abbrev pub IsToAnswer : Job → Stage → Type 0
 IsToAnswer job (ToAnswer content) = IsOf job content
 IsToAnswer job other = ⊥
 
--- where a job stands that has not taken yet: at its first taking only where it asks for a run, and at no commit
+-- the stage of a job that has taken no snapshot yet. It is the first snapshot only if the job
+-- requests a run, and it is no commit.
 abbrev pub IsUntaken : Job → Stage → Type 0
 IsUntaken job (ToTake n) = (n ≡ 0) × AsksRun job.ask
 IsUntaken job (ToCommit n t) = ⊥
 IsUntaken job other = Unit {0}
 
--- each of these words was seen at the head word of its slot, from slot n on, one after the other, and the log has no other call
+-- each of these words was read from the head word of its slot, from slot n on, one after the other.
+-- The log has no other call.
 abbrev pub AreSeen : (LoggedCall → CallLog → CallLog → Type 0) → ℕ → List ℕ → CallLog → CallLog → Type 0
 AreSeen Logged n [] before after = after ≡ before
 AreSeen Logged n (word ∷ words) before after = (next : CallLog) × Logged (LooksAt n word) before next × AreSeen Logged (n + 1) words next after
 
--- head words of all slots, of which these were seen before, but not all
+-- the head words of all slots, of which these were read before, but not all.
 pub record ListsOn (Logged : LoggedCall → CallLog → CallLog → Type 0) (seen words : List ℕ) (before after : CallLog) : Type 0 where
   pub more : List ℕ
   pub looks : AreSeen Logged (length seen) more before after
@@ -110,11 +113,11 @@ pub record ListsOn (Logged : LoggedCall → CallLog → CallLog → Type 0) (see
   pub are : words ≡ seen ++ more
   pub all : length words ≡ 64
 
--- the head word of the slot of a job was looked at, once, or it wasn't. The log has no other call
+-- the head word of the job's slot was read once, or it wasn't. The log has no other call.
 abbrev pub IsLookedUp : (LoggedCall → CallLog → CallLog → Type 0) → Job → CallLog → CallLog → Type 0
 IsLookedUp Logged job before after = (after ≡ before) ⊎ ((word : ℕ) × Logged (LooksAt job.origin.slot word) before after)
 
--- it was looked up, or it wasn't, and then took, once, and stands here
+-- the job was looked up, or it wasn't, and then took one snapshot, which led to this stage.
 pub record HasTaken {T : Type 0} (s : Shop T) (number : ℕ) (job : Job) (stage : Stage) (before after : Share T) : Type 0 where
   pub log : CallLog
   pub looks : IsLookedUp s.logged job before.log log

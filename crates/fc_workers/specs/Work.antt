@@ -1,5 +1,7 @@
--- What is done with a job whose shard others change too: a list of calls, the newest first, each at the stage that needs it,
--- and answered as its shard answers at some slot. Each leads the worker's log on from where the one before it left it: so the log has no others.
+-- The effect of a job on a server that others change too. It is a list of calls, the newest first.
+-- Each is made at the stage that needs it, with the result of its shard at some slot. Each leads
+-- the worker's log on from the state where the call before it left it, so the log has no other
+-- calls.
 use Rattle.std.specs.Prelude.{◌≡◌, ℕ, ◌+◌, ◌<◌, ◌≤◌, List, [], ◌∷◌, length, Option, Some, None}
 use Rattle.coap_msg.specs.declared.types.Emission.{Emission}
 use Rattle.fc_isa.specs.declared.rule.Fault.{Fault}
@@ -11,7 +13,7 @@ use Rattle.fc_observe.specs.declared.entry.Turn.{Turn}
 use Rattle.fc_registry.specs.declared.job.Job.{Job}
 use Rattle.fc_registry.specs.declared.commit.Committed.{Committed}
 use Rattle.fc_registry.specs.Taken.{Taken}
-use Rattle.fc_registry.specs.Calls.{run_of, turn_of}
+use Rattle.fc_registry.specs.Calls.{run_of, turn_of, initial_vars_of}
 use Rattle.fc_registry.specs.Slots.{Ticket}
 use Rattle.fc_core.specs.Stage.{Stage}
 use Rattle.fc_core.specs.Stage.{ToAnswer}
@@ -19,27 +21,28 @@ use Rattle.fc_core.specs.Contents.{Content, IsOf}
 use Rattle.fc_core.specs.Ends.{refused}
 use Rattle.fc_core.specs.Stages.{asked_stage, image_of, takings}
 use Rattle.fc_core.specs.Steps.{Call, Matches, Lists, Takes, Commits, Installs, Rejects, Refuses, Removes, Describes, Raises, called_at, next_stage}
-use Rattle.fc_workers.specs.Answers.{IsTakingWith, IsSomeCommit, IsSomeInstall, IsSomeReceipt, IsSomeRemoval, AreTallied, HasRisen, commit_changes, commit_overtakings, install_changes, removal_changes, taking_refusals}
+use Rattle.fc_workers.specs.Answers.{IsTakingWith, IsSomeCommit, IsSomeInstall, IsSomeReceipt, IsSomeRemoval, AreTallied, HasRisen, commit_overtakings, taking_refusals}
+use Rattle.fc_calls.specs.Kept.{commit_changes, install_changes, removal_changes}
 use Rattle.fc_workers.specs.declared.call_log.CallLog.{CallLog}
 use Rattle.fc_calls.specs.Logged.{CommitsRun, InstallsProgram, LooksAt, RaisesWord, RemovesProgram, TellsReceipt}
 use Rattle.fc_workers.specs.Called.{EndsJob, Shop}
 use Rattle.fc_workers.specs.Outgoing.{GivesAnswer, IsSent, IsTurnReply}
 use Rattle.fc_workers.specs.declared.share.Share.{Share}
 
--- ---- what is counted of calls
+-- ---- counts of calls
 
 abbrev pub takings_made : Call → ℕ
 takings_made (Takes count taken) = 1
 takings_made other = 0
 
--- changes of the job's slot
+-- the changes of the job's slot by a call.
 abbrev pub change_by : Call → ℕ
 change_by (Commits count t committed) = commit_changes committed
-change_by (Installs p answer) = install_changes answer
+change_by (Installs p initial answer) = install_changes answer
 change_by (Removes removal) = removal_changes removal
 change_by other = 0
 
--- refusals of memory
+-- the refused allocations of a call.
 abbrev pub refusal_by : Call → ℕ
 refusal_by (Takes count taken) = taking_refusals taken
 refusal_by Refuses = 1
@@ -49,20 +52,21 @@ abbrev pub overtaking_by : Call → ℕ
 overtaking_by (Commits count t committed) = commit_overtakings committed
 overtaking_by other = 0
 
--- how many of these the calls have
+-- the sum of a count over these calls.
 abbrev pub total : (Call → ℕ) → List Call → ℕ
 total by [] = 0
 total by (call ∷ calls) = total by calls + by call
 
--- the stage that these calls leave a job at
+-- the stage of a job after these calls.
 abbrev pub stage_after : Job → List Call → Stage
 stage_after job [] = asked_stage job
 stage_after job (call ∷ calls) = next_stage call
 
 module _ {T : Type 0} (s : Shop T) where
-  -- ---- a call
+  -- ---- calls
 
-  -- the gate let the job of this number go on, then the moment was asked for, and then a ticket's own run was committed at it
+  -- the gate let the job with this number through, then the time was requested, and then the run of
+  -- the ticket was committed at it.
   pub record IsCommitted (number : ℕ) (t : Ticket) (committed : Committed) (before after : CallLog) : Type 0 where
     pub passed : CallLog
     pub gate : s.gate number before passed
@@ -72,16 +76,18 @@ module _ {T : Type 0} (s : Shop T) where
     pub commits : s.logged (CommitsRun now (run_of t) t committed) asked after
     pub commit : IsSomeCommit (run_of t) t committed
 
-  -- a call for the job of this number, by the logs before and after it. A look is at the head word of its slot, whose client has the answers of the job's serials, or of the next one
-  -- in a list; its slot's word is raised to the word that the stage told; and what else is answered is true of some slot. An answer, a loss and
-  -- the calls of a turn are in no request's list
+  -- a call for the job with this number, by the logs before and after it. A match reads the head
+  -- word of the job's slot, and its client has the responses of the job's serials. A list reads the
+  -- head word of the next slot. A raise has the word of the job's stage. A rejection and a refused
+  -- allocation are those of the job's image. The result of any other call is that of some slot. An
+  -- answer, a loss and the calls of a lease are in no request's list.
   abbrev pub IsCallOf : ℕ → Job → Call → CallLog → CallLog → Type 0
   IsCallOf number job (Matches serials word) before after = (serials ≡ job.etags.items) × s.logged (LooksAt job.origin.slot word) before after
   IsCallOf number job (Lists seen word) before after = s.logged (LooksAt (length seen.items) word) before after
   IsCallOf number job (Takes count taken) before after = IsTakingWith s.logged job taken before after
   IsCallOf number job (Commits count t committed) before after = IsCommitted number t committed before after
-  IsCallOf number job (Installs p answer) before after =
-      (judged (image_of job.ask) ≡ Accepts p) × s.logged (InstallsProgram job p answer) before after × IsSomeInstall p answer
+  IsCallOf number job (Installs p initial answer) before after =
+      (judged (image_of job.ask) ≡ Accepts p) × (initial ≡ initial_vars_of job.ask) × s.logged (InstallsProgram job p answer) before after × IsSomeInstall initial p answer
   IsCallOf number job (Rejects content) before after =
       ((f : Fault) × IsRefusal (image_of job.ask) (Broken f) × (content ≡ refused (Broken f))) × (after ≡ before)
   IsCallOf number job Refuses before after = IsRefusal (image_of job.ask) NoMemory × (after ≡ before)
@@ -90,17 +96,18 @@ module _ {T : Type 0} (s : Shop T) where
   IsCallOf number job (Raises word content) before after = s.logged (RaisesWord job.origin.slot word) before after
   IsCallOf number job other before after = ⊥
 
-  -- the call is the one that the stage needs, and its answer is true
+  -- the call is the one that the stage needs, and it is a call for the job with this number.
   abbrev pub IsCallAt : ℕ → Job → Stage → Call → CallLog → CallLog → Type 0
   IsCallAt number job stage call before after = (stage ≡ called_at call) × IsCallOf number job call before after
 
-  -- each is the call that the stage needs where the ones before it have led, and the log has none but these, from one state to the other
+  -- each is the call that is needed at the stage after the calls before it. The log has only these,
+  -- from one state to the other.
   unfoldable pub AreCalls : ℕ → Job → List Call → CallLog → CallLog → Type 0
   AreCalls number job [] before after = after ≡ before
   AreCalls number job (call ∷ calls) before after =
       (now : CallLog) × AreCalls number job calls before now × IsCallAt number job (stage_after job calls) call now after
 
-  -- a worker's share, before and after these calls for a job of slot n
+  -- a worker's statistics before and after these calls, for a job of slot n.
   pub record HasCounted (n : ℕ) (calls : List Call) (before after : Share T) : Type 0 where
     pub tallies : AreTallied (s.changes before.tallies) (s.changes after.tallies) n (total change_by calls)
     pub refusals : HasRisen before.refusals (total refusal_by calls) after.refusals
@@ -109,9 +116,9 @@ module _ {T : Type 0} (s : Shop T) where
     pub sent : after.sent ≡ before.sent
     pub failed : after.failed ≡ before.failed
 
-  -- ---- a job
+  -- ---- jobs
 
-  -- a job's calls, from its first stage to this answer
+  -- a job's calls, from its first stage to this answer.
   pub record IsWorkedOff (number : ℕ) (job : Job) (content : Content) (before after : Share T) : Type 0 where
     pub calls : List Call
     pub are : AreCalls number job calls before.log after.log
@@ -120,25 +127,28 @@ module _ {T : Type 0} (s : Shop T) where
     pub own : IsOf job content
     pub counted : HasCounted job.origin.slot calls before after
 
-  -- it was worked off up to this stage, which is its answer
+  -- it was run up to this stage, which is its answer.
   abbrev pub IsWorkedTo : ℕ → Job → Stage → Share T → Share T → Type 0
   IsWorkedTo number job stage before after = (content : Content) × (stage ≡ ToAnswer content) × IsWorkedOff number job content before after
 
-  -- a worker's share whose tallies of changes, jobs and replies are as before
+  -- a worker's statistics with unchanged counts of changes and replies, and no further job
+  -- received.
   pub record HasSameTallies (before after : Share T) : Type 0 where
     pub tallies : (shard : ℕ) → shard < 8 → s.changes after.tallies shard ≡ s.changes before.tallies shard
     pub got : after.got ≡ before.got
     pub sent : after.sent ≡ before.sent
     pub failed : after.failed ≡ before.failed
 
-  -- a request's job was worked off to some answer, and then answered once so, and this is to go out for it, or nothing
+  -- a request's job was run to some answer, and then answered once with it. The reply is to be sent
+  -- for it, or nothing.
   pub record IsRequestWorked (number : ℕ) (job : Job) (before after : Share T) (reply : Option Emission) : Type 0 where
     pub content : Content
     pub log : CallLog
     pub worked : IsWorkedOff number job content before (record after { log = log })
     pub answered : GivesAnswer s job content reply log after.log
 
-  -- a turn's job was worked off, and this is to go out for it, or nothing: it took once, and then what it found was told once. It changes no slot
+  -- a lease's job took one snapshot, and then its observer was notified of it once. The reply is to
+  -- be sent for it, or nothing. The job changes no slot.
   pub record IsTurnWorked (job : Job) (turn : Turn) (before after : Share T) (reply : Option Emission) : Type 0 where
     pub taken : Taken
     pub log : CallLog
@@ -150,17 +160,18 @@ module _ {T : Type 0} (s : Shop T) where
   IsWorkedAs None number job before after reply = IsRequestWorked number job before after reply
   IsWorkedAs (Some turn) number job before after reply = IsTurnWorked job (turn_of job turn) before after reply
 
-  -- the job of this number was worked off, a request's or a turn's
+  -- the job with this number was run, a request's or a lease's.
   abbrev pub IsWorked : ℕ → Job → Share T → Share T → Option Emission → Type 0
   IsWorked number job before after reply = IsWorkedAs job.turn number job before after reply
 
-  -- the reply, if there is one, was sent once and counted, and last who waits for the job was told once that it has ended
+  -- the reply, if there is one, was sent once and counted. The last call reported to the
+  -- transmitter, once, that the job has ended.
   pub record IsFinished (number : ℕ) (reply : Option Emission) (before after : Share T) : Type 0 where
     pub log : CallLog
     pub sent : IsSent s number reply before (record after { log = log })
     pub over : s.wire (EndsJob number) log after.log
 
-  -- it was worked off, and then finished by its reply, if it has one. The log has no other call
+  -- it was run, and then finished with its reply, if it has one. The log has no other call.
   pub record IsReplied (number : ℕ) (job : Job) (before after : Share T) : Type 0 where
     pub reply : Option Emission
     pub share : Share T

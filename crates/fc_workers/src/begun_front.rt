@@ -1,4 +1,4 @@
-//! A front behind a server's lock, and that it began as the server's books name it.
+//! A server's front, which began in the initial state that the server's books name.
 ghost use Rattle.std.specs.Prelude.{◌≡◌};
 ghost use Rattle.fc_core.specs.Answering.{emission_of, responded};
 ghost use Rattle.fc_core.specs.Contents.{IsOf};
@@ -13,7 +13,7 @@ use fc_core::{Answer, Front, Heard, Responded};
 use fc_registry::Job;
 use std::marker::PhantomData;
 
-/// A front that began as the first front of its server, and was asked calls since.
+/// A front that began as its server's first front, and has only been called since.
 #[derive(Drop)]
 pub(crate) struct BegunFront<B: Books> {
     front: Front,
@@ -22,7 +22,7 @@ pub(crate) struct BegunFront<B: Books> {
 }
 
 impl<B: Books> BegunFront<B> {
-    /// Takes a front that has been asked nothing.
+    /// Wraps a front that hasn't been called.
     pub(crate) fn new(front: Front) -> BegunFront<B>
         requires { front ≡ B.first.front }
     {
@@ -32,7 +32,7 @@ impl<B: Books> BegunFront<B> {
         }
     }
 
-    /// Takes a datagram in, as [`Front::hear`] does.
+    /// Handles a datagram. See [`Front::hear`].
     pub(crate) fn hear(
         &mut self,
         now: u64,
@@ -46,7 +46,7 @@ impl<B: Books> BegunFront<B> {
         self.front.hear(now, endpoint, bytes, job, reply)
     }
 
-    /// Advances the clock to a moment in milliseconds, as [`Front::tick`] does.
+    /// Advances the clock to a time in milliseconds. See [`Front::tick`].
     #[tactic(auto, unfolding(fc_calls::specs::Doings::AdvancesTo))]
     pub(crate) fn tick(&mut self, now: u64)
         ensures { IsFrontAsked B.first.front (AdvancesTo now) }
@@ -54,14 +54,14 @@ impl<B: Books> BegunFront<B> {
         self.front.tick(now);
     }
 
-    /// Allocates a message id, as [`Front::fresh_id`] does.
+    /// Draws a message ID. See [`Front::fresh_id`].
     pub(crate) fn fresh_id(&mut self, now: u64) -> Option<u16>
         ensures { IsFrontAsked B.first.front (DrawsAt now result) }
     {
         self.front.fresh_id(now)
     }
 
-    /// Answers a job, as [`Front::respond`] does.
+    /// Answers a job. See [`Front::respond`].
     pub(crate) fn respond(
         &mut self,
         now: u64,

@@ -1,8 +1,9 @@
-//! What workers work at.
+//! The backend: a server's shared parts, as workers call them.
 ghost use Rattle.std.specs.Prelude.{◌≡◌, ℕ, ◌+◌, ◌<◌, ◌≤◌, ⊤, MatchBool};
 ghost use Rattle.atomic_table.specs.Seated.{TableId};
 ghost use Rattle.fc_core.specs.Contents.{IsOf};
 ghost use Rattle.fc_core.specs.Receiving.{emission_if, heard};
+ghost use Rattle.fc_registry.specs.Calls.{initial_vars_of};
 ghost use Rattle.fc_registry.specs.Notes.{noted_as};
 ghost use Rattle.fc_registry.specs.Turns.{written_if};
 ghost use Rattle.fc_registry.specs.Views.{HasSize, taken_with};
@@ -14,8 +15,9 @@ ghost use Rattle.fc_calls.specs.Logged.{InstallsProgram};
 ghost use Rattle.fc_calls.specs.Logged.{LoggedCall, NotesTurn, RaisesWord, RemovesProgram, TakesForJob, TellsReceipt};
 ghost use Rattle.fc_workers.specs.declared.call_log.CallLog.{CallLog as Log};
 ghost use Rattle.fc_workers.specs.Answers.{AreTallied, IsSomeAnswer, IsSomeCommit, IsSomeDelivery, IsSomeDraw, IsSomeInstall, IsSomeNote};
-ghost use Rattle.fc_workers.specs.Answers.{IsSomeQuiet, IsSomeReceipt, IsSomeRemoval, IsSomeTaking, IsSomeTick, IsSomeTurn, commit_changes};
-ghost use Rattle.fc_workers.specs.Answers.{ended_by, install_changes, removal_changes, saturated};
+ghost use Rattle.fc_workers.specs.Answers.{IsSomeQuiet, IsSomeReceipt, IsSomeRemoval, IsSomeTaking, IsSomeTick, IsSomeTurn};
+ghost use Rattle.fc_calls.specs.Kept.{commit_changes, install_changes, removal_changes};
+ghost use Rattle.fc_workers.specs.Answers.{ended_by, saturated};
 
 use crate::call_log::CallLog;
 use coap_msg::{Emission, Endpoint};
@@ -31,34 +33,42 @@ use fc_registry::{
 use fc_verify::Verified;
 use std::sync::{Arc, Wait};
 
-/// The calls of the shards, the head words and the front, for any number of workers at a time: a server keeps them behind its locks, and
-/// each call may wait for one. A call answers what the shard answers at some slot, and nothing ties one call's slot to the
-/// next's: what others change in between is not said here. What a call does is said by who implements this.
+/// The calls of the shards, the head words and the front.
 ///
-/// Each worker hands in tallies of its own. They count the changes of each shard that its calls answered, and the jobs
-/// that it ended. It hands in its log with each call that may change something, or whose answer is soon out of date: so a clause says which of
-/// these it made, and in which order.
+/// Any number of workers may call at a time. A server guards these parts with its locks, and each
+/// call may wait for one. The result of a call is that of the shard at some slot. No clause here
+/// relates the slots of two calls, since others may change them in between. An implementation
+/// states the effects of its calls.
+///
+/// Each worker passes tallies of its own. They count the changes of each shard that the results of
+/// its calls report, and the jobs that it ended. It passes its log to each call that may change
+/// something, or whose result is soon out of date. So a clause can state which of these calls it
+/// made, and in which order.
 pub trait Bench {
-    /// What one worker changed, and how many jobs it ended.
+    /// The counts of one worker's changes, and of the jobs that it ended.
     type Tallies: Drop;
 
-    // How many changes of a shard, by its index, from 0 to 7.
+    // The number of changes of a shard, by its index, from 0 to 7.
     ghost changes: { Self.Tallies → ℕ → ℕ };
 
-    // How many jobs it ended. The count stops at 2^64 - 1.
+    // The number of jobs that the worker ended, up to 2^64 - 1.
     ghost ended: { Self.Tallies → ℕ };
 
-    // Which head words it has.
+    // The table of the head words.
     ghost heads: { Self → TableId };
 
-    // Which calls were made, of those that change nothing and that no log has. It says of a call that it was made, with what it was handed and what it answered.
+    // The calls that were made, of those that change nothing and are in no log, each with its
+    // arguments and its result.
     ghost called: { BenchCall → Type 0 } = { λ _. ⊤ };
 
-    // Which of the others were made, each from one state of the caller's log to the next, with what it was handed and what it answered.
+    // The other calls that were made, each with its arguments, its result, and the log's states
+    // before and after.
     ghost logged: { LoggedCall → Log → Log → Type 0 } = { λ call before after. ⊤ };
 
-    /// Takes a datagram in, at a moment in milliseconds, as [`Front::hear`](fc_core::Front::hear) does: the job that it brings, or the
-    /// reply, is written over another.
+    /// Handles a datagram, at a time in milliseconds.
+    ///
+    /// Its job or its reply is written over `job` or `reply`. See
+    /// [`Front::hear`](fc_core::Front::hear).
     fn hear<R: Wait>(
         &self,
         rt: &R,
@@ -72,21 +82,27 @@ pub trait Bench {
         ensures heard { IsSomeDelivery now endpoint bytes.now (heard result job.new reply.new) }
         ensures logged { logged (HearsDatagram now endpoint bytes.now (heard result job.new reply.new)) log.old log.new };
 
-    /// Advances the front to a moment in milliseconds, as [`Front::tick`](fc_core::Front::tick) does.
+    /// Advances the front to a time in milliseconds.
+    ///
+    /// See [`Front::tick`](fc_core::Front::tick).
     fn tick<R: Wait>(&self, rt: &R, now: u64, log: &mut CallLog)
         ensures { logged (AdvancesFront now) log.old log.new };
 
-    /// A message id of the server's own, at a moment in milliseconds, as [`Front::fresh_id`](fc_core::Front::fresh_id) gives it.
+    /// Draws a message ID of the server's own, at a time in milliseconds.
+    ///
+    /// See [`Front::fresh_id`](fc_core::Front::fresh_id).
     fn fresh_id<R: Wait>(&self, rt: &R, now: u64, log: &mut CallLog) -> Option<u16>
         ensures drawn { IsSomeDraw now result }
         ensures logged { logged (DrawsId now result) log.old log.new };
 
-    /// The readings of the device.
+    /// Returns the readings of the device.
     fn readings<R: Wait>(&self, rt: &R, log: &mut CallLog) -> Readings
         ensures { logged (GivesReadings result) log.old log.new };
 
-    /// Takes what a job finds in its slot, with these readings, as [`Shard::write_taking`](fc_registry::Shard::write_taking) does: it is
-    /// written over what another taking found. A turn that is stale ends by that.
+    /// Takes a snapshot of a job's slot, with these readings.
+    ///
+    /// It is written over `found`. A stale result ends the job of a lease. See
+    /// [`Shard::write_taking`](fc_registry::Shard::write_taking).
     fn take<R: Wait>(
         &self,
         rt: &R,
@@ -103,7 +119,9 @@ pub trait Bench {
             changes tallies.new shard ≡ changes tallies.old shard }
         ensures ended { ended tallies.new ≡ ended_by (taken_with result found.new) (ended tallies.old) };
 
-    /// Commits a run, at a moment in milliseconds, as [`Shard::commit`](fc_registry::Shard::commit) does.
+    /// Commits a run, at a time in milliseconds.
+    ///
+    /// See [`Shard::commit`](fc_registry::Shard::commit).
     fn commit<R: Wait>(
         &self,
         rt: &R,
@@ -119,7 +137,9 @@ pub trait Bench {
             ticket.now.origin.slot (commit_changes result) }
         ensures ended { ended tallies.new ≡ ended tallies.old };
 
-    /// Installs a program in the slot of a job, as [`Shard::install`](fc_registry::Shard::install) does.
+    /// Installs a program in `job`'s slot.
+    ///
+    /// See [`Shard::install`](fc_registry::Shard::install).
     fn install<R: Wait>(
         &self,
         rt: &R,
@@ -128,13 +148,15 @@ pub trait Bench {
         tallies: &mut Self::Tallies,
         log: &mut CallLog,
     ) -> Made
-        ensures made { IsSomeInstall program.value result }
+        ensures made { IsSomeInstall (initial_vars_of job.now.ask) program.value result }
         ensures logged { logged (InstallsProgram job.now program.value result) log.old log.new }
         ensures changes { AreTallied (changes tallies.old) (changes tallies.new)
             job.now.origin.slot (install_changes result) }
         ensures ended { ended tallies.new ≡ ended tallies.old };
 
-    /// Removes the program of the slot of a job, as [`Shard::remove`](fc_registry::Shard::remove) does.
+    /// Removes the program in `job`'s slot.
+    ///
+    /// See [`Shard::remove`](fc_registry::Shard::remove).
     fn remove<R: Wait>(
         &self,
         rt: &R,
@@ -148,7 +170,9 @@ pub trait Bench {
             job.now.origin.slot (removal_changes result) }
         ensures ended { ended tallies.new ≡ ended tallies.old };
 
-    /// Hands a signal to a shard, 0 to 7, as [`Shard::signal`](fc_registry::Shard::signal) does.
+    /// Passes a signal to a shard, 0 to 7.
+    ///
+    /// See [`Shard::signal`](fc_registry::Shard::signal).
     fn signal<R: Wait>(
         &self,
         rt: &R,
@@ -160,26 +184,34 @@ pub trait Bench {
     )
         ensures { logged (HandsSignal shard endpoint id reset) log.old log.new };
 
-    /// Advances a shard, 0 to 7, to a moment in milliseconds, as [`Shard::tick`](fc_registry::Shard::tick) does.
+    /// Advances a shard, 0 to 7, to a time in milliseconds.
+    ///
+    /// See [`Shard::tick`](fc_registry::Shard::tick).
     fn tick_shard<R: Wait>(&self, rt: &R, shard: u8, now: u64, log: &mut CallLog) -> Ticked
         ensures ticked { IsSomeTick now result }
         ensures logged { logged (AdvancesShard shard now result) log.old log.new };
 
-    /// Advances a shard, 0 to 7, to a moment in milliseconds where nothing is late and nobody is due, as
-    /// [`Shard::advance_if_quiet`](fc_registry::Shard::advance_if_quiet) does. Tells whether it did. Where it didn't, nothing changes, and the
-    /// log doesn't have the call.
+    /// Advances a shard, 0 to 7, to a time in milliseconds if it is idle then.
+    ///
+    /// It is idle if no notification has timed out and no observer has a pending one. Returns
+    /// whether the shard was advanced. If it wasn't, nothing changes, and the log doesn't have the
+    /// call. See [`Shard::advance_if_quiet`](fc_registry::Shard::advance_if_quiet).
     fn advance_if_quiet<R: Wait>(&self, rt: &R, shard: u8, now: u64, log: &mut CallLog) -> bool
         ensures quiet { IsSomeQuiet now result }
         ensures logged { MatchBool result (logged (AdvancesQuiet shard now) log.old log.new)
             (called (LeavesUnquiet shard now) × (log.new ≡ log.old)) };
 
-    /// Returns a moment before which no notification of a shard, 0 to 7, is late, and no observer due, unless the shard is called, as
-    /// [`Shard::quiet_until`](fc_registry::Shard::quiet_until) does.
+    /// Returns a time before which a shard, 0 to 7, stays idle, unless it is called.
+    ///
+    /// Before it no notification has timed out, and no observer has a pending one. See
+    /// [`Shard::quiet_until`](fc_registry::Shard::quiet_until).
     fn quiet_until<R: Wait>(&self, rt: &R, shard: u8) -> u64
         ensures { called (LooksAhead shard result) };
 
-    /// Asks a shard, 0 to 7, for a turn at a moment in milliseconds, as [`Shard::write_due`](fc_registry::Shard::write_due) gives it:
-    /// its job is written over another. Tells whether there is one.
+    /// Asks a shard, 0 to 7, for its next lease, at a time in milliseconds.
+    ///
+    /// The lease's job is written over `job`. Returns whether there is one. See
+    /// [`Shard::write_due`](fc_registry::Shard::write_due).
     fn next_due<R: Wait>(
         &self,
         rt: &R,
@@ -191,8 +223,10 @@ pub trait Bench {
         ensures turn { IsSomeTurn now (written_if result job.new) }
         ensures logged { logged (GivesTurn shard now (written_if result job.new)) log.old log.new };
 
-    /// Notifies the observer of a turn, at a moment in milliseconds, as [`Shard::write_note`](fc_registry::Shard::write_note) does,
-    /// and ends its job: what it is sent is written over another emission.
+    /// Notifies the observer of a lease, at a time in milliseconds, and ends its job.
+    ///
+    /// The message is written over `emission`. See
+    /// [`Shard::write_note`](fc_registry::Shard::write_note).
     fn note<R: Wait>(
         &self,
         rt: &R,
@@ -212,7 +246,9 @@ pub trait Bench {
             changes tallies.new shard ≡ changes tallies.old shard }
         ensures ended { ended tallies.new ≡ saturated (ended tallies.old + 1) };
 
-    /// Gives up a turn, at a moment in milliseconds, as [`Shard::give_up`](fc_registry::Shard::give_up) does, and ends its job.
+    /// Releases a lease, at a time in milliseconds, and ends its job.
+    ///
+    /// See [`Shard::give_up`](fc_registry::Shard::give_up).
     fn give_up<R: Wait>(
         &self,
         rt: &R,
@@ -227,30 +263,39 @@ pub trait Bench {
             changes tallies.new shard ≡ changes tallies.old shard }
         ensures ended { ended tallies.new ≡ saturated (ended tallies.old + 1) };
 
-    /// Returns what the program in the slot of a job is, as [`Shard::receipt`](fc_registry::Shard::receipt) does.
+    /// Returns the receipt of the program in `job`'s slot.
+    ///
+    /// See [`Shard::receipt`](fc_registry::Shard::receipt).
     fn receipt<R: Wait>(&self, rt: &R, job: &Job, log: &mut CallLog) -> Option<Receipt>
         ensures receipt { IsSomeReceipt result }
         ensures logged { logged (TellsReceipt job.now result) log.old log.new };
 
-    /// A seat at the head words for a worker, which has seen and raised nothing.
+    /// Returns a worker's handle of the head words, which has seen and raised nothing.
     fn head_seat(&self) -> HeadSeat
         ensures { result ≡ record { table = heads self.now; view = fresh } };
 
-    /// Looks at the head word of a slot, as [`Heads::peek`](fc_heads::Heads::peek) does: it is no less than what the seat has seen of it. No lock is taken.
+    /// Returns the head word of a slot, without a lock.
+    ///
+    /// It is no less than the word that the handle has seen of that slot. See
+    /// [`Heads::peek`](fc_heads::Heads::peek).
     fn peek(&self, slot: SlotNumber, seat: &mut HeadSeat, log: &mut CallLog) -> u64
         requires { seat.old.table ≡ heads self.now }
         ensures rises { word_of seat.old.view.seen slot ≤ result }
         ensures seen { seat.new ≡ record seat.old { view = peeked seat.old.view slot result } }
         ensures logged { logged (LooksAt slot result) log.old log.new };
 
-    /// Raises the head word of the slot of a job, as [`Heads::raise`](fc_heads::Heads::raise) does: it is then no less than the word handed in. No lock is taken.
+    /// Raises the head word of `job`'s slot, without a lock.
+    ///
+    /// Afterwards it is no less than `word`. See [`Heads::raise`](fc_heads::Heads::raise).
     fn raise(&self, job: &Job, word: u64, seat: &mut HeadSeat, log: &mut CallLog)
         requires { seat.old.table ≡ heads self.now }
         ensures raised { IsRaised job.now.origin.slot word seat.old seat.new }
         ensures logged { logged (RaisesWord job.now.origin.slot word) log.old log.new };
 
-    /// Answers a job, at a moment in milliseconds, as [`Front::respond`](fc_core::Front::respond) does, and ends it: what is to be sent is
-    /// written over another emission. Tells whether anything is.
+    /// Answers a job, at a time in milliseconds, and ends it.
+    ///
+    /// The response is written over `reply`. Returns whether one is to be sent. See
+    /// [`Front::respond`](fc_core::Front::respond).
     fn respond<R: Wait>(
         &self,
         rt: &R,

@@ -3,7 +3,9 @@ ghost use Rattle.std.specs.Prelude.{◌≡◌, ◌<◌};
 
 use std::sync::ledger::Blank;
 
-/// Eight books that aren't opened yet, of as many parts each. Who opens them picks its ledgers' names by theirs.
+/// Eight books that aren't opened yet, with the same number of parts each.
+///
+/// The function that opens them names its ledgers after them.
 #[derive(Drop)]
 pub struct Blanks {
     pub parts: u64,
@@ -27,7 +29,7 @@ pub struct Blanks {
 }
 
 impl Blanks {
-    /// Makes eight books of this many parts each.
+    /// Makes eight books of `parts` parts each.
     pub fn new(parts: u64) -> Blanks
         requires { 0 < parts }
         ensures { result.parts ≡ parts }

@@ -1,4 +1,4 @@
-//! Which ledgers the changes of a server's shards are counted in.
+//! The ledgers that count the changes of a server's shards.
 ghost use Rattle.std.specs.Prelude.{ℕ};
 ghost use Rattle.fc_core.specs.Policies.{default_policy};
 ghost use Rattle.fc_workers.specs.Fronts.{Beginning, beginning};
@@ -6,7 +6,10 @@ ghost use Rattle.fc_workers.specs.Fronts.{Beginning, beginning};
 use std::marker::{Brand, PhantomData};
 use std::sync::ledger::Ledger;
 
-/// The names of the ledgers of a server, by the index of their shard, and the parts that each of them is cut into; and what the server begins with.
+/// The names of a server's ledgers, their parts, and the server's initial state.
+///
+/// A name is given by the index of the ledger's shard. Each ledger is divided into the same number
+/// of parts.
 pub trait Books {
     ghost names: { ℕ → ℕ };
 
@@ -23,7 +26,7 @@ impl Books for Brand {
     ghost first = { beginning default_policy 0 };
 }
 
-/// The ledger of the shard of an index.
+/// The ledger of the shard with this index.
 pub struct BookOf<B: Books, const INDEX: u8> {
     of: PhantomData<B>,
 }

@@ -1,8 +1,10 @@
-//! What a server comes to.
+//! The result of closing a server.
 use fc_registry::Shard;
 
-/// The shards of a server that was closed, and of each the serial that its slots began with, and how many changes of its slots were
-/// counted, up to 2^64 - 1.
+/// The shards of a closed server.
+///
+/// For each shard it has the serial that its slots began with, and the counted changes of its
+/// slots, up to 2^64 - 1.
 #[derive(Drop)]
 pub struct ClosedServer {
     pub shards: [Shard; 8],

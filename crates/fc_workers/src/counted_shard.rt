@@ -2,13 +2,13 @@
 ghost use Rattle.std.specs.Prelude.{◌≡◌, ℕ, ◌+◌, ◌<◌};
 ghost use Rattle.fc_registry.specs.Slots.{IsOwned, slot_in, with_slot};
 ghost use Rattle.fc_registry.specs.Changes.{after_changes};
-ghost use Rattle.fc_registry.specs.Calls.{CommitsTo, install_in, remove_from};
-ghost use Rattle.fc_workers.specs.Answers.{commit_changes, install_changes, removal_changes};
-ghost use Rattle.fc_workers.specs.Asked.{confirm_times};
-ghost use Rattle.fc_workers.specs.Counts.{HasEightSlots, serials, counts};
+ghost use Rattle.fc_registry.specs.Calls.{CommitsTo, install_in, remove_from, initial_vars_of};
+ghost use Rattle.fc_calls.specs.Kept.{HasEightSlots, commit_changes, confirm_times, install_changes, removal_changes, serials};
+ghost use Rattle.fc_workers.specs.Counts.{counts};
 
-use crate::calls::{Change, Commit, Install, Remove, ShardCall};
 use crate::tally::Tally;
+use fc_calls::calls::{Commit, Install, Remove};
+use fc_calls::{Change, ShardCall};
 use fc_machine::Outcome;
 use fc_registry::{Committed, Job, Made, Removal, SHARDS, Shard, SlotNumber, Ticket};
 use fc_verify::Verified;
@@ -16,8 +16,10 @@ use std::marker::Model;
 use std::sync::Arc;
 use std::sync::ledger::{Blank, Book, Ledger};
 
-/// A shard beside the book of its changes: since the book was opened, its serials have risen by the book's total. A clause
-/// sees the shard, and what its serials added up to then.
+/// A shard with the book of its changes.
+///
+/// The sum of its serials has risen by the book's total since the book was opened. A clause sees
+/// the shard, and the sum of its serials at that time.
 #[derive(Drop)]
 pub struct Counted<L: Ledger> {
     shard: Shard,
@@ -31,7 +33,7 @@ impl<L: Ledger> Model for Counted<L> {
     ghost Value = { Seen };
 
     ghost use Rattle.std.specs.Prelude.{◌≡◌, ◌+◌};
-    ghost use Rattle.fc_workers.specs.Counts.{HasEightSlots, serials};
+    ghost use Rattle.fc_calls.specs.Kept.{HasEightSlots, serials};
 
     ghost view = { λ c. record { shard = c.shard; opened = c.opened } };
 
@@ -39,7 +41,7 @@ impl<L: Ledger> Model for Counted<L> {
 }
 
 impl<L: Ledger> Counted<L> {
-    /// Opens the book of a shard. The tally has all its parts.
+    /// Opens the book of a shard, and returns the tally with all its parts.
     pub fn open(shard: Shard, blank: Blank) -> (Counted<L>, Tally<L>)
         requires slots { HasEightSlots shard }
         requires name { blank.name ≡ L.name }
@@ -57,7 +59,7 @@ impl<L: Ledger> Counted<L> {
         (counted, Tally::of(share))
     }
 
-    /// Asks the shard what changes no slot. The call may write into the caller's room.
+    /// Runs a call that changes no slot. It may write its result to `room`.
     pub fn ask<C: ShardCall>(&mut self, call: C, room: &mut C::Room) -> C::Answer
         requires may { C.may_ask call self.old.shard }
         requires none { (answer : C.Answer) → C.changes answer ≡ 0 }
@@ -70,7 +72,9 @@ impl<L: Ledger> Counted<L> {
         call.call(&mut self.shard, room)
     }
 
-    /// Asks the shard what may change a slot. The tally counts what the answer tells of.
+    /// Runs a call that may change a slot.
+    ///
+    /// The tally counts the changes that the result reports.
     pub(crate) fn change<C: Change>(
         &mut self,
         call: C,
@@ -91,7 +95,9 @@ impl<L: Ledger> Counted<L> {
         answer
     }
 
-    /// Commits a run, at a moment in milliseconds, as [`Shard::commit`] does. The tally counts it where it writes.
+    /// Commits a run, at a time in milliseconds. The tally counts it if it writes.
+    ///
+    /// See [`Shard::commit`].
     pub fn commit(
         &mut self,
         now: u64,
@@ -113,12 +119,16 @@ impl<L: Ledger> Counted<L> {
         self.change(commit, &mut (), tally)
     }
 
-    /// Installs a program in the slot of a job, as [`Shard::install`] does. The tally counts it, but at the slot's last serial.
+    /// Installs a program in `job`'s slot. See [`Shard::install`].
+    ///
+    /// The tally counts the install, except at the slot's last serial.
     pub fn install(&mut self, job: &Job, program: Arc<Verified>, tally: &mut Tally<L>) -> Made
         requires { IsOwned self.old.shard job.now.origin.slot }
-        ensures answer { result ≡ (install_in (slot_in self.old.shard job.now.origin.slot) program.value).answer }
+        ensures answer { let slot = slot_in self.old.shard job.now.origin.slot in
+            result ≡ (install_in slot program.value (initial_vars_of job.now.ask)).answer }
         ensures slots { let slot = slot_in self.old.shard job.now.origin.slot in
-            self.new.shard ≡ with_slot self.old.shard job.now.origin.slot (after_changes slot (install_in slot program.value).changes) }
+            let called = install_in slot program.value (initial_vars_of job.now.ask) in
+            self.new.shard ≡ with_slot self.old.shard job.now.origin.slot (after_changes slot called.changes) }
         ensures index { self.new.shard.index ≡ self.old.shard.index }
         ensures opened { self.new.opened ≡ self.old.opened }
         ensures tally { tally.new ≡ counts tally.old (install_changes result) }
@@ -126,8 +136,9 @@ impl<L: Ledger> Counted<L> {
         self.change(Install { job, program }, &mut (), tally)
     }
 
-    /// Removes the program of the slot of a job, as [`Shard::remove`] does. The tally counts it where there was one, but at the slot's
-    /// last serial.
+    /// Removes the program in `job`'s slot. See [`Shard::remove`].
+    ///
+    /// The tally counts the removal if there was a program, except at the slot's last serial.
     pub fn remove(&mut self, job: &Job, tally: &mut Tally<L>) -> Removal
         requires { IsOwned self.old.shard job.now.origin.slot }
         ensures answer { result ≡ (remove_from (slot_in self.old.shard job.now.origin.slot)).answer }
@@ -140,15 +151,16 @@ impl<L: Ledger> Counted<L> {
         self.change(Remove { job }, &mut (), tally)
     }
 
-    /// Returns the shard, as it is.
+    /// Returns the shard, unchanged.
     pub fn shard(&self) -> &Shard
         ensures { result.now ≡ self.now.shard }
     {
         &self.shard
     }
 
-    /// Closes the book, for the tally that has all its parts: the shard's serials have risen by its changes since the book
-    /// was opened.
+    /// Closes the book, with the tally that has all its parts, and returns the shard.
+    ///
+    /// The sum of the shard's serials has risen by the tally's changes since the book was opened.
     pub fn close(self, all: &mut Tally<L>) -> Shard
         requires { all.old.parts ≡ L.parts }
         ensures shard { result ≡ self.shard }
@@ -165,7 +177,7 @@ impl<L: Ledger> Counted<L> {
     }
 }
 
-// What the serials of a shard's slots add up to.
+// Returns the sum of the serials of a shard's slots.
 fn serials_of(shard: &Shard) -> u128
     requires { HasEightSlots shard.now }
     ensures { result ≡ serials shard.entry.now }

@@ -1,4 +1,4 @@
-//! The device whose readings programs find.
+//! The device that supplies readings to programs.
 ghost use Rattle.std.specs.Prelude.{⊤, ℕ, List};
 ghost use Rattle.fc_workers.specs.declared.call_log.CallLog.{CallLog as Log};
 
@@ -6,9 +6,12 @@ use crate::call_log::CallLog;
 use fc_help::Readings;
 use std::sync::Wait;
 
-/// What the device of a server is read by: its sensors, its clock, or what a driver keeps for it.
+/// The source of a server's readings.
+///
+/// It is the sensors and clock of the server's device, or values that a driver keeps for it.
 pub trait Device {
-    // Which readings it gives. It says of readings that a call gave them, and from which state of the caller's log to which that led.
+    // The readings that it returns. It says that a call returned these readings, and between which
+    // states of the caller's log.
     ghost are_readings: { List ℕ → Log → Log → Type 0 } = { λ readings before after. ⊤ };
 
     /// Returns the readings of the call.

@@ -1,4 +1,4 @@
-//! Who has jobs, and hands them to workers or works them off.
+//! The dispatcher, which sends jobs to workers or runs them itself.
 ghost use Rattle.std.specs.Prelude.{◌≡◌, ◌<◌, true, MatchBool, None};
 ghost use Rattle.fc_jobs.specs.Ends.{with_sent};
 ghost use Rattle.fc_workers.specs.Answers.{IsSomeQuiet, IsSomeTick};
@@ -24,30 +24,42 @@ use fc_registry::{Ask, Job, SHARDS};
 use std::mem;
 use std::sync::Wait;
 
-/// The number of a job that isn't sent to the workers: no job that is has it.
+/// The number of a job that isn't sent to the workers.
+///
+/// No job that is sent has it.
 pub const UNSENT: u64 = u64::MAX;
 
-/// Which jobs go to workers.
+/// The policy that decides which jobs go to workers.
 #[derive(Clone, Copy)]
 pub enum Handover {
-    /// All of them, where there is a worker: the first that asks for a job is waited for.
+    /// All jobs, if there is a worker.
+    ///
+    /// The dispatcher waits for the first worker that asks for a job.
     Every,
-    /// Those whose program may run for so many instructions or more, by what its slot holds when they come, once a worker has asked for a job.
+    /// Jobs of expensive programs, once a worker has asked for a job.
+    ///
+    /// A program is expensive if it may run for this many instructions or more. It is the program
+    /// that the job's slot has when the job arrives.
     Dear(u32),
     /// None.
     Never,
 }
 
-/// What a dispatcher has done: the jobs that it sent to the workers, and its share of those that it worked off itself.
+/// The record of a dispatcher's work.
+///
+/// It has the jobs that were sent to the workers, and the statistics of the jobs that the
+/// dispatcher ran itself.
 #[derive(Drop)]
 pub struct Dispatched<T: Drop> {
     pub sent: Sent,
     pub share: Share<T>,
 }
 
-/// Who has datagrams taken in and shards asked for turns, in a thread of its own. Each job that comes of it is sent to the workers, or, where it isn't handed
-/// over, worked off by the dispatcher itself, as a worker does. So is each where no worker has asked for a job: the workers may have been refused the
-/// memory that they begin with.
+/// A dispatcher of datagrams and notification leases, in a thread of its own.
+///
+/// Each resulting job is sent to the workers, or the dispatcher runs it itself, as a worker does.
+/// The dispatcher runs every job itself while no worker has asked for one: the memory to start the
+/// workers may have been refused.
 #[derive(Drop)]
 pub struct Dispatcher<'a, B: Bench, G: Gate, W: Wire, M: Moments> {
     workshop: &'a Workshop<'a, B, G, W, M>,
@@ -61,7 +73,7 @@ pub struct Dispatcher<'a, B: Bench, G: Gate, W: Wire, M: Moments> {
 }
 
 impl<'a, B: Bench, G: Gate, W: Wire, M: Moments> Dispatcher<'a, B, G, W, M> {
-    /// Makes a dispatcher at a seat of its own, which sends by this end of the channel.
+    /// Makes a dispatcher with this seat, which sends its jobs by `sent`.
     pub fn new(
         workshop: &'a Workshop<'a, B, G, W, M>,
         jobs: &'a Jobs,
@@ -91,7 +103,7 @@ impl<'a, B: Bench, G: Gate, W: Wire, M: Moments> Dispatcher<'a, B, G, W, M> {
         }
     }
 
-    /// Closes the channel: what it has done itself.
+    /// Closes the channel, and returns the dispatcher's own statistics.
     pub fn close(self) -> Share<B::Tallies>
         ensures { result ≡ self.entry.done.share }
     {
@@ -100,7 +112,9 @@ impl<'a, B: Bench, G: Gate, W: Wire, M: Moments> Dispatcher<'a, B, G, W, M> {
         share
     }
 
-    /// Takes a datagram in, at a moment in milliseconds: its reply is written over another, its job is dispatched, and its signal goes to each shard.
+    /// Handles a datagram, at a time in milliseconds.
+    ///
+    /// A reply is written over `reply`, a job is dispatched, and a signal goes to each shard.
     pub fn hear<R: Wait>(
         &mut self,
         rt: &R,
@@ -126,7 +140,7 @@ impl<'a, B: Bench, G: Gate, W: Wire, M: Moments> Dispatcher<'a, B, G, W, M> {
         heard
     }
 
-    /// Advances the front to a moment in milliseconds.
+    /// Advances the front to a time in milliseconds.
     pub fn tick<R: Wait>(&mut self, rt: &R, now: u64)
         ensures logged { B.logged (AdvancesFront now) self.old.done.share.log self.new.done.share.log }
         ensures kept { HasCalled self.old.done self.new.done }
@@ -136,7 +150,9 @@ impl<'a, B: Bench, G: Gate, W: Wire, M: Moments> Dispatcher<'a, B, G, W, M> {
         self.workshop.bench.tick(rt, now, log);
     }
 
-    /// Advances a shard, 0 to 7, to a moment in milliseconds: what it sends again, if anything.
+    /// Advances a shard, 0 to 7, to a time in milliseconds.
+    ///
+    /// Returns the result of the shard's tick, which has a message if one is to be retransmitted.
     pub fn resend<R: Wait>(&mut self, rt: &R, shard: u8, now: u64) -> Ticked
         ensures ticked { IsSomeTick now result }
         ensures logged { B.logged (AdvancesShard shard now result) self.old.done.share.log self.new.done.share.log }
@@ -147,7 +163,10 @@ impl<'a, B: Bench, G: Gate, W: Wire, M: Moments> Dispatcher<'a, B, G, W, M> {
         self.workshop.bench.tick_shard(rt, shard, now, log)
     }
 
-    /// Advances a shard, 0 to 7, to a moment in milliseconds where nothing is late and nobody is due. Tells whether it did; where it didn't, nothing changes.
+    /// Advances a shard, 0 to 7, to a time in milliseconds if it is idle then.
+    ///
+    /// It is idle if no notification has timed out and no observer has a pending one. Returns
+    /// whether the shard was advanced. If it wasn't, nothing changes.
     pub fn advance_if_quiet<R: Wait>(&mut self, rt: &R, shard: u8, now: u64) -> bool
         ensures quiet { IsSomeQuiet now result }
         ensures passed { MatchBool result
@@ -159,14 +178,19 @@ impl<'a, B: Bench, G: Gate, W: Wire, M: Moments> Dispatcher<'a, B, G, W, M> {
         self.workshop.bench.advance_if_quiet(rt, shard, now, log)
     }
 
-    /// Returns a moment before which no notification of a shard, 0 to 7, is late, and no observer due, unless the shard is called.
+    /// Returns a time before which a shard, 0 to 7, stays idle, unless it is called.
+    ///
+    /// Before it no notification has timed out, and no observer has a pending one.
     pub fn quiet_until<R: Wait>(&self, rt: &R, shard: u8) -> u64
         ensures { B.called (LooksAhead shard result) }
     {
         self.workshop.bench.quiet_until(rt, shard)
     }
 
-    /// Asks a shard, 0 to 7, for the turn of the observer that is due first at a moment in milliseconds, and dispatches it. Tells whether there was one.
+    /// Asks a shard, 0 to 7, for its next lease, and dispatches the lease's job.
+    ///
+    /// The lease is that of the first observer with a pending notification at a time in
+    /// milliseconds. Returns whether there was one.
     pub fn notify<R: Wait>(&mut self, rt: &R, shard: u8, now: u64) -> bool
         ensures asked { IsTurnAsked (shop B.changes B.ended B.called B.logged M.is_moment M.is_random G.passed W.called)
             self.old.handover shard now result self.old.done self.new.done }
@@ -183,7 +207,8 @@ impl<'a, B: Bench, G: Gate, W: Wire, M: Moments> Dispatcher<'a, B, G, W, M> {
         given
     }
 
-    // Sends its job to the workers, where it may go, or works it off. Where that goes by what a run costs, a request is begun first.
+    // Sends its job to the workers, if its policy lets it, or runs it. If the policy depends on the
+    // cost of a run, a request is begun first.
     fn dispatch<R: Wait>(&mut self, rt: &R)
         ensures dispatched { IsDispatched (shop B.changes B.ended B.called B.logged M.is_moment M.is_random G.passed W.called)
             self.old.handover self.old.job self.old.done self.new.done }
@@ -195,7 +220,7 @@ impl<'a, B: Bench, G: Gate, W: Wire, M: Moments> Dispatcher<'a, B, G, W, M> {
         }
     }
 
-    // Sends its job to the workers, where it may go, or works it off.
+    // Sends its job to the workers, if its policy lets it, or runs it.
     fn dispatch_whole<R: Wait>(&mut self, rt: &R)
         ensures dispatched { IsDispatched (shop B.changes B.ended B.called B.logged M.is_moment M.is_random G.passed W.called)
             self.old.handover self.old.job self.old.done self.new.done }
@@ -208,7 +233,8 @@ impl<'a, B: Bench, G: Gate, W: Wire, M: Moments> Dispatcher<'a, B, G, W, M> {
         }
     }
 
-    // Begins a request's job, and sends it to the workers, who begin it anew, where what it found is dear. Else it is worked on from there.
+    // Begins a request's job. If its snapshot is of an expensive program, sends the job to the
+    // workers, which begin it again. Otherwise continues it from there.
     fn dispatch_request<R: Wait>(&mut self, rt: &R, least: u32)
         requires { self.old.job.turn ≡ None }
         ensures dispatched { IsDispatched (shop B.changes B.ended B.called B.logged M.is_moment M.is_random G.passed W.called)
@@ -226,7 +252,7 @@ impl<'a, B: Bench, G: Gate, W: Wire, M: Moments> Dispatcher<'a, B, G, W, M> {
         }
     }
 
-    // Lets go of the program that its job found.
+    // Drops the handle of the program from its job's snapshot.
     fn forget(&mut self)
         ensures done { self.new.done ≡ self.old.done }
         ensures handover { self.new.handover ≡ self.old.handover }
@@ -234,7 +260,7 @@ impl<'a, B: Bench, G: Gate, W: Wire, M: Moments> Dispatcher<'a, B, G, W, M> {
         self.tools.stage.step = Step::Gone;
     }
 
-    // Sends its job to the workers, if it goes there. Tells whether it was sent.
+    // Sends its job to the workers if `goes`. Returns whether it was sent.
     fn send_if<R: Wait>(&mut self, rt: &R, goes: bool) -> bool
         ensures sent { MatchBool result
             ((goes ≡ true) × (self.new.done ≡ record self.old.done { sent = with_sent self.old.done.sent self.old.job }))
@@ -245,7 +271,7 @@ impl<'a, B: Bench, G: Gate, W: Wire, M: Moments> Dispatcher<'a, B, G, W, M> {
         if goes { self.send(rt) } else { false }
     }
 
-    // Sends its job to the workers. Tells whether it was sent.
+    // Sends its job to the workers. Returns whether it was sent.
     fn send<R: Wait>(&mut self, rt: &R) -> bool
         ensures sent { MatchBool result
             (self.new.done ≡ record self.old.done { sent = with_sent self.old.done.sent self.old.job })
@@ -263,7 +289,8 @@ impl<'a, B: Bench, G: Gate, W: Wire, M: Moments> Dispatcher<'a, B, G, W, M> {
         }
     }
 
-    // Works its job off, whose slot's receipt was told since its log was so, or wasn't asked for.
+    // Runs its job. Since an earlier state of its log, the receipt of the job's slot was returned,
+    // or wasn't requested.
     fn work<R: Wait>(&mut self, rt: &R)
         ensures worked { (log : Log)
             → IsPriced (shop B.changes B.ended B.called B.logged M.is_moment M.is_random G.passed W.called) self.old.job log self.old.done.share.log
@@ -276,7 +303,8 @@ impl<'a, B: Bench, G: Gate, W: Wire, M: Moments> Dispatcher<'a, B, G, W, M> {
             .work(rt, &mut self.tools, UNSENT, &self.job, &mut done.share);
     }
 
-    // Returns whether its job may go to the workers as it came. Before one of them has asked for a job, none does: if all are to go, that is waited for.
+    // Returns whether its job may go to the workers as it arrived. No job does before one of them
+    // has asked for a job; if all jobs are to go, the dispatcher waits for that.
     fn may_go<R: Wait>(&mut self, rt: &R) -> bool
         ensures may { result ≡ true → MayGo (shop B.changes B.ended B.called B.logged M.is_moment M.is_random G.passed W.called)
             self.old.handover self.old.job self.old.done.share self.new.done.share }
@@ -297,7 +325,8 @@ impl<'a, B: Bench, G: Gate, W: Wire, M: Moments> Dispatcher<'a, B, G, W, M> {
         }
     }
 
-    // Whether its job stands at a run of so many instructions or more, and a worker has asked for a job.
+    // Returns whether its job's next step is the commit of a program of this cost or more, and a
+    // worker has asked for a job.
     fn stands_dear(&self, least: u32) -> bool
         ensures { result ≡ true → IsDearAt least self.now.tools.stage }
     {
@@ -307,7 +336,7 @@ impl<'a, B: Bench, G: Gate, W: Wire, M: Moments> Dispatcher<'a, B, G, W, M> {
         }
     }
 
-    // Hands a signal to each shard.
+    // Passes a signal to each shard.
     fn signal<R: Wait>(&mut self, rt: &R, from: Endpoint, id: u16, reset: bool)
         ensures signalled { AreSignalled (shop B.changes B.ended B.called B.logged M.is_moment M.is_random G.passed W.called)
             8 from id reset self.old.done.share.log self.new.done.share.log }
@@ -320,7 +349,8 @@ impl<'a, B: Bench, G: Gate, W: Wire, M: Moments> Dispatcher<'a, B, G, W, M> {
 }
 
 impl<'a, B: Bench, G: Gate, W: Wire, M: Moments> Workshop<'a, B, G, W, M> {
-    // Returns whether a job asks for a run of so many instructions or more, by the program that its slot has now.
+    // Returns whether a job requests a run of this many instructions or more, by the program that
+    // its slot has now.
     fn is_dear<R: Wait>(&self, rt: &R, least: u32, job: &Job, log: &mut CallLog) -> bool
         ensures dear { result ≡ true → IsDear (shop B.changes B.ended B.called B.logged M.is_moment M.is_random G.passed W.called)
             least job.now log.old log.new }
@@ -336,7 +366,7 @@ impl<'a, B: Bench, G: Gate, W: Wire, M: Moments> Workshop<'a, B, G, W, M> {
         }
     }
 
-    // Hands a signal to each shard, once.
+    // Passes a signal to each shard, once.
     fn signal<R: Wait>(&self, rt: &R, from: Endpoint, id: u16, reset: bool, log: &mut CallLog)
         ensures { AreSignalled (shop B.changes B.ended B.called B.logged M.is_moment M.is_random G.passed W.called)
             8 from id reset log.old log.new }

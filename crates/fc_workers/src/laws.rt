@@ -1,4 +1,6 @@
-//! What the definitions of workers come to, in plainer words: each function is a law, and its contract says it.
+//! Laws about workers and their server.
+//!
+//! Each law is the contract of an empty function.
 ghost use Rattle.std.specs.Prelude.{◌≡◌, ◌<◌, ◌≤◌, ℕ, Bool};
 ghost use Rattle.coap_msg.specs.declared.types.Endpoint.{Endpoint};
 ghost use Rattle.fc_core.specs.declared.front.Delivered.TheVariants.{Signal};
@@ -22,7 +24,10 @@ use crate::books::Books;
 use crate::device::Device;
 use crate::workshop::{Gate, Moments, Wire};
 
-/// A dispatcher that hears a Reset message or an Acknowledgement hands it to shards 0 to 7, once each, in this order, as it was heard; its log has no other call.
+/// A dispatcher passes each signal to shards 0 to 7.
+///
+/// A signal is a Reset message or an Acknowledgement. Each shard gets it once, in this order, as it
+/// was received. The dispatcher's log has no other call.
 pub fn signals_reach_eight_shards<B: Bench, G: Gate, W: Wire, M: Moments>()
     ensures { (handover : Handover) (from : Endpoint) (id : ℕ) (reset : Bool) (old new : Dispatched B.Tallies)
         → IsDone (shop B.changes B.ended B.called B.logged M.is_moment M.is_random G.passed W.called) handover from (Signal id reset) old new
@@ -31,8 +36,11 @@ pub fn signals_reach_eight_shards<B: Bench, G: Gate, W: Wire, M: Moments>()
         × B.logged (HandsSignal 5 from id reset) e f × B.logged (HandsSignal 6 from id reset) f g × B.logged (HandsSignal 7 from id reset) g new.share.log }
 {}
 
-/// A server behind locks notifies by the time of the policy that it began with: a logged notification is that of some observers whose notifications are confirmable after just so
-/// many milliseconds, at the moment of the call or a later one. By default that is 86,400,000 ms, 24 hours (RFC 7641, 4.5).
+/// A server with locks uses the confirmation time of its initial policy.
+///
+/// A logged notification is that of some observers whose notifications are confirmable after this
+/// time in milliseconds. It is at the time of the call or a later one. By default the confirmation
+/// time is 86,400,000 ms, 24 hours (RFC 7641, section 4.5).
 pub fn locked_shards_confirm_in_time<B: Books, D: Device>()
     ensures default { (id : ℕ) → (beginning default_policy id).confirm_after ≡ 86400000 }
     ensures noted { (turn : Turn) (id now random : ℕ) (told : Notification) (noted : Noted) (before after : Log)

@@ -1,16 +1,21 @@
-//! The front and each shard behind a lock of its own, workers that work jobs off at them, and tallies of what each changed.
+//! Workers that run jobs on a server with locks, and counts of their changes.
 //!
-//! A job is worked off by calls, each at the stage that needs it: it takes, runs, commits and
-//! raises, or it installs, removes, describes, or looks at head words. Many
-//! workers do so at once, and between two calls of one the others change the slots. So a worker asks nothing of a shard: its
-//! [`Bench`] says of each call what the shard answers at some slot, and the next stage is told by that answer alone
-//! (`fc_core`'s `Stage`). `specs/Work.antt` says which calls a job's answer ends, and `specs/Shares.antt` what a worker's
-//! [`Share`] says of its jobs: it has worked off and ended just those that its `Got` gained, and its tallies have risen by
-//! the changes that their calls answered. Each call that may change something, or whose answer is soon out of date, is handed the
-//! worker's [`CallLog`]: so it is said that these were made in this order, and no others with this log.
+//! The front has a lock, and so does each shard. A job is run by calls, each at the stage that
+//! needs it. A request's job takes a snapshot, runs, commits and raises a head word, or it
+//! installs, removes, describes, or reads head words. Many workers run jobs at the same time, and
+//! other workers change the slots between two calls of a job. So the contracts of a worker mention
+//! no shard: its [`Bench`] states for each call what a shard returns at some slot, and the result
+//! alone determines the next stage (`fc_core`'s `Stage`).
 //!
-//! What a call is answered by isn't said: that a bench takes from the job's own slot is its implementation's. Nor is it said that
-//! a call returns, or when.
+//! `specs/Work.antt` defines the calls that lead to a job's answer. `specs/Shares.antt` defines the
+//! statistics of a worker's jobs, its [`Share`]. The worker has run and ended exactly the jobs that
+//! its `Got` gained, and its tallies have risen by the changes that the results of its calls
+//! report. Each call that may change something, or whose result is soon out of date, gets the
+//! worker's [`CallLog`]. So contracts state that these calls were made in this order, and no others
+//! with this log.
+//!
+//! The contracts don't say which slot a call meets: that a backend takes a snapshot of the job's
+//! own slot is up to its implementation. They don't say either that a call returns, or when.
 //!
 //! ```rust
 //! use fc_jobs::{Jobs, Sent};
@@ -20,7 +25,7 @@
 //! use std::sync::Wait;
 //! use std::thread::Threads;
 //!
-//! /// Works one job off, with a worker for each of these tallies: the shares.
+//! /// Runs one job, with a worker for each of these tallies, and returns their statistics.
 //! fn work_one<B: Bench + Sync, G: Gate + Sync, W: Wire + Sync, M: Moments + Sync, R>(
 //!     rt: &R,
 //!     workshop: &Workshop<'_, B, G, W, M>,
@@ -41,47 +46,67 @@
 //!
 //! # What is proved
 //!
-//! - **A worker's calls**: each of those that its log has leads the log on from where the one before it left it. So none was made twice,
-//!   out of order, or besides, with this log. That a worker hands its calls no other log is read: one is made in `Share::new` alone. What
-//!   isn't in the log changes nothing: random words, until when a shard is quiet, and that it is not quiet now. Of
-//!   these an earlier call that was answered the same does for a later one.
-//! - **A request's job** comes to what it is to be answered by a list of calls from its first stage: each is the call that its stage needs,
-//!   answered as the shard does at some slot, and eight take at most. A look is at the head word of the job's slot, or, for a list, of each
-//!   slot in order, and the word of the job's slot is raised to the one that its change told.
-//! - Right before each taking the bench is asked for readings, once, and the taking is handed these: a worker that takes with zeros of its
-//!   own, or with those of an earlier taking, has no proof.
-//! - Each run is committed after the gate had let the job go on, once for each, and then at the moment that is asked for next. Then some front answers the
-//!   job so, once, at a moment that is asked for right before, by a datagram or by none.
-//! - **A turn's job** takes once and changes no slot. Some shard tells its observer what was found, once, by a message id that some front
-//!   drew, and with a random word that was asked for, and sends a datagram or none; or the taking was stale: then there is none; or no id was
-//!   free, or memory was refused: then there is none, and that turn was given up at a moment that was asked for.
-//! - **The wire**: where a job comes to a datagram, the wire was handed it once, under the job's number, and one reply more is counted by what
-//!   that call told, among those that went out or among those that didn't. Last, the wire was told once that the job has ended. What the wire
-//!   is handed is what some front answers some job by, or some shard tells some observer.
-//! - **A worker's share** has ended as many jobs as it got, up to 2^64 - 1, and its tallies have risen by the changes that their calls
-//!   answered. Each seat of a pool comes back as its share.
-//! - **A dispatcher** has each datagram heard once. It sends the job that a delivery or a turn brings to the workers, under the next number,
-//!   where its handover lets it go, or works it off and ends it, and does
-//!   neither where there is none. It hands a signal to each of eight shards, once, as it was heard, asks the shard that it is told to, once, and
-//!   advances the front to the moment that it is handed, once. Its calls are in its share's log, as a worker's are. A dear job is a run: a
-//!   request's, which was looked up here or not, took once and found a program of such a cost, and of which the log has no other call; or
-//!   one of whose slot a receipt was told, of such a cost. A request that took here and stays is worked off from there, by eight takings at
-//!   most in all. The receipt is asked for once, right before the job is sent or worked off.
-//! - **A server behind nine locks** asks its calls of a front that began with the policy and the message id that it is made with, and has been asked only calls of a front since. Each
-//!   shard that a call meets has the policy's time for confirmable notifications. It
-//!   answers a taking, an install, a removal and a receipt as a shard of the index of the job's slot does in
-//!   some state, and a notification as one of that of the turn's does: of the turn, the message id, the moment and what is told that it is
-//!   handed. It answers a delivery, a draw of a message id, a turn, a tick, a notification and a job at the moment that it is handed or a
-//!   later one, each as some front or shard does, and counts each change of a slot on the worker's tally; closed, the serials of each shard
-//!   have risen by just what was counted.
-//! - The readings that it gives are what some call of its device gave (`Device::are_readings`).
-//! - A look at a head word tells no less than its worker has seen of that slot's, and a raise leaves it no less than the word that it is
-//!   handed. Both take no lock.
-//! - Not claimed: which state of a slot or front a call met, that a call holds one lock, which readings a server gives, which random word
-//!   its shard is handed, that it gives up the turn that it is told to, and that a call returns.
+//! - **A worker's calls**: each logged call leads the log on from the state where the call before
+//!   it left it. So with this log no call was made twice, out of order, or in addition. That a
+//!   worker passes its calls no other log is seen from the code: only `Share::new` makes one. Calls
+//!   without a log change nothing: random words, the time until which a shard stays idle, and that
+//!   it isn't idle now. One such call can stand for a later one with the same result.
+//! - **A request's job** reaches its answer by a list of calls from its first stage. Each is the
+//!   call that its stage needs, with the result of its shard at some slot. At most eight take a
+//!   snapshot. A look reads the head word of the job's slot, or, for a list, of each slot in order.
+//!   The head word of the job's slot is raised to the word that its change returned.
+//! - Right before each snapshot the backend is asked for readings, once, and the snapshot gets
+//!   these. A worker whose snapshot has zeros of its own, or an earlier snapshot's readings, has
+//!   no proof.
+//! - Each run is committed after the gate let the job through, once for each, at the time that is
+//!   requested next. Then some front answers the job, once, at a time that is requested right
+//!   before, by a datagram or by none.
+//! - **A lease's job** takes one snapshot and changes no slot. If the snapshot is a ticket or an
+//!   empty slot, and a message ID is available, some shard notifies the lease's observer of it,
+//!   once. The message ID is drawn from some front, and the random word is a requested one. A
+//!   datagram or none results. If the snapshot is stale, there is no datagram. If no ID is
+//!   available, or memory is refused, there is none, and the lease is released at a time that was
+//!   requested.
+//! - **The transmitter**: if a job results in a datagram, the transmitter gets it once, under the
+//!   job's number. One more reply is counted as sent or as failed, by the result of that call. The
+//!   last call reports to the transmitter, once, that the job has ended. A datagram that the
+//!   transmitter gets is the answer of some front to some job, or the notification of some shard to
+//!   some observer.
+//! - **A worker's statistics**: it has ended as many jobs as it received, up to 2^64 - 1. Its
+//!   tallies have risen by the changes that the results of its calls report. The result for each
+//!   seat of a pool is its statistics.
+//! - **A dispatcher** has each datagram handled once. If a delivery or a lease results in a job, it
+//!   sends the job to the workers under the next number, or runs the job and ends it. It sends the
+//!   job only if its policy allows that. Without a job it does neither.
+//! - A dispatcher passes a signal to each of eight shards, once, as it was received. It asks the
+//!   given shard once, and advances the front to the given time once. Its calls are in the log of
+//!   its statistics, as a worker's are.
+//! - An expensive job is a run of at least a given cost, found in one of two ways. Either it is a
+//!   request's, which was looked up here or not, and took one snapshot, with a program of such a
+//!   cost; or its slot's receipt has such a cost. The log has no other call of it. A request that
+//!   took a snapshot here and isn't sent is run from there, with at most eight snapshots in all.
+//!   The receipt is requested at most once, right before the job is sent or run.
+//! - **A server with nine locks** calls a front that began with the server's policy and first
+//!   message ID, and has only been called since. Each shard that a call meets has the policy's time
+//!   for confirmable notifications.
+//! - A snapshot, an install, a removal and a receipt have the results of a shard with the index of
+//!   the job's slot, in some state. A notification has the result of a shard with the index of the
+//!   lease's slot, for the given lease, message ID, time and content.
+//! - A delivery, a draw of a message ID, a lease, a tick, a notification and an answer have the
+//!   result of some front or shard. Its time is the given one or a later one. Each change of a slot
+//!   is counted on the worker's tally. Once the server is closed, the serials of each shard have
+//!   risen by exactly what was counted.
+//! - The readings that a server returns are those of some call of its device
+//!   (`Device::are_readings`).
+//! - A head word that a worker reads is no less than the worker has seen of that slot. After a raise
+//!   the worker has seen no less than the given word. Neither takes a lock.
+//! - Not claimed: which state of a slot or front a call meets; that a call holds one lock; which
+//!   readings a server returns; which random word its shard gets; that it releases the given lease;
+//!   and that a call returns.
 //!
-//! By the contracts of `Workshop::work_off`, `Workshop::work`, `worker`, `run_workers`, `feed_workers`, `Dispatcher::hear`,
-//! `Dispatcher::notify`, the clauses of `Bench`, `ShardCall`, `Counted`, `Locked::new`, `close`, `laws`.
+//! By the contracts of `Workshop::work_off`, `Workshop::work`, `worker`, `run_workers`,
+//! `feed_workers`, `Dispatcher::hear`, `Dispatcher::notify`, the clauses of `Bench`, `Counted`,
+//! `Locked::new`, `close`, `laws`.
 #![tactic(auto)]
 
 mod begun_front;
@@ -89,7 +114,6 @@ pub mod bench;
 pub mod blanks;
 pub mod books;
 pub mod call_log;
-pub mod calls;
 pub mod closed;
 pub mod counted_shard;
 pub mod device;
@@ -112,7 +136,6 @@ pub use bench::Bench;
 pub use blanks::Blanks;
 pub use books::{BookOf, Books};
 pub use call_log::CallLog;
-pub use calls::ShardCall;
 pub use closed::ClosedServer;
 pub use counted_shard::Counted;
 pub use device::Device;

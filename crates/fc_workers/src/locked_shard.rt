@@ -1,19 +1,21 @@
-//! A shard behind a lock.
+//! A shard guarded by a lock.
 ghost use Rattle.std.specs.Prelude.{◌≡◌, ℕ, ◌+◌, ◌*◌, ◌<◌, replicate};
 ghost use Rattle.fc_registry.specs.Slots.{Shard as Seen};
-ghost use Rattle.fc_workers.specs.Asked.{IsAsked, confirm_times};
-ghost use Rattle.fc_workers.specs.Counts.{HasEightSlots, counts, serials};
+ghost use Rattle.fc_workers.specs.Asked.{IsAsked};
+ghost use Rattle.fc_calls.specs.Kept.{HasEightSlots, confirm_times, serials};
+ghost use Rattle.fc_workers.specs.Counts.{counts};
 
 use crate::books::{BookOf, Books};
-use crate::calls::{Change, ShardCall};
 use crate::counted_shard::Counted;
 use crate::tally::Tally;
+use fc_calls::{Change, ShardCall};
 use fc_registry::Shard;
 use std::marker::PhantomData;
 use std::sync::ledger::{Blank, Ledger};
 use std::sync::{Mutex, Wait};
 
-// A shard beside its book, whose notifications are confirmable by the time that the server began with.
+// A shard with its book. The server's initial state determines when its notifications are
+// confirmable.
 #[derive(Drop)]
 struct BegunShard<B: Books, L: Ledger> {
     counted: Counted<L>,
@@ -30,14 +32,16 @@ struct ShardState<const INDEX: u8, B: Books> {
     ghost opened: { begun.counted.opened ≡ 8 * first_serial },
 }
 
-/// The shard of an index, 0 to 7, and its book, behind a lock of their own.
+/// The shard with this index, 0 to 7, and its book, guarded by a lock.
 #[derive(Drop)]
 pub(crate) struct LockedShard<const INDEX: u8, B: Books> {
     state: Mutex<ShardState<INDEX, B>>,
 }
 
 impl<const INDEX: u8, B: Books> LockedShard<INDEX, B> {
-    /// Opens the book of a shard whose slots are each at the first serial, and puts it behind a lock. The tally has all parts of the book.
+    /// Opens the book of a shard with slots at `first_serial`, and adds a lock.
+    ///
+    /// The tally has all parts of the book.
     pub(crate) fn new(
         shard: Shard,
         first_serial: u64,
@@ -65,7 +69,7 @@ impl<const INDEX: u8, B: Books> LockedShard<INDEX, B> {
         (locked, tally)
     }
 
-    /// Asks the shard what changes no slot, while its lock is held.
+    /// Runs a call that changes no slot, under the shard's lock.
     pub(crate) fn ask<C: ShardCall, R: Wait>(
         &self,
         rt: &R,
@@ -79,7 +83,7 @@ impl<const INDEX: u8, B: Books> LockedShard<INDEX, B> {
         self.state.lock(rt).begun.counted.ask(call, room)
     }
 
-    /// Asks the shard what may change a slot, while its lock is held. The tally counts it.
+    /// Runs a call that may change a slot, under the shard's lock. The tally counts it.
     pub(crate) fn change<C: Change, R: Wait>(
         &self,
         rt: &R,
@@ -94,8 +98,10 @@ impl<const INDEX: u8, B: Books> LockedShard<INDEX, B> {
         self.state.lock(rt).begun.counted.change(call, room, tally)
     }
 
-    /// Closes the book, for the tally that has all its parts: the shard, whose serials have risen by the changes that were
-    /// counted, and the serial that its slots began with.
+    /// Closes the book, with the tally that has all its parts.
+    ///
+    /// Returns the shard and the serial that its slots began with. The sum of the shard's serials
+    /// has risen by the changes that were counted.
     pub(crate) fn close(self, all: &mut Tally<BookOf<B, INDEX>>) -> (Shard, u64)
         requires { all.old.parts ≡ B.parts }
         ensures risen { serials result.0 ≡ 8 * result.1 + all.old.changes }

@@ -1,4 +1,4 @@
-//! Turns of observers worked off over a bench.
+//! Notification leases, run with the calls of a backend.
 ghost use Rattle.std.specs.Prelude.{◌≡◌, ◌+◌, ◌<◌, None};
 ghost use Rattle.coap_msg.specs.declared.types.Emission.{Emission as Emitted};
 ghost use Rattle.fc_core.specs.Receiving.{emission_if};
@@ -20,9 +20,11 @@ use fc_registry::{Job, NoteOutcome, Notification, Taken, Ticket};
 use std::sync::Wait;
 
 impl<'a, B: Bench, G: Gate, W: Wire, M: Moments> Workshop<'a, B, G, W, M> {
-    /// Works a turn off: takes what its slot holds, draws a message id, runs the program and notifies the observer. What is to be sent is
-    /// written over the tools' reply. Tells whether anything is. Where memory is refused, or no message id is free, the turn is given up. No
-    /// slot changes, and one job is ended.
+    /// Runs the job of a lease, and returns whether a message is to be sent.
+    ///
+    /// It takes a snapshot of the lease's slot, draws a message ID, runs the program and notifies
+    /// the observer. The message is written over the reply in `tools`. If memory is refused, or no
+    /// message ID is available, the lease is released. No slot changes, and one job is ended.
     #[inline(never)]
     pub fn notify<R: Wait>(
         &self,
@@ -65,7 +67,7 @@ impl<'a, B: Bench, G: Gate, W: Wire, M: Moments> Workshop<'a, B, G, W, M> {
         }
     }
 
-    // Tells what a turn's taking found: a ticket, or an empty slot.
+    // Notifies about the result of a lease's snapshot: a ticket, or an empty slot.
     fn tell<R: Wait>(
         &self,
         rt: &R,
@@ -103,7 +105,7 @@ impl<'a, B: Bench, G: Gate, W: Wire, M: Moments> Workshop<'a, B, G, W, M> {
         }
     }
 
-    // Notifies the observer of a turn.
+    // Notifies the observer of a lease.
     fn note<R: Wait>(
         &self,
         rt: &R,
@@ -129,7 +131,7 @@ impl<'a, B: Bench, G: Gate, W: Wire, M: Moments> Workshop<'a, B, G, W, M> {
         is_note_sent(noted)
     }
 
-    // Gives up a turn, at the moment that it is: nothing is sent.
+    // Releases a lease, at the current time. Nothing is sent.
     fn give_up<R: Wait>(&self, rt: &R, turn: Turn, share: &mut Share<B::Tallies>)
         requires { turn.slot < 64 }
         ensures given_up { IsGivenUp (shop B.changes B.ended B.called B.logged M.is_moment M.is_random G.passed W.called)
@@ -144,7 +146,7 @@ impl<'a, B: Bench, G: Gate, W: Wire, M: Moments> Workshop<'a, B, G, W, M> {
     }
 }
 
-// Whether a notification is sent.
+// Returns whether a notification is sent.
 fn is_note_sent(noted: NoteOutcome) -> bool
     ensures { (reply : Emitted) → emission_if result reply ≡ sent_of (noted_as noted reply) }
 {

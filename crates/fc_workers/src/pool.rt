@@ -17,10 +17,12 @@ use std::sync::Wait;
 use std::thread;
 use std::thread::{Promise, Threads};
 
-/// Makes a channel of jobs, its one end that sends, and a seat for a worker with each of these tallies.
+/// Makes a channel of jobs, and a seat for each of the given tallies.
+///
+/// Returns the channel, its sending end and the seats.
 ///
 /// # Errors
-/// There was no memory for them.
+/// Returns `AllocError` if memory can't be allocated.
 pub fn make_seats<T: Drop>(
     alloc: Global,
     tallies: Vec<T>,
@@ -33,7 +35,7 @@ pub fn make_seats<T: Drop>(
     Ok((jobs, sent, seats))
 }
 
-// A seat for each place at the channel, with its tallies.
+// Makes a seat for each place at the channel, with its tallies.
 fn seats_at<T: Drop>(
     alloc: Global,
     jobs: &Jobs,
@@ -55,11 +57,14 @@ fn seats_at<T: Drop>(
     Ok(seats)
 }
 
-/// Runs a worker at each seat, in threads of their own, until the channel is closed and empty: the share of each, in the order
-/// of the seats. Where no thread can be made, the workers run one after another.
+/// Runs a worker for each seat, until the channel is closed and empty.
+///
+/// Each worker has a thread of its own. If no thread can be made, the workers run one after
+/// another. Returns the statistics of each, in the order of the seats.
 ///
 /// # Errors
-/// There was no memory for the list of shares: then they are lost, and some seats may have had no worker.
+/// Returns `AllocError` if memory for the list of statistics can't be allocated. Then they are
+/// lost, and some seats may have had no worker.
 pub fn run_workers<
     B: Bench + Sync,
     G: Gate + Sync,
@@ -88,7 +93,7 @@ where
     )
 }
 
-// That a thread gives the share of the worker at each of these seats.
+// The promise that a thread returns the statistics of the workers at these seats.
 #[derive(Drop)]
 struct SharesOf<B: Bench, G: Gate, W: Wire, M: Moments> {
     seats: Snapshot<Vec<Seat<B::Tallies>>>,
@@ -103,13 +108,18 @@ impl<B: Bench, G: Gate, W: Wire, M: Moments> Promise<Result<Vec<Share<B::Tallies
         p.seats.value.items v.items) };
 }
 
-/// Runs a worker at each seat, as `run_workers` does, and beside them a feeder, in the caller's own thread: what the feeder
-/// gives, and the shares. The feeder sends the jobs, and owns the end that sends: once that has gone with it the channel is closed,
-/// and the workers come to their end. It is told whether workers were begun: where no thread can be made for them, they come after the feeder.
+/// Runs a worker for each seat, and a feeder on the calling thread.
+///
+/// See [`run_workers`]. Returns the feeder's result and the workers' statistics.
+///
+/// The feeder sends the jobs, and owns the sending end of the channel. Once the feeder drops it,
+/// the channel is closed, and the workers end. The feeder's argument says whether workers were
+/// started. If no thread can be made for them, they run after the feeder.
 ///
 /// # Errors
-/// The shares are as `run_workers` gives them. If memory is refused for every seat, no worker ever asks for a job ([`Jobs::is_served`]), and a feeder that
-/// sends more than 256 all the same waits for ever.
+/// The statistics are those of `run_workers`. If memory is refused for every seat, no worker ever
+/// asks for a job ([`Jobs::is_served`]). A feeder that then sends more than 256 jobs waits for
+/// ever.
 pub fn feed_workers<
     B: Bench + Sync,
     G: Gate + Sync,

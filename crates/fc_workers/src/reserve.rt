@@ -1,4 +1,4 @@
-//! The parts of the books that no worker has.
+//! Ledger parts that aren't assigned to a worker.
 ghost use Rattle.std.specs.Prelude.{◌≡◌, ◌+◌, ◌-◌, ◌<◌, ◌≤◌, map, replicate, vec_len, IfOk};
 ghost use Rattle.fc_workers.specs.Answers.{saturated};
 ghost use Rattle.fc_workers.specs.Counts.{no_changes, no_tallies, sums};
@@ -10,9 +10,11 @@ use crate::tally::Tally;
 use std::alloc::{AllocError, Global};
 use std::marker::Model;
 
-/// The tallies of the parts that no worker has: as many parts of each of the eight books. A clause sees how many, the
-/// changes of shards 0 to 7 that were counted on them, and how many jobs were ended by the workers whose tallies were
-/// merged into it, up to 2^64 - 1.
+/// The tallies of the parts that aren't assigned to a worker.
+///
+/// There are equally many parts of each of the eight books. A clause sees their number, and the
+/// changes of shards 0 to 7 that were counted on them. It also sees the number of jobs that the
+/// workers ended whose tallies were merged into it, up to 2^64 - 1.
 #[derive(Drop)]
 pub struct Reserve<B: Books> {
     pub(crate) tally0: Tally<BookOf<B, 0>>,
@@ -47,7 +49,9 @@ impl<B: Books> Model for Reserve<B> {
 }
 
 impl<B: Books> Reserve<B> {
-    /// Splits off the tallies of a worker: one part of each book. They are asked for before the first change, and a part is kept.
+    /// Splits off the tallies of a worker: one part of each book.
+    ///
+    /// It requires that no change was counted yet, and that a part is left.
     pub fn split(&mut self) -> Tallies<B>
         requires parts { 1 < self.old.parts }
         requires changes { self.old.changes ≡ no_changes }
@@ -67,10 +71,10 @@ impl<B: Books> Reserve<B> {
         }
     }
 
-    /// Splits off the tallies of so many workers.
+    /// Splits off the tallies of `workers` workers.
     ///
     /// # Errors
-    /// There was no memory for them.
+    /// Returns `AllocError` if memory for them can't be allocated.
     pub fn split_each(
         &mut self,
         alloc: Global,
@@ -89,7 +93,7 @@ impl<B: Books> Reserve<B> {
         Ok(each)
     }
 
-    /// Takes the tallies of a worker in.
+    /// Merges the tallies of a worker.
     pub fn merge(&mut self, worker: Tallies<B>)
         ensures { self.new ≡ record {
           parts = self.old.parts + 1;
@@ -119,7 +123,7 @@ impl<B: Books> Reserve<B> {
         self.ended = self.ended.saturating_add(ended);
     }
 
-    /// Takes the tallies of all these workers in.
+    /// Merges the tallies of all these workers.
     pub fn merge_each(&mut self, mut workers: Vec<Share<Tallies<B>>>)
         ensures { self.new.parts ≡ self.old.parts + vec_len workers }
     {
@@ -144,7 +148,7 @@ impl<B: Books> Reserve<B> {
         ]
     }
 
-    /// Returns how many jobs were ended, up to 2^64 - 1.
+    /// Returns the number of jobs that were ended, up to 2^64 - 1.
     pub fn ended(&self) -> u64
         ensures { result ≡ self.now.ended }
     {

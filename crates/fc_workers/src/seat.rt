@@ -1,4 +1,4 @@
-//! Workers, each at a seat of its own.
+//! Workers, each with a seat of its own.
 ghost use Rattle.std.specs.Prelude.{◌≡◌, ◌+◌, ℕ, true, None, IfOk};
 ghost use Rattle.fc_core.specs.Receiving.{emission_if};
 ghost use Rattle.fc_workers.specs.Answers.{saturated};
@@ -21,7 +21,10 @@ use fc_registry::Job;
 use std::alloc::{AllocError, Global};
 use std::sync::Wait;
 
-/// What a worker begins with: its place at the channel, its bench's tallies, and the frame that its programs run in.
+/// The initial state of a worker.
+///
+/// It has the worker's place at the channel, its backend's tallies, and the frame that its programs
+/// run in.
 #[derive(Drop)]
 pub struct Seat<T: Drop> {
     pub got: Got,
@@ -33,7 +36,7 @@ impl<T: Drop> Seat<T> {
     /// Makes a seat with a new frame.
     ///
     /// # Errors
-    /// There was no memory for the frame.
+    /// Returns `AllocError` if memory for the frame can't be allocated.
     pub fn new(alloc: Global, got: Got, tallies: T) -> Result<Seat<T>, AllocError>
         ensures got { IfOk result (λ s. s.got ≡ got) }
         ensures tallies { IfOk result (λ s. s.tallies ≡ tallies) }
@@ -47,8 +50,10 @@ impl<T: Drop> Seat<T> {
     }
 }
 
-/// Works jobs off until the channel is closed and empty: each is worked off and answered, and its reply, if it has one, is sent and
-/// counted. The share has ended just the jobs that it got.
+/// Runs jobs until the channel is closed and empty.
+///
+/// Each job is run and answered. Its reply, if there is one, is sent and counted. The worker has
+/// ended exactly the jobs that it received.
 pub fn worker<B: Bench, G: Gate, W: Wire, M: Moments, R: Wait>(
     rt: &R,
     workshop: &Workshop<'_, B, G, W, M>,
@@ -75,8 +80,11 @@ pub fn worker<B: Bench, G: Gate, W: Wire, M: Moments, R: Wait>(
 }
 
 impl<'a, B: Bench, G: Gate, W: Wire, M: Moments> Workshop<'a, B, G, W, M> {
-    /// Works a job off under this number: it is answered, or its turn's observer is notified; and what that gives, if anything, is sent under the number and
-    /// counted by whether it went out. Last, the wire is told that the job has ended.
+    /// Runs a job under its number.
+    ///
+    /// A request is answered, and a lease's observer is notified. If there is a reply, it is sent
+    /// under the number, and counted by whether it went out. The last call reports to the
+    /// transmitter that the job has ended.
     pub fn work<R: Wait>(
         &self,
         rt: &R,
@@ -96,8 +104,10 @@ impl<'a, B: Bench, G: Gate, W: Wire, M: Moments> Workshop<'a, B, G, W, M> {
         self.finish(rt, number, replies, &tools.reply, share);
     }
 
-    /// Works a request's job off from the stage that it stands at, and answers, sends and ends it as `work` does. Where calls led there from its
-    /// first stage, it is worked off by these and more.
+    /// Runs a request's job from its present stage, and then answers it.
+    ///
+    /// The reply is sent and the job is ended, as `work` does. If calls led from the first stage to
+    /// this one, the job is run by these calls and further ones.
     pub(crate) fn work_begun<R: Wait>(
         &self,
         rt: &R,
@@ -122,7 +132,7 @@ impl<'a, B: Bench, G: Gate, W: Wire, M: Moments> Workshop<'a, B, G, W, M> {
         self.finish(rt, number, replies, &tools.reply, share);
     }
 
-    // Works a job off, and writes what is to be sent. Tells whether anything is.
+    // Runs a job, and writes its reply. Returns whether there is one.
     fn reply<R: Wait>(
         &self,
         rt: &R,
@@ -148,7 +158,7 @@ impl<'a, B: Bench, G: Gate, W: Wire, M: Moments> Workshop<'a, B, G, W, M> {
         }
     }
 
-    // Works a request's job off, answers it, and writes what is to be sent. Tells whether anything is.
+    // Runs a request's job, answers it, and writes its reply. Returns whether there is one.
     fn answer<R: Wait>(
         &self,
         rt: &R,
@@ -169,7 +179,7 @@ impl<'a, B: Bench, G: Gate, W: Wire, M: Moments> Workshop<'a, B, G, W, M> {
         self.respond(rt, tools, job, share)
     }
 
-    // Answers a request's job that was worked off, and writes what is to be sent. Tells whether anything is.
+    // Answers a request's job that was run, and writes its reply. Returns whether there is one.
     fn respond<R: Wait>(
         &self,
         rt: &R,
@@ -197,7 +207,8 @@ impl<'a, B: Bench, G: Gate, W: Wire, M: Moments> Workshop<'a, B, G, W, M> {
             .respond(rt, now, job, answer, &mut tools.reply, tallies, log)
     }
 
-    // Sends the reply of a job, if it has one, and counts it. Last, the wire is told that the job has ended.
+    // Sends the reply of a job, if it has one, and counts it. The last call reports to the
+    // transmitter that the job has ended.
     fn finish<R: Wait>(
         &self,
         rt: &R,

@@ -1,16 +1,22 @@
-//! A server behind nine locks: one of the front, and one of each shard. Its head words are behind none.
+//! A server with nine locks: one for the front, and one for each shard.
 //!
-//! Each shard's changes are counted in a ledger of its own, which a type stands for. One type parameter names all eight
-//! ([`Books`](crate::books::Books)): a function that opens a server is generic in it. Its caller gives it `Brand`, and picks in
-//! its `Invariants.antt` the names and the parts of the ledgers, from the function's argument `blanks`, and what the server begins with:
+//! No lock guards its head words.
+//!
+//! Each shard's changes are counted in a ledger of its own, which a type represents. One type
+//! parameter names all eight ([`Books`](crate::books::Books)): a function that opens a server is
+//! generic in it. Its caller passes `Brand`. In its `Invariants.antt` the caller chooses the names
+//! and parts of the ledgers, from the function's argument `blanks`, and the server's initial state:
 //!
 //! ```text
 //! abbrev pub ghosts-run : goal.ghosts-run
-//! ghosts-run a = record { names = names_of a.blanks; parts = a.blanks.parts; first = beginning a.policy.now a.first_id }
+//! ghosts-run a = record
+//!     { names = names_of a.blanks; parts = a.blanks.parts;
+//!       first = beginning a.policy.now a.first_id }
 //! ```
 //!
-//! No type of that function's signature may name a ledger: it opens the server, splits the reserve into the tallies of its
-//! workers, runs them, merges their tallies, and closes the server.
+//! No type in that function's signature may name a ledger. The function opens the server, splits
+//! the reserve into the tallies of its workers, and runs them. Then it merges their tallies, and
+//! closes the server.
 ghost use Rattle.std.specs.Prelude.{◌≡◌, ◌+◌, ◌*◌, ◌-◌, ◌<◌, ◌≤◌, ◌%◌, map, slice_index, take, vec_len, IfOk};
 ghost use Rattle.coap_msg.specs.declared.types.Emission.{Emission as Emitted};
 ghost use Rattle.fc_core.specs.Answering.{emission_of, responded};
@@ -24,19 +30,16 @@ ghost use Rattle.fc_registry.specs.Views.{HasSize, taken_with};
 ghost use Rattle.fc_workers.specs.Asked.{IsAsked, IsLoggedCall, IsServerCall};
 ghost use Rattle.fc_workers.specs.Fronts.{beginning};
 ghost use Rattle.fc_workers.specs.Naming.{AreNamed};
-ghost use Rattle.fc_workers.specs.Counts.{no_changes, serials, sums};
+ghost use Rattle.fc_workers.specs.Counts.{no_changes, sums};
+ghost use Rattle.fc_calls.specs.Kept.{commit_changes, install_changes, removal_changes, serials};
 ghost use Rattle.fc_workers.specs.Answers.{AreTallied, IsSomeCommit, IsSomeInstall, IsSomeNote, IsSomeReceipt, IsSomeRemoval, IsSomeTaking};
-ghost use Rattle.fc_workers.specs.Answers.{IsSomeTick, IsSomeTurn, commit_changes, install_changes, removal_changes, saturated};
+ghost use Rattle.fc_workers.specs.Answers.{IsSomeTick, IsSomeTurn, saturated};
 
 use crate::begun_front::BegunFront;
 use crate::bench::Bench;
 use crate::blanks::Blanks;
 use crate::books::{BookOf, Books};
 use crate::call_log::CallLog;
-use crate::calls::{
-    AdvanceIfQuiet, Change, Commit, Describe, GiveUp, Install, NextDue, Note, QuietUntil, Remove,
-    ShardCall, Signal, Take, Tick,
-};
 use crate::closed::ClosedServer;
 use crate::device::Device;
 use crate::locked_shard::LockedShard;
@@ -44,6 +47,11 @@ use crate::reserve::Reserve;
 use crate::tallies::Tallies;
 use crate::tally::Tally;
 use coap_msg::{Emission, Endpoint};
+use fc_calls::calls::{
+    AdvanceIfQuiet, Commit, Describe, GiveUp, Install, NextDue, Note, QuietUntil, Remove, Signal,
+    Take, Tick,
+};
+use fc_calls::{Change, ShardCall};
 use fc_core::{Answer, Front, Heard, Policy, Responded};
 use fc_heads::{HeadSeat, Heads};
 use fc_help::Readings;
@@ -57,7 +65,7 @@ use fc_verify::Verified;
 use std::alloc::{AllocError, Global};
 use std::sync::{Arc, Mutex, Wait};
 
-// Takes the last of some shards.
+// Removes and returns the last shard.
 fn last_of(shards: &mut Vec<Shard>) -> Shard
     requires { 0 < vec_len shards.old }
     ensures last { result ≡ shard_at shards.old.items (vec_len shards.old - 1) }
@@ -69,7 +77,7 @@ fn last_of(shards: &mut Vec<Shard>) -> Shard
     shard
 }
 
-// The reserve of tallies that have as many parts each, and count no change.
+// Makes the reserve of tallies that have equally many parts, and count no change.
 fn reserve_of<B: Books>(
     tally0: Tally<BookOf<B, 0>>,
     tally1: Tally<BookOf<B, 1>>,
@@ -103,15 +111,17 @@ fn reserve_of<B: Books>(
     }
 }
 
-// The index of the shard that owns a slot.
+// Returns the index of the shard that owns a slot.
 fn shard_of(slot: SlotNumber) -> u8
     ensures { (result ≡ slot % 8) × (slot < 64) × (result < 8) }
 {
     slot.number() % SHARDS
 }
 
-/// A server whose front and shards are behind a lock each: a call holds one of them, and no call two. Its head words are behind none. While a program runs or an image is
-/// verified nobody has one. Its device is behind none of them.
+/// A server with a lock for its front and a lock for each shard.
+///
+/// A call holds one lock, and never two. No lock guards its head words or its device. No lock is
+/// held while a program runs or an image is verified.
 #[derive(Drop)]
 pub struct Locked<'a, B: Books, D: Device> {
     device: &'a D,
@@ -128,11 +138,13 @@ pub struct Locked<'a, B: Books, D: Device> {
 }
 
 impl<'a, B: Books, D: Device> Locked<'a, B, D> {
-    /// Makes a server that holds nothing, with slots 0 to 63 empty, each at the first serial, and that draws this message id
-    /// first, with this policy. Its programs find this device's readings. It opens the books; the reserve has all their parts.
+    /// Makes a server with slots 0 to 63 empty, each at `first_serial`.
+    ///
+    /// It has this policy, and draws `first_id` first. Its programs get the readings of `device`.
+    /// It opens the books, and the reserve has all their parts.
     ///
     /// # Errors
-    /// There was no memory for it.
+    /// Returns `AllocError` if memory for the server can't be allocated.
     pub fn new(
         alloc: Global,
         first_serial: u64,
@@ -185,8 +197,10 @@ impl<'a, B: Books, D: Device> Locked<'a, B, D> {
         Ok((server, reserve))
     }
 
-    /// Asks the shard of an index, 0 to 7, what changes no slot, under its lock and none of the others. The call may
-    /// write into the caller's room. An index above is taken for 7.
+    /// Runs a call that changes no slot, at the shard with this index, 0 to 7.
+    ///
+    /// It holds that shard's lock, and no other. The call may write its result to `room`. An index
+    /// above 7 is treated as 7.
     pub fn ask<C: ShardCall, R: Wait>(
         &self,
         rt: &R,
@@ -210,7 +224,8 @@ impl<'a, B: Books, D: Device> Locked<'a, B, D> {
         }
     }
 
-    // Asks the shard that owns a slot what may change the slot, under its lock and none of the others. The tallies count it.
+    // Runs a call that may change `slot`, at the shard that owns it. It holds that shard's lock,
+    // and no other. The tallies count the change.
     fn change<C: Change, R: Wait>(
         &self,
         rt: &R,
@@ -237,8 +252,10 @@ impl<'a, B: Books, D: Device> Locked<'a, B, D> {
         }
     }
 
-    /// Closes the server, for a reserve that has all parts again: the serials of each shard have risen by the changes that
-    /// were counted, which are shown.
+    /// Closes the server. The reserve must have all parts again.
+    ///
+    /// The serials of each shard have risen by the changes that were counted. The result has these
+    /// counts.
     pub fn close(self, reserve: &mut Reserve<B>) -> ClosedServer
         requires { reserve.old.parts ≡ B.parts }
         ensures risen { map serials result.shards ≡ sums (map (λ n. 8 * n) result.first_serials) reserve.old.changes }
@@ -487,7 +504,7 @@ impl<'a, B: Books, D: Device> Bench for Locked<'a, B, D> {
     }
 }
 
-// Whether an answer is sent.
+// Returns whether an answer is sent.
 fn is_sent(answered: Responded) -> bool
     ensures { (reply : Emitted) → emission_if result reply ≡ emission_of (responded answered reply) }
 {

@@ -1,4 +1,4 @@
-//! What a worker has done.
+//! The statistics of a worker.
 ghost use Rattle.std.specs.Prelude.{◌≡◌, ◌+◌, if◌then◌else◌};
 ghost use Rattle.fc_registry.specs.Taken.{Found};
 ghost use Rattle.fc_registry.specs.Views.{taken_with};
@@ -9,8 +9,11 @@ use crate::call_log::CallLog;
 use fc_jobs::Got;
 use fc_registry::{Committed, Taken};
 
-/// What a worker has done: its bench's tallies, the log of its calls, the jobs that it got, how many replies went out and how many didn't, how often
-/// memory was refused, and how often a commit was overtaken. Each count stops at 2^64 - 1.
+/// The statistics of a worker.
+///
+/// They are its backend's tallies, the log of its calls and the jobs that it received. Its counters
+/// are of replies that went out and that didn't, of refused allocations, and of conflicts of
+/// commits. Each counter stops at 2^64 - 1.
 #[derive(Drop)]
 pub struct Share<T: Drop> {
     pub tallies: T,
@@ -23,7 +26,7 @@ pub struct Share<T: Drop> {
 }
 
 impl<T: Drop> Share<T> {
-    /// Makes the share of a worker that hasn't begun.
+    /// Makes the statistics of a worker that hasn't begun.
     pub fn new(got: Got, tallies: T) -> Share<T>
         ensures { result ≡ new_share got tallies result.log }
     {
@@ -38,7 +41,7 @@ impl<T: Drop> Share<T> {
         }
     }
 
-    // Counts a taking, if memory was refused.
+    // Counts the snapshot's refused allocation, if there is one.
     pub(crate) fn count_taking(&mut self, taken: &Taken)
         ensures { (found : Found) → self.new ≡ record self.old {
           refusals = saturated (self.old.refusals + taking_refusals (taken_with taken.now found));
@@ -48,7 +51,7 @@ impl<T: Drop> Share<T> {
         self.refusals = self.refusals.saturating_add(u64::from(refused));
     }
 
-    // Counts a commit, if it was overtaken.
+    // Counts the commit's conflict, if there is one.
     pub(crate) fn count_commit(&mut self, committed: &Committed)
         ensures { self.new ≡ record self.old {
           overtakings = saturated (self.old.overtakings + commit_overtakings committed.now);
@@ -58,14 +61,14 @@ impl<T: Drop> Share<T> {
         self.overtakings = self.overtakings.saturating_add(u64::from(overtaken));
     }
 
-    // Counts an install that was refused memory.
+    // Counts an install whose allocation was refused.
     pub(crate) fn count_refusal(&mut self)
         ensures { self.new ≡ record self.old { refusals = saturated (self.old.refusals + 1) } }
     {
         self.refusals = self.refusals.saturating_add(1);
     }
 
-    // Counts a reply, which went out or didn't.
+    // Counts a reply, by whether it went out.
     pub(crate) fn count_reply(&mut self, out: bool)
         ensures { self.new ≡ (if out then record self.old { sent = saturated (self.old.sent + 1) }
             else record self.old { failed = saturated (self.old.failed + 1) }) }

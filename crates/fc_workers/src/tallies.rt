@@ -9,8 +9,10 @@ use crate::tally::Tally;
 use fc_registry::Taken;
 use std::marker::Model;
 
-/// What one worker changed in each of the eight shards, one part of each book, and how many jobs it ended, up to 2^64 - 1.
-/// A clause sees the changes of shards 0 to 7, and the jobs.
+/// One worker's changes of the eight shards, and the jobs that it ended.
+///
+/// It has one part of each book. The number of jobs stops at 2^64 - 1. A clause sees the changes of
+/// shards 0 to 7, and the jobs.
 #[derive(Drop)]
 pub struct Tallies<B: Books> {
     pub(crate) tally0: Tally<BookOf<B, 0>>,
@@ -43,7 +45,7 @@ impl<B: Books> Model for Tallies<B> {
 }
 
 impl<B: Books> Tallies<B> {
-    /// Returns the changes of a shard, by its index, up to 2^64 - 1.
+    /// Returns the changes of the shard with this index, up to 2^64 - 1.
     pub fn shown(&self, shard: usize) -> u64
         requires { shard < 8 }
         ensures { result ≡ saturated (slice_index self.now.changes shard) }
@@ -60,21 +62,21 @@ impl<B: Books> Tallies<B> {
         }
     }
 
-    /// Returns how many jobs it ended, up to 2^64 - 1.
+    /// Returns the number of jobs that the worker ended, up to 2^64 - 1.
     pub fn ended(&self) -> u64
         ensures { result ≡ self.now.ended }
     {
         self.ended
     }
 
-    // One job more has ended.
+    // Counts one more ended job.
     pub(crate) fn end_job(&mut self)
         ensures { self.new ≡ record self.old { ended = saturated (self.old.ended + 1) } }
     {
         self.ended = self.ended.saturating_add(1);
     }
 
-    // One job more has ended where its taking is stale.
+    // Counts one more ended job if the job's snapshot is stale.
     pub(crate) fn end_taking(&mut self, taken: &Taken)
         ensures { (found : Found) → self.new ≡ record self.old { ended = ended_by (taken_with taken.now found) self.old.ended } }
     {

@@ -1,4 +1,4 @@
-//! Tallies.
+//! Counts of one worker's changes of one shard.
 ghost use Rattle.std.specs.Prelude.{◌≡◌, ◌+◌, ◌<◌, min};
 ghost use Rattle.fc_workers.specs.Answers.{saturated};
 ghost use Rattle.fc_workers.specs.Counts.{counts};
@@ -6,8 +6,10 @@ ghost use Rattle.fc_workers.specs.Counts.{counts};
 use std::marker::Model;
 use std::sync::ledger::{Book, Ledger, Share};
 
-/// How many changes of a shard one worker made: its share of the shard's book. A clause sees the parts of the book that it
-/// has, and the changes.
+/// The number of changes that one worker made to a shard.
+///
+/// It is the worker's share of the shard's book. A clause sees the parts of the book that the tally
+/// has, and its changes.
 #[derive(Drop)]
 pub struct Tally<L: Ledger> {
     share: Share<L>,
@@ -28,7 +30,7 @@ impl<L: Ledger> Model for Tally<L> {
 }
 
 impl<L: Ledger> Tally<L> {
-    /// The tally of a share that no change was counted on yet.
+    /// Makes the tally of a share that no change was counted on.
     pub(crate) fn of(share: Share<L>) -> Tally<L>
         requires parts { 0 < share.parts }
         requires amount { share.amount ≡ 0 }
@@ -46,7 +48,9 @@ impl<L: Ledger> Tally<L> {
         self.shown = self.shown.saturating_add(1);
     }
 
-    /// Compares itself with the book. A tally of all parts counts all changes.
+    /// Compares the tally with the book.
+    ///
+    /// A tally of all parts counts all changes.
     pub(crate) fn audit(&mut self, book: &mut Book<L>)
         ensures same { (book.new.total ≡ book.old.total) × (self.new ≡ self.old) }
         ensures whole { self.old.parts ≡ L.parts → self.old.changes ≡ book.old.total }
@@ -54,7 +58,9 @@ impl<L: Ledger> Tally<L> {
         book.audit(&mut self.share);
     }
 
-    /// Splits off a tally of one part, for another worker. It is asked for before the first change, and a part is kept.
+    /// Splits off a tally of one part, for another worker.
+    ///
+    /// It requires that no change was counted yet, and that a part is left.
     pub fn split(&mut self) -> Tally<L>
         requires parts { 1 < self.old.parts }
         requires changes { self.old.changes ≡ 0 }
@@ -64,7 +70,7 @@ impl<L: Ledger> Tally<L> {
         Tally::of(self.share.split_off(1, 0))
     }
 
-    /// Takes another's parts and changes in.
+    /// Adds the parts and changes of another tally.
     pub fn merge(&mut self, other: Tally<L>)
         ensures { self.new ≡ record {
           parts = self.old.parts + other.parts;

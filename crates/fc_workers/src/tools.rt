@@ -1,4 +1,4 @@
-//! What a worker works with.
+//! The working state of a worker.
 ghost use Rattle.std.specs.Prelude.{◌≡◌};
 ghost use Rattle.fc_heads.specs.Heads.{fresh};
 
@@ -9,7 +9,10 @@ use fc_core::front::blank_emission;
 use fc_heads::HeadSeat;
 use fc_machine::Frame;
 
-/// What a worker works with: the frame that its programs run in, its seat at the head words, where its job stands, and room for a reply.
+/// The working state of a worker.
+///
+/// It has the frame that its programs run in, its handle of the head words, the stage of its job,
+/// and a buffer for a reply.
 #[derive(Drop)]
 pub struct Tools {
     pub frame: Frame,
@@ -19,7 +22,9 @@ pub struct Tools {
 }
 
 impl Tools {
-    /// Makes a frame, beside a new seat at a bench's head words, which has seen and raised nothing.
+    /// Makes a working state with this frame and a new handle of `bench`'s head words.
+    ///
+    /// The new handle has seen and raised nothing.
     pub fn new<B: Bench>(bench: &B, frame: Frame) -> Tools
         ensures { result.heads ≡ record { table = B.heads bench.now; view = fresh } }
     {

@@ -1,4 +1,4 @@
-//! Jobs worked off over a bench.
+//! Requests' jobs, run with the calls of a backend.
 ghost use Rattle.std.specs.Prelude.{◌≡◌, ◌<◌, ℕ, None, length};
 ghost use Rattle.fc_verify.specs.Judged.{judged};
 ghost use Rattle.fc_verify.specs.Accepted.{Accepts, IsAccepted};
@@ -24,14 +24,22 @@ use fc_registry::{Job, Receipt, SlotNumber, Ticket};
 use fc_verify::{Refusal, Verified, verify};
 use std::sync::{Arc, Wait};
 
-// The calls that few jobs need aren't made a part of the loop, which would zero their room for each job.
+// The calls that few jobs need aren't inlined into the loop, which would zero their stack space for
+// each job.
 impl<'a, B: Bench, G: Gate, W: Wire, M: Moments> Workshop<'a, B, G, W, M> {
-    /// Works a request's job off, up to what it is to be answered: there its stage is left.
+    /// Runs a request's job up to its answer, and leaves its stage there.
     ///
-    /// There is a list of calls from the job's first stage to this answer. Each is the call that its stage needs, and its
-    /// answer is true of some slot; a look is at the head word that is needed, that word is raised to which the stage told, and before each commit the gate let
-    /// the job go on; the next stage is the row of that answer. At most eight of them take. The share counts
-    /// those that changed the job's slot, those that were refused memory, and those that were overtaken.
+    /// A list of calls leads from the job's first stage to this answer:
+    ///
+    /// - Each is the call that its stage needs, and its result is that of some slot.
+    /// - A look reads the head word that its stage needs. A raise is to the word that its stage
+    ///   has.
+    /// - Before each commit the gate let the job through.
+    /// - The next stage follows from the call's result.
+    /// - At most eight calls take a snapshot.
+    ///
+    /// The statistics count the calls that changed the job's slot, the refused allocations, and the
+    /// conflicts.
     pub fn work_off<R: Wait>(
         &self,
         rt: &R,
@@ -51,8 +59,10 @@ impl<'a, B: Bench, G: Gate, W: Wire, M: Moments> Workshop<'a, B, G, W, M> {
         self.work_on(rt, tools, number, job, share);
     }
 
-    /// Works a request's job off as `work_off` does, from the stage that it stands at. Where calls led there from its first stage, it is worked off
-    /// by these and more.
+    /// Runs a request's job from its present stage, as `work_off` does.
+    ///
+    /// If calls led from its first stage to this one, the job is run by these calls and further
+    /// ones.
     pub(crate) fn work_on<R: Wait>(
         &self,
         rt: &R,
@@ -108,8 +118,10 @@ impl<'a, B: Bench, G: Gate, W: Wire, M: Moments> Workshop<'a, B, G, W, M> {
         }
     }
 
-    /// Begins a request's job: a run takes, unless its slot's head word answers it by one of its entity tags. It stands at a commit only after that
-    /// one taking.
+    /// Begins a request's job: a run takes a snapshot.
+    ///
+    /// It takes none if the slot's head word answers the request by one of its ETags. The job's
+    /// stage is a commit only after that one snapshot.
     pub(crate) fn begin<R: Wait>(
         &self,
         rt: &R,
@@ -134,7 +146,8 @@ impl<'a, B: Bench, G: Gate, W: Wire, M: Moments> Workshop<'a, B, G, W, M> {
         }
     }
 
-    // Begins a request's job by a look at its slot's head word, where it has entity tags. It doesn't take yet.
+    // Begins a request's job: reads its slot's head word if the request has ETags. It takes no
+    // snapshot yet.
     fn look(&self, tools: &mut Tools, job: &Job, share: &mut Share<B::Tallies>)
         requires { tools.old.heads.table ≡ B.heads self.now.bench.now }
         ensures heads { tools.new.heads.table ≡ tools.old.heads.table }
@@ -153,7 +166,7 @@ impl<'a, B: Bench, G: Gate, W: Wire, M: Moments> Workshop<'a, B, G, W, M> {
         }
     }
 
-    // Looks at the head words of the slots after those of these words, up to the last.
+    // Reads the remaining head words, from the slot after the last of `words` to the last slot.
     #[inline(never)]
     fn list(&self, heads: &mut HeadSeat, words: &mut Words, log: &mut CallLog)
         requires seen { length words.old.items < 64 }
@@ -180,7 +193,7 @@ impl<'a, B: Bench, G: Gate, W: Wire, M: Moments> Workshop<'a, B, G, W, M> {
         stage.removed(removal);
     }
 
-    // Takes what the job finds.
+    // Takes a snapshot for the job.
     fn take<R: Wait>(&self, rt: &R, job: &Job, stage: &mut Stage, share: &mut Share<B::Tallies>)
         requires at { IsToTake stage.old }
         requires ready { IsReady job.now stage.old }
@@ -201,7 +214,7 @@ impl<'a, B: Bench, G: Gate, W: Wire, M: Moments> Workshop<'a, B, G, W, M> {
         stage.step = Step::took(count, taken, &mut stage.answer);
     }
 
-    // Runs its ticket's program, and commits the run once the gate lets the job go on.
+    // Runs the ticket's program, and commits the run once the gate lets the job through.
     fn commit<R: Wait>(
         &self,
         rt: &R,

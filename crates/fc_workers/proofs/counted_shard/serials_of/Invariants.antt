@@ -1,6 +1,6 @@
 use Rattle.std.proofs.Common.{◌≡◌, ◌*◌, ◌≤◌, take}
 use Rattle.std.specs.Prelude.{sum_by}
-use Rattle.fc_workers.specs.Counts.{serial_of}
+use Rattle.fc_calls.specs.Kept.{serial_of}
 use Rattle.fc_workers.proofs.counted_shard.serials_of.Given as goal
 
 abbrev pub invariant-loop-place : goal.invariant-loop-place

@@ -34,7 +34,7 @@ returns-then-sent-clause-dispatched g c =
       may_go = inr (record { asks = found.0; request = c.requires; stage = stage; took = found.1; dear = dear; ended = c.begin.ensures.ended });
     }))
 
--- the job that stays was begun here, and is worked on from there
+-- the job that isn't sent was begun here, and is continued from there.
 pub returns-else-sent-clause-dispatched : goal.returns-else-sent-clause-dispatched
 returns-else-sent-clause-dispatched g c =
     let s = (shop g.B.Bench.changes g.B.Bench.ended g.B.Bench.called g.B.Bench.logged

@@ -6,7 +6,7 @@ use Rattle.fc_workers.specs.declared.call_log.CallLog.{CallLog}
 use Rattle.fc_workers.specs.declared.dispatcher.Dispatched.{Dispatched}
 use Rattle.fc_workers.proofs.dispatcher.Dispatcher.dispatch_whole.Goals as goal
 
--- the job that stays is the one that came, whose slot's receipt was told since
+-- the job that isn't sent is the one that arrived, and its slot's receipt was returned since.
 pub returns-then-not-sent-clause-dispatched : goal.returns-then-not-sent-clause-dispatched
 returns-then-not-sent-clause-dispatched g c =
     let s = (shop g.B.Bench.changes g.B.Bench.ended g.B.Bench.called g.B.Bench.logged

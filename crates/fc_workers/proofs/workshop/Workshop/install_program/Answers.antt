@@ -1,5 +1,6 @@
 use Rattle.std.proofs.Common.{◌∙◌, ap, subst}
 use Rattle.fc_kinds.specs.Meaning.{Program}
+use Rattle.fc_registry.specs.Calls.{initial_vars_of}
 use Rattle.fc_registry.specs.declared.receipt.Receipt.{Receipt}
 use Rattle.fc_core.specs.Stages.{made}
 use Rattle.fc_workers.specs.Answers.{IsSomeInstall}
@@ -11,7 +12,7 @@ use Rattle.fc_workers.proofs.workshop.Workshop.install_program.Goals as goal
 pub returns-in-Ok-clause-step : goal.returns-in-Ok-clause-step
 returns-in-Ok-clause-step g c number =
     let next = c.made.ensures ∙ ap (λ (r : Receipt). made r c.install-made.result) c.of-receipt.ensures in
-    let is = subst (λ (p : Program). IsSomeInstall p c.install-made.result) c.in-Ok.ensures.ok c.install-made.ensures.made in
+    let is = subst (λ (p : Program). IsSomeInstall (initial_vars_of c.args.job.now.ask) p c.install-made.result) c.in-Ok.ensures.ok c.install-made.ensures.made in
     let installs = subst (λ (p : Program). g.B.Bench.logged (InstallsProgram c.args.job.now p c.install-made.result) c.args.share.now.log c.install-made.new.log)
     c.in-Ok.ensures.ok c.install-made.ensures.logged in
     install_step (shop g.B.Bench.changes g.B.Bench.ended g.B.Bench.called g.B.Bench.logged

@@ -5,7 +5,7 @@ use Rattle.fc_calls.specs.Logged.{LooksAt}
 use Rattle.fc_workers.proofs.Steps.{more_seen}
 use Rattle.fc_workers.proofs.workshop.Workshop.list.Goals as goal
 
--- a word was put behind others that left room for it
+-- a word was appended to others that left room for it.
 pushed : {E : Type 0} (new old : List ℕ) (word : ℕ) (r : Result (Unit {0}) E) → OnOk r (new ≡ old ++ word ∷ []) → OnErr r (length old ≡ 64) → length old < 64
     → new ≡ old ++ word ∷ []
 pushed new old word (Ok x) ok err less = ok

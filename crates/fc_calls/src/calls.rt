@@ -1,0 +1,354 @@
+//! Calls of a shard.
+//!
+//! The contract of a call mentions only the shard that is passed to it.
+ghost use Rattle.std.specs.Prelude.{◌≡◌, ℕ, ◌+◌, ⊤, if◌then◌else◌};
+ghost use Rattle.fc_registry.specs.Notes.{noted_as};
+ghost use Rattle.fc_registry.specs.Slots.{IsOwned, Shard as Seen};
+ghost use Rattle.fc_registry.specs.Turns.{written_if};
+ghost use Rattle.fc_calls.specs.Doings.{CommitsAt, DescribesTo, GivesTurnAt, GivesUpAt, HandsOn, InstallsTo, NotesAt, PassesIfQuiet};
+ghost use Rattle.fc_calls.specs.Doings.{RemovesFrom, TakesInto, TellsQuietUntil, TicksAt};
+ghost use Rattle.fc_calls.specs.Kept.{HasEightSlots, commit_changes, confirm_times, install_changes, removal_changes, serials};
+
+use coap_msg::{Emission, Endpoint};
+use fc_help::Readings;
+use fc_machine::Outcome;
+use fc_observe::{Ticked, Turn};
+use fc_registry::{
+    Committed, Found, Job, Made, NoteOutcome, Notification, Receipt, Removal, Shard, Taken, Ticket,
+};
+use fc_verify::Verified;
+use std::sync::Arc;
+
+/// A call of a shard, with its arguments.
+///
+/// It keeps the shard's index, and the time after which the shard's notifications are confirmable
+/// again. Its result reports the increase of the sum of the serials of the shard's slots; a tally
+/// counts this number. If it is 0, no slot changes. Large results are written in place, into the
+/// caller's room.
+pub trait ShardCall {
+    /// The shard's result.
+    type Answer;
+
+    /// The caller's room that it writes into; `()` if it writes nothing.
+    type Room;
+
+    // The shards that may be called.
+    ghost may_ask: { Self → Seen → Type 0 } = { λ call shard. ⊤ };
+
+    // The effect: the shard before, the result, the room afterwards, and the shard afterwards.
+    ghost does: { Self → Seen → Self.Answer → Self.Room → Seen → Type 0 };
+
+    // The number of changes of a slot that a result reports.
+    ghost changes: { Self.Answer → ℕ } = { λ answer. 0 };
+
+    /// Calls the shard.
+    fn call(self, shard: &mut Shard, room: &mut Self::Room) -> Self::Answer
+        requires eight { HasEightSlots shard.old }
+        requires may { may_ask self shard.old }
+        ensures does { does self shard.old result room.new shard.new }
+        ensures index { shard.new.index ≡ shard.old.index }
+        ensures confirms { confirm_times shard.new ≡ confirm_times shard.old }
+        ensures kept { changes result ≡ 0 → shard.new.slots ≡ shard.old.slots }
+        ensures eight { HasEightSlots shard.new }
+        ensures risen { serials shard.new ≡ serials shard.old + changes result };
+}
+
+/// A call of a shard that may change a slot.
+pub trait Change: ShardCall {
+    /// Returns whether a result reports a change.
+    fn has_changed(answer: &Self::Answer) -> bool
+        ensures { Self.changes answer.now ≡ (if result then 1 else 0) };
+}
+
+/// Takes a snapshot of a job's slot, with these readings.
+///
+/// See [`Shard::write_taking`].
+#[derive(Drop)]
+pub struct Take<'a> {
+    pub job: &'a Job,
+    pub readings: &'a Readings,
+}
+
+impl<'a> ShardCall for Take<'a> {
+    type Answer = Taken;
+
+    type Room = Found;
+
+    ghost may_ask = { λ call shard. IsOwned shard call.job.now.origin.slot };
+
+    ghost does = { λ call before answer room after. TakesInto call.job.now call.readings.now before answer room after };
+
+    fn call(self, shard: &mut Shard, room: &mut Found) -> Taken {
+        shard.write_taking(self.job, self.readings, room)
+    }
+}
+
+/// Commits a run, at a time in milliseconds. See [`Shard::commit`].
+#[derive(Drop)]
+pub struct Commit<'a> {
+    pub now: u64,
+    pub outcome: &'a Outcome<'a>,
+    pub ticket: &'a Ticket<'a>,
+}
+
+impl<'a> ShardCall for Commit<'a> {
+    type Answer = Committed;
+
+    type Room = ();
+
+    ghost may_ask = { λ call shard. IsOwned shard call.ticket.now.origin.slot };
+
+    ghost does = { λ call before answer room after. CommitsAt call.now call.outcome.now call.ticket.now before answer after };
+
+    ghost changes = { commit_changes };
+
+    fn call(self, shard: &mut Shard, _: &mut ()) -> Committed {
+        shard.commit(self.now, self.outcome, self.ticket)
+    }
+}
+
+impl<'a> Change for Commit<'a> {
+    fn has_changed(answer: &Committed) -> bool
+        ensures { commit_changes answer.now ≡ (if result then 1 else 0) }
+    {
+        match answer {
+            Committed::Done(mark) => mark.changed(),
+            Committed::Overtaken | Committed::Ended | Committed::Stranger => false,
+        }
+    }
+}
+
+/// Installs a program in the slot of a job. See [`Shard::install`].
+#[derive(Drop)]
+pub struct Install<'a> {
+    pub job: &'a Job,
+    pub program: Arc<Verified>,
+}
+
+impl<'a> ShardCall for Install<'a> {
+    type Answer = Made;
+
+    type Room = ();
+
+    ghost may_ask = { λ call shard. IsOwned shard call.job.now.origin.slot };
+
+    ghost does = { λ call before answer room after. InstallsTo call.job.now call.program.value before answer after };
+
+    ghost changes = { install_changes };
+
+    fn call(self, shard: &mut Shard, _: &mut ()) -> Made {
+        let Install { job, program } = self;
+        shard.install(job.origin.slot, program, job.ask.initial_vars())
+    }
+}
+
+impl<'a> Change for Install<'a> {
+    fn has_changed(answer: &Made) -> bool
+        ensures { install_changes answer.now ≡ (if result then 1 else 0) }
+    {
+        matches!(answer, Made::Raised { .. })
+    }
+}
+
+/// Removes the program in the slot of a job. See [`Shard::remove`].
+#[derive(Drop)]
+pub struct Remove<'a> {
+    pub job: &'a Job,
+}
+
+impl<'a> ShardCall for Remove<'a> {
+    type Answer = Removal;
+
+    type Room = ();
+
+    ghost may_ask = { λ call shard. IsOwned shard call.job.now.origin.slot };
+
+    ghost does = { λ call before answer room after. RemovesFrom call.job.now before answer after };
+
+    ghost changes = { removal_changes };
+
+    fn call(self, shard: &mut Shard, _: &mut ()) -> Removal {
+        shard.remove(self.job.origin.slot)
+    }
+}
+
+impl<'a> Change for Remove<'a> {
+    fn has_changed(answer: &Removal) -> bool
+        ensures { removal_changes answer.now ≡ (if result then 1 else 0) }
+    {
+        matches!(answer, Removal::Removed { .. })
+    }
+}
+
+/// Returns the receipt of the program in a job's slot. See [`Shard::receipt`].
+#[derive(Drop)]
+pub struct Describe<'a> {
+    pub job: &'a Job,
+}
+
+impl<'a> ShardCall for Describe<'a> {
+    type Answer = Option<Receipt>;
+
+    type Room = ();
+
+    ghost may_ask = { λ call shard. IsOwned shard call.job.now.origin.slot };
+
+    ghost does = { λ call before answer room after. DescribesTo call.job.now before answer after };
+
+    fn call(self, shard: &mut Shard, _: &mut ()) -> Option<Receipt> {
+        shard.receipt(self.job.origin.slot)
+    }
+}
+
+/// Passes a signal to the observers of every slot. See [`Shard::signal`].
+#[derive(Drop)]
+pub struct Signal {
+    pub endpoint: Endpoint,
+    pub id: u16,
+    pub reset: bool,
+}
+
+impl ShardCall for Signal {
+    type Answer = ();
+
+    type Room = ();
+
+    ghost does = { λ call before answer room after. HandsOn call.reset call.endpoint call.id before after };
+
+    #[tactic(auto, unfolding(crate::specs::Doings::HandsOn))]
+    fn call(self, shard: &mut Shard, _: &mut ()) {
+        shard.signal(self.endpoint, self.id, self.reset);
+    }
+}
+
+/// Retransmits the first notification that has timed out, or removes its observer.
+///
+/// The time is in milliseconds. See [`Shard::tick`].
+#[derive(Drop)]
+pub struct Tick {
+    pub now: u64,
+}
+
+impl ShardCall for Tick {
+    type Answer = Ticked;
+
+    type Room = ();
+
+    ghost does = { λ call before answer room after. TicksAt call.now before answer after };
+
+    fn call(self, shard: &mut Shard, _: &mut ()) -> Ticked {
+        shard.tick(self.now)
+    }
+}
+
+/// Advances an idle shard to a time in milliseconds.
+///
+/// It is idle if no notification has timed out and no observer has a pending one. See
+/// [`Shard::advance_if_quiet`].
+#[derive(Drop)]
+pub struct AdvanceIfQuiet {
+    pub now: u64,
+}
+
+impl ShardCall for AdvanceIfQuiet {
+    type Answer = bool;
+
+    type Room = ();
+
+    ghost does = { λ call before answer room after. PassesIfQuiet call.now before answer after };
+
+    fn call(self, shard: &mut Shard, _: &mut ()) -> bool {
+        shard.advance_if_quiet(self.now)
+    }
+}
+
+/// Returns a time before which the shard stays idle. See [`Shard::quiet_until`].
+#[derive(Drop)]
+pub struct QuietUntil;
+
+impl ShardCall for QuietUntil {
+    type Answer = u64;
+
+    type Room = ();
+
+    ghost does = { λ call before answer room after. TellsQuietUntil before answer after };
+
+    fn call(self, shard: &mut Shard, _: &mut ()) -> u64 {
+        shard.quiet_until()
+    }
+}
+
+/// Grants a lease to the first observer with a pending notification.
+///
+/// The time is in milliseconds. See [`Shard::write_due`].
+#[derive(Drop)]
+pub struct NextDue {
+    pub now: u64,
+}
+
+impl ShardCall for NextDue {
+    type Answer = bool;
+
+    type Room = Job;
+
+    ghost does = { λ call before answer room after. GivesTurnAt call.now before (written_if answer room) after };
+
+    fn call(self, shard: &mut Shard, room: &mut Job) -> bool {
+        shard.write_due(self.now, room)
+    }
+}
+
+/// Notifies the observer of a lease, at a time in milliseconds.
+///
+/// See [`Shard::write_note`].
+#[derive(Drop)]
+pub struct Note<'a> {
+    pub turn: Turn,
+    pub id: u16,
+    pub now: u64,
+    pub random: u16,
+    pub told: &'a Notification<'a>,
+}
+
+impl<'a> ShardCall for Note<'a> {
+    type Answer = NoteOutcome;
+
+    type Room = Emission;
+
+    ghost may_ask = { λ call shard. IsOwned shard call.turn.slot };
+
+    ghost does = { λ call before answer room after. NotesAt call.turn call.id call.now call.random call.told.now before (noted_as answer room) after };
+
+    fn call(self, shard: &mut Shard, room: &mut Emission) -> NoteOutcome {
+        let Note {
+            turn,
+            id,
+            now,
+            random,
+            told,
+        } = self;
+        shard.write_note(turn, id, now, random, told, room)
+    }
+}
+
+/// Releases a lease, at a time in milliseconds. See [`Shard::give_up`].
+#[derive(Drop)]
+pub struct GiveUp {
+    pub turn: Turn,
+    pub now: u64,
+}
+
+impl ShardCall for GiveUp {
+    type Answer = ();
+
+    type Room = ();
+
+    ghost may_ask = { λ call shard. IsOwned shard call.turn.slot };
+
+    ghost does = { λ call before answer room after. GivesUpAt call.now call.turn before after };
+
+    #[tactic(auto, unfolding(crate::specs::Doings::GivesUpAt))]
+    fn call(self, shard: &mut Shard, _: &mut ()) {
+        shard.give_up(self.turn, self.now);
+    }
+}

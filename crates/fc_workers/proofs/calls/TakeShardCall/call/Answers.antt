@@ -1,5 +1,0 @@
-use Rattle.fc_workers.proofs.Confirming.{calls_confirm}
-use Rattle.fc_workers.proofs.calls.TakeShardCall.call.Goals as goal
-
-pub returns-clause-confirms : goal.returns-clause-confirms
-returns-clause-confirms c = calls_confirm _ _ _ _ c.write_taking.ensures.after
