@@ -1,4 +1,5 @@
--- A turn that a shard has just given is out. So where its slot is empty its taking finds that, and it is told by the message id that it draws.
+-- A lease that a shard has just granted is out. So if its slot is empty, its snapshot finds that,
+-- and it notifies with the message ID that it draws.
 use Rattle.std.proofs.Common.{◌≡◌, ℕ, ◌+◌, ◌*◌, ◌/◌, ◌%◌, ◌<◌, ◌≤◌, max, set, arith, [], ◌∷◌, ◌++◌, List, Bool, true, false, Option, Some, None, if◌then◌else◌, refl, sym, ap, ◌∙◌, subst}
 use Rattle.std.specs.Prelude.{is_some}
 use Rattle.std.specs.Option.{option_map}
@@ -35,9 +36,9 @@ use Rattle.fc_server.specs.States.{ServerState, scene_in, shards_moved}
 use Rattle.fc_server.specs.Steps.{shard_asked, shard_turn}
 use Rattle.fc_server.proofs.Places.{now_here, watch_here}
 
--- ---- the job that comes
+-- ---- the new job
 
--- it is of this slot and number, and its turn is some entry's
+-- it has this slot and number, and its lease belongs to an entry.
 abbrev IsOf : ℕ → Turn → ObserverList → Job → Type 0
 IsOf n turn w job = (job.origin.slot ≡ n) × (job.turn ≡ Some turn.number) × (is_some (entry_out turn w) ≡ true)
 
@@ -97,14 +98,14 @@ module _ (s : Seen) (i now : ℕ) (low : i < 8) (old new : List Shard) (a : Shar
       let below = place_below (has_due asked) 8 0 place given.1 in
       get_or-set_same asked.watches place (asked_there asked place) (no_observers 0 0) (omega (arith, eight, below))
 
-  -- its turn is the job's
+  -- its lease is the job's.
   same_turn : turn_at_place asked place ≡ turn_of job (watch_at asked place).turns
   same_turn =
       let below = place_below (has_due asked) 8 0 place given.1 in
       let own = ap (λ (w : ObserverList). w.slot) (a.watch i place low (omega (arith, below))) ∙ slot_is (8 * place + i) s.policy.confirm_after (s.calls (8 * place + i)) ∙ sym slot_of_job in
       ap (λ (n : ℕ). let t : Turn = record { slot = n; number = (watch_at asked place).turns } in t) own
 
-  -- the moment is handed already
+  -- the time was passed already.
   rests : at_moment asked.now (asked_there asked place) ≡ asked_there asked place
   rests =
       let w = asked_there asked place in
@@ -118,7 +119,7 @@ module _ (s : Seen) (i now : ℕ) (low : i < 8) (old new : List Shard) (a : Shar
       ∙ ap (λ (t : Turn). is_some (entry_out t (asked_there asked place))) (sym same_turn)
       ∙ given.2.2
 
-  -- a task that begins with the job is to take its turn
+  -- a task that begins with the job needs the snapshot of its lease.
   pub given_out : (front : ServerState) → front.shards ≡ new → IsOutToTake now front (new_task job)
   given_out server is =
       subst (λ (l : List Shard). IsOutToTake now (record server { shards = l }) (new_task job)) (sym is) (record {
@@ -130,13 +131,13 @@ module _ (s : Seen) (i now : ℕ) (low : i < 8) (old new : List Shard) (a : Shar
             ∙ out_there;
       })
 
-  -- and finds what its slot held before
+  -- and finds the earlier state of its slot.
   pub found_before : slot_in_shards new job.origin.slot ≡ slot_in (shard_at old i) job.origin.slot
   found_before =
       ap (λ (m : ℕ). slot_in (shard_at new m) job.origin.slot) owner
       ∙ ap (λ (x : Shard). slot_in x job.origin.slot) asked_here
 
--- ---- where its slot is empty
+-- ---- if its slot is empty
 
 some_entry : (f : Interest → Emission) (e : Option Entry) → is_missing_by e ≡ true → is_some (option_map f (if is_missing_by e then option_map interest_of e else None)) ≡ true
 some_entry f None missing = absurd (cc missing)
@@ -159,7 +160,7 @@ module _ (k now random : ℕ) (memory : Bool) (readings : List ℕ) (server : Se
   abbrev take : Event
   take = Take k memory readings
 
-  -- its taking finds that
+  -- its snapshot finds that.
   taken : row take scene ≡ move_of take scene (Some (TakesTurn o.turn Missing))
   taken =
       ap (λ (st : Stage). move_of take scene (call_at take scene st)) o.stage
@@ -171,7 +172,7 @@ module _ (k now random : ℕ) (memory : Bool) (readings : List ℕ) (server : Se
   calls_taken : (row take scene).calls ≡ Miss o.turn ∷ Advance at ∷ []
   calls_taken = ap (λ (m : Move). m.calls) taken ∙ (λ j. miss_calls (o.out j) o.turn (none j) ++ Advance at ∷ [])
 
-  -- and it is told, where it drew a message id
+  -- and it notifies, if it drew a message ID.
   missed : is_missing o.turn (turn_missed o.turn (at_moment at w)) ≡ true
   missed = missing_after o.turn (at_moment at w) o.out
 
@@ -194,12 +195,12 @@ module _ (k now random : ℕ) (memory : Bool) (readings : List ℕ) (server : Se
       ∙ ap (λ (x : ObserverList). is_some (note_at o.turn id (max (shard_at moved (n % 8)).now now) None x)) watched
       ∙ noted id (max (shard_at moved (n % 8)).now now) (omega (arith, moment, past))
 
-  -- a turn that needs no id then has drawn one
+  -- a lease that needs no message ID then has drawn one.
   pub has_drawn : (free : Option ℕ) (st : Stage) → st ≡ ToTell o.turn (turns.ToDraw None) → needs_id (drew free st) ≡ false → (id : ℕ) × (drew free st ≡ ToTell o.turn (turns.ToNote None id))
   has_drawn None st is has = let needs : needs_id (drew None st) ≡ true = ap (λ (x : Stage). needs_id (drew None x)) is in absurd (cc (needs, has))
   has_drawn (Some id) st is has = (id, ap (drew (Some id)) is)
 
--- what isn't none is something
+-- a value that isn't none exists.
 pub is_there : {A : Type 0} (o : Option A) → (o ≡ None → ⊥) → is_some o ≡ true
 is_there None some = absurd (some refl)
 is_there (Some x) some = refl

@@ -1,4 +1,4 @@
--- What each call does, as an event: on a job that came, on one that never came, on none.
+-- Each call as an event: for a job that arrived, for one that never did, and for none.
 use Rattle.std.proofs.Common.{◌≡◌, ℕ, ◌<◌, ◌≤◌, ◌%◌, arith, max, get_or, List, ◌++◌, length, set, Bool, true, false, Option, Some, None, refl, sym, ap, ◌∙◌, subst, Bor}
 use Rattle.std.specs.Prelude.{◌==◌, is_some}
 use Rattle.std.proofs.lemmas.List.{append-nil, get_or_default, get_or_past, set-get_or, set_past}
@@ -27,9 +27,9 @@ use Rattle.fc_server.specs.Serving.{with_tasks}
 use Rattle.fc_server.specs.States.{Does, DrawsId, Responds, ServerState, Works, common_in, front_after, front_drawn, scene_in, shards_moved}
 use Rattle.fc_server.specs.Steps.{DeliveredTo, Done, EmitsAt, IsOfJob, IsSafeIn, brought_by, front_by, resent_by, sends_at, shard_by, shards_in, tasks_in, turns_at, words_in}
 
--- ---- a move that changes no slot
+-- ---- a transition that changes no slot
 
--- the shards after it are as they were
+-- the shards after it are unchanged.
 pub unwritten : (stage : Stage) (n : ℕ) (shards : List Shard) → shards_moved (moves stage) n shards ≡ shards
 unwritten stage n shards = ap (λ (x : Shard). set shards (n % 8) x) (same_slot (shard_at shards (n % 8)) n) ∙ set-get_or shards (n % 8) no_shard
 
@@ -44,15 +44,15 @@ does_quietly e old new task later st quiet silent is same = subst (λ (s : Serve
   emits = silent;
 })
 
--- the shard at a place that was read, where it owns the slot
+-- the shard that was read at a place, if it owns the slot.
 pub owner_read : (shards : List Shard) (n k : ℕ) (found : Shard) → length shards ≡ 8 → k < 8 → k ≡ n % 8 → found ≡ get_or shards k found → found ≡ shard_at shards (n % 8)
 owner_read shards n k found eight lt place is = is ∙ (get_or_default shards k found no_shard (omega (arith, eight, lt)) ∙ ap (shard_at shards) place)
 
--- and is written as it was
+-- and is written unchanged.
 pub owner_same : (shards : List Shard) (k : ℕ) (found now : Shard) → now ≡ found → found ≡ get_or shards k found → set shards k now ≡ shards
 owner_same shards k found now same is = ap (λ (x : Shard). set shards k x) (same ∙ is) ∙ set-get_or shards k found
 
--- a call that moves its job alone, if it is one
+-- a call that changes its job alone, if it is one.
 call_quiet : (e : Event) (x : Scene) (c : Call) → move_of e x (Some c) ≡ moves (next_stage c) → (b : Bool) → move_of e x (call_if b c) ≡ moves (move_of e x (call_if b c)).stage
 call_quiet e x c quiet true = quiet
 call_quiet e x c quiet false = refl
@@ -83,9 +83,9 @@ draw_quiet : (k now : ℕ) (x : Scene) (st : Stage) → row (Fresh k now) (at x 
 draw_quiet k now x (ToTell turn (turns.ToDraw found)) = refl
 draw_quiet k now x other = refl
 
--- ---- a job that came
+-- ---- a job that arrived
 
--- an event on a job that does nothing at the front
+-- an event on a job without an effect on the front.
 pub does_done : (e : Event) (k : ℕ) → IsOfJob e k → (old new : ServerState) (tasks later : List Task) (was now : Task) (out : Option Emission) → was ≡ task_at tasks k → later ≡ set tasks k now → Does e old was new now out → Done e (with_tasks old tasks) out (with_tasks new later)
 does_done e k (rests, calm, named) old new tasks later was now out at is d =
     let p : Parts = with_tasks old tasks in
@@ -131,7 +131,7 @@ draws_done k now old new tasks later was next same is d =
       safe = subst (λ (m : Move). AllSafe m.changes) (sym quiet) tt;
     }
 
--- an event of this job, whatever it does at the front
+-- an event of this job, with any effect on the front.
 pub works_done : (e : Event) (k : ℕ) → names e ≡ Some k → (old new : ServerState) (tasks later : List Task) (was next : Task) (out : Option Emission) → was ≡ task_at tasks k → later ≡ set tasks k next → Works e old was new next out → Done e (with_tasks old tasks) out (with_tasks new later)
 works_done (Answer j now) k named old new tasks later was next out same is d =
     let number : k ≡ j = cc in
@@ -147,7 +147,7 @@ works_done (Signal shard to id reset) k named old new tasks later was next out s
 works_done (ShardTick shard now) k named old new tasks later was next out same is d = absurd (let n = named in cc)
 works_done other k named old new tasks later was next out same is d = does_done other k (refl, refl, named) old new tasks later was next out same is d
 
--- an event that names no job does nothing to a task
+-- an event that names no job has no effect on a task.
 idles_by : (e : Event) (s : ServerState) (task : Task) → row e (scene_in s task) ≡ moves task.stage → None ≡ sends e (scene_in s task) → Does e s task s task None
 idles_by e s task quiet silent = does_quietly e s s task task task.stage quiet silent (ap (λ (m : Move). task_moved task m) (sym quiet)) refl
 
@@ -170,7 +170,7 @@ delivered_done now to b old new out d = record { front = d.front; tasks = d.task
 pub ticked_done : (now : ℕ) (old new : ServerState) (tasks : List Task) → new.front ≡ advanced old.front now → new.shards ≡ old.shards → new.words ≡ old.words → Done (Tick now) (with_tasks old tasks) None (with_tasks new tasks)
 ticked_done now old new tasks front shards words = record { front = front; tasks = sym (append-nil tasks); shards = shards; words = words; emits = refl; safe = tt }
 
--- an event that names no job and does nothing at the front does what it does at its own shard
+-- an event that names no job and has no effect on the front has the effect of its own shard.
 pub shard_done : (e : Event) (old new : ServerState) (tasks : List Task) (out : Option Emission) → names e ≡ None → at_front e ≡ Rests → new.front ≡ old.front → new.words ≡ old.words → new.shards ≡ shard_by (at_shard e) old.shards → out ≡ resent_by (at_shard e) old.shards → Done e (with_tasks old tasks) out (with_tasks new (tasks ++ turns_at (at_shard e) old.shards))
 shard_done e old new tasks out none rests front words shards sent =
     let w : Parts = with_tasks old tasks in
@@ -183,7 +183,7 @@ shard_done e old new tasks out none rests front words shards sent =
       safe = subst (λ (o : Option ℕ). IsSafeIn o e w) (sym none) tt;
     }
 
--- ---- jobs that never came
+-- ---- jobs that never arrived
 
 gone_moves : (e : Event) (slot : Slot) (ws : Around) → row e (scene_at no_task slot ws) ≡ moves Gone
 gone_moves (Lose k) slot ws = refl
@@ -205,6 +205,6 @@ past_works (Answer j now) k w named = record { front = refl; task_is = refl; sha
 past_works (Fresh j now) k w named = (record { front = refl; task_is = refl; shards = refl; words = refl }, refl)
 past_works other k w named = past_does other w
 
--- an event of a job that never came
+-- an event of a job that never arrived.
 pub past_done : (e : Event) (k : ℕ) (w : ServerState) (tasks : List Task) → names e ≡ Some k → length tasks ≤ k → Done e (with_tasks w tasks) None (with_tasks w tasks)
 past_done e k w tasks named le = works_done e k named w w tasks tasks no_task no_task None (sym (get_or_past tasks k no_task le)) (sym (set_past tasks k no_task le)) (past_works e k w named)

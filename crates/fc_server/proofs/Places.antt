@@ -1,4 +1,4 @@
--- A move of a job of one slot, as sixty-four slots are seen.
+-- A transition of a job of one slot, for all sixty-four slots.
 use Rattle.std.proofs.Common.{◌≡◌, ℕ, ◌+◌, ◌*◌, ◌<◌, ◌/◌, ◌%◌, List, length, get_or, set, sym, ap, ◌∙◌, subst, ⊎_elim, arith, length-set}
 use Rattle.std.proofs.lemmas.Bool.{cases_eq}
 use Rattle.std.proofs.lemmas.List.{get_or-set_same, get_or-set_other}
@@ -41,7 +41,7 @@ module _ (shards : List Shard) (are : AreShards shards) (n : ℕ) (lt : n < 64) 
   pub watch_here : watch_at (shard_at written (n % 8)) (n / 8) ≡ after_calls m.calls (watch_at (shard_at shards (n % 8)) (n / 8))
   watch_here = ap (λ (ws : List ObserverList). get_or ws (n / 8) (no_observers 0 0)) watches_here ∙ get_or-set_same (shard_at shards (n % 8)).watches (n / 8) called (no_observers 0 0) held
 
-  -- those of the other slots are as they were
+  -- those of the other slots are unchanged.
   pub watch_there : (i k : ℕ) → i < 8 → (8 * k + i ≡ n → ⊥) → watch_at (shard_at written i) k ≡ watch_at (shard_at shards i) k
   watch_there i k low ne = ⊎_elim
       (λ (e : i ≡ n % 8).
@@ -81,7 +81,7 @@ module _ (shards : List Shard) (are : AreShards shards) (n : ℕ) (lt : n < 64) 
       (λ (ne8 : k % 8 ≡ n % 8 → ⊥). ap (λ (x : Shard). slot_in x k) (elsewhere (k % 8) ne8))
       (cases_eq (k % 8) (n % 8))
 
-  -- the shards' moments
+  -- the shards' times.
   pub now_here : (shard_at written (n % 8)).now ≡ handed m.hands (shard_at shards (n % 8)).now
   now_here = ap (λ (x : Shard). x.now) at_place
 

@@ -1,4 +1,4 @@
--- Steps that lead from one place to the next, until all is settled.
+-- Steps that lead from one position to the next, until nothing is left.
 use Rattle.std.proofs.Common.{◌≡◌, ℕ, zero, suc, add-one, ◌+◌, ◌-◌, ◌<◌, ◌≤◌, Bool, true, false, List, [], ◌∷◌, ◌++◌, length, append-nil, append_assoc, Option, arith, ap, subst, sym, refl, ◌∙◌, inl, inr}
 use Rattle.std.specs.Prelude.{◌||◌, ◌⊎◌, if◌then◌else◌}
 use Rattle.std.specs.List.{list_any}
@@ -28,7 +28,7 @@ is_next_place from to is next late = (omega (arith, is, next), λ end. late)
 seeks_at : (s : Settling) (k : ℕ) (b : Bool) → s.shard ≡ k → s.notifies ≡ b → sought_at s ≡ (if b then NobodyDue k else NothingLate k)
 seeks_at s k b shard notifies = λ i. if notifies i then NobodyDue (shard i) else NothingLate (shard i)
 
--- nothing was found, and it stays
+-- nothing was found, and the position is unchanged.
 pub stays : (s : Settling) (step : SettlingStep) → s.shard < 8 → sought_in_step step ≡ sought_at s → is_starved step ≡ false → found_in_step step ≡ [] → Moves s step s
 stays s step is seeks fed none = record {
   within = is;
@@ -37,7 +37,7 @@ stays s step is seeks fed none = record {
   reaches = inl (fed, ap (λ (l : List Finding). found_at s ++ l) none ∙ append-nil (found_at s));
 }
 
--- nothing is late: its observers are next
+-- no notification has timed out: its observers are next.
 pub finds_nothing_late : (from to : Settling) → from.shard < 8 → from.notifies ≡ false → to.shard ≡ from.shard → to.notifies ≡ true → Moves from (Resent from.shard Quiet) to
 finds_nothing_late from to is late same due = record {
   within = is;
@@ -50,7 +50,7 @@ finds_nothing_late from to is late same due = record {
   );
 }
 
--- nothing is late, and nobody due: the next shard is next
+-- the shard is idle: the next shard is next.
 pub passes_over : (from to : Settling) → from.shard < 8 → from.notifies ≡ false → to.shard ≡ from.shard + 1 → to.notifies ≡ false → Moves from (Passed from.shard) to
 passes_over from to is late next later = record {
   within = is;
@@ -63,7 +63,7 @@ passes_over from to is late next later = record {
   );
 }
 
--- nobody is due: the next shard is next
+-- no observer has a pending notification: the next shard is next.
 pub finds_nobody : (from to : Settling) → from.shard < 8 → from.notifies ≡ true → to.shard ≡ from.shard + 1 → to.notifies ≡ false → Moves from (Asked from.shard Nobody) to
 finds_nobody from to is due next later =
     let k = from.shard in
@@ -78,16 +78,16 @@ finds_nobody from to is due next later =
       );
     }
 
--- a notification was sent again, or its observer removed: it stays
+-- a notification was retransmitted, or its observer removed: the position is unchanged.
 pub stays_late : (s : Settling) (ticked : Ticked) → s.shard < 8 → s.notifies ≡ false → found_in_step (Resent s.shard ticked) ≡ [] → Moves s (Resent s.shard ticked) s
 stays_late s ticked is late none = stays s (Resent s.shard ticked) is (sym (seeks_at s s.shard false refl late)) refl none
 
--- an observer was notified, or its turn given up: it stays
+-- an observer was notified, or its lease released: the position is unchanged.
 pub stays_due : (s : Settling) (told : Notified) → s.shard < 8 → s.notifies ≡ true → is_starved (Asked s.shard told) ≡ false → found_in_step (Asked s.shard told) ≡ []
     → Moves s (Asked s.shard told) s
 stays_due s told is due fed none = stays s (Asked s.shard told) is (sym (seeks_at s s.shard true refl due)) fed none
 
--- no message id is free: it goes to the end
+-- no message ID is available: the position is the end.
 pub starves : (from to : Settling) → from.shard < 8 → from.notifies ≡ true → to.shard ≡ 8 → to.notifies ≡ false → Moves from (Asked from.shard Starved) to
 starves from to is due end late = record {
   within = is;
@@ -96,9 +96,9 @@ starves from to is due end late = record {
   reaches = inr (refl, end);
 }
 
--- ---- what is left to be found
+-- ---- the remaining findings
 
--- what is found below a shard is found first
+-- the findings below a shard are first.
 found_first : (n d : ℕ) → (rest : List Finding) × (found_below n ++ rest ≡ found_below (n + d))
 found_first n zero = let is : n ≡ n + zero = omega arith in ([], append-nil (found_below n) ∙ ap found_below is)
 found_first n (suc d) =
@@ -119,7 +119,7 @@ left_at : (k : ℕ) (b : Bool) → k < 8
 left_at k true is = let w = left_from k is in (w.0, append_assoc (found_below k) (NothingLate k ∷ []) (NobodyDue k ∷ w.0) ∙ w.1)
 left_at k false is = let w = left_from k is in (NobodyDue k ∷ w.0, append_assoc (found_below k) [] (NothingLate k ∷ NobodyDue k ∷ w.0) ∙ w.1)
 
--- what is looked for at a place is the first that is left
+-- the finding that a position looks for is the first remaining one.
 left : (s : Settling) (step : SettlingStep) (steps : List SettlingStep) → s.shard < 8 → found_in_steps steps ≡ found_at s → sought_in_step step ≡ sought_at s
     → (rest : List Finding) × (found_in_steps steps ++ (sought_in_step step ∷ rest) ≡ found_below 8)
 left s step steps is found seeks =
@@ -155,29 +155,29 @@ module _ {S : Type 0} (calls : IntakeCalls S) where
   no_steps now old s first late =
       record { taken = refl; place = is_place s (omega (arith, first)); in_order = tt; reached = inl (refl, sym (at_place s 0 false first late)) }
 
-  -- one step more
+  -- one more step.
   pub one_step : (now : ℕ) (old mid new : S) (from to : Settling) (steps : List SettlingStep) (step : SettlingStep) → StepsTo now steps old mid from
       → IsStepBy calls now step mid new → Moves from step to → StepsTo now (step ∷ steps) old new to
   one_step now old mid new from to steps step w is m =
       let r = reached_more from to steps step w.in_order w.reached m in
       record { taken = (mid, is, w.taken); place = m.place; in_order = r.0; reached = r.1 }
 
-  -- all is settled at the end
+  -- nothing is left at the end.
   pub settled_at_end : (now : ℕ) (old new : S) (s : Settling) (steps : List SettlingStep) → StepsTo now steps old new s → 8 ≤ s.shard → AreSettled steps
   settled_at_end now old new s steps w end = settled_by s steps (found_all s w.place end) w.in_order w.reached
 
-  -- and where there were as many steps as there may be
+  -- and after the greatest number of steps.
   pub settled_at_bound : (now : ℕ) (old new : S) (s : Settling) (steps : List SettlingStep) → StepsTo now steps old new s → 8192 ≤ length steps → AreSettled steps
   settled_at_bound now old new s steps w many = (w.in_order, inr (inr many))
 
-  -- as many steps at least, to this place, which sent what has a property
+  -- at least this many steps, to this position, whose emissions have a property.
   abbrev pub Steps : (List Emission → Type 0) → ℕ → ℕ → S → S → Settling → Type 0
   Steps P taken now old new place = (steps : List SettlingStep) × AreStepsTo calls now steps old new place × (taken ≤ length steps) × P (sent_in_steps steps)
 
   abbrev pub Done : (List Emission → Type 0) → ℕ → S → S → Type 0
   Done P now old new = (steps : List SettlingStep) × AreStepsBy calls now steps old new × AreSettled steps × P (sent_in_steps steps)
 
-  -- one step more
+  -- one more step.
   pub next_step : (P Q : List Emission → Type 0) (taken now : ℕ) (old mid new : S) (from to : Settling) (out : Option Emission) → Steps P taken now old mid from
       → ((step : SettlingStep) × IsStepBy calls now step mid new × (sent_in_step step ≡ out) × Moves from step to)
       → ((emissions : List Emission) → P emissions → Q (emissions ++ option_to_list out)) → Steps Q (taken + 1) now old new to

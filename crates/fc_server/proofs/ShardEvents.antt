@@ -1,4 +1,4 @@
--- What an event does at a shard of its own is what is seen of it.
+-- The effect of an event on its own shard is that of the history.
 use Rattle.std.proofs.Common.{◌≡◌, ℕ, zero, suc, ◌+◌, ◌*◌, ◌<◌, ◌≤◌, ◌/◌, ◌%◌, arith, get_or, List, [], ◌∷◌, ◌++◌, length, map, set, Bool, true, false, Option, Some, None, refl, sym, ap, ◌∙◌, subst, max, if◌then◌else◌, ⊎_elim}
 use Rattle.std.specs.Prelude.{is_some, nat_lt, ◌==◌}
 use Rattle.std.specs.Option.{option_to_list}
@@ -20,11 +20,11 @@ use Rattle.fc_core.proofs.Places.{place_below}
 use Rattle.fc_server.specs.Agreement.{ShardsAgree}
 use Rattle.fc_server.specs.Steps.{resent_by, resent_if, shard_asked, shard_by, shard_changed, shard_resent, shard_ticked, shard_turn, turn_if, turns_at}
 
--- what is seen of the shards after it
+-- the shards of the history after it.
 abbrev pub shard_seen : AtShard → Seen → Seen
 shard_seen y s = record s { shard_moment = λ i. handed (hands_by y i) (s.shard_moment i); calls = λ n. calls_by y s n ++ s.calls n }
 
--- where it hands no shard a moment, and calls nothing, they stay as they were
+-- if it passes no shard a time, and calls nothing, they are unchanged.
 rest_agrees : (y : AtShard) (s : Seen) (shards : List Shard) → ((i : ℕ) → i < 8 → hands_by y i ≡ None) → ((n : ℕ) → calls_by y s n ≡ []) → ShardsAgree s shards → ShardsAgree (shard_seen y s) shards
 rest_agrees y s shards hands calls a = record {
   are = a.are;
@@ -33,7 +33,7 @@ rest_agrees y s shards hands calls a = record {
   watch = λ i k low lt. let n = 8 * k + i in a.watch i k low lt ∙ ap (λ (cs : List ObserverCall). observers n s.policy.confirm_after (cs ++ s.calls n)) (sym (calls n));
 }
 
--- ---- a shard in place of another, whose slots it keeps
+-- ---- a shard in place of another, with the same slots
 
 module _ (shards : List Shard) (are : AreShards shards) (i : ℕ) (low : i < 8) (x : Shard) where
   abbrev put : List Shard
@@ -45,7 +45,7 @@ module _ (shards : List Shard) (are : AreShards shards) (i : ℕ) (low : i < 8) 
   elsewhere : (j : ℕ) → (j ≡ i → ⊥) → shard_at put j ≡ shard_at shards j
   elsewhere j ne = get_or-set_other shards i j x no_shard ne
 
-  -- a part that it keeps
+  -- a part that is unchanged.
   kept : {A : Type 0} (f : Shard → A) → f x ≡ f (shard_at shards i) → (j : ℕ) → f (shard_at put j) ≡ f (shard_at shards j)
   kept f same j = ⊎_elim
       (λ (e : j ≡ i). subst (λ (m : ℕ). f (shard_at put m) ≡ f (shard_at shards m)) (sym e) (ap f at_place ∙ same))
@@ -60,7 +60,7 @@ module _ (shards : List Shard) (are : AreShards shards) (i : ℕ) (low : i < 8) 
     watched = λ j lt. kept (λ (y : Shard). length y.watches) (eight ∙ sym (are.watched i low)) j ∙ are.watched j lt;
   }
 
-  -- the agreement, where the rest is what is seen of the event
+  -- the agreement, if the rest is that of the event.
   put_agrees : (s : Seen) (y : AtShard) → ShardsAgree s shards → x.index ≡ (shard_at shards i).index → x.slots ≡ (shard_at shards i).slots → length x.watches ≡ 8 →
       x.now ≡ handed (hands_by y i) (s.shard_moment i) → ((j : ℕ) → (j ≡ i → ⊥) → hands_by y j ≡ None) →
       ((k : ℕ) → k < 8 → watch_at x k ≡ observers (8 * k + i) s.policy.confirm_after (calls_by y s (8 * k + i) ++ s.calls (8 * k + i))) → ((j k : ℕ) → j < 8 → k < 8 → (j ≡ i → ⊥) → calls_by y s (8 * k + j) ≡ []) →
@@ -120,7 +120,7 @@ module _ (s : Seen) (i now : ℕ) (low : i < 8) (shards : List Shard) (a : Shard
   at_is : here.now ≡ at
   at_is = ap (λ (m : ℕ). max m now) (a.now i low)
 
-  -- what is late at the shard is late by what is seen
+  -- the notification that has timed out at the shard is that of the history.
   late_is : late_place here ≡ late_in s i at
   unfolding late_in
   late_is = place_same (is_late_here here) (is_late_at s i at) 8 0 (λ k lt. λ j. is_some (late_entry (at_moment (at_is j) (a.watch i k low lt j)))) ∙ ap (λ (b : Bool). if b then place_from (is_late_at s i at) 8 0 else None) (sym (lt-ltb i 8 low))
@@ -128,7 +128,7 @@ module _ (s : Seen) (i now : ℕ) (low : i < 8) (shards : List Shard) (a : Shard
   late_below : (k : ℕ) → late_place here ≡ Some k → k < 8
   late_below k e = place_below (is_late_here here) 8 0 k e
 
-  -- what is sent again
+  -- the retransmission.
   resent_is : (p : Option ℕ) → ((k : ℕ) → p ≡ Some k → k < 8) → resent (ticked_in p here) ≡ resent_at p s i at
   resent_is None below = refl
   resent_is (Some k) below = λ j. resent (ticked (at_moment (at_is j) (a.watch i k low (below k refl) j)))
@@ -150,7 +150,7 @@ module _ (s : Seen) (i now : ℕ) (low : i < 8) (shards : List Shard) (a : Shard
       get_or-set_other here.watches j k (observers_after (TickObservers here.now) (watch_at here j)) (no_observers 0 0) ne ∙ (a.watch i k low lt ∙ ap (λ (b : Bool). observers (8 * k + i) s.policy.confirm_after (tick_calls b ++ s.calls (8 * k + i))) (sym (ne_eqb (8 * j + i) (8 * k + i) (λ q. ne (omega (arith, q)))))))
       (cases_eq k j)
 
-  -- it is of no slot of another shard
+  -- it has no slot of another shard.
   elsewhere_none : (p : Option ℕ) (j k : ℕ) → j < 8 → (j ≡ i → ⊥) → tick_calls (is_place_of p i (8 * k + j)) ≡ []
   elsewhere_none None j k jl ne = refl
   elsewhere_none (Some m) j k jl ne = ap tick_calls (ne_eqb (8 * m + i) (8 * k + j) (λ q. ne (omega (arith, q, jl, low))))
@@ -184,12 +184,12 @@ module _ (s : Seen) (i now : ℕ) (low : i < 8) (shards : List Shard) (a : Shard
       (λ k lt. ticked_here p k lt ∙ ap (λ (q : Option ℕ). observers (8 * k + i) s.policy.confirm_after (tick_calls (is_place_of q i (8 * k + i)) ++ s.calls (8 * k + i))) is)
       (λ j k jl kl ne. ap (λ (q : Option ℕ). tick_calls (is_place_of q i (8 * k + j))) (sym is) ∙ elsewhere_none p j k jl ne)
 
--- a shard above 7 has nothing that is late
+-- a shard above 7 has no notification that has timed out.
 none_late : (s : Seen) (i at : ℕ) → 8 ≤ i → late_in s i at ≡ None
 unfolding late_in
 none_late s i at high = ap (λ (b : Bool). if b then place_from (is_late_at s i at) 8 0 else None) (le-ltb i 8 high)
 
--- what a tick does to the shards, and sends
+-- effect of a tick on the shards, and its emission.
 record TicksAt (s : Seen) (i now : ℕ) (shards : List Shard) (b : Bool) : Type 0 where
   sends : resent_if b (shard_resent now (shard_at shards i)) ≡ resent_at (late_in s i (max (s.shard_moment i) now)) s i (max (s.shard_moment i) now)
   agrees : ShardsAgree (shard_seen (Ticks i now) s) (shard_changed b i (shard_ticked now) shards)
@@ -213,7 +213,7 @@ ticks_at s i now shards a = ⊎_elim
     }))
     (cases_lt i 8)
 
--- ---- a turn
+-- ---- a lease
 
 module _ (s : Seen) (i now : ℕ) (low : i < 8) (shards : List Shard) (a : ShardsAgree s shards) where
   abbrev then_at : ℕ
@@ -225,14 +225,14 @@ module _ (s : Seen) (i now : ℕ) (low : i < 8) (shards : List Shard) (a : Shard
   then_is : asked.now ≡ then_at
   then_is = ap (λ (m : ℕ). max m now) (a.now i low)
 
-  -- what is noticed at a place is what is seen
+  -- the last noticed serial at a place is that of the history.
   noticed_is : (k : ℕ) → k < 8 → noticed_at asked k ≡ (slot_at s (8 * k + i)).noticed
   noticed_is k lt =
       let shard : (8 * k + i) % 8 ≡ i = omega (arith, low) in
       let place : (8 * k + i) / 8 ≡ k = omega (arith, low) in
       (λ j. (get_or (shard_at shards (sym shard j)).slots (sym place j) (new_slot 0)).noticed) ∙ ap (λ (x : Slot). x.noticed) (a.slot (8 * k + i) (omega (arith, low, lt)))
 
-  -- who is due at the shard is due by what is seen
+  -- the observer with a pending notification at the shard is that of the history.
   due_is : due_place asked ≡ due_in s i then_at
   unfolding due_in
   due_is = place_same (is_due_here asked) (is_due_at s i then_at) 8 0 (λ k lt. λ j. is_some (next_turn (noticed_is k lt j) (at_moment (then_is j) (a.watch i k low lt j)))) ∙ ap (λ (b : Bool). if b then place_from (is_due_at s i then_at) 8 0 else None) (sym (lt-ltb i 8 low))
@@ -243,12 +243,12 @@ module _ (s : Seen) (i now : ℕ) (low : i < 8) (shards : List Shard) (a : Shard
   index_is : asked.index ≡ i
   index_is = a.are.index i low
 
-  -- the job that comes
+  -- the new job.
   job_is : (p : Option ℕ) → ((k : ℕ) → p ≡ Some k → k < 8) → due_job p asked ≡ turn_at p s i then_at
   job_is None below = refl
   job_is (Some k) below = λ j. turn_given_to (8 * k + index_is j) (then_is j) (noticed_is k (below k refl) j) (a.watch i k low (below k refl) j)
 
-  -- the calls of a turn at a place
+  -- the calls of a lease at a place.
   abbrev turn_calls : Bool → ℕ → List ObserverCall
   turn_calls b n = if b then NextDue then_at (slot_at s n).noticed ∷ [] else []
 
@@ -292,12 +292,12 @@ module _ (s : Seen) (i now : ℕ) (low : i < 8) (shards : List Shard) (a : Shard
       (λ k lt. given_here p k lt ∙ ap (λ (q : Option ℕ). observers (8 * k + i) s.policy.confirm_after (turn_calls (is_place_of q i (8 * k + i)) (8 * k + i) ++ s.calls (8 * k + i))) is)
       (λ j k jl kl ne. ap (λ (q : Option ℕ). turn_calls (is_place_of q i (8 * k + j)) (8 * k + j)) (sym is) ∙ none_elsewhere p j k jl ne)
 
--- a shard above 7 has nobody that is due
+-- a shard above 7 has no observer with a pending notification.
 none_due : (s : Seen) (i at : ℕ) → 8 ≤ i → due_in s i at ≡ None
 unfolding due_in
 none_due s i at high = ap (λ (b : Bool). if b then place_from (is_due_at s i at) 8 0 else None) (le-ltb i 8 high)
 
--- what asking for a turn does to the shards, and brings
+-- effect of a request for a lease on the shards, and its job.
 record TurnAt (s : Seen) (i now : ℕ) (shards : List Shard) (b : Bool) : Type 0 where
   brings : turn_if b (shard_turn now (shard_at shards i)) ≡ turn_at (due_in s i (max (s.shard_moment i) now)) s i (max (s.shard_moment i) now)
   agrees : ShardsAgree (shard_seen (AsksTurn i now) s) (shard_changed b i (shard_asked now) shards)

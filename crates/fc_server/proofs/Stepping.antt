@@ -1,4 +1,5 @@
--- Each event keeps the agreement: by what it does at the front, to the job that it names, and at a shard of its own.
+-- Each event keeps the agreement: by its effect on the front, on the job that it names, and on its
+-- own shard.
 use Rattle.std.proofs.Common.{◌≡◌, ℕ, ◌+◌, ◌*◌, ◌/◌, ◌<◌, ◌%◌, arith, List, [], ◌++◌, length, map, set, Bool, true, false, Option, Some, None, refl, sym, ap, ◌∙◌, subst, ⊎_elim, if◌then◌else◌, max}
 use Rattle.std.specs.Prelude.{filter, is_some, ◌==◌}
 use Rattle.std.proofs.lemmas.Bool.{cases_eq, eq-eqb, ne_eqb}
@@ -39,7 +40,7 @@ use Rattle.fc_server.proofs.Fronts.{front_advances, front_keeps, front_of, front
 use Rattle.fc_server.proofs.Places.{are_written, now_here, now_there, slot_here, slot_there, watch_here, watch_there}
 use Rattle.fc_server.proofs.ShardEvents.{shard_agrees, shard_brings, shard_sends}
 
--- ---- what a taking finds has a meaning
+-- ---- a snapshot has a meaning
 
 found_means : (j : Job) (readings : List ℕ) (slot : Slot) (p : Option Present) → AskWithin j.ask → FitsSlot p → FoundMeans j readings slot.serial p
 found_means j readings slot None within fits = tt
@@ -56,7 +57,7 @@ takes_mean other s a f = tt
 
 -- ---- the front
 
--- the front that is seen after what an event does there
+-- the front of the history after an event's effect on it.
 abbrev front_seen : AtFront → Option Emission → Seen → FrontState
 front_seen x out s = record { managers = s.policy.managers; limits = s.policy.limits; now = moment_by x s; opened = length (exchanges_by x out s); held = filter (is_held (moment_by x s)) (exchanges_by x out s); transfers = transfers (additions_by x s ++ s.additions); ids = ids_by x s }
 
@@ -95,15 +96,15 @@ front_drew : (s : Seen) (now : ℕ) (b : Bool) →
 front_drew s now true = ap (λ (f : FrontState). record f { ids = drawn s.ids (max s.moment now) }) (front_advances s now)
 front_drew s now false = refl
 
--- ---- a state that agrees with what is seen, by its shards
+-- ---- a state that agrees with the history, by its shards
 
 abbrev state_seen : Seen → List Shard → Parts
 state_seen s shards = record { front = front_in s s.moment; shards = shards; words = s.words; tasks = s.tasks }
 
--- ---- the job that is named
+-- ---- the named job
 
 module _ (s : Seen) (e : Event) (shards : List Shard) (a : ShardsAgree s shards) (sound : IsSoundlySeen s) where
-  -- what is seen of the shards after it
+  -- the shards of the history after it.
   abbrev shards_seen : Option ℕ → AtShard → Seen
   shards_seen o y = record s { changes = λ n. changes_after o e s n; shard_moment = λ i. handed (hands_by y i) (shard_moment_after o e s i); calls = λ n. calls_named o e s n ++ (calls_by y s n ++ s.calls n) }
 
@@ -117,13 +118,13 @@ module _ (s : Seen) (e : Event) (shards : List Shard) (a : ShardsAgree s shards)
     low : n < 64
     low = (sound.within k).0
 
-    -- the observers of the task's slot are those that are seen
+    -- the observers of the task's slot are those of the history.
     watch_is : watch_at (shard_at shards (n % 8)) (n / 8) ≡ watch s n
     watch_is =
         let number : 8 * (n / 8) + n % 8 ≡ n = omega arith in
         a.watch (n % 8) (n / 8) (omega arith) (omega (arith, low)) ∙ ap (watch s) number
 
-    -- what the server finds of the task is what is seen
+    -- the server's inputs of the task are those of the history.
     scene_is : scene_in (server_in (state_seen s shards)) (task_at s.tasks k) ≡ scene s k
     scene_is = λ i. scene_at (task_at s.tasks k) (a.slot n low i) (record { common = common s; moment = a.now (n % 8) (omega arith) i; watch = watch_is i })
 
@@ -188,7 +189,7 @@ module _ (s : Seen) (e : Event) (shards : List Shard) (a : ShardsAgree s shards)
   safe_agree None safe = tt
   safe_agree (Some k) safe = subst (λ (m : Move). AllSafe m.changes) (move_is k) safe
 
-  -- an event is of a job, or of no job and maybe of a shard
+  -- an event is of a job, or of no job and possibly of a shard.
   unnamed_agrees : (y : AtShard) → ShardsAgree (shards_seen None y) (shard_by y shards)
   unnamed_agrees y = let w = shard_agrees y s shards a in record { are = w.are; slot = w.slot; now = w.now; watch = w.watch }
 
@@ -198,7 +199,7 @@ module _ (s : Seen) (e : Event) (shards : List Shard) (a : ShardsAgree s shards)
       let calm = subst (λ (y : AtShard). ShardsAgree (shards_seen (Some k) y) (shard_by y (shards_in (Some k) e (state_seen s shards)))) (sym (named_calm e k is)) (job_agrees k) in
       subst (λ (o : Option ℕ). ShardsAgree (shards_seen o (at_shard e)) (shard_by (at_shard e) (shards_in o e (state_seen s shards)))) (sym is) calm
 
--- ---- what it sends, and the front
+-- ---- its emission, and the front
 
 module _ (s : Seen) (shards : List Shard) (a : ShardsAgree s shards) (sound : IsSoundlySeen s) (out : Option Emission) where
   sends_agree : (o : Option ℕ) (e : Event) → sends_at o e (state_seen s shards) ≡ sends_in o e s

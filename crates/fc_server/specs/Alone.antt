@@ -1,4 +1,5 @@
--- What a server on one thread does where it is fed, with what its jobs are handed. Which shard is asked is taken modulo 8.
+-- Effects of the calls of a server on one thread, with the input for its jobs. A call takes the
+-- number of a shard modulo 8.
 use Rattle.std.specs.Prelude.{◌≡◌, ◌%◌, ℕ, true, List, None, max}
 use Rattle.std.specs.Borrow.{Bor}
 use Rattle.coap_msg.specs.declared.types.Emission.{Emission}
@@ -32,7 +33,7 @@ abbrev pub PassesOverAlone : ℕ → ℕ → Alone → Alone → Type 0
 PassesOverAlone shard now old new =
     (is_quiet (at_time (shard_at old.engine.shards (shard % 8)) now) ≡ true) × TicksShard (shard % 8) now old.engine new.engine None × (new.handed ≡ old.handed)
 
--- a turn is starved only where no message id is free
+-- a lease is starved only if no message ID is available.
 abbrev pub NotifiesAlone : ℕ → ℕ → Alone → Alone → Notified → Type 0
 NotifiesAlone shard now old new told =
     AsksForTurn old.handed.readings (shard % 8) now old.handed.random old.engine new.engine (is_given told) (notification_in told) × (new.handed ≡ old.handed)

@@ -1,4 +1,4 @@
--- What each call of a server that takes datagrams in does to it, or is told by it.
+-- Effects and results of the calls of a server that handles datagrams.
 use Rattle.std.specs.Prelude.{ℕ, List, Bool, true, false}
 use Rattle.std.specs.Borrow.{Bor}
 use Rattle.coap_msg.specs.declared.types.Emission.{Emission}
@@ -8,22 +8,25 @@ use Rattle.fc_core.specs.declared.front.Heard.TheVariants.{Reply}
 use Rattle.fc_observe.specs.declared.observers.Ticked.{Ticked}
 use Rattle.fc_server.specs.Notified.{Notified}
 
--- what was written is to be sent
+-- whether the written datagram is to be sent.
 abbrev pub is_reply : Heard → Bool
 is_reply Reply = true
 is_reply other = false
 
--- what each call of an intake does to it, or is told by it
+-- effects and results of the calls of an intake.
 pub record IntakeCalls (S : Type 0) : Type 1 where
-  -- a datagram of these bytes, from an endpoint, was heard at a moment: what became of it, and the reply that was written
+  -- a datagram with these bytes was received from an endpoint at this time: its classification, and
+  -- the response that was written.
   pub hears : ℕ → Endpoint → Bor (List ℕ) → S → S → Heard → Emission → Type 0
-  -- time passed to a moment
+  -- time passed until this time.
   pub passes : ℕ → S → S → Type 0
-  -- a shard was advanced to a moment, and tells this
+  -- a shard was advanced to this time, with this result.
   pub resends : ℕ → ℕ → S → S → Ticked → Type 0
-  -- a shard was advanced to a moment at which nothing was late, and nobody due
+  -- a shard that was idle at this time was advanced to it.
   pub passes_over : ℕ → ℕ → S → S → Type 0
-  -- a shard was asked at a moment for the observer that is due first, and tells this
+  -- a shard was asked at this time for the first observer with a pending notification, with this
+  -- result.
   pub notifies : ℕ → ℕ → S → S → Notified → Type 0
-  -- nothing is late at a shard, and nobody due, before a moment
+  -- a shard is idle until this time: no notification has timed out, and no observer has a pending
+  -- one.
   pub stays_quiet : ℕ → S → ℕ → Type 0

@@ -6,3 +6,4 @@ pub mod Notified
 pub mod Intakes
 pub mod Alone
 pub mod Settling
+pub mod Shown

@@ -1,5 +1,6 @@
--- A server on one thread: what it does with a datagram is a list of events, whatever the history that it stands in. The clauses
--- of the engine cite the agreement here: a server that agrees with a history is one that the history leaves.
+-- A server on one thread: its calls as lists of events, for every history that leads to its state.
+-- The engine's clauses cite the agreement: a server that agrees with a history is in a state that
+-- this history leaves.
 use Rattle.std.specs.Prelude.{◌≡◌, ℕ, zero, suc, ◌/◌, ◌%◌, ◌≤◌, Bool, true, false, List, [], ◌∷◌, ◌++◌, length, Option, Some, None, is_some}
 use Rattle.std.specs.Borrow.{Bor}
 use Rattle.coap_msg.specs.declared.types.Emission.{Emission}
@@ -28,8 +29,9 @@ use Rattle.fc_server.specs.Steps.{shard_turn}
 abbrev pub with_tasks : ServerState → List Task → Parts
 with_tasks s tasks = record { front = s.front; shards = s.shards; words = s.words; tasks = tasks }
 
--- the server, with these jobs, is one that this history leaves: each event of it emitted what it may, each taking that found a
--- program has a meaning, and its front, its slots, their head words and its jobs are what is seen of it
+-- this history leaves the server with these jobs: each event emitted only permitted datagrams, each
+-- snapshot that found a program has a meaning, and the front, slots, head words and jobs are those
+-- of the history.
 pub record Serves (h : History) (s : ServerState) (tasks : List Task) : Type 0 where
   pub legal : IsLegal h
   pub means : AllMean h
@@ -38,16 +40,17 @@ pub record Serves (h : History) (s : ServerState) (tasks : List Task) : Type 0 w
 abbrev pub next : History → Event → Option Emission → History
 next h event emitted = Then h (did event emitted)
 
--- the job of this number looks at the head words of the slots below n
+-- the job with this number reads the head words of the slots below n.
 abbrev pub peeked_below : ℕ → ℕ → History → History
 peeked_below k zero h = h
 peeked_below k (suc n) h = next (peeked_below k n h) (Peek k n) None
 
--- the events of a run: its taking is handed these readings
+-- events of a run, whose snapshot gets these readings.
 abbrev pub run_through : List ℕ → ℕ → Bool → ℕ → Option Emission → History → History
 run_through readings k memory now out h = next (next (next (next h (Take k memory readings) None) (Commit k now) None) (Raise k) None) (Answer k now) out
 
--- the events of a job of this number, which is of this slot, that is worked off at once: those that its first stage needs, and its answer
+-- events of a job with this number and slot that runs immediately: those that its first stage
+-- needs, and its answer.
 abbrev pub worked : List ℕ → Stage → ℕ → ℕ → Bool → ℕ → Option Emission → History → History
 worked readings ToMatch slot k memory now out h = run_through readings k memory now out (next h (Peek k slot) None)
 worked readings (ToTake count) slot k memory now out h = run_through readings k memory now out h
@@ -57,94 +60,96 @@ worked readings ToDescribe slot k memory now out h = next (next h (Receipt k) No
 worked readings (ToList seen) slot k memory now out h = next (peeked_below k 64 h) (Answer k now) out
 worked readings other slot k memory now out h = next h (Answer k now) out
 
--- a job of this number was worked off, from its first stage
+-- a job with this number ran, from its first stage.
 pub record Worked (readings : List ℕ) (h : History) (k : ℕ) (first : Stage) (slot now : ℕ) (new : ServerState) (out : Option Emission) : Type 0 where
   pub memory : Bool
   pub tasks : List Task
   pub serves : Serves (worked readings first slot k memory now out h) new tasks
 
--- an event that brings no job
+-- an event that produces no job.
 pub record Delivers (h : History) (e : Event) (new : ServerState) (out : Option Emission) : Type 0 where
   pub tasks : List Task
   pub serves : Serves (next h e out) new tasks
 
--- a signal goes to the shards below n
+-- a signal goes to the shards below n.
 abbrev pub signalled_below : Endpoint → ℕ → Bool → ℕ → History → History
 signalled_below to id reset zero h = h
 signalled_below to id reset (suc n) h = next (signalled_below to id reset n h) (Signal n to id reset) None
 
--- a history after which only signals came, to each shard
+-- the history continued by signals alone, one for each shard.
 pub record Signalled (h : History) (to : Endpoint) (id : ℕ) (reset : Bool) (new : ServerState) : Type 0 where
   pub tasks : List Task
   pub serves : Serves (signalled_below to id reset 8 h) new tasks
 
--- whatever the history so far
+-- for every history so far.
 abbrev pub IsSignalled : Endpoint → ℕ → Bool → ServerState → ServerState → Type 0
 IsSignalled to id reset old new = (h : History) → (tasks : List Task) → Serves h old tasks → Serves (signalled_below to id reset 8 h) new tasks
 
--- a delivery that brings a job: its delivery, and then the job is worked off; one that brings a signal: its delivery, and then each
--- shard gets it; any other: its delivery
+-- a datagram that produces a job: it is delivered, and then the job runs; one that is a signal: it
+-- is delivered, and then each shard gets the signal; any other datagram: it is delivered.
 abbrev pub Heard : List ℕ → History → ℕ → ℕ → Endpoint → Bor (List ℕ) → Delivered → ServerState → Option Emission → Type 0
 Heard readings h k now to bytes (Brings job) new out =
     Worked readings (next h (Deliver now to bytes) None) k (first_stage job) job.origin.slot now new out
 Heard readings h k now to bytes (Signals id reset) new out = (out ≡ None) × Signalled (next h (Deliver now to bytes) None) to id reset new
 Heard readings h k now to bytes other new out = Delivers h (Deliver now to bytes) new out
 
--- whatever the history so far; the job has the next number
+-- for every history so far; the job gets the next number.
 abbrev pub Hears : List ℕ → ℕ → Endpoint → Bor (List ℕ) → Delivered → ServerState → ServerState → Option Emission → Type 0
 Hears readings now to bytes brings old new out = (h : History) → (tasks : List Task) → Serves h old tasks → Heard readings h (length tasks) now to bytes brings new out
 
--- the history leaves this server, with some jobs
+-- the history leaves this server, with some jobs.
 pub record Reaches (h : History) (new : ServerState) : Type 0 where
   pub tasks : List Task
   pub serves : Serves h new tasks
 
--- time passes: a tick, and nothing is sent
+-- time passes: a tick, and nothing is sent.
 abbrev pub Passes : ℕ → ServerState → ServerState → Type 0
 Passes now old new = (h : History) → (tasks : List Task) → Serves h old tasks → Serves (next h (Tick now) None) new tasks
 
--- a shard is ticked, and what is late is sent again
+-- a shard is ticked, and retransmits a notification that has timed out.
 abbrev pub TicksShard : ℕ → ℕ → ServerState → ServerState → Option Emission → Type 0
 TicksShard shard now old new out = (h : History) → (tasks : List Task) → Serves h old tasks → Serves (next h (ShardTick shard now) out) new tasks
 
--- the events of the job of this number, which is a turn that is worked off at once: where no message id is free it is given up
+-- events of a lease, as the job with this number, that runs immediately: it is released if no
+-- message ID is available.
 abbrev pub turned : List ℕ → ℕ → Bool → ℕ → ℕ → Option Emission → History → History
 turned readings k memory now random out h = next (next (next (next h (Take k memory readings) None) (Fresh k now) None) (Note k now random) out) (GiveUp k now) None
 
--- a turn of this number was worked off
+-- a lease with this number ran.
 pub record Turned (readings : List ℕ) (h : History) (k now random : ℕ) (new : ServerState) (out : Option Emission) : Type 0 where
   pub memory : Bool
   pub tasks : List Task
   pub serves : Serves (turned readings k memory now random out h) new tasks
 
--- a shard was asked for a turn: it gave none, or one that was worked off
+-- a shard was asked for a lease: it granted none, or one that ran.
 abbrev pub TurnGiven : Bool → List ℕ → History → ℕ → ℕ → ℕ → ServerState → Option Emission → Type 0
 TurnGiven false readings h k now random new out = (out ≡ None) × Reaches h new
 TurnGiven true readings h k now random new out = Turned readings h k now random new out
 
--- it gave one just where it has an observer that is due; and whatever the history so far, the turn has the next number
+-- it granted one exactly if it has an observer with a pending notification; for every history so
+-- far, the lease gets the next number.
 pub record AsksForTurn (readings : List ℕ) (shard now random : ℕ) (old new : ServerState) (given : Bool) (out : Option Emission) : Type 0 where
   pub is_due : given ≡ is_some (shard_turn now (shard_at old.shards shard))
   pub asked : (h : History) (tasks : List Task) → Serves h old tasks → TurnGiven given readings (next h (Due shard now) None) (length tasks) now random new out
 
--- what it gives is the turn of a slot that holds a program
+-- the lease belongs to a slot that has a program.
 abbrev pub FindsProgram : ℕ → Shard → Type 0
 FindsProgram now shard = (job : Job) × (shard_turn now shard ≡ Some job) × (is_some (slot_in shard job.origin.slot).present ≡ true)
 
--- the turn at work is the last job that came
+-- the running lease is the newest job.
 abbrev pub Turns : List ℕ → ℕ → ℕ → ServerState → Task → ServerState → Option Emission → Type 0
 Turns readings now random old task new out = (h : History) → (rest : List Task) → Serves h old (rest ++ task ∷ []) → Turned readings h (length rest) now random new out
 
--- the job at work is the last that came, and stands at this stage
+-- the running job is the newest one, at this stage.
 abbrev pub WorksOff : List ℕ → Stage → ℕ → ServerState → Task → ServerState → Option Emission → Type 0
 WorksOff readings stage now old task new out = (h : History) → (rest : List Task) → Serves h old (rest ++ task ∷ [])
     → Worked readings h (length rest) stage task.job.origin.slot now new out
 
--- whatever readings it is handed: nothing is taken
+-- for any readings: no snapshot is taken.
 abbrev pub WorksOffUnread : Stage → ℕ → ServerState → Task → ServerState → Option Emission → Type 0
 WorksOffUnread stage now old task new out = (readings : List ℕ) → WorksOff readings stage now old task new out
 
--- some history leaves this server with this job, which is not yet worked off
+-- some history leaves this server with this job, which hasn't run yet.
 pub record IsBegun (s : ServerState) (task : Task) : Type 0 where
   pub history : History
   pub rest : List Task
@@ -155,7 +160,7 @@ pub record IsReachable (s : ServerState) : Type 0 where
   pub tasks : List Task
   pub serves : Serves history s tasks
 
--- a turn that is to take, and is out at its slot's shard, which was handed the moment
+-- a lease that needs a snapshot and is out in its slot's shard, whose clock has reached this time.
 pub record IsOutToTake (now : ℕ) (s : ServerState) (task : Task) : Type 0 where
   pub turn : Turn
   pub stage : task.stage ≡ ToTell turn turns.ToTake

@@ -1,4 +1,4 @@
--- What a server holds, and what an event does to it and to a task.
+-- State of a server, and the effect of an event on it and on a task.
 use Rattle.std.specs.Prelude.{◌≡◌, ℕ, ◌%◌, ◌<◌, ◌≤◌, Bool, true, false, List, Option, Some, None, length, max}
 use Rattle.coap_msg.specs.declared.types.Emission.{Emission}
 use Rattle.fc_registry.specs.declared.job.Job.{Job}
@@ -18,41 +18,41 @@ use Rattle.fc_core.specs.Sound.{AllSafe}
 use Rattle.fc_core.specs.Stages.{content_at, drew, ended, needs_id}
 use Rattle.fc_core.specs.Rows.{Common, Move, Scene, moves, task_moved, row, scene_of, sends, shard_moved, words_after}
 
--- its serial is one that slots may begin with
+-- a valid initial state: slots may begin with its serial.
 pub record CanBegin (b : Begin) : Type 0 where
   pub serial : b.serial ≤ last_serial
 
--- the history of a server that begins so
+-- the history of a server with this initial state.
 abbrev pub begin_of : Begin → History
 begin_of b = Begins b.serial b.id b.policy
 
--- its front, its shards, and the head words of their slots
+-- the front, the shards, and the head words of their slots.
 pub record ServerState : Type 0 where
   pub front : FrontState
   pub shards : List Shard
   pub words : List ℕ
 
--- what is common to the jobs of all slots
+-- inputs shared by the jobs of all slots.
 abbrev pub common_in : FrontState → List ℕ → Common
 common_in f words = record { words = words; free = λ now. free_id f.ids (max f.now now) }
 
--- what an event finds of a task
+-- inputs of a task's transition.
 abbrev pub scene_in : ServerState → Task → Scene
 scene_in s task = scene_of (shard_at s.shards (task.job.origin.slot % 8)) (common_in s.front s.words) task
 
--- the shards after a move of a job of slot n
+-- the shards after a transition of a job of slot n.
 abbrev pub shards_moved : Move → ℕ → List Shard → List Shard
 shards_moved m n shards = with_owner shards n (shard_moved m n (shard_at shards (n % 8)))
 
--- a task that may be worked on here
+-- a task that this server may run.
 pub record AtWork (s : ServerState) (task : Task) : Type 0 where
   pub count : length s.shards ≡ 8
   pub index : (n : ℕ) → n < 8 → (shard_at s.shards n).index ≡ n
   pub slot : task.job.origin.slot < 64
   pub stage : FitsStage task.job (slot_in_shards s.shards task.job.origin.slot) task.stage
 
--- an event on a task, and what it sends: the task moves by its row, and so do its slot and the slot's head word; what is installed is
--- safe
+-- effect of an event on a task, with its emission: the task, its slot and the slot's head word
+-- change by the event's transition; an installed program is safe.
 pub record Does (e : Event) (old : ServerState) (task : Task) (new : ServerState) (next : Task) (emitted : Option Emission) : Type 0 where
   pub front : new.front ≡ old.front
   pub task_is : next ≡ task_moved task (row e (scene_in old task))
@@ -61,24 +61,24 @@ pub record Does (e : Event) (old : ServerState) (task : Task) (new : ServerState
   pub safe : AllSafe (row e (scene_in old task)).changes
   pub emits : emitted ≡ sends e (scene_in old task)
 
--- the front after an answer of this content, if there is one, that sent this
+-- the front after an answer with this content, if there is one, that sent this datagram.
 abbrev pub front_after : Option Content → Job → Option Emission → FrontState → ℕ → FrontState
 front_after None job emitted f now = f
 front_after (Some content) job emitted f now = after_answered job emitted (advanced f now)
 
--- the front after a task drew a message id, where it needed one
+-- the front after a task drew a message ID, if it needed one.
 abbrev pub front_drawn : Bool → FrontState → ℕ → FrontState
 front_drawn true f now = record (advanced f now) { ids = drawn f.ids (max f.now now) }
 front_drawn false f now = f
 
--- a task's draw
+-- a task's draw of a message ID.
 pub record DrawsId (now : ℕ) (old : ServerState) (task : Task) (new : ServerState) (next : Task) : Type 0 where
   pub front : new.front ≡ front_drawn (needs_id task.stage) old.front now
   pub task_is : next ≡ task_moved task (moves (drew (free_id old.front.ids (max old.front.now now)) task.stage))
   pub shards : new.shards ≡ old.shards
   pub words : new.words ≡ old.words
 
--- a task's answer
+-- a task's answer.
 pub record Responds (now : ℕ) (old : ServerState) (task : Task) (new : ServerState) (next : Task) (emitted : Option Emission) : Type 0 where
   pub front : new.front ≡ front_after (content_at task.stage) task.job emitted old.front now
   pub task_is : next ≡ task_moved task (moves (ended task.stage))
@@ -86,8 +86,8 @@ pub record Responds (now : ℕ) (old : ServerState) (task : Task) (new : ServerS
   pub words : new.words ≡ old.words
   pub emits : AnswerEmits (content_at task.stage) task.job (advanced old.front now) emitted
 
--- what an event does to the task of its job, by what it does at the front: it answers the task, draws a message id for it, or does
--- nothing there
+-- effect of an event on the task of its job, by its effect on the front: it answers the task, draws
+-- a message ID for it, or has no effect there.
 abbrev pub WorksAt : AtFront → Event → ServerState → Task → ServerState → Task → Option Emission → Type 0
 WorksAt (Answers k now) e old task new next emitted = Responds now old task new next emitted
 WorksAt (Draws k now) e old task new next emitted = DrawsId now old task new next × (emitted ≡ None)

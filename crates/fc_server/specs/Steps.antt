@@ -1,4 +1,4 @@
--- What an event does to a server and its jobs, and that it is what the history says.
+-- Effect of an event on a server and its jobs, and its agreement with the history.
 use Rattle.std.specs.Prelude.{◌≡◌, ℕ, Bool, true, false, nat_lt, List, [], ◌++◌, map, Option, Some, None, slice_set}
 use Rattle.std.specs.Option.{option_to_list}
 use Rattle.coap_msg.specs.declared.types.Endpoint.{Endpoint}
@@ -21,7 +21,7 @@ use Rattle.fc_core.specs.Rows.{Move, names, row, sends, task_moved, words_after}
 use Rattle.fc_server.specs.Agreement.{Agrees, Parts}
 use Rattle.fc_server.specs.States.{ServerState, front_after, front_drawn, scene_in, shards_moved}
 
--- ---- by what an event does at the front
+-- ---- by an event's effect on the front
 
 abbrev pub front_by : AtFront → Parts → Option Emission → FrontState
 front_by (Receives now to bytes) p emitted = after_received (received (advanced p.front now) to bytes) (advanced p.front now) to
@@ -36,7 +36,7 @@ brought_by other p = []
 
 -- ---- by the job that it names
 
--- the server among the parts
+-- the server among the parts.
 abbrev pub server_in : Parts → ServerState
 server_in p = record { front = p.front; shards = p.shards; words = p.words }
 
@@ -59,13 +59,13 @@ abbrev pub IsSafeIn : Option ℕ → Event → Parts → Type 0
 IsSafeIn None e p = Unit {0}
 IsSafeIn (Some k) e p = AllSafe (move_in e p k).changes
 
--- ---- by what it does at a shard of its own; a shard above 7 there is not
+-- ---- by an event's effect on a shard; an event that names a shard above 7 has no effect there
 
 abbrev pub shard_changed : Bool → ℕ → (Shard → Shard) → List Shard → List Shard
 shard_changed true i f shards = slice_set shards i (f (shard_at shards i))
 shard_changed false i f shards = shards
 
--- a shard after a tick, what the tick tells, and what it sends again
+-- a shard after a tick, the tick's result, and its retransmission.
 abbrev pub shard_ticked : ℕ → Shard → Shard
 shard_ticked now shard = shard_after_tick (late_place (at_time shard now)) (at_time shard now)
 
@@ -75,7 +75,7 @@ shard_told now shard = ticked_in (late_place (at_time shard now)) (at_time shard
 abbrev pub shard_resent : ℕ → Shard → Option Emission
 shard_resent now shard = resent (shard_told now shard)
 
--- a shard that was asked for a turn, and the job of the turn
+-- a shard after a request for a lease, and the job of the lease.
 abbrev pub shard_asked : ℕ → Shard → Shard
 shard_asked now shard = after_due (due_place (at_time shard now)) (at_time shard now)
 
@@ -96,7 +96,7 @@ shard_by (Signals i to id reset) shards = shard_changed (nat_lt i 8) i (signalle
 shard_by (Ticks i now) shards = shard_changed (nat_lt i 8) i (shard_ticked now) shards
 shard_by Calm shards = shards
 
--- the jobs that it brings
+-- jobs that it produces.
 abbrev pub turns_at : AtShard → List Shard → List Task
 turns_at (AsksTurn i now) shards = map new_task (option_to_list (turn_if (nat_lt i 8) (shard_turn now (shard_at shards i))))
 turns_at other shards = []
@@ -105,7 +105,7 @@ abbrev pub resent_by : AtShard → List Shard → Option Emission
 resent_by (Ticks i now) shards = resent_if (nat_lt i 8) (shard_resent now (shard_at shards i))
 resent_by other shards = None
 
--- ---- what it sends
+-- ---- emissions
 
 abbrev pub sends_at : Option ℕ → Event → Parts → Option Emission
 sends_at None e p = resent_by (at_shard e) p.shards
@@ -120,7 +120,7 @@ EmitsAt Rests e p emitted = emitted ≡ sends_at (names e) e p
 
 -- ---- an event
 
--- what an event does: to the front, to the jobs, to the shards, to the head words; and what it sends
+-- effect of an event on the front, the jobs, the shards and the head words, and its emission.
 pub record Done (e : Event) (old : Parts) (emitted : Option Emission) (new : Parts) : Type 0 where
   pub front : new.front ≡ front_by (at_front e) old emitted
   pub tasks : new.tasks ≡ tasks_in (names e) e old ++ (turns_at (at_shard e) old.shards ++ brought_by (at_front e) old)
@@ -129,11 +129,12 @@ pub record Done (e : Event) (old : Parts) (emitted : Option Emission) (new : Par
   pub emits : EmitsAt (at_front e) e old emitted
   pub safe : IsSafeIn (names e) e old
 
--- an event of this job, and of nothing else
+-- an event of this job, with no other effect.
 abbrev pub IsOfJob : Event → ℕ → Type 0
 IsOfJob e k = (at_front e ≡ Rests) × (at_shard e ≡ Calm) × (names e ≡ Some k)
 
--- a delivery, of a front that has advanced to its moment: the jobs that it brings, and what it sends
+-- a datagram is delivered to a front advanced to this time: the jobs that it produces, and its
+-- emission.
 pub record DeliveredTo (now : ℕ) (to : Endpoint) (bytes : List ℕ) (old new : Parts) (emitted : Option Emission) : Type 0 where
   pub front : let f = advanced old.front now in new.front ≡ after_received (received f to bytes) f to
   pub tasks : let f = advanced old.front now in new.tasks ≡ old.tasks ++ map new_task (brought (received f to bytes) (next_opening f) to)
@@ -141,8 +142,8 @@ pub record DeliveredTo (now : ℕ) (to : Endpoint) (bytes : List ℕ) (old new :
   pub words : new.words ≡ old.words
   pub emits : let f = advanced old.front now in emitted ≡ sent (received f to bytes) f to
 
--- a step: whatever is seen of the history that the state agrees with, what is emitted is what may be, what is taken means
--- something, and the new state agrees with what is seen after this event
+-- a step: for every history that the state agrees with, the emission is permitted, the snapshot has
+-- a meaning, and the new state agrees with the history continued by this event.
 pub record Step (e : Event) (emitted : Option Emission) (new : Parts) (s : Seen) : Type 0 where
   pub emits : Emits s e emitted
   pub means : TakesMeaning s e
@@ -151,7 +152,7 @@ pub record Step (e : Event) (emitted : Option Emission) (new : Parts) (s : Seen)
 abbrev pub Steps : Event → Parts → Option Emission → Parts → Type 0
 Steps e old emitted new = (s : Seen) → Agrees s old → Step e emitted new s
 
--- some history leaves this state
+-- some history leaves this state.
 pub record IsReached (p : Parts) : Type 0 where
   pub seen : Seen
   pub agrees : Agrees seen p

@@ -1,13 +1,20 @@
-//! A server on one thread, where it is fed: the job of each datagram, and the turn of each observer, is worked off before the call answers.
+//! A single-threaded server that runs each job before the call returns.
+//!
+//! A job comes from a datagram, or from the lease of an observer.
 ghost use Rattle.std.specs.Prelude.{◌≡◌, [], IfOk};
 ghost use Rattle.fc_help.specs.Region.{no_readings};
-ghost use Rattle.fc_server.specs.Alone.{alone_calls};
+ghost use Rattle.fc_core.specs.Exchanges.{advanced};
+ghost use Rattle.fc_core.specs.Receiving.{delivered, emission_if};
+ghost use Rattle.fc_server.specs.Alone.{HearsAlone, alone_calls};
+ghost use Rattle.fc_server.specs.Intakes.{is_reply};
 ghost use Rattle.fc_server.specs.Serving.{Serves};
+ghost use Rattle.fc_server.specs.Shown.{IsShown};
 ghost use Rattle.fc_server.specs.States.{CanBegin, begin_of};
 
 use crate::engine::{Engine, NotifyOutcome};
 use crate::intake::Intake;
 use crate::server::Begin;
+use crate::witness::{NoWitness, Witness};
 use coap_msg::{Emission, Endpoint};
 use fc_core::Heard;
 use fc_help::{NO_READINGS, Readings};
@@ -15,14 +22,19 @@ use fc_observe::Ticked;
 use fc_registry::SHARDS;
 use std::alloc::{AllocError, Global};
 
-/// What jobs are handed: the readings that a taking finds, and the random word that says how long a confirmable notification is waited for.
+/// Input for jobs: sensor readings, and a random word for timeouts.
+///
+/// A snapshot gets the readings. The random word determines how long the server waits for the
+/// acknowledgement of a confirmable notification.
 #[derive(Clone, Copy)]
 pub struct Handed {
     readings: Readings,
     random: u16,
 }
 
-/// A server on one thread, and what its jobs are handed from now on. Which shard is asked is taken modulo 8.
+/// A server on one thread, with the input for its next jobs.
+///
+/// Its calls take the number of a shard modulo 8.
 #[derive(Drop)]
 pub struct Alone {
     alloc: Global,
@@ -31,10 +43,10 @@ pub struct Alone {
 }
 
 impl Alone {
-    /// A server that holds nothing, as [`Engine::new`] gives it, whose jobs are handed zeros.
+    /// Makes a server with empty slots, as [`Engine::new`] does; its jobs get zeros.
     ///
     /// # Errors
-    /// There was no memory for it.
+    /// Returns `AllocError` if memory can't be allocated.
     pub fn new(alloc: Global, begin: &Begin) -> Result<Alone, AllocError>
         requires { CanBegin begin.now }
         ensures begins { IfOk result (λ alone. Serves (begin_of begin.now) alone.engine []) }
@@ -50,7 +62,7 @@ impl Alone {
         })
     }
 
-    /// Hands these readings and this random word to the jobs that are worked off from now on.
+    /// Sets the readings and the random word for the jobs that run from now on.
     pub fn set_handed(&mut self, readings: &Readings, random: u16)
         ensures engine { self.new.engine ≡ self.old.engine }
         ensures handed { self.new.handed ≡ record { readings = readings.now; random = random } }
@@ -60,20 +72,40 @@ impl Alone {
             random,
         };
     }
+
+    /// Handles a datagram as [`Intake::hear`] does, and shows its job to a witness.
+    ///
+    /// The job is shown once, after its answer, with the response to send, if there is one. If the
+    /// datagram produces no job, the witness doesn't change.
+    pub fn hear_with<W: Witness>(
+        &mut self,
+        now: u64,
+        from: Endpoint,
+        bytes: &[u8],
+        reply: &mut Emission,
+        witness: &mut W,
+    ) -> Heard
+        ensures hears { HearsAlone now from bytes.entry self.old self.new result reply.new }
+        ensures shown { IsShown W.shown (delivered (advanced self.old.engine.front now) from bytes.now)
+            (emission_if (is_reply result) reply.new) witness.old witness.new }
+    {
+        let readings = &self.handed.readings;
+        if self
+            .engine
+            .hear(self.alloc, now, from, bytes, readings, reply, witness)
+        {
+            Heard::Reply
+        } else {
+            Heard::Nothing
+        }
+    }
 }
 
 impl Intake for Alone {
     ghost calls = { alone_calls };
 
     fn hear(&mut self, now: u64, from: Endpoint, bytes: &[u8], reply: &mut Emission) -> Heard {
-        if self
-            .engine
-            .hear(self.alloc, now, from, bytes, &self.handed.readings, reply)
-        {
-            Heard::Reply
-        } else {
-            Heard::Nothing
-        }
+        self.hear_with(now, from, bytes, reply, &mut NoWitness)
     }
 
     fn tick(&mut self, now: u64) {

@@ -1,4 +1,4 @@
-//! A server on one thread: each datagram that it hears is worked off to its answer.
+//! A server on one thread, which runs the job of each datagram to its response.
 ghost use Rattle.std.specs.Prelude.{◌≡◌, ℕ, ◌<◌, ◌≤◌, List, [], false, true, None, is_some, max, IfOk, MatchBool};
 ghost use Rattle.arrayvec.specs.ArrayVec.{ArrayVec};
 ghost use Rattle.coap_msg.specs.declared.types.Emission.{Emission as Emitted};
@@ -12,10 +12,12 @@ ghost use Rattle.fc_core.specs.Legal.{resent};
 ghost use Rattle.fc_server.specs.Serving.{FindsProgram, Hears, IsBegun, IsOutToTake, IsReachable, AsksForTurn, Passes, TicksShard, Serves, Turns, WorksOff, WorksOffUnread};
 ghost use Rattle.fc_server.specs.Notified.{Starved, Unsent, is_given, notification_in, notified_as};
 ghost use Rattle.fc_server.specs.Serving.{IsSignalled};
+ghost use Rattle.fc_server.specs.Shown.{IsShown};
 ghost use Rattle.fc_server.specs.States.{CanBegin, begin_of};
 ghost use Rattle.fc_server.specs.Steps.{shard_told};
 
 use crate::server::{Begin, Server};
+use crate::witness::Witness;
 use coap_msg::{Emission, Endpoint};
 use fc_core::{Heard, Step, Task};
 use fc_help::Readings;
@@ -24,8 +26,10 @@ use fc_registry::{SHARDS, SLOTS};
 use std::alloc::{AllocError, Global};
 use std::marker::Model;
 
-/// A server on one thread that some history leaves, whatever was called, and the place of the task that it works off. A clause
-/// sees what its front holds, its shards, and their head words.
+/// A server on one thread, in a state that some history leaves.
+///
+/// It also has the memory for the task that it runs. A clause sees its front, its shards, and their
+/// head words.
 #[derive(Drop)]
 pub struct Engine {
     server: Server,
@@ -44,10 +48,10 @@ impl Model for Engine {
 }
 
 impl Engine {
-    /// Makes a server that holds nothing, with slots 0 to 63 empty, that begins as `begin` says.
+    /// Makes a server with empty slots 0 to 63 and the initial state `begin`.
     ///
     /// # Errors
-    /// There was no memory for it.
+    /// Returns `AllocError` if memory can't be allocated.
     pub fn new(alloc: Global, begin: &Begin) -> Result<Engine, AllocError>
         requires { CanBegin begin.now }
         ensures { IfOk result (λ e. Serves (begin_of begin.now) e []) }
@@ -58,13 +62,27 @@ impl Engine {
         })
     }
 
-    /// Takes in a datagram from an endpoint at a moment in milliseconds, works off the job that it brings, whose taking is handed these readings, and writes
-    /// what is to be sent over another emission. Tells whether anything is. What it does is a list of events: Deliver, and where it
-    /// brings a job those that the job's first stage needs: of a run Take, Commit, Raise and Answer, after a Peek of its slot where its client has answers;
-    /// of an install Install, Raise and Answer; of a removal Remove, Raise and Answer; of a description Receipt and Answer; of a list of what is there
-    /// Peek of each slot and Answer; and of any other Answer. Where it brings a signal, Signal of each shard. Whatever the history was, with these it is legal,
-    /// and the server is what it leaves.
-    pub fn hear(
+    /// Handles a datagram from `endpoint` and runs the job that it produces.
+    ///
+    /// `now` is in milliseconds. The job's snapshot gets `readings`. The result is `true` if there
+    /// is a datagram to send, which is written over `reply`.
+    ///
+    /// The effect of a call is a list of events. Each history that leaves the server in its state
+    /// before the call is continued legally by these events, and then leaves it in its state after
+    /// the call. The list begins with `Deliver`. The events that follow depend on the datagram:
+    ///
+    /// - A signal: `Signal` of each shard.
+    /// - A run: `Take`, `Commit`, `Raise` and `Answer`, after a `Peek` of its slot if the job has
+    ///   ETags.
+    /// - An install: `Install`, `Raise` and `Answer`.
+    /// - A removal: `Remove`, `Raise` and `Answer`.
+    /// - A description of a program: `Receipt` and `Answer`.
+    /// - A list of the slots: `Peek` of each slot, and `Answer`.
+    /// - Any other job: `Answer`.
+    /// - Any other datagram: no further event.
+    ///
+    /// The witness observes the job once, after its answer.
+    pub fn hear<W: Witness>(
         &mut self,
         alloc: Global,
         now: u64,
@@ -72,9 +90,12 @@ impl Engine {
         bytes: &[u8],
         readings: &Readings,
         reply: &mut Emission,
+        witness: &mut W,
     ) -> bool
-        ensures { Hears readings.now now endpoint bytes.entry (delivered (advanced self.old.front now) endpoint bytes.now)
+        ensures hears { Hears readings.now now endpoint bytes.entry (delivered (advanced self.old.front now) endpoint bytes.now)
             self.old self.new (emission_if result reply.new) }
+        ensures shown { IsShown W.shown (delivered (advanced self.old.front now) endpoint bytes.now)
+            (emission_if result reply.new) witness.old witness.new }
     {
         match self
             .server
@@ -88,27 +109,31 @@ impl Engine {
             }
             Heard::Job => {
                 self.task.begin();
-                work_off(
+                let is_sent = work_off(
                     &mut self.server,
                     alloc,
                     now,
                     &mut self.task,
                     readings,
                     reply,
-                )
+                );
+                witness.show(&self.task.job, is_sent, reply);
+                is_sent
             }
         }
     }
 
-    /// Takes in a moment in milliseconds: what it does is the event Tick.
+    /// Advances the clock to `now`, in milliseconds: the event `Tick`.
     pub fn tick(&mut self, now: u64)
         ensures { Passes now self.old self.new }
     {
         self.server.tick(now);
     }
 
-    /// Advances a shard, 0 to 7, to a moment in milliseconds: it sends the first notification that is late again, or removes its
-    /// observer, and tells which, or that nothing is late. What it does is the event ShardTick.
+    /// Advances a shard, 0 to 7, to `now` in milliseconds: the event `ShardTick`.
+    ///
+    /// The shard retransmits the first notification that has timed out, or removes its observer.
+    /// Returns which of these, or that no notification has timed out.
     pub fn resend(&mut self, shard: u8, now: u64) -> Ticked
         requires { shard < 8 }
         ensures told { result ≡ shard_told now (shard_at self.old.shards shard) }
@@ -117,8 +142,11 @@ impl Engine {
         self.server.tick_shard(shard, now)
     }
 
-    /// Advances a shard, 0 to 7, to a moment in milliseconds where no notification is late by then, and no observer is due: the event ShardTick, after which
-    /// Due would do nothing. Tells whether it did.
+    /// Advances a shard, 0 to 7, to `now` in milliseconds if it is idle then.
+    ///
+    /// It is idle if no notification has timed out by then and no observer has a pending
+    /// notification. Then the effect is the event `ShardTick`, after which `Due` would do nothing.
+    /// Returns whether the shard was advanced.
     pub fn advance_if_quiet(&mut self, shard: u8, now: u64) -> bool
         requires { shard < 8 }
         ensures quiet { result ≡ is_quiet (at_time (shard_at self.old.shards shard) now) }
@@ -127,8 +155,10 @@ impl Engine {
         self.server.advance_if_quiet(shard, now)
     }
 
-    /// Returns a moment before which no notification of a shard, 0 to 7, is late, and no observer due, unless the engine is called: the first that is
-    /// known, or 2^64 - 1 where none is.
+    /// Returns a time before which a shard, 0 to 7, is idle if nothing is called.
+    ///
+    /// Before it no notification times out and no observer has a pending one. It needn't be the
+    /// latest such time. It is in milliseconds; 2^64 - 1 means that neither is expected.
     pub fn quiet_until(&self, shard: u8) -> u64
         requires { shard < 8 }
         ensures { StaysQuietUntil result (shard_at self.now.shards shard) }
@@ -136,9 +166,12 @@ impl Engine {
         self.server.quiet_until(shard)
     }
 
-    /// Asks a shard, 0 to 7, for the turn of an observer that is due at a moment in milliseconds, and works it off: the events Due, and,
-    /// where it brings a turn, Take with these readings, Fresh, Note and GiveUp of it. What is sent is written over another emission. The random word says
-    /// how long a confirmable notification is waited for.
+    /// Notifies the first observer of a shard, 0 to 7, that has a pending notification.
+    ///
+    /// `now` is in milliseconds. The effect is the event `Due`. If it grants a lease, `Take` with
+    /// these readings, `Fresh`, `Note` and `GiveUp` of the lease follow. The datagram to send, if
+    /// there is one, is written over `emission`. The random word determines how long the server
+    /// waits for the acknowledgement of a confirmable notification.
     pub fn notify(
         &mut self,
         shard: u8,
@@ -162,21 +195,25 @@ impl Engine {
     }
 }
 
-/// What became of a shard that was asked for a turn, where what is sent is written over an emission of the caller's.
+/// The result of a request to notify an observer.
+///
+/// The datagram to send is written over an emission of the caller.
 #[derive(Clone, Copy, PartialEq, Eq)]
 pub enum NotifyOutcome {
-    /// An observer is notified by what was written.
+    /// An observer is notified by the datagram that was written.
     Sent,
-    /// There was a turn, of which nothing is written: a worker has it, or has sent what it came to; or it was given up, since there was no memory for its
-    /// taking. The taking of an empty slot asks for none.
+    /// A lease was granted, and nothing is written.
+    ///
+    /// A worker has the lease, or has sent its notification; or the lease was released, since the
+    /// snapshot needed memory that couldn't be allocated. The snapshot of an empty slot needs none.
     Unsent,
-    /// There was a turn, which was given up, since no message id was free.
+    /// A lease was granted and released, since no message ID was available.
     Starved,
-    /// No observer is due.
+    /// No observer has a pending notification.
     Nobody,
 }
 
-// Hands a signal to each shard.
+// Passes a signal to each shard.
 fn signal(server: &mut Server, endpoint: Endpoint, id: u16, reset: bool)
     requires { IsReachable server.old }
     ensures { IsSignalled endpoint id reset server.old server.new }
@@ -186,7 +223,7 @@ fn signal(server: &mut Server, endpoint: Endpoint, id: u16, reset: bool)
     }
 }
 
-// Works a turn off, which a shard has just given: what is sent is written over another emission.
+// Runs a lease that a shard has just granted. The datagram to send is written over `emission`.
 fn tell(
     server: &mut Server,
     now: u64,
@@ -211,7 +248,8 @@ fn tell(
     told(sent, starved)
 }
 
-// What became of a turn of which what was written is sent or not, and for which a message id was free or not.
+// Returns the outcome of a lease by whether a datagram was written and whether no message ID was
+// available.
 fn told(sent: bool, starved: bool) -> NotifyOutcome
     ensures sent { (e : Emitted) → notification_in (notified_as result e) ≡ emission_if sent e }
     ensures given { (e : Emitted) → is_given (notified_as result e) ≡ true }
@@ -227,7 +265,8 @@ fn told(sent: bool, starved: bool) -> NotifyOutcome
     }
 }
 
-// Works a job off, which the front has just brought, by what it needs first. Tells whether anything is sent.
+// Runs the job that the front has just produced, by its first stage. Returns whether there is a
+// datagram to send.
 fn work_off(
     server: &mut Server,
     alloc: Global,
@@ -237,7 +276,8 @@ fn work_off(
     reply: &mut Emission,
 ) -> bool
     requires { IsBegun server.old task.old }
-    ensures { WorksOff readings.now task.old.stage now server.old task.old server.new (emission_if result reply.new) }
+    ensures works { WorksOff readings.now task.old.stage now server.old task.old server.new (emission_if result reply.new) }
+    ensures job { task.new.job ≡ task.old.job }
 {
     let stage = &task.stage;
     match &stage.step {
@@ -259,7 +299,8 @@ fn look_and_run(
     reply: &mut Emission,
 ) -> bool
     requires { IsBegun server.old task.old }
-    ensures { WorksOff readings.now Stage.ToMatch now server.old task.old server.new (emission_if result reply.new) }
+    ensures works { WorksOff readings.now Stage.ToMatch now server.old task.old server.new (emission_if result reply.new) }
+    ensures job { task.new.job ≡ task.old.job }
 {
     let slot = task.job.origin.slot.number();
     server.peek(task, slot);
@@ -274,7 +315,8 @@ fn run(
     reply: &mut Emission,
 ) -> bool
     requires { IsBegun server.old task.old }
-    ensures { (count : ℕ) → WorksOff readings.now (Stage.ToTake count) now server.old task.old server.new (emission_if result reply.new) }
+    ensures works { (count : ℕ) → WorksOff readings.now (Stage.ToTake count) now server.old task.old server.new (emission_if result reply.new) }
+    ensures job { task.new.job ≡ task.old.job }
 {
     server.take(readings, task);
     server.commit(now, task);
@@ -290,7 +332,8 @@ fn install(
     reply: &mut Emission,
 ) -> bool
     requires { IsBegun server.old task.old }
-    ensures { WorksOffUnread Stage.ToInstall now server.old task.old server.new (emission_if result reply.new) }
+    ensures works { WorksOffUnread Stage.ToInstall now server.old task.old server.new (emission_if result reply.new) }
+    ensures job { task.new.job ≡ task.old.job }
 {
     server.install(alloc, task);
     server.raise(task);
@@ -299,7 +342,8 @@ fn install(
 
 fn remove(server: &mut Server, now: u64, task: &mut Task, reply: &mut Emission) -> bool
     requires { IsBegun server.old task.old }
-    ensures { WorksOffUnread Stage.ToRemove now server.old task.old server.new (emission_if result reply.new) }
+    ensures works { WorksOffUnread Stage.ToRemove now server.old task.old server.new (emission_if result reply.new) }
+    ensures job { task.new.job ≡ task.old.job }
 {
     server.remove(task);
     server.raise(task);
@@ -308,7 +352,8 @@ fn remove(server: &mut Server, now: u64, task: &mut Task, reply: &mut Emission) 
 
 fn describe(server: &mut Server, now: u64, task: &mut Task, reply: &mut Emission) -> bool
     requires { IsBegun server.old task.old }
-    ensures { WorksOffUnread Stage.ToDescribe now server.old task.old server.new (emission_if result reply.new) }
+    ensures works { WorksOffUnread Stage.ToDescribe now server.old task.old server.new (emission_if result reply.new) }
+    ensures job { task.new.job ≡ task.old.job }
 {
     server.describe(task);
     server.respond(now, task, reply)
@@ -316,7 +361,8 @@ fn describe(server: &mut Server, now: u64, task: &mut Task, reply: &mut Emission
 
 fn discover(server: &mut Server, now: u64, task: &mut Task, reply: &mut Emission) -> bool
     requires { IsBegun server.old task.old }
-    ensures { (seen : ArrayVec ℕ) → WorksOffUnread (Stage.ToList seen) now server.old task.old server.new (emission_if result reply.new) }
+    ensures works { (seen : ArrayVec ℕ) → WorksOffUnread (Stage.ToList seen) now server.old task.old server.new (emission_if result reply.new) }
+    ensures job { task.new.job ≡ task.old.job }
 {
     for slot in 0..SLOTS {
         server.peek(task, slot);

@@ -1,4 +1,4 @@
-//! The trait of a server that takes datagrams in, and what each of its calls is said to do.
+//! The trait of a server that handles datagrams, and the effects of its calls.
 ghost use Rattle.std.specs.Prelude.{◌≡◌, MatchBool};
 ghost use Rattle.fc_registry.specs.Slots.{Shard};
 ghost use Rattle.fc_registry.specs.Watches.{at_time, is_quiet};
@@ -10,41 +10,57 @@ use coap_msg::{Emission, Endpoint};
 use fc_core::Heard;
 use fc_observe::Ticked;
 
-/// A server that takes datagrams in and notifies observers: one on one thread, or a dispatcher of workers. Each implementation says what its calls do.
+/// A server that handles datagrams and notifies observers.
+///
+/// It runs on one thread, or it is a dispatcher of workers. Each implementation states the effect
+/// of its calls.
 pub trait Intake {
-    // What each call does.
+    // The effect of each call.
     ghost calls: { IntakeCalls Self };
 
-    /// Takes a datagram in, at a moment in milliseconds. Its reply is written over another; its job is worked off, here or by a worker; its signal goes to each
-    /// shard. Tells `Reply` where what was written is to be sent, and `Job` where a worker has the job, or has sent what it came to.
+    /// Handles a datagram received at `now`, in milliseconds.
+    ///
+    /// A response is written over `reply`. The datagram's job runs here or on a worker. Its signal
+    /// goes to each shard. Returns `Reply` if the written datagram is to be sent, and `Job` if a
+    /// worker has the job or has sent its response.
     fn hear(&mut self, now: u64, from: Endpoint, bytes: &[u8], reply: &mut Emission) -> Heard
         ensures { calls.hears now from bytes.entry self.old self.new result reply.new };
 
-    /// Has time pass, to a moment in milliseconds.
+    /// Advances the clock to `now`, in milliseconds.
     fn tick(&mut self, now: u64)
         ensures { calls.passes now self.old self.new };
 
-    /// Has a shard, 0 to 7, tell what it sends again at a moment in milliseconds.
+    /// Advances a shard, 0 to 7, to `now`, and returns its retransmission.
+    ///
+    /// `now` is in milliseconds.
     fn resend(&mut self, shard: u8, now: u64) -> Ticked
         ensures { calls.resends shard now self.old self.new result };
 
-    /// Advances a shard, 0 to 7, to a moment in milliseconds where nothing is late and nobody is due. Tells whether it did.
+    /// Advances a shard, 0 to 7, to `now` in milliseconds if it is idle then.
+    ///
+    /// It is idle if no notification has timed out and no observer has a pending one. Returns
+    /// whether the shard was advanced.
     fn advance_if_quiet(&mut self, shard: u8, now: u64) -> bool
         ensures quiet { (some : Shard) × (result ≡ is_quiet (at_time some now)) }
         ensures after { MatchBool result (calls.passes_over shard now self.old self.new) (self.new ≡ self.old) };
 
-    /// Returns a moment before which nothing is late at a shard, 0 to 7, and nobody due, unless it takes a datagram in: the first that is known, or 2^64 - 1 where
-    /// none is.
+    /// Returns a time before which a shard, 0 to 7, is idle without a datagram.
+    ///
+    /// Before it no notification times out and no observer has a pending one. It needn't be the
+    /// latest such time. It is in milliseconds; 2^64 - 1 means that neither is expected.
     fn quiet_until(&self, shard: u8) -> u64
         ensures { calls.stays_quiet shard self.now result };
 
-    /// Has the observer of a shard, 0 to 7, notified that is due first at a moment in milliseconds, here or by a worker. What is to be sent of it is written over
-    /// another emission: nothing where a worker has the turn, or has sent what it came to.
+    /// Notifies the first observer of a shard, 0 to 7, that has a pending notification.
+    ///
+    /// `now` is in milliseconds. The lease runs here or on a worker. The datagram to send is
+    /// written over `emission`. Nothing is written if a worker has the lease or has sent its
+    /// notification.
     fn notify(&mut self, shard: u8, now: u64, emission: &mut Emission) -> NotifyOutcome
         ensures { calls.notifies shard now self.old self.new (notified_as result emission.new) };
 }
 
-/// Returns whether what was written is to be sent.
+/// Returns whether the written datagram is to be sent.
 pub fn is_reply(heard: Heard) -> bool
     ensures { result ≡ is_reply heard }
 {

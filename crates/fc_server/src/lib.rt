@@ -1,17 +1,20 @@
-//! A server on one thread: the front, the shards and the machine, and one call an event.
+//! A server on one thread: front, shards and machine, with one call for each event.
 //!
-//! [`Server`] holds them; each of its calls does one event to a task, as the stages of jobs say. [`Engine`] works each
-//! datagram off to its answer. [`Alone`] is an engine with what its jobs are handed, and meets [`Intake`], the trait of what takes datagrams in;
-//! [`settle::Settling`] takes the steps that are left at a moment, over any intake.
+//! - [`Server`] consists of them. Each of its calls applies one event to a task, as the stages of
+//!   jobs define.
+//! - [`Engine`] runs the job of each datagram to its response.
+//! - [`Alone`] is an engine with the input for its jobs. It implements [`Intake`], the trait of
+//!   servers that handle datagrams.
+//! - [`settle::Settling`] takes the remaining steps at one time, for any intake.
 //!
 //! ```rust
 //! use coap_msg::{Emission, Endpoint};
 //! use fc_core::front::blank_emission;
 //! use fc_help::NO_READINGS;
-//! use fc_server::Engine;
+//! use fc_server::{Engine, NoWitness};
 //! use std::alloc::Global;
 //!
-//! /// What a datagram is answered, after its job was worked off with readings of zeros.
+//! /// Returns the response to a datagram, whose job gets readings of zeros.
 //! fn reply(
 //!     alloc: Global,
 //!     engine: &mut Engine,
@@ -20,7 +23,8 @@
 //!     bytes: &[u8],
 //! ) -> Option<Emission> {
 //!     let mut reply = blank_emission();
-//!     if engine.hear(alloc, now, from, bytes, &NO_READINGS, &mut reply) {
+//!     let readings = &NO_READINGS;
+//!     if engine.hear(alloc, now, from, bytes, readings, &mut reply, &mut NoWitness) {
 //!         Some(reply)
 //!     } else {
 //!         None
@@ -30,16 +34,26 @@
 //!
 //! # What is proved
 //!
-//! - Each call is an event, and what it does with a datagram is the list of the events of one job, whatever the history so far, whose
-//!   taking is handed the readings that the call was given.
-//! - A signal goes to each shard. A shard that is ticked tells what it sends again, that it removed an observer, or that nothing is late;
-//!   one that is asked gives a turn just where an observer is due, and the turn is worked off by its events. It tells that no message id
-//!   was free only where none is, and that there was no memory only of a slot that holds a program.
-//! - Before the moment that a shard tells, nothing is late there and nobody due, unless the server is called.
-//! - **Settling** goes over the shards in order, and each step looks for what is to be found next. Where it is at its end, nothing is late and nobody due at any shard,
-//!   or no message id was free. The moment that `settle::quiet_until` returns is the earliest of those that the shards tell.
+//! - Each call is an event. The effect of a datagram is the list of events of one job, whatever the
+//!   history so far. The job's snapshot gets the readings that were passed to the call.
+//! - **A witness** observes the job of each request once, with the emission of its answer, and
+//!   nothing else.
+//! - A signal goes to each shard.
+//! - A shard that is ticked returns its retransmission, the removal of an observer, or that no
+//!   notification has timed out.
+//! - A shard grants a lease exactly if one of its observers has a pending notification. The lease
+//!   runs by its events.
+//! - `Engine::notify` returns `Starved` only if no message ID was available, and `Unsent` only for
+//!   a slot that has a program.
+//! - Before the time that a shard returns, no notification times out there and no observer has a
+//!   pending one, unless the server is called.
+//! - **Settling** goes over the shards in order: at each, first until no notification has timed
+//!   out, then until no observer has a pending one. At its end each shard was found so, or no
+//!   message ID was available. The time that `settle::quiet_until` returns is the earliest of those
+//!   that the shards return.
 //!
-//! By the contracts of `Server`, `Engine::hear`, `tick`, `resend`, `notify`, `quiet_until`, `Alone`, `Settling::begin`, `step`, `settle::quiet_until`.
+//! By the contracts of `Server`, `Engine::hear`, `tick`, `resend`, `notify`, `quiet_until`,
+//! `Alone`, `Settling::begin`, `step`, `settle::quiet_until`.
 #![tactic(auto)]
 
 pub mod alone;
@@ -47,8 +61,10 @@ pub mod engine;
 pub mod intake;
 pub mod server;
 pub mod settle;
+pub mod witness;
 
 pub use alone::Alone;
 pub use engine::Engine;
 pub use intake::Intake;
 pub use server::{Begin, DEFAULT_BEGIN, Server};
+pub use witness::{NoWitness, Witness};

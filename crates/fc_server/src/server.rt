@@ -1,4 +1,4 @@
-//! The front, the shards and the machine, and one call an event.
+//! The front, the shards and the machine, with one call for each event.
 ghost use Rattle.std.specs.Prelude.{◌≡◌, ℕ, List, ◌<◌, ◌≤◌, if◌then◌else◌, [], false, length, slice_set, IfOk, OnOk};
 ghost use Rattle.fc_registry.specs.Shards.{first_shards, shard_at};
 ghost use Rattle.fc_registry.specs.Turns.{written_if};
@@ -20,7 +20,9 @@ use fc_registry::{Job, Shard, make_shards};
 use std::alloc::{AllocError, Global};
 use std::marker::Model;
 
-/// What a server begins with: the serial of its empty slots, the first message id of its own, and its policy.
+/// The initial state of a server.
+///
+/// It has the serial of its empty slots, the first message ID that it draws, and its policy.
 #[derive(Clone, Copy)]
 pub struct Begin {
     pub serial: u64,
@@ -28,15 +30,17 @@ pub struct Begin {
     pub policy: Policy,
 }
 
-/// A server that begins at serial 0 and message id 0, with the default policy.
+/// The default initial state: serial 0, message ID 0, and the default policy.
 pub const DEFAULT_BEGIN: Begin = Begin {
     serial: 0,
     id: 0,
     policy: DEFAULT_POLICY,
 };
 
-/// The front, the eight shards, the head words of their slots, and a frame to run programs in: all that a server on one
-/// thread holds beside its jobs. A clause sees what the front holds, the shards, and the head words.
+/// The complete state of a server on one thread, except for its jobs.
+///
+/// It has the front, the eight shards, the head words of their slots, and a frame to run programs
+/// in. A clause sees the state of the front, the shards, and the head words.
 #[derive(Drop)]
 pub struct Server {
     front: Front,
@@ -54,10 +58,10 @@ impl Model for Server {
 }
 
 impl Server {
-    /// Makes a server that holds nothing, with slots 0 to 63 empty, that begins as `begin` says.
+    /// Makes a server with empty slots 0 to 63 and the initial state `begin`.
     ///
     /// # Errors
-    /// There was no memory for it.
+    /// Returns `AllocError` if memory can't be allocated.
     pub fn new(alloc: Global, begin: &Begin) -> Result<Server, AllocError>
         requires { CanBegin begin.now }
         ensures front { IfOk result (λ s. s.front ≡ first_front begin.now.policy begin.now.id) }
@@ -72,7 +76,9 @@ impl Server {
         })
     }
 
-    /// Takes a datagram in, at a moment in milliseconds, and writes the job that it brings, or the reply, over another.
+    /// Handles a datagram received at `now`, in milliseconds.
+    ///
+    /// The job that it produces, or the response, is written over `job` or `reply`.
     pub fn hear(
         &mut self,
         now: u64,
@@ -89,7 +95,7 @@ impl Server {
         self.front.hear(now, endpoint, bytes, job, reply)
     }
 
-    /// Advances the front to a moment in milliseconds.
+    /// Advances the front to `now`, in milliseconds.
     pub fn tick(&mut self, now: u64)
         ensures front { self.new.front ≡ advanced self.old.front now }
         ensures shards { self.new.shards ≡ self.old.shards }
@@ -98,8 +104,10 @@ impl Server {
         self.front.tick(now);
     }
 
-    /// Asks a shard for the turn of an observer that is due at a moment in milliseconds: the job that answers its request anew is
-    /// written over another. Tells whether there is one; else the job stays as it was.
+    /// Requests the lease of an observer of a shard that has a pending notification.
+    ///
+    /// `now` is in milliseconds. If there is such an observer, the job that runs its request again
+    /// is written over `job`, and the result is `true`. Otherwise `job` is unchanged.
     pub fn due(&mut self, shard: u8, now: u64, job: &mut Job) -> bool
         requires { shard < length self.old.shards }
         ensures job { written_if result job.new ≡ shard_turn now (shard_at self.old.shards shard) }
@@ -111,7 +119,7 @@ impl Server {
         self.shards[usize::from(shard)].write_due(now, job)
     }
 
-    /// Hands an Acknowledgement or a Reset message to the observers of a shard's slots.
+    /// Passes an Acknowledgement or Reset message to the observers of a shard's slots.
     pub fn signal(&mut self, shard: u8, endpoint: Endpoint, id: u16, reset: bool)
         requires { shard < length self.old.shards }
         ensures front { self.new.front ≡ self.old.front }
@@ -122,8 +130,10 @@ impl Server {
         self.shards[usize::from(shard)].signal(endpoint, id, reset);
     }
 
-    /// Advances a shard to a moment in milliseconds, at which it sends the first notification that is late again, or removes its observer: tells which, or that
-    /// nothing is late.
+    /// Advances a shard to `now`, in milliseconds.
+    ///
+    /// The shard retransmits the first notification that has timed out, or removes its observer.
+    /// Returns which of these, or that no notification has timed out.
     pub fn tick_shard(&mut self, shard: u8, now: u64) -> Ticked
         requires { shard < length self.old.shards }
         ensures told { result ≡ shard_told now (shard_at self.old.shards shard) }
@@ -134,7 +144,10 @@ impl Server {
         self.shards[usize::from(shard)].tick(now)
     }
 
-    /// Advances a shard to a moment in milliseconds where no notification is late by then, and no observer is due. Tells whether it did.
+    /// Advances a shard to `now`, in milliseconds, if it is idle then.
+    ///
+    /// It is idle if no notification has timed out by then and no observer has a pending one.
+    /// Returns whether the shard was advanced.
     pub fn advance_if_quiet(&mut self, shard: u8, now: u64) -> bool
         requires { shard < length self.old.shards }
         ensures quiet { result ≡ is_quiet (at_time (shard_at self.old.shards shard) now) }
@@ -147,7 +160,10 @@ impl Server {
         self.shards[usize::from(shard)].advance_if_quiet(now)
     }
 
-    /// Returns a moment before which no notification of a shard is late, and no observer due, unless the server is called.
+    /// Returns a time before which a shard is idle unless the server is called.
+    ///
+    /// Before it no notification times out and no observer has a pending one. It needn't be the
+    /// latest such time. It is in milliseconds; 2^64 - 1 means that neither is expected.
     pub fn quiet_until(&self, shard: u8) -> u64
         requires { shard < length self.now.shards }
         ensures { StaysQuietUntil result (shard_at self.now.shards shard) }
@@ -155,10 +171,13 @@ impl Server {
         self.shards[usize::from(shard)].quiet_until()
     }
 
-    /// Carries out an event on the task of its job: what is sent. An event that names no job does nothing to it.
+    /// Applies an event to the task of its job, and returns the datagram to send.
+    ///
+    /// An event that names no job has no effect on the task.
     ///
     /// # Errors
-    /// There was no memory where the event says that there is, and nothing is said.
+    /// Returns `AllocError` if the event assumes that memory can be allocated, and it can't be.
+    /// Then nothing is guaranteed.
     pub fn work(
         &mut self,
         alloc: Global,
@@ -222,7 +241,7 @@ impl Server {
         }
     }
 
-    /// Has a task look at the head word of a slot.
+    /// Applies `Peek`: reads the head word of a slot for a task.
     pub fn peek(&mut self, task: &mut Task, slot: u8)
         requires { AtWork self.old task.old }
         ensures { (k : ℕ) → Does (Event.Peek k slot) self.old task.old self.new task.new None }
@@ -230,7 +249,7 @@ impl Server {
         task.peek(slot, &self.heads);
     }
 
-    /// Has a task remove its slot's program.
+    /// Applies `Remove`: removes the program of a task's slot.
     pub fn remove(&mut self, task: &mut Task)
         requires { AtWork self.old task.old }
         ensures { (k : ℕ) → Does (Event.Remove k) self.old task.old self.new task.new None }
@@ -238,7 +257,7 @@ impl Server {
         task.remove(&mut self.shards[task.job.origin.slot.shard()]);
     }
 
-    /// Has a task ask what its slot's program is.
+    /// Applies `Receipt`: reads the receipt of the program in a task's slot.
     pub fn describe(&mut self, task: &mut Task)
         requires { AtWork self.old task.old }
         ensures { (k : ℕ) → Does (Event.Receipt k) self.old task.old self.new task.new None }
@@ -246,7 +265,9 @@ impl Server {
         task.describe(&self.shards[task.job.origin.slot.shard()]);
     }
 
-    /// Has a task take its slot, with these readings. Tells whether there was memory.
+    /// Applies `Take`: takes a snapshot of a task's slot with these readings.
+    ///
+    /// Returns whether memory could be allocated.
     pub fn take(&mut self, readings: &Readings, task: &mut Task) -> bool
         requires { AtWork self.old task.old }
         ensures { (k : ℕ) → Does (Event.Take k result readings.now) self.old task.old self.new task.new None }
@@ -254,7 +275,8 @@ impl Server {
         task.take(&mut self.shards[task.job.origin.slot.shard()], readings)
     }
 
-    // A task takes its slot, with these readings, where there is memory, or without.
+    // Takes a snapshot of a task's slot with these readings. If `memory` is false, records that
+    // memory couldn't be allocated.
     fn take_if(
         &mut self,
         memory: bool,
@@ -275,7 +297,9 @@ impl Server {
         }
     }
 
-    /// Has a task run its ticket's program, and commit at a moment in milliseconds.
+    /// Applies `Commit`: runs the program of a task's snapshot, and commits at `now`.
+    ///
+    /// `now` is in milliseconds.
     pub fn commit(&mut self, now: u64, task: &mut Task)
         requires { AtWork self.old task.old }
         ensures { (k : ℕ) → Does (Event.Commit k now) self.old task.old self.new task.new None }
@@ -284,7 +308,9 @@ impl Server {
         task.commit(&mut self.frame, shard, now);
     }
 
-    /// Has a task verify its image and install the program. Tells whether there was memory.
+    /// Applies `Install`: verifies a task's image and installs the program.
+    ///
+    /// Returns whether memory could be allocated.
     pub fn install(&mut self, alloc: Global, task: &mut Task) -> bool
         requires { AtWork self.old task.old }
         ensures { (k : ℕ) → Does (Event.Install k result) self.old task.old self.new task.new None }
@@ -293,7 +319,8 @@ impl Server {
         task.install(alloc, shard)
     }
 
-    // A task verifies its image and installs the program, where there is memory, or without.
+    // Verifies a task's image and installs the program. If `memory` is false, records that memory
+    // couldn't be allocated.
     fn install_if(&mut self, alloc: Global, memory: bool, task: &mut Task) -> Result<(), AllocError>
         requires { AtWork self.old task.old }
         ensures { OnOk result ((k : ℕ) → Does (Event.Install k memory) self.old task.old self.new task.new None) }
@@ -309,7 +336,7 @@ impl Server {
         }
     }
 
-    /// Has a task publish the new head word of its slot.
+    /// Applies `Raise`: publishes the new head word of a task's slot.
     pub fn raise(&mut self, task: &mut Task)
         requires { AtWork self.old task.old }
         ensures { (k : ℕ) → Does (Event.Raise k) self.old task.old self.new task.new None }
@@ -317,8 +344,10 @@ impl Server {
         task.raise(&mut self.heads);
     }
 
-    /// Has a task draw a message id for the notification of its turn, at a moment in milliseconds, where it stands there. Where none is
-    /// free it stands there still.
+    /// Applies `Fresh`: draws a message ID for the notification of a task's lease.
+    ///
+    /// `now` is in milliseconds. It has no effect unless the task's stage needs a message ID. If no
+    /// message ID is available, the stage is unchanged.
     pub fn fresh(&mut self, now: u64, task: &mut Task)
         requires { AtWork self.old task.old }
         ensures { DrawsId now self.old task.old self.new task.new }
@@ -328,7 +357,8 @@ impl Server {
         }
     }
 
-    // A task notifies its turn's observer, at a moment in milliseconds: what is sent.
+    // Notifies the observer of a task's lease at `now`, in milliseconds. Returns the datagram to
+    // send.
     fn tell(&mut self, now: u64, random: u16, task: &mut Task) -> Option<Emission>
         requires { AtWork self.old task.old }
         ensures { (k : ℕ) → Does (Event.Note k now random) self.old task.old self.new task.new result }
@@ -341,8 +371,11 @@ impl Server {
         }
     }
 
-    /// Has a task run the program that its turn's taking found, if it found one, and notify the turn's observer, at a moment in
-    /// milliseconds, where the turn is out still: what is sent is written over another emission. Tells whether anything is.
+    /// Applies `Note`: runs the snapshot's program and notifies the lease's observer.
+    ///
+    /// `now` is in milliseconds. No program runs if the slot was empty. The observer is notified if
+    /// the lease is still out. The datagram is written over `emission`. Returns whether there is
+    /// one to send.
     pub fn note(&mut self, now: u64, random: u16, task: &mut Task, emission: &mut Emission) -> bool
         requires { AtWork self.old task.old }
         ensures { (k : ℕ) →
@@ -352,7 +385,7 @@ impl Server {
         task.note(&mut self.frame, shard, now, random, emission)
     }
 
-    /// Has a task give up its turn, at a moment in milliseconds.
+    /// Applies `GiveUp`: releases the lease of a task at `now`, in milliseconds.
     pub fn give_up(&mut self, now: u64, task: &mut Task)
         requires { AtWork self.old task.old }
         ensures { (k : ℕ) → Does (Event.GiveUp k now) self.old task.old self.new task.new None }
@@ -360,7 +393,8 @@ impl Server {
         task.give_up(&mut self.shards[task.job.origin.slot.shard()], now);
     }
 
-    // A task is answered at a moment in milliseconds, where it stands there: what is sent.
+    // Answers a task at `now`, in milliseconds, if its stage has an answer. Returns the datagram to
+    // send.
     fn answer(&mut self, now: u64, task: &mut Task) -> Option<Emission>
         requires { AtWork self.old task.old }
         ensures { Responds now self.old task.old self.new task.new result }
@@ -373,8 +407,10 @@ impl Server {
         }
     }
 
-    /// Answers a task at a moment in milliseconds, where it stands there, and what is sent is written over another
-    /// emission. Tells whether anything is sent.
+    /// Applies `Answer`: answers a task if its stage has an answer.
+    ///
+    /// `now` is in milliseconds. The datagram is written over `reply`. Returns whether there is one
+    /// to send.
     pub fn respond(&mut self, now: u64, task: &mut Task, reply: &mut Emission) -> bool
         requires { AtWork self.old task.old }
         ensures { Responds now self.old task.old self.new task.new (emission_if result reply.new) }
@@ -390,7 +426,7 @@ impl Server {
         }
     }
 
-    /// Ends it, and returns its shards.
+    /// Ends the server, and returns its shards.
     pub fn into_shards(self) -> Vec<Shard>
         ensures { result.items ≡ self.shards }
     {

@@ -1,4 +1,4 @@
-//! What follows a datagram or a moment: what is late is sent again, and observers that are due are notified.
+//! The work after a datagram or a tick: retransmissions and notifications.
 ghost use Rattle.std.specs.Prelude.{◌≡◌, ◌+◌, ◌<◌, ◌≤◌, ◌↔◌, [], false, true, IsTrue, List};
 ghost use Rattle.coap_msg.specs.declared.types.Emission.{Emission as Emitted};
 ghost use Rattle.fc_core.specs.Legal.{resent};
@@ -13,12 +13,16 @@ use coap_msg::Emission;
 use fc_observe::Ticked;
 use fc_registry::SHARDS;
 
-/// More steps than there are at one moment: each of 32 observers of each of 64 slots is sent one notification again at most, and notified once, and
-/// a shard tells once of each that there is nothing left.
+/// More steps than there can be at one time.
+///
+/// Each of 32 observers of each of 64 slots gets at most one retransmission and one notification.
+/// Each shard reports once for each of these two that nothing is left.
 pub const STEPS: u16 = 8192;
 
-/// Where a server is in what is left to do at a moment: at a shard, whose late notifications are sent again first, until there is none,
-/// and whose observers are notified then, until none is due.
+/// The position of a server in the remaining work at one time.
+///
+/// At each shard, notifications that have timed out are retransmitted first, until there is none.
+/// Then its observers are notified, until none has a pending notification.
 #[derive(Drop)]
 pub struct Settling {
     shard: u8,
@@ -26,8 +30,10 @@ pub struct Settling {
 }
 
 impl Settling {
-    /// At the first shard that has something to do at a moment in milliseconds; those before it are passed over. Most have nothing, and no room is made
-    /// for what they would send.
+    /// Returns the position of the first shard that isn't idle at `now`, or the end.
+    ///
+    /// `now` is in milliseconds. The shards before it are advanced. Most shards are idle, and no
+    /// memory for a datagram is needed for them.
     pub fn begin<N: Intake>(intake: &mut N, now: u64) -> Settling
         ensures { (steps : List SettlingStep) × AreStepsTo N.calls now steps intake.old intake.new result × (sent_in_steps steps ≡ []) }
     {
@@ -41,15 +47,17 @@ impl Settling {
         settling
     }
 
-    /// Whether nothing is left.
+    /// Returns whether nothing is left.
     pub fn is_at_end(&self) -> bool
         ensures { IsTrue result ↔ 8 ≤ self.now.shard }
     {
         self.shard >= SHARDS
     }
 
-    /// Asks the shard that it is at: what is to be sent, if anything, is written over another emission. Tells whether anything is. Where no message id is free,
-    /// nothing is left.
+    /// Takes a step at the current shard.
+    ///
+    /// The datagram to send, if there is one, is written over `emission`. Returns whether there is
+    /// one. If no message ID is available, nothing is left.
     #[inline(never)]
     pub fn step<N: Intake>(&mut self, intake: &mut N, now: u64, emission: &mut Emission) -> bool
         requires { self.old.shard < 8 }
@@ -66,7 +74,8 @@ impl Settling {
         self.resend(intake, now, emission)
     }
 
-    // Has the first late notification of its shard sent again, or goes on to those that are due. Few are late, so no room is made for one where none is.
+    // Retransmits the first notification of the shard that has timed out, or goes on to its
+    // observers. Retransmissions are rare, so no memory is set aside for one unless it is needed.
     #[inline(never)]
     fn resend<N: Intake>(&mut self, intake: &mut N, now: u64, emission: &mut Emission) -> bool
         requires shard { self.old.shard < 8 }
@@ -78,7 +87,8 @@ impl Settling {
         self.resent(ticked, emission)
     }
 
-    // Has the first observer of its shard that is due notified, or goes on to the next shard; where no message id is free, to the end.
+    // Notifies the first observer of the shard that has a pending notification, or goes on to the
+    // next shard. If no message ID is available, goes to the end.
     fn notify<N: Intake>(&mut self, intake: &mut N, now: u64, emission: &mut Emission) -> bool
         requires shard { self.old.shard < 8 }
         requires due { self.old.notifies ≡ true }
@@ -99,7 +109,8 @@ impl Settling {
         self.notifies = false;
     }
 
-    // Goes on after its shard was ticked: what is to be sent is written over another emission. Tells whether anything is.
+    // Goes on after the shard was ticked. The datagram to send is written over `emission`. Returns
+    // whether there is one.
     fn resent(&mut self, ticked: Ticked, emission: &mut Emission) -> bool
         requires shard { self.old.shard < 8 }
         requires late { self.old.notifies ≡ false }
@@ -119,7 +130,8 @@ impl Settling {
         }
     }
 
-    // Goes on after its shard was asked who is due. Tells whether what was written is to be sent.
+    // Goes on after the shard was asked for a lease. Returns whether the written datagram is to be
+    // sent.
     fn notified(&mut self, outcome: NotifyOutcome) -> bool
         requires shard { self.old.shard < 8 }
         requires due { self.old.notifies ≡ true }
@@ -140,7 +152,6 @@ impl Settling {
         }
     }
 
-    // Goes to the end.
     fn end(&mut self)
         ensures shard { self.new.shard ≡ 8 }
         ensures late { self.new.notifies ≡ false }
@@ -150,7 +161,9 @@ impl Settling {
     }
 }
 
-/// Returns the earliest of the moments until which the eight shards are quiet, in milliseconds. `u64::MAX` is none.
+/// Returns the earliest of the times until which the eight shards are idle.
+///
+/// The result is in milliseconds; it is `u64::MAX` if the shards return no earlier time.
 pub fn quiet_until<N: Intake>(intake: &N) -> u64
     ensures { AreQuietUntil (λ shard until. N.calls.stays_quiet shard intake.now until) result }
 {

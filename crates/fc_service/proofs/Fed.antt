@@ -1,5 +1,5 @@
--- Pools that were fed.
-use Rattle.std.proofs.Common.{ℕ, Bool, List, Option, Result, Ok, Err, OnOk}
+-- Pools and their feeders.
+use Rattle.std.proofs.Common.{◌≡◌, ℕ, Bool, List, Option, Result, Ok, Err, OnOk}
 use Rattle.std.specs.Prelude.{⊤}
 use Rattle.fc_server.specs.declared.server.Begin.{Begin}
 use Rattle.fc_workers.specs.Fronts.{beginning}
@@ -11,7 +11,7 @@ use Rattle.fc_workers.specs.Called.{Shop}
 use Rattle.fc_workers.specs.declared.dispatcher.Handover.{Handover}
 use Rattle.fc_workers.specs.declared.dispatcher.Handover.TheVariants.{Every}
 
--- fed so, said of another feeder and of what it gave
+-- the same for another feeder and its result.
 pub fed_as : {T : Type 0} {F G X Y : Type 0} (s : Shop T) (Feeds : IntakeCalls (Dispatching T) → F → Dispatching T → Dispatching T → X → Type 0) (Told : IntakeCalls (Dispatching T) → G → Dispatching T → Dispatching T → Y → Type 0)
     (handover : Handover) (workers : ℕ) (feeder : F) (given : X) (other : G) (told : Y) (replies : Replies)
     → ((first last : Dispatching T) → Feeds (pooled_calls s) feeder first last given → Told (pooled_calls s) other first last told)
@@ -30,9 +30,9 @@ fed_as s Feeds Told handover workers feeder given other told replies lifts w =
       counted = w.counted;
     }
 
--- lines that a feeder played beside workers, if it played them to the end
+-- lines that a feeder played with workers, if it played them to the end.
 pub played_beside : {F E : Type 0} (begin : Begin) (workers : ℕ) (lines : F → Option (List ℕ)) (feeder : F) (r : Result (Unit {0}) E) (has_workers : Bool) (replies : Replies)
-    → IsFedBeside (locked_shop (beginning begin.policy begin.id) (λ readings before after. ⊤) (λ now before after. ⊤) (λ random. ⊤) (λ call before after. ⊤))
+    → IsFedBeside (locked_shop (beginning begin.policy begin.id) (λ readings before after. ⊤) (λ now before after. ⊤) (λ random. ⊤) (λ call before after. ⊤) (λ change before after. after ≡ before))
     (λ calls f first last given. OnOk given (IsFedByLines calls (lines f) first)) (handover_where has_workers Every) workers feeder r replies
     → OnOk r ((workers_begun : Bool) × (counted : Replies) × IsPlayedBeside begin (handover_where workers_begun Every) workers (lines feeder) counted)
 played_beside begin workers lines feeder (Ok x) has_workers replies w = (has_workers, replies, fed_as _ _ _ _ workers feeder (Ok x) (lines feeder) (tt {0}) replies (λ first last fed. fed) w)

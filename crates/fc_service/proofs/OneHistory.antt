@@ -1,4 +1,4 @@
--- What a server on one thread does in all rounds, or for all lines, is one history.
+-- All rounds, or all lines, of a server on one thread are one history.
 use Rattle.std.proofs.Common.{◌≡◌, ℕ, zero, suc, Bool, true, false, List, [], ◌∷◌, ◌++◌, length, map, append-nil, Option, Some, None, refl, ap, sym, subst, ◌∙◌, Bor}
 use Rattle.std.specs.Option.{option_to_list}
 use Rattle.std.specs.Prelude.{◌%◌, flat_map}
@@ -26,7 +26,10 @@ use Rattle.fc_lines.specs.declared.line.Line.TheVariants as lines
 use Rattle.fc_lines.specs.Emissions.{peer_endpoint, printed}
 use Rattle.fc_host.specs.Sockets.{Incoming, Receive}
 use Rattle.fc_service.proofs.Settled.{printed_of}
-use Rattle.fc_service.specs.Alone.{HandsAlone, ReadiesAlone}
+use Rattle.fc_service.specs.Alone.{HandsAlone, ReadiesAlone, ReadiesRecorded}
+use Rattle.fc_record.specs.ProgramRequests.{Requested}
+use Rattle.fc_record.specs.Recording.{Recording, recorded_calls}
+use Rattle.fc_workers.specs.declared.call_log.CallLog.{CallLog}
 use Rattle.fc_server.specs.Alone.{HearsAlone, PassesAlone, alone_calls}
 use Rattle.fc_service.specs.Histories.{Arrival, IsOneHistory, arrivals_in, arrivals_in_lines, arrived_by, datagram_in, sent_in_lines}
 use Rattle.fc_service.specs.Intakes.{IsHeardBy}
@@ -38,7 +41,7 @@ use Rattle.fc_service.specs.Traffic.{Sending}
 use Rattle.fc_server.specs.declared.alone.Alone.{Alone}
 use Rattle.fc_service.specs.declared.replies.Replies.{Replies}
 
--- ---- what follows on a history
+-- ---- continuations of a history
 
 abbrev arrived_in : List Entry → List Arrival
 arrived_in entries = flat_map (λ r. arrived_by r.event) entries
@@ -46,7 +49,7 @@ arrived_in entries = flat_map (λ r. arrived_by r.event) entries
 abbrev emitted_in : List Entry → List Emission
 emitted_in entries = flat_map (λ r. option_to_list r.emitted) entries
 
--- a history is this one and some events after it, by which these arrived and were emitted
+-- a history is this one and some events after it, with these arrivals and emissions.
 record Follows (h : History) (arrives : List Arrival) (emits : List Emission) (later : History) : Type 0 where
   entries : List Entry
   is : later ≡ followed_by h entries
@@ -71,13 +74,13 @@ both_follow h mid later ds ds' es es' v w = record {
   emits_are = flat_map-append (λ (r : Entry). option_to_list r.emitted) v.entries w.entries ∙ (λ i. v.emits_are i ++ w.emits_are i);
 }
 
--- one event more by which nothing arrives and nothing is emitted
+-- one more event without an arrival or an emission.
 silent_next : (h mid : History) (ds : List Arrival) (es : List Emission) (e : Event) → arrived_by e ≡ [] → Follows h ds es mid → Follows h ds es (next mid e None)
 silent_next h mid ds es e none v =
     let w = both_follow h mid (next mid e None) ds (arrived_by e) es [] v (one_follows mid e None) in
     record { entries = w.entries; is = w.is; arrives_are = w.arrives_are ∙ (ap (λ (l : List Arrival). ds ++ l) none ∙ append-nil ds); emits_are = w.emits_are ∙ append-nil es }
 
--- one more by which nothing arrives, after those that emitted nothing
+-- one more event without an arrival, after events without emissions.
 last_next : (h mid : History) (ds : List Arrival) (e : Event) (out : Option Emission) → arrived_by e ≡ [] → Follows h ds [] mid → Follows h ds (option_to_list out) (next mid e out)
 last_next h mid ds e out none v =
     let w = both_follow h mid (next mid e out) ds (arrived_by e) [] (option_to_list out) v (one_follows mid e out) in
@@ -127,14 +130,14 @@ turned_follows h readings k memory now random out mid v =
 
 -- ---- a server's calls
 
--- a server went on from a history: some events delivered and emitted these, and left it
+-- a server continued a history: some events with these arrivals and emissions left it.
 record GoesOn (h : History) (ds : List Arrival) (es : List Emission) (new : ServerState) : Type 0 where
   later : History
   follows : Follows h ds es later
   tasks : List Task
   serves : Serves later new tasks
 
--- a datagram
+-- a datagram.
 heard_goes_on : (readings : List ℕ) (h : History) (k now : ℕ) (to : Endpoint) (bytes : Bor (List ℕ)) (d : Delivered) (new : ServerState) (out : Option Emission)
     → Heard readings h k now to bytes d new out → GoesOn h (arrived_by (Deliver now to bytes)) (option_to_list out) new
 heard_goes_on readings h k now to bytes (Brings job) new out w = record {
@@ -154,7 +157,7 @@ heard_goes_on readings h k now to bytes (Signals id reset) new out w = record {
 heard_goes_on readings h k now to bytes other new out w =
     record { later = next h (Deliver now to bytes) out; follows = one_follows h (Deliver now to bytes) out; tasks = w.tasks; serves = w.serves }
 
--- a turn that was asked for
+-- a lease that was requested.
 turn_goes_on : (given : Bool) (readings : List ℕ) (h : History) (shard k now random : ℕ) (new : ServerState) (out : Option Emission)
     → TurnGiven given readings (next h (Due shard now) None) k now random new out → GoesOn h [] (option_to_list out) new
 turn_goes_on false readings h shard k now random new out w = record {
@@ -170,11 +173,11 @@ turn_goes_on true readings h shard k now random new out w = record {
   serves = w.serves;
 }
 
--- a history leaves a server on one thread, whatever its jobs are handed
+-- a history leaves a server on one thread, with any input for its jobs.
 abbrev Leaves : History → Alone → List Task → Type 0
 Leaves h a tasks = Serves h a.engine tasks
 
--- one step
+-- one step.
 step_goes_on : (now : ℕ) (step : SettlingStep) (old new : Alone) (h : History) (tasks : List Task) → IsStepBy alone_calls now step old new → Leaves h old tasks
     → GoesOn h [] (option_to_list (sent_in_step step)) new.engine
 step_goes_on now (Resent shard ticked) old new h tasks w v = record {
@@ -188,12 +191,12 @@ step_goes_on now (Passed shard) old new h tasks w v =
 step_goes_on now (Asked shard told) old new h tasks w v =
     turn_goes_on (is_given told) old.handed.readings h (shard % 8) (length tasks) now old.handed.random new.engine (notification_in told) (w.1.0.asked h tasks v)
 
--- what went on, and then went on again
+-- a continuation of a continuation.
 both_go_on : (h : History) (ds ds' : List Arrival) (es es' : List Emission) (mid new : ServerState) (v : GoesOn h ds es mid) → GoesOn v.later ds' es' new → GoesOn h (ds ++ ds') (es ++ es') new
 both_go_on h ds ds' es es' mid new v w =
     record { later = w.later; follows = both_follow h v.later w.later ds ds' es es' v.follows w.follows; tasks = w.tasks; serves = w.serves }
 
--- steps
+-- steps.
 steps_go_on : (now : ℕ) (steps : List SettlingStep) (old new : Alone) (h : History) (tasks : List Task) → AreStepsBy alone_calls now steps old new
     → Leaves h old tasks → GoesOn h [] (sent_in_steps steps) new.engine
 steps_go_on now [] old new h tasks is v =
@@ -203,12 +206,12 @@ steps_go_on now (step ∷ steps) old new h tasks w v =
     both_go_on h [] [] (sent_in_steps steps) (option_to_list (sent_in_step step)) w.0.engine new.engine before
     (step_goes_on now step w.0 new before.later before.tasks w.1 before.serves)
 
--- the same, of lists that are equal
+-- the same, of equal lists.
 goes_on_as : {h : History} {new : ServerState} (ds ds' : List Arrival) (es es' : List Emission) → ds ≡ ds' → es ≡ es' → GoesOn h ds es new → GoesOn h ds' es' new
 goes_on_as {h} {new} ds ds' es es' same equal w =
     subst (λ (l : List Arrival). GoesOn h l es' new) same (subst (λ (l : List Emission). GoesOn h ds l new) equal w)
 
--- a datagram that was heard whole
+-- a datagram that was received whole.
 datagram_goes_on : (now : ℕ) (incoming : Incoming) (old new : Alone) (sent : Option Emission) (h : History) (tasks : List Task) → IsHeardBy HearsAlone now incoming old sent new
     → Leaves h old tasks → GoesOn h (record { now = now; came = Some incoming } ∷ []) (option_to_list sent) new.engine
 datagram_goes_on now incoming old new sent h tasks w v =
@@ -244,18 +247,17 @@ module _ (sensors : List ℕ → Type 0) where
       (steps_go_on r.now r.steps w.answered new heard.later heard.tasks w.steps heard.serves) in
       goes_on_as _ came _ (map (λ s. s.emission) r.sendings) refl (sym w.sent) all
 
-  rounds_go_on : (rounds : List Round) (old new : Alone) (h : History) (tasks : List Task)
-      → AreRoundsBy (ReadiesAlone sensors) alone_calls rounds old new → Leaves h old tasks
-      → GoesOn h (arrivals_in rounds) (map (λ s. s.emission) (sendings_in rounds)) new.engine
-  rounds_go_on [] old new h tasks is v =
-      record { later = h; follows = none_follows h; tasks = tasks; serves = subst (λ (a : Alone). Leaves h a tasks) (sym is) v }
-  rounds_go_on (r ∷ rounds) old new h tasks w v =
-      let before = rounds_go_on rounds old w.0 h tasks w.1 v in
-      let all = both_go_on h (arrivals_in rounds) (record { now = r.now; came = r.received } ∷ []) (map (λ s. s.emission) (sendings_in rounds)) (map (λ s. s.emission) r.sendings) w.0.engine new.engine before
-      (round_goes_on r w.0 new before.later before.tasks w.3 before.serves) in
+  -- one more round.
+  round_goes_after : (r : Round) (rounds : List Round) (old new : Alone) (h : History)
+      → (before : GoesOn h (arrivals_in rounds) (map (λ s. s.emission) (sendings_in rounds)) old.engine)
+      → IsRoundBy (ReadiesAlone sensors) alone_calls r old new
+      → GoesOn h (arrivals_in (r ∷ rounds)) (map (λ s. s.emission) (sendings_in (r ∷ rounds))) new.engine
+  round_goes_after r rounds old new h before w =
+      let all = both_go_on h (arrivals_in rounds) (record { now = r.now; came = r.received } ∷ []) (map (λ s. s.emission) (sendings_in rounds)) (map (λ s. s.emission) r.sendings) old.engine new.engine before
+      (round_goes_on r old new before.later before.tasks w before.serves) in
       goes_on_as _ _ _ (map (λ s. s.emission) (sendings_in rounds ++ r.sendings)) refl (sym (map-append (λ (s : Sending). s.emission) (sendings_in rounds) r.sendings)) all
 
--- it is one history
+-- it is one history.
 one_history : (begin : Begin) (ds : List Arrival) (es : List Emission) (s : ServerState) → GoesOn (begin_of begin) ds es s → IsOneHistory begin ds es s
 one_history begin ds es s w = record {
   entries = w.follows.entries;
@@ -265,12 +267,50 @@ one_history begin ds es s w = record {
   emits = w.follows.emits_are;
 }
 
-pub rounds_are_one_history : (sensors : List ℕ → Type 0) (e : RoundCalls) (limit : ℕ) (begin : Begin) (before after : Option (List Receive)) (replies : Replies)
-    (w : HasServed sensors e limit begin before after replies)
-    → IsOneHistory begin (arrivals_in w.run.rounds) (map (λ s. s.emission) (sendings_in w.run.rounds)) w.last.engine
-rounds_are_one_history sensors e limit begin before after replies w =
-    one_history begin (arrivals_in w.run.rounds) (map (λ s. s.emission) (sendings_in w.run.rounds)) w.last.engine
-    (rounds_go_on sensors w.run.rounds w.first w.last (begin_of begin) [] w.run.has.are_rounds w.begins)
+-- rounds of a server whose changes are recorded are rounds of the server.
+module _ (sensors : List ℕ → Type 0) (Recorded : Requested → CallLog → CallLog → Type 0) where
+  unrecorded_steps : (now : ℕ) (steps : List SettlingStep) (old new : Recording) → AreStepsBy (recorded_calls Recorded) now steps old new
+      → AreStepsBy alone_calls now steps old.alone new.alone
+  unrecorded_steps now [] old new is = ap (λ (r : Recording). r.alone) is
+  unrecorded_steps now (Resent shard ticked ∷ steps) old new w = (w.0.alone, (w.1.0, w.1.1.0), unrecorded_steps now steps old w.0 w.2)
+  unrecorded_steps now (Passed shard ∷ steps) old new w = (w.0.alone, (w.1.0, w.1.1.0), unrecorded_steps now steps old w.0 w.2)
+  unrecorded_steps now (Asked shard told ∷ steps) old new w = (w.0.alone, (w.1.0, w.1.1.0), unrecorded_steps now steps old w.0 w.2)
+
+  unrecorded_received : (now : ℕ) (received : Option Incoming) (old new : Recording) (sent : Option Emission)
+      → IsReceivedBy (ReadiesRecorded sensors) (recorded_calls Recorded) now received old sent new
+      → IsReceivedBy (ReadiesAlone sensors) alone_calls now received old.alone sent new.alone
+  unrecorded_received now (Some incoming) old new sent w =
+      record { borrow = w.borrow; bytes_are = w.bytes_are; heard = w.heard; reply = w.reply; hears = w.hears.0; sent_is = w.sent_is }
+  unrecorded_received now None old new sent w = (w.0.0, w.1)
+
+  unrecorded_round : (r : Round) (old new : Recording) → IsRoundBy (ReadiesRecorded sensors) (recorded_calls Recorded) r old new
+      → IsRoundBy (ReadiesAlone sensors) alone_calls r old.alone new.alone
+  unrecorded_round r old new w = record {
+    ready = w.ready.alone;
+    readied = w.readied.0;
+    answered = w.answered.alone;
+    carried_out = unrecorded_received r.now r.received w.ready w.answered r.sent w.carried_out;
+    steps = unrecorded_steps r.now r.steps w.answered new w.steps;
+    settled = w.settled;
+    sent = w.sent;
+  }
+
+  recorded_go_on : (rounds : List Round) (old new : Recording) (h : History) (tasks : List Task)
+      → AreRoundsBy (ReadiesRecorded sensors) (recorded_calls Recorded) rounds old new → Leaves h old.alone tasks
+      → GoesOn h (arrivals_in rounds) (map (λ s. s.emission) (sendings_in rounds)) new.alone.engine
+  recorded_go_on [] old new h tasks is v =
+      record { later = h; follows = none_follows h; tasks = tasks; serves = subst (λ (r : Recording). Leaves h r.alone tasks) (sym is) v }
+  recorded_go_on (r ∷ rounds) old new h tasks w v =
+      let before = recorded_go_on rounds old w.0 h tasks w.1 v in
+      round_goes_after sensors r rounds w.0.alone new.alone h before (unrecorded_round r w.0 new w.3)
+
+pub rounds_are_one_history : (sensors : List ℕ → Type 0) (e : RoundCalls) (Recorded : Requested → CallLog → CallLog → Type 0) (limit : ℕ) (begin : Begin)
+    (before after : Option (List Receive)) (replies : Replies)
+    (w : HasServed sensors e Recorded limit begin before after replies)
+    → IsOneHistory begin (arrivals_in w.run.rounds) (map (λ s. s.emission) (sendings_in w.run.rounds)) w.last.alone.engine
+rounds_are_one_history sensors e Recorded limit begin before after replies w =
+    one_history begin (arrivals_in w.run.rounds) (map (λ s. s.emission) (sendings_in w.run.rounds)) w.last.alone.engine
+    (recorded_go_on sensors Recorded w.run.rounds w.first w.last (begin_of begin) [] w.run.has.are_rounds w.begins)
 
 -- ---- lines
 
@@ -313,7 +353,7 @@ lines_are_one_history begin had before after w =
     one_history begin (arrivals_in_lines w.played.lines) (sent_in_lines w.played.lines) w.last.engine
     (lines_go_on w.played.lines w.first w.last (begin_of begin) [] w.played.played w.begins)
 
--- what is printed of lines is what was sent of them
+-- the text printed for lines is that of the datagrams sent for them.
 pub lines_print_what_is_sent : (played : List PlayedLine) → printed_lines played ≡ flat_map printed (sent_in_lines played)
 lines_print_what_is_sent [] = refl
 lines_print_what_is_sent (p ∷ played) =

@@ -6,7 +6,7 @@ use Rattle.std.proofs.lemmas.List.Sums.{sum_by-append}
 use Rattle.fc_host.specs.declared.timer.Timer.{Timer}
 use Rattle.fc_service.specs.Every.{IsTimerText, Pushes, held_by, timers_hold}
 
--- one text more
+-- one more text.
 timer_suc : (texts : List (Bor (List ℕ))) (k : ℕ) (ts : List Timer) (t : Timer) (d : Bor (List ℕ)) → k < length texts
     → AllZip IsTimerText (map (λ text. text.now) (take k texts)) ts → IsTimerText (slice_index_or texts k d).now t
     → AllZip IsTimerText (map (λ text. text.now) (take (suc k) texts)) (ts ++ (t ∷ []))
@@ -19,7 +19,7 @@ timer_suc (text ∷ texts) (suc k) (u ∷ us) t d lt (first, zip) is = (first, t
 one_more : (k : ℕ) → suc k ≡ k + 1
 one_more k = omega arith
 
--- the timers of the first texts, and what is left of so many exchanges
+-- the timers of the first texts, and the exchanges left.
 abbrev pub AreFirst : List (Bor (List ℕ)) → ℕ → ℕ → List Timer → ℕ → Type 0
 AreFirst texts k most ts left = AllZip IsTimerText (map (λ text. text.now) (take k texts)) ts × (timers_hold ts + left ≡ most)
 

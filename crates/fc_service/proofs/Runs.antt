@@ -19,14 +19,16 @@ module _ {S : Type 0} (Readies : ℕ → S → S → Type 0) (calls : IntakeCall
   abbrev Rounds : List Round → Option (List Receive) → Option (List Receive) → S → S → CallLog → Outbox → Type 0
   Rounds rounds before after old new log outbox = HasRounds Readies calls e rounds before after old new log outbox
 
-  -- an outbox that has been passed on with another log, by a receive of this wait and datagram, and the moment that was asked for after it
+  -- an outbox that was passed on with another log, by a receive of this wait and datagram and by
+  -- the next reading of the clock.
   pub record AreAsked (wait : Option ℕ) (received : Option Incoming) (now : ℕ) (old new : Outbox) : Type 0 where
     pub asked : CallLog
     pub receives : e.received (record { wait = wait; came = received }) old.log asked
     pub moment : e.moment now asked new.log
     pub kept : new.replies ≡ old.replies
 
-  -- rounds in which so many datagrams were received, no more than the limit, where there is one; and how long the next one waits
+  -- rounds in which this number of datagrams was received, no more than the limit, if there is one;
+  -- and how long the next receive waits.
   abbrev pub Runs : (limit count : ℕ) → Option ℕ → Option (List Receive) → Option (List Receive) → S → S → Outbox → Type 0
   Runs limit count wait before after old new outbox =
       (rounds : List Round) × ((log : CallLog) × Rounds rounds before after old new log outbox) × (0 < limit → (length (received_in rounds) ≡ count) × (count ≤ limit)) × WaitsAfter calls rounds new wait
@@ -60,7 +62,7 @@ module _ {S : Type 0} (Readies : ℕ → S → S → Type 0) (calls : IntakeCall
         ends,
       )
 
-  -- one round more, of a datagram, where the limit wasn't reached
+  -- one more round, of a datagram, if the limit wasn't reached.
   pub heard_round : (limit count next : ℕ) (wait after_it : Option ℕ) (before mid after : Option (List Receive)) (old last ready heard answered new : S) (o a b c d : Outbox) (now : ℕ) (incoming : Incoming)
       → Runs limit count wait before mid old last o → AreAsked wait (Some incoming) now o a
       → Comes mid after (record { wait = wait; came = Some incoming } ∷ []) → Readies now last ready
@@ -74,7 +76,7 @@ module _ {S : Type 0} (Readies : ℕ → S → S → Type 0) (calls : IntakeCall
       (λ some. let under : count < limit = below some in (omega (arith, under, fits, is), omega (arith, under, fits, is)))
       (subst (λ (b : Bool). EndsInTime (λ shard until. calls.stays_quiet shard new until) now b after_it) busy ends)
 
-  -- and of nothing but a moment
+  -- one more round without a datagram.
   pub passed_round : (limit count next : ℕ) (wait after_it : Option ℕ) (before mid after : Option (List Receive)) (old last ready passed answered new : S) (o a c d : Outbox) (now : ℕ)
       → Runs limit count wait before mid old last o → AreAsked wait None now o a
       → Comes mid after (record { wait = wait; came = None } ∷ []) → Readies now last ready → calls.passes now ready passed → answered ≡ passed → c ≡ a

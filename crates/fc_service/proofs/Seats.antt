@@ -1,4 +1,4 @@
--- What is true of all items, after the last was popped.
+-- A property of all items, after the last was popped.
 use Rattle.std.proofs.Common.{◌≡◌, ℕ, List, take, subst, sym}
 use Rattle.std.specs.List.{All}
 use Rattle.std.proofs.lemmas.List.Elements.{All-take}

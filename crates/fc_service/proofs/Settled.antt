@@ -1,4 +1,4 @@
--- Steps that were taken so far, with what was handed to a sink, or printed, of what they sent.
+-- The steps taken so far, with the datagrams that were passed to a sink, or printed.
 use Rattle.std.proofs.Common.{◌≡◌, ℕ, ◌+◌, Bool, List, [], append-nil, Option, Some, None, arith, refl, sym, subst}
 use Rattle.std.specs.Io.KnownBytes.{Appends}
 use Rattle.std.specs.Option.{option_to_list}
@@ -17,13 +17,13 @@ use Rattle.fc_service.specs.declared.replies.Outbox.{Outbox}
 use Rattle.fc_server.specs.declared.settle.Settling.{Settling}
 use Rattle.fc_workers.specs.declared.call_log.CallLog.{CallLog}
 
--- what is printed of what one step sent
+-- the text printed for the datagram that one step sent.
 pub printed_of : (out : Option Emission) → flat_map printed (option_to_list out) ≡ output_of out
 printed_of None = refl
 printed_of (Some e) = append-nil (printed e)
 
 module _ {S : Type 0} (calls : IntakeCalls S) where
-  -- what they sent was handed to a sink
+  -- the datagrams that they sent were passed to a sink.
   pub none_settled : (Went : Emission → Bool → CallLog → CallLog → Type 0) (now : ℕ) (old new : S) (place : Settling) (r : Outbox)
       → ((steps : List SettlingStep) × AreStepsTo calls now steps old new place × (sent_in_steps steps ≡ [])) → Steps calls (λ es. Sends Went es r r) 0 now old new place
   none_settled Went now old new place r w = (w.0, w.1, omega arith, subst (λ (es : List Emission). Sends Went es r r) (sym w.2) (none_sent Went r))
@@ -34,7 +34,7 @@ module _ {S : Type 0} (calls : IntakeCalls S) where
   one_settled Went taken now old mid new from to a b c out w x sends =
       next_step calls (λ es. Sends Went es a b) (λ es. Sends Went es a c) taken now old mid new from to out w x (λ es v. more_sent Went a b c es (option_to_list out) v sends)
 
-  -- what they sent was printed
+  -- the datagrams that they sent were printed.
   pub none_printed : (now : ℕ) (old new : S) (place : Settling) (a : Option (List ℕ))
       → ((steps : List SettlingStep) × AreStepsTo calls now steps old new place × (sent_in_steps steps ≡ [])) → Steps calls (λ es. Appends a a (flat_map printed es)) 0 now old new place
   none_printed now old new place a w = (w.0, w.1, omega arith, subst (λ (es : List Emission). Appends a a (flat_map printed es)) (sym w.2) (Appends-nil a))

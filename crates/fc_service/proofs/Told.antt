@@ -1,4 +1,4 @@
--- What a shard of a server on one thread tells is so.
+-- The results of a shard of a server on one thread are true.
 use Rattle.std.proofs.Common.{◌≡◌, ℕ, true, false, Option, Some, None, refl, ap, sym, ◌∙◌}
 use Rattle.std.specs.Prelude.{◌%◌, ◌↔◌, is_some}
 use Rattle.coap_msg.specs.declared.types.Emission.{Emission}
@@ -17,7 +17,7 @@ use Rattle.fc_server.specs.Steps.{shard_turn}
 use Rattle.fc_server.specs.Alone.{NotifiesAlone, ResendsAlone}
 use Rattle.fc_server.specs.declared.alone.Alone.{Alone}
 
--- ---- that nothing is late
+-- ---- no notification has timed out
 
 sends_or_removes : (again : Option Emission) → ticked_by again ≡ Quiet → ⊥
 sends_or_removes None e = absurd (cc e)
@@ -39,7 +39,7 @@ quiet_is_told shard now old new ticked w =
       λ none. w.0 ∙ ap (λ (o : Option ℕ). ticked_in o at) none,
     )
 
--- ---- that nobody is due
+-- ---- no observer has a pending notification
 
 none_given : (o : Option Job) → false ≡ is_some o → o ≡ None
 none_given None e = refl

@@ -1,4 +1,4 @@
--- What came, what was handed to a sink, and how it is counted, one after the other.
+-- The datagrams received, those passed to a sink, and their counts, one after the other.
 use Rattle.std.proofs.Common.{◌≡◌, ℕ, ◌+◌, Bool, true, false, not, List, [], ◌∷◌, ◌++◌, append-nil, append_assoc, add_assoc, add-zero, Option, Some, None, arith, refl, ap, sym, subst, ◌∙◌}
 use Rattle.std.specs.Prelude.{IfSome, cond, count_by}
 use Rattle.std.proofs.lemmas.List.{map-append}
@@ -12,7 +12,7 @@ use Rattle.fc_service.specs.declared.replies.Outbox.{Outbox}
 use Rattle.fc_service.specs.declared.replies.Replies.{Replies}
 use Rattle.fc_workers.specs.declared.call_log.CallLog.{CallLog}
 
--- ---- what came
+-- ---- the datagrams received
 
 pub none_came : (a : Option (List Receive)) → Comes a a []
 none_came None = tt
@@ -24,7 +24,7 @@ more_came (Some known) b c xs ys v w =
     let next : c ≡ Some ((known ++ xs) ++ ys) = subst (λ (o : Option (List Receive)). IfSome o (λ (l : List Receive). c ≡ Some (l ++ ys))) v w in
     next ∙ ap (λ (l : List Receive). Some l) (append_assoc known xs ys)
 
--- ---- what was handed to a sink
+-- ---- the datagrams passed to a sink
 
 pub each_counted : (xs ys : List Sending) (r : Replies) → counted_each (xs ++ ys) r ≡ counted_each ys (counted_each xs r)
 each_counted [] ys r = refl
@@ -49,9 +49,9 @@ module _ (Went : Emission → Bool → CallLog → CallLog → Type 0) where
     w.3 ∙ (ap (counted_each w.0) v.3 ∙ sym (each_counted v.0 w.0 a.replies)),
   )
 
--- ---- how many went out
+-- ---- the number of datagrams sent
 
--- these numbers, each of which stops at its greatest
+-- these numbers, each of which stops at its maximum.
 abbrev replies_at : ℕ → ℕ → Replies
 replies_at sent failed = record { sent = saturated sent; failed = saturated failed }
 
@@ -72,7 +72,7 @@ counted_at (s ∷ ss) sent failed =
     ∙ (counted_at ss (sent + cond s.out 1 0) (failed + cond (not s.out) 1 0)
     ∙ λ i. replies_at (count_from (λ x. x.out) sent s ss i) (count_from (λ x. not x.out) failed s ss i))
 
--- as many more as there are
+-- one more for each.
 pub more_replies : (xs ss : List Sending) → counted_each ss (replies_to xs) ≡ replies_to (xs ++ ss)
 more_replies xs ss =
     counted_at ss (count_by (λ s. s.out) xs) (count_by (λ s. not s.out) xs)

@@ -1,11 +1,11 @@
--- How long a datagram is waited for.
+-- How long a receive waits.
 use Rattle.std.proofs.Common.{◌≡◌, ℕ, ◌-◌, ◌<◌, ◌≤◌, Bool, true, false, List, [], ◌∷◌, length, Some, None, ⊎_elim, arith, ap, refl, ◌∙◌}
 use Rattle.std.specs.Prelude.{if◌then◌else◌, max, not}
 use Rattle.std.proofs.lemmas.Bool.{cases_lt, lt-ltb}
 use Rattle.fc_service.specs.Rounds.{wait_until}
 use Rattle.fc_server.specs.Settling.{AreTold, earliest}
 
--- up to a moment that is one
+-- up to a time, if it is one.
 pub wait_to : (now moment : ℕ) → moment < 18446744073709551615 → wait_until now moment ≡ Some (max (moment - now) 100)
 wait_to now moment lt = ap (λ (b : Bool). if b then Some (max (moment - now) 100) else None) (lt-ltb moment 18446744073709551615 lt)
 
@@ -13,7 +13,7 @@ module _ (told : ℕ → ℕ) where
   abbrev Told : List ℕ → Type 0
   Told moments = AreTold (λ shard until. until ≡ told shard) moments
 
-  -- the earliest is no later than what any shard told
+  -- the earliest time is no later than that of any shard.
   pub no_later : (moments : List ℕ) (shard : ℕ) → Told moments → shard < length moments → earliest moments ≤ told shard
   no_later [] shard are lt = absurd (omega (arith, lt))
   no_later (until ∷ before) shard (is, are) lt =
@@ -25,7 +25,7 @@ module _ (told : ℕ → ℕ) where
       omega (arith, here))
       (cases_lt shard (length before))
 
-  -- and no earlier than what each told
+  -- a time no later than each shard's is no later than the earliest.
   pub no_earlier : (moments : List ℕ) (least : ℕ) → Told moments → ((shard : ℕ) → shard < length moments → least ≤ told shard) → least ≤ 18446744073709551615 → least ≤ earliest moments
   no_earlier [] least are each fits = fits
   no_earlier (until ∷ before) least (is, are) each fits =
@@ -33,12 +33,12 @@ module _ (told : ℕ → ℕ) where
       let here : least ≤ told (length before) = each (length before) (omega arith) in
       omega (arith, le, here, is)
 
-  -- nor later than 2^64 - 1
+  -- it is no later than 2^64 - 1.
   pub at_most : (moments : List ℕ) → earliest moments ≤ 18446744073709551615
   at_most [] = omega arith
   at_most (until ∷ before) = let le = at_most before in omega (arith, le)
 
--- whether a round was idle
+-- whether a round was idle.
 pub heard_something : (idle some : Bool) → some ≡ not idle → some ≡ true → idle ≡ false
 heard_something true some is found = absurd (cc (is, found))
 heard_something false some is found = refl

@@ -1,4 +1,4 @@
--- Replies that are counted, and the text that tells them.
+-- Counts of replies, and their text.
 use Rattle.std.specs.Prelude.{ℕ, ◌+◌, ◌++◌, Bool, true, false, Option, Some, None, List, sum_by, codes}
 use Rattle.std.specs.Fmt.{decimal}
 use Rattle.fc_workers.specs.Answers.{saturated}
@@ -8,11 +8,11 @@ use Rattle.fc_service.specs.declared.replies.Replies.{Replies}
 abbrev pub no_replies : Replies
 no_replies = record { sent = 0; failed = 0 }
 
--- replies of both; each count stops at its greatest
+-- the replies of both; each count stops at its maximum.
 abbrev pub both_replies : Replies → Replies → Replies
 both_replies a b = record { sent = saturated (a.sent + b.sent); failed = saturated (a.failed + b.failed) }
 
--- one reply more, where there was one: it went out, or it didn't
+-- one more reply, if there was one: it was sent, or it failed.
 abbrev pub counted : Option Bool → Replies → Replies
 counted None r = r
 counted (Some true) r = record r { sent = saturated (r.sent + 1) }
@@ -24,14 +24,14 @@ sent_by share = share.sent
 abbrev pub failed_by : {T : Type 0} → Share T → ℕ
 failed_by share = share.failed
 
--- what the worker of a share has sent, and what it failed to send
+-- the replies that the worker of a share sent, and that it failed to send.
 abbrev pub replies_by : {T : Type 0} → Share T → Replies
 replies_by share = record { sent = sent_by share; failed = failed_by share }
 
--- what the workers of these shares have sent, and what they failed to send
+-- the replies that the workers of these shares sent, and that they failed to send.
 abbrev pub replies_of : {T : Type 0} → List (Share T) → Replies
 replies_of shares = record { sent = saturated (sum_by sent_by shares); failed = saturated (sum_by failed_by shares) }
 
--- as in `sent 2 failed 0`
+-- the text of replies, such as `sent 2 failed 0`.
 abbrev pub replies_text : Replies → List ℕ
 replies_text r = codes "sent " ++ (decimal r.sent ++ (codes " failed " ++ decimal r.failed))

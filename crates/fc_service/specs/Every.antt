@@ -12,14 +12,14 @@ abbrev pub texts_by : Option (List (List ℕ)) → List (List ℕ)
 texts_by None = []
 texts_by (Some texts) = texts
 
--- the values of `--every`, in their order
+-- the values of `--every`, in their order.
 abbrev pub texts_of : Found → List (List ℕ)
 texts_of f = texts_by (option_map raw_values (matched_of f (codes "every")))
 
 abbrev pub colon : ℕ
 colon = 58
 
--- a period in milliseconds, 1 to those of a day, and a slot, 0 to 63, as `1000:7`
+-- a period in milliseconds, from 1 to those of a day, and a slot, 0 to 63, such as `1000:7`.
 pub record IsTimerText (text : List ℕ) (t : Timer) : Type 0 where
   pub period : List ℕ
   pub digits : List ℕ
@@ -31,25 +31,27 @@ pub record IsTimerText (text : List ℕ) (t : Timer) : Type 0 where
   pub most : t.every ≤ 86400000
   pub is_slot : t.slot < 64
 
--- each text is that of the timer at its place
+-- each text is that of the timer at its place.
 abbrev pub AreTimers : List (List ℕ) → List Timer → Type 0
 AreTimers texts ts = AllZip IsTimerText texts ts
 
--- how many requests of a timer are held at a time, at most, if each comes at its beat: each for 247,000 ms
+-- the most requests of a timer that are held at a time, if each comes at its beat: each for 247,000
+-- ms.
 abbrev pub held_by : Timer → ℕ
 held_by t = 247000 / t.every + 1
 
--- the timer of a text is the last now, and what its requests hold is taken from what is left
+-- the timer of a text is the new last one, and the exchanges that its requests hold are subtracted
+-- from those left.
 pub record Pushes (text : List ℕ) (left : ℕ) (old new : List Timer) (less : ℕ) : Type 0 where
   pub timer : Timer
   pub is : IsTimerText text timer
   pub last : new ≡ old ++ timer ∷ []
   pub takes : left ≡ less + held_by timer
 
--- those of all timers
+-- the exchanges that the requests of all timers hold.
 abbrev pub timers_hold : List Timer → ℕ
 timers_hold ts = sum_by held_by ts
 
--- as many as they may hold: half of the exchanges, and no more than the share of an address
+-- the most exchanges that they may hold: half of all, and no more than the share of an address.
 abbrev pub most_held : Limits → ℕ
 most_held limits = min (limits.exchanges / 2) limits.share

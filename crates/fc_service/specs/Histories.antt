@@ -1,4 +1,4 @@
--- That what a server on one thread did in all rounds, or for all lines, is one history.
+-- All rounds, or all lines, of a server on one thread as one history.
 use Rattle.std.specs.Prelude.{◌≡◌, ℕ, List, [], ◌∷◌, ◌++◌, Option, Some, None, flat_map}
 use Rattle.std.specs.Option.{option_to_list}
 use Rattle.coap_msg.specs.declared.types.Emission.{Emission}
@@ -18,19 +18,20 @@ use Rattle.fc_service.specs.Playing.{PlayedLine, moment_of}
 use Rattle.fc_service.specs.Rounds.{Round}
 use Rattle.fc_server.specs.Settling.{sent_in_steps}
 
--- at a moment a datagram came, or none did and time passed
+-- at this time a datagram came, or none did and time passed.
 pub record Arrival : Type 0 where
   pub now : ℕ
   pub came : Option Incoming
 
--- what comes by an event
+-- the arrival that an event has.
 abbrev pub arrived_by : Event → List Arrival
 arrived_by (Deliver now from bytes) = record { now = now; came = Some (record { from = from; bytes = bytes.now }) } ∷ []
 arrived_by (Tick now) = record { now = now; came = None } ∷ []
 arrived_by other = []
 
--- from its beginning on, a server did these events, of which each emitted what it may; they leave this server; just these datagrams
--- were delivered, and time passed where none came, each at its moment, and this was emitted, the oldest first
+-- these are events of a server from its initial state, and each emitted a permitted emission. They
+-- leave this server. Exactly these datagrams were delivered, and time passed if none came, each at
+-- its time. These are the emissions, the oldest first.
 pub record IsOneHistory (begin : Begin) (arrived : List Arrival) (emitted : List Emission) (s : ServerState) : Type 0 where
   pub entries : List Entry
   pub tasks : List Task
@@ -40,19 +41,21 @@ pub record IsOneHistory (begin : Begin) (arrived : List Arrival) (emitted : List
 
 -- ---- of rounds
 
--- what came in rounds, and when, the oldest first, where the newest round is first
+-- the arrivals of rounds, with their times, the oldest first; the list of rounds begins with the
+-- newest.
 abbrev pub arrivals_in : List Round → List Arrival
 arrivals_in [] = []
 arrivals_in (r ∷ rs) = arrivals_in rs ++ record { now = r.now; came = r.received } ∷ []
 
 -- ---- of lines
 
--- the datagram that a line tells, if it tells one
+-- the datagram of a line, if it has one.
 abbrev pub datagram_in : Line → Option Incoming
 datagram_in (lines.Deliver now peer bytes) = Some (record { from = peer_endpoint peer; bytes = bytes.items })
 datagram_in other = None
 
--- what lines tell, and when, and what was sent of them, the oldest first, where the newest line is first
+-- the arrivals of lines, with their times, and the emissions sent for them, the oldest first; the
+-- list of lines begins with the newest.
 abbrev pub arrivals_in_lines : List PlayedLine → List Arrival
 arrivals_in_lines [] = []
 arrivals_in_lines (p ∷ ps) = arrivals_in_lines ps ++ record { now = moment_of p.line; came = datagram_in p.line } ∷ []

@@ -1,4 +1,4 @@
--- What is taken in.
+-- Effects of the calls of an intake.
 use Rattle.std.specs.Prelude.{◌≡◌, ◌⊎◌, ℕ, List, Bool, true, false, Option}
 use Rattle.std.specs.Borrow.{Bor}
 use Rattle.coap_msg.specs.declared.types.Emission.{Emission}
@@ -10,7 +10,7 @@ use Rattle.fc_server.specs.Intakes.{IntakeCalls, is_reply}
 use Rattle.fc_server.specs.Notified.{Notified, Sent, Starved, Unsent}
 use Rattle.fc_host.specs.Sockets.{Incoming}
 
--- a datagram was heard once, whole and from its endpoint, and this was to be sent at once
+-- a datagram was handled once, whole and from its endpoint, and this was the immediate response.
 pub record IsHeardBy {S : Type 0} (Hears : ℕ → Endpoint → Bor (List ℕ) → S → S → Heard → Emission → Type 0) (now : ℕ) (incoming : Incoming) (old : S) (sent : Option Emission) (new : S) : Type 0 where
   pub borrow : Bor (List ℕ)
   pub bytes_are : borrow.now ≡ incoming.bytes
@@ -19,23 +19,25 @@ pub record IsHeardBy {S : Type 0} (Hears : ℕ → Endpoint → Bor (List ℕ) �
   pub hears : Hears now incoming.from borrow old new heard reply
   pub sent_is : sent ≡ emission_if (is_reply heard) reply
 
--- who waits for workers heard a datagram as who is waited for did: it was told the same, and the same was written, unless this was a job
+-- an intake that waits for workers handled a datagram as the inner intake did: with the same result
+-- and the same written emission, unless the inner result was a job.
 abbrev pub IsWaitedFor : {S : Type 0} → (ℕ → Endpoint → Bor (List ℕ) → S → S → Heard → Emission → Type 0) → ℕ → Endpoint → Bor (List ℕ) → S → S → Heard → Emission → Type 0
 IsWaitedFor Hears now from bytes old new heard reply =
     (told : Heard) × (written : Emission) × Hears now from bytes old new told written × ((told ≡ Job) ⊎ ((heard ≡ told) × (reply ≡ written)))
 
--- a turn has come to its end: a notification is sent, or none is for want of a message id or of memory
+-- a lease has ended: a notification is sent, or none is, since a message ID or memory is missing.
 abbrev pub has_ended : Notified → Bool
 has_ended (Sent emission) = true
 has_ended Starved = true
 has_ended other = false
 
--- who waits for workers tells of a turn what who is waited for told, or, where nothing was sent so far, how it ended
+-- the result for a lease, of an intake that waits for workers: the inner result or, if nothing had
+-- been sent, how the lease ended.
 abbrev pub IsTurnWaitedFor : Notified → Notified → Type 0
 IsTurnWaitedFor Unsent told = has_ended told ≡ true
 IsTurnWaitedFor asked told = told ≡ asked
 
--- the calls of who waits for the workers of whom these calls are made
+-- the calls of an intake that waits for workers, by the inner intake's calls.
 abbrev pub waited_calls : {S : Type 0} → IntakeCalls S → IntakeCalls S
 waited_calls calls = record {
   hears = IsWaitedFor calls.hears;
@@ -46,7 +48,7 @@ waited_calls calls = record {
   stays_quiet = calls.stays_quiet;
 }
 
--- the calls of a holder of a server, by those of the server
+-- the calls of a holder of a server, by the server's calls.
 abbrev pub calls_through : {H S : Type 0} → (H → S) → IntakeCalls S → IntakeCalls H
 calls_through held calls = record {
   hears = λ now from bytes old new heard reply. calls.hears now from bytes (held old) (held new) heard reply;

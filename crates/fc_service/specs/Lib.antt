@@ -9,3 +9,4 @@ pub mod Rounds
 pub mod Histories
 pub mod Policies
 pub mod Every
+pub mod Logs

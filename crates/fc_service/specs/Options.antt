@@ -1,26 +1,30 @@
 -- The options of `fcd serve`, by the values that a command line gives them.
-use Rattle.std.specs.Prelude.{◌≡◌, ◌↔◌, ℕ, List, Option, Some, None, codes, option_map, true}
+use Rattle.std.specs.Prelude.{◌≡◌, ℕ, List, Option, Some, None, codes, option_map}
 use Rattle.std.specs.Net.Grammar.{IsIpv4Text}
 use Rattle.std.specs.Net.Socket.{v4_ip, v4_port}
 use Rattle.clap.specs.declared.parser.matches.Found.{Found}
 use Rattle.clap.specs.Matches.{first_value}
 use Rattle.fc_lines.specs.Fields.{IsNumber}
+use Rattle.fc_service.specs.Logs.{AreLogsIn}
 use Rattle.fc_service.specs.Policies.{IsPolicyIn}
 use Rattle.fc_service.specs.declared.options.ServeOptions.{ServeOptions}
 
--- an option has a value, which is the decimal number
+-- an option has a value, which is the decimal number.
 abbrev pub HasNumber : Option (List ℕ) → ℕ → Type 0
 HasNumber None n = ⊥
 HasNumber (Some text) n = IsNumber text n
 
--- the server listens at the address of `--bind` and the port of `--port`. It reports so if `--log` is `info`. It has as many workers as `--workers` says, ends after as many datagrams
--- as `--limit` says, and reads its sensors from the file of `--readings`, if there is one
+-- the server listens at the address of `--bind` and the port of `--port`. It logs according to the
+-- values of `--log`, and reports its listening address if one of them is `info`. It has the number
+-- of workers of `--workers`, and ends after the number of datagrams of `--limit`. It reads its
+-- sensors from the file of `--readings`, if there is one.
 pub record AreServeOptions (f : Found) (o : ServeOptions) : Type 0 where
   pub bind : List ℕ
   pub bind_is : first_value f (codes "bind") ≡ Some bind
   pub address : IsIpv4Text bind (v4_ip o.listening.address)
   pub port : HasNumber (first_value f (codes "port")) (v4_port o.listening.address)
-  pub told : (o.listening.told ≡ true) ↔ (first_value f (codes "log") ≡ Some (codes "info"))
+  pub logs : AreLogsIn f o.logs
+  pub told : o.listening.told ≡ o.logs.info
   pub workers : HasNumber (first_value f (codes "workers")) o.workers
   pub limit : HasNumber (first_value f (codes "limit")) o.limit
   pub policy : IsPolicyIn f o.policy

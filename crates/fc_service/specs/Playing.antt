@@ -1,4 +1,4 @@
--- What is done with lines, and what is printed.
+-- Effects of lines, and their output.
 use Rattle.std.specs.Prelude.{◌≡◌, ⊤, ℕ, ◌+◌, ◌<◌, List, [], ◌∷◌, ◌++◌, length, flat_map, Option, Some, None, IfSome}
 use Rattle.std.specs.Io.BufRead.{DropsThrough, first_piece}
 use Rattle.std.specs.Io.KnownBytes.{Appends, IsAtEnd}
@@ -23,27 +23,28 @@ use Rattle.fc_server.specs.declared.alone.Alone.{Alone}
 use Rattle.fc_service.specs.declared.replies.Replies.{Replies}
 use Rattle.fc_workers.specs.declared.dispatcher.Handover.{Handover}
 
--- what is printed of what is sent
+-- the text printed for a sent datagram.
 abbrev pub output_of : Option Emission → List ℕ
 output_of None = []
 output_of (Some emission) = printed emission
 
--- what is printed of what steps sent
+-- the text printed for the datagrams that steps sent.
 abbrev pub printed_steps : List SettlingStep → List ℕ
 printed_steps steps = flat_map printed (sent_in_steps steps)
 
--- a line that was played: its text, what it says, what it was answered, and the steps that followed
+-- a line that was played: its text, its meaning, its immediate response, and the steps that
+-- followed.
 pub record PlayedLine : Type 0 where
   pub text : List ℕ
   pub line : Line
   pub sent : Option Emission
   pub steps : List SettlingStep
 
--- what it printed
+-- the text that it printed.
 abbrev pub output_by : PlayedLine → List ℕ
 output_by p = output_of p.sent ++ printed_steps p.steps
 
--- what lines printed, the oldest first, where the newest line is first
+-- the text that lines printed, the oldest first; the list of lines begins with the newest.
 abbrev pub printed_lines : List PlayedLine → List ℕ
 printed_lines [] = []
 printed_lines (p ∷ ps) = printed_lines ps ++ output_by p
@@ -53,31 +54,33 @@ moment_of (Deliver now peer bytes) = now
 moment_of (Tick now) = now
 moment_of (Device now readings) = now
 
--- ---- what is read
+-- ---- the reader
 
--- a text is what stands before the first line feed of the bytes that a reader had, where they are known; it and the line feed were read
+-- a text is the bytes before the first line feed of those that a reader had, if they are known; it
+-- and the line feed were read.
 abbrev pub IsNextText : List ℕ → Option (List ℕ) → Option (List ℕ) → Type 0
 IsNextText text had left = IfSome had (λ bytes. (0 < length bytes) × (text ≡ first_piece 10 bytes)) × DropsThrough had left 10
 
--- the lines' texts are what a reader had, up to what it has left
+-- the texts of the lines are those that a reader had, up to the bytes that it has left.
 abbrev pub AreRead : List PlayedLine → Option (List ℕ) → Option (List ℕ) → Type 0
 AreRead [] had left = left ≡ had
 AreRead (p ∷ ps) had left = (mid : Option (List ℕ)) × AreRead ps had mid × IsNextText p.text mid left
 
--- ---- of a server, by what each call does to it; the first hands readings to its jobs
+-- ---- a server, by the effects of its calls; the first sets the readings of its jobs
 module _ {S : Type 0} (Hands : List ℕ → S → S → Type 0) (calls : IntakeCalls S) where
-  -- the readings that a line tells are handed from then on
+  -- the readings that a line gives are those of the jobs from then on.
   abbrev pub IsHandedBy : Line → S → S → Type 0
   IsHandedBy (Device now readings) old new = Hands readings old new
   IsHandedBy other old new = new ≡ old
 
-  -- a line's datagram was heard, and this was to be sent at once; or time passed
+  -- a line's datagram was handled, with this immediate response; or time passed.
   abbrev pub IsCarriedOutBy : Line → S → Option Emission → S → Type 0
   IsCarriedOutBy (Deliver now peer bytes) old sent new = IsHeardBy calls.hears now (record { from = peer_endpoint peer; bytes = bytes.items }) old sent new
   IsCarriedOutBy (Tick now) old sent new = calls.passes now old new × (sent ≡ None)
   IsCarriedOutBy (Device now readings) old sent new = calls.passes now old new × (sent ≡ None)
 
-  -- the text says the line, which was carried out; then what was late was sent again, and observers were notified, until nothing was left
+  -- the text has the meaning of the line, which was executed. Then notifications that had timed out
+  -- were retransmitted, and observers were notified, until no notification was left.
   pub record IsPlayedBy (p : PlayedLine) (old new : S) : Type 0 where
     pub says : IsLine p.text p.line
     pub handed : S
@@ -87,19 +90,21 @@ module _ {S : Type 0} (Hands : List ℕ → S → S → Type 0) (calls : IntakeC
     pub steps : AreStepsBy calls (moment_of p.line) p.steps answered new
     pub settled : AreSettled p.steps
 
-  -- lines that were played one after the other, the newest first
+  -- lines that were played one after the other, the newest first.
   abbrev pub ArePlayedBy : List PlayedLine → S → S → Type 0
   ArePlayedBy [] old new = new ≡ old
   ArePlayedBy (p ∷ ps) old new = (mid : S) × ArePlayedBy ps old mid × IsPlayedBy p mid new
 
-  -- the next lines that a reader had were played once, in order, and just what they sent was printed
+  -- the next lines that a reader had were played once, in order, and exactly their output was
+  -- printed.
   pub record HasPlayed (old new : S) (had left before after : Option (List ℕ)) : Type 0 where
     pub lines : List PlayedLine
     pub played : ArePlayedBy lines old new
     pub read : AreRead lines had left
     pub printed : Appends before after (printed_lines lines)
 
-  -- it stopped at the line of this number, counted from 1: the lines before it were played, and just what they sent was printed
+  -- playing stopped at the line with this number, counted from 1. The lines before it were played,
+  -- and exactly their output was printed.
   pub record StopsAt (number : ℕ) (old new : S) (had before after : Option (List ℕ)) : Type 0 where
     pub left : Option (List ℕ)
     pub has : HasPlayed old new had left before after
@@ -107,7 +112,8 @@ module _ {S : Type 0} (Hands : List ℕ → S → S → Type 0) (calls : IntakeC
 
 -- ---- a server on one thread
 
--- all that a reader had was played on one thread, on a server that began so, and whose jobs were handed zeros first
+-- all lines of a reader were played on one thread, on a server with this initial state, whose jobs
+-- first got zeros.
 pub record IsPlayedOut (begin : Begin) (had before after : Option (List ℕ)) : Type 0 where
   pub first : Alone
   pub last : Alone
@@ -117,7 +123,7 @@ pub record IsPlayedOut (begin : Begin) (had before after : Option (List ℕ)) : 
   pub played : HasPlayed HandsAlone alone_calls first last had left before after
   pub end : IsAtEnd left
 
--- the lines that a reader had were played so up to a bad line, the one of this number
+-- the lines of a reader were played in this way up to a bad line, the one with this number.
 pub record IsPlayedUpTo (number : ℕ) (begin : Begin) (had before after : Option (List ℕ)) : Type 0 where
   pub first : Alone
   pub last : Alone
@@ -127,7 +133,8 @@ pub record IsPlayedUpTo (number : ℕ) (begin : Begin) (had before after : Optio
 
 -- ---- a server with workers
 
--- all that a reader had was played, from this state of a server on, whose workers are waited for after each line
+-- all lines of a reader were played, from this state of a server. Its workers are waited for after
+-- each line.
 pub record IsFedByLines {S : Type 0} (calls : IntakeCalls S) (had : Option (List ℕ)) (first : S) : Type 0 where
   pub last : S
   pub left : Option (List ℕ)
@@ -136,8 +143,10 @@ pub record IsFedByLines {S : Type 0} (calls : IntakeCalls S) (had : Option (List
   pub played : HasPlayed (λ readings old new. new ≡ old) (waited_calls calls) first last had left before after
   pub end : IsAtEnd left
 
--- all that a reader had was played so by a new dispatcher beside as many workers, whose server began so. It has sent what its jobs came to, and its device's readings are the lines': of these nothing is known
+-- all lines of a reader were played in this way by a new dispatcher with this number of workers,
+-- whose server has this initial state. It has sent the emissions of its jobs, and the
+-- readings of its device are those of the lines; nothing is known of either. No change is recorded.
 abbrev pub IsPlayedBeside : Begin → Handover → ℕ → Option (List ℕ) → Replies → Type 0
 IsPlayedBeside begin handover workers had replies =
-    IsFedBeside (locked_shop (beginning begin.policy begin.id) (λ readings before after. ⊤) (λ now before after. ⊤) (λ random. ⊤) (λ call before after. ⊤))
+    IsFedBeside (locked_shop (beginning begin.policy begin.id) (λ readings before after. ⊤) (λ now before after. ⊤) (λ random. ⊤) (λ call before after. ⊤) (λ change before after. after ≡ before))
     (λ calls lines first last given. IsFedByLines calls lines first) handover workers had (tt {0}) replies

@@ -6,18 +6,19 @@ use Rattle.fc_core.specs.declared.policy.Policy.{Policy}
 use Rattle.fc_lines.specs.Fields.{IsNoNumber, IsNumber}
 use Rattle.fc_lines.specs.Policies.{IsPolicyOf}
 
--- the decimal number of an option's value, or this one if the option isn't given
+-- the decimal number of an option's value, or this one if the option isn't given.
 abbrev pub IsValueOr : ℕ → Option (List ℕ) → ℕ → Type 0
 IsValueOr default None n = n ≡ default
 IsValueOr default (Some text) n = IsNumber text n
 
--- an option is given, and its value is no number below 2^64
+-- an option is given, and its value isn't a number below 2^64.
 abbrev pub IsNoValueOr : Option (List ℕ) → Type 0
 IsNoValueOr None = ⊥
 IsNoValueOr (Some text) = IsNoNumber text (2 ^ 64)
 
--- the policy of the values of `--managers`, `--exchanges`, `--share` and `--confirm-after`; without these 1,024 exchanges are held, a
--- share is no less, and a notification is confirmable after 86,400 s
+-- the policy of the values of `--managers`, `--exchanges`, `--share` and `--confirm-after`. The
+-- defaults are 1,024 exchanges, a share of 65,536, and a notification that is confirmable after
+-- 86,400 s.
 pub record IsPolicyIn (f : Found) (p : Policy) : Type 0 where
   pub texts : List (List ℕ)
   pub seconds : ℕ
@@ -27,6 +28,6 @@ pub record IsPolicyIn (f : Found) (p : Policy) : Type 0 where
   pub confirm_after : IsValueOr 86400 (first_value f (codes "confirm-after")) seconds
   pub policy : IsPolicyOf texts p.limits.exchanges p.limits.share seconds p
 
--- they are the values of no policy whose share is below 2^64, as each `usize` is
+-- they are the values of no policy whose share is below 2^64, as each `usize` is.
 pub record IsNoPolicyIn (f : Found) : Type 0 where
   pub none : (p : Policy) → p.limits.share < 2 ^ 64 → IsPolicyIn f p → ⊥

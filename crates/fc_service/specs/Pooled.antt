@@ -1,4 +1,4 @@
--- What a pool's dispatcher does where it is fed.
+-- Effects of a pool's dispatcher and of its feeder.
 use Rattle.std.specs.Prelude.{◌≡◌, ◌⊎◌, ⊤, ℕ, Bool, List, length, slice_index, None, true, false}
 use Rattle.std.specs.List.{All}
 use Rattle.std.specs.Borrow.{Bor}
@@ -25,18 +25,21 @@ use Rattle.fc_workers.specs.declared.share.Share.{Share}
 use Rattle.fc_service.specs.Counting.{both_replies, replies_by, replies_of}
 use Rattle.fc_service.specs.declared.replies.Replies.{Replies}
 use Rattle.fc_server.specs.Intakes.{IntakeCalls}
+use Rattle.fc_record.specs.ProgramRequests.{Requested}
+use Rattle.fc_record.specs.Recording.{IsRecordedCall}
 
--- a dispatcher as it is seen: which jobs go to workers, and what it has done
+-- the view of a dispatcher: its dispatch policy, and the effects of its calls.
 pub record Dispatching (T : Type 0) : Type 0 where
   pub handover : Handover
   pub done : Dispatched T
 
--- which jobs go to workers, where workers were begun: none, where they weren't
+-- the dispatch policy if workers were started; `Never` if they weren't.
 abbrev pub handover_where : Bool → Handover → Handover
 handover_where true handover = handover
 handover_where false handover = Never
 
--- a dispatcher of this handover that has sent nothing by this channel, and done nothing, with a new log
+-- a dispatcher with this policy that has sent nothing by this channel, and done nothing, with a new
+-- log.
 pub record IsNew {T : Type 0} (channel : Channel) (handover : Handover) (d : Dispatching T) : Type 0 where
   pub handover_is : d.handover ≡ handover
   pub tallies : T
@@ -63,7 +66,7 @@ module _ {T : Type 0} (s : Shop T) where
   NotifiesPooled shard now old new told =
       IsTurnAsked s old.handover shard now (is_given told) old.done new.done × (notification_in told ≡ None) × (new.handover ≡ old.handover)
 
-  -- a shard was asked until when it is quiet; or nothing is known of it
+  -- a shard returned a time until which it is idle, or nothing is known of the shard.
   abbrev pub StaysQuietPooled : ℕ → Dispatching T → ℕ → Type 0
   StaysQuietPooled shard now until = (until ≡ 0) ⊎ s.bench (LooksAhead shard until)
 
@@ -77,13 +80,15 @@ module _ {T : Type 0} (s : Shop T) where
     stays_quiet = StaysQuietPooled;
   }
 
-  -- these are the shares of as many workers as there are, which got just the jobs of this channel that they worked off and ended, each with a log of its own that was new
+  -- these are the shares of as many workers. They got exactly the jobs of this channel that they
+  -- ran and ended, each with a new log of its own.
   pub record AreSharesAt (channel : Channel) (shares : List (Share T)) : Type 0 where
     pub seats : List (Seat T)
     pub new : All (λ (seat : Seat T). seat.got ≡ nothing_got channel) seats
     pub worked : AreSharesOf s seats shares
 
-  -- a feeder fed a new dispatcher of this channel and handover, and gave this, and the dispatcher came to this share
+  -- a feeder fed a new dispatcher of this channel and policy, and returned this. The dispatcher has
+  -- this share in the end.
   pub record FeedsTo {F X : Type 0} (Feeds : IntakeCalls (Dispatching T) → F → Dispatching T → Dispatching T → X → Type 0) (channel : Channel) (handover : Handover) (feeder : F) (given : X) (own : Share T) : Type 0 where
     pub first : Dispatching T
     pub last : Dispatching T
@@ -91,13 +96,14 @@ module _ {T : Type 0} (s : Shop T) where
     pub feeds : Feeds pooled_calls feeder first last given
     pub own_is : own ≡ last.done.share
 
-  -- it was fed so, and the workers of its channel came to these shares
+  -- the feeder fed it in this way, and the workers of its channel have these shares in the end.
   pub record IsFed {F X : Type 0} (Feeds : IntakeCalls (Dispatching T) → F → Dispatching T → Dispatching T → X → Type 0) (handover : Handover) (feeder : F) (given : X) (own : Share T) (shares : List (Share T)) : Type 0 where
     pub channel : Channel
     pub fed : FeedsTo Feeds channel handover feeder given own
     pub shares_are : AreSharesAt channel shares
 
-  -- it was fed so beside as many workers, and the replies are those of the dispatcher's own jobs and the workers'
+  -- the feeder fed it in this way, with this number of workers. The replies are those of the
+  -- dispatcher's own jobs and of the workers'.
   pub record IsFedBeside {F X : Type 0} (Feeds : IntakeCalls (Dispatching T) → F → Dispatching T → Dispatching T → X → Type 0) (handover : Handover) (workers : ℕ) (feeder : F) (given : X) (replies : Replies) : Type 0 where
     pub own : Share T
     pub shares : List (Share T)
@@ -105,13 +111,14 @@ module _ {T : Type 0} (s : Shop T) where
     pub count : length shares ≡ workers
     pub counted : replies ≡ both_replies (replies_of shares) (replies_by own)
 
--- a shop whose jobs are never held up
+-- a worker context whose jobs are never delayed.
 abbrev pub open_shop : {T : Type 0} → (T → ℕ → ℕ) → (T → ℕ) → (BenchCall → Type 0) → (LoggedCall → CallLog → CallLog → Type 0)
     → (IsMoment : ℕ → CallLog → CallLog → Type 0) → (IsRandom : ℕ → Type 0) → (WireCall → CallLog → CallLog → Type 0) → Shop T
 open_shop changes ended bench logged moment random wire = shop changes ended bench logged moment random (λ number before after. ⊤) wire
 
--- that of a server behind locks, which began so, by the readings of its device, its moments and random words, and the calls of its wire
+-- the context of a server with locks that began in this way. Its parameters are the readings of its
+-- device, its times and random words, and the calls of its transmitter and its recorder of changes.
 abbrev pub locked_shop : Beginning → (AreReadings : List ℕ → CallLog → CallLog → Type 0) → (IsMoment : ℕ → CallLog → CallLog → Type 0) → (IsRandom : ℕ → Type 0)
-    → (WireCall → CallLog → CallLog → Type 0) → Shop Tallies
-locked_shop first AreReadings IsMoment IsRandom Wired = open_shop (λ t. slice_index t.changes) (λ t. t.ended) (IsServerCall first)
-    (IsLoggedCall first AreReadings) IsMoment IsRandom Wired
+    → (WireCall → CallLog → CallLog → Type 0) → (Requested → CallLog → CallLog → Type 0) → Shop Tallies
+locked_shop first AreReadings IsMoment IsRandom Wired Recorded = open_shop (λ t. slice_index t.changes) (λ t. t.ended) (IsServerCall first)
+    (IsRecordedCall (IsLoggedCall first AreReadings) Recorded) IsMoment IsRandom Wired

@@ -1,4 +1,4 @@
--- What a server does with what it receives, round after round; and a server on one thread.
+-- Rounds of a server that receives datagrams, and a server on one thread.
 use Rattle.std.specs.Prelude.{◌≡◌, ◌-◌, ◌<◌, ◌⊎◌, ⊤, ℕ, max, nat_lt, if◌then◌else◌, List, [], ◌∷◌, ◌++◌, length, map, Bool, false, true, Option, Some, None, is_none}
 use Rattle.std.specs.Option.{option_to_list}
 use Rattle.coap_msg.specs.declared.types.Emission.{Emission}
@@ -9,17 +9,17 @@ use Rattle.fc_jobs.specs.Ends.{Channel}
 use Rattle.fc_workers.specs.declared.call_log.CallLog.{CallLog}
 use Rattle.fc_workers.specs.Called.{Shop}
 use Rattle.fc_workers.specs.Fronts.{Beginning, beginning}
-use Rattle.fc_server.specs.Alone.{alone_calls}
 use Rattle.fc_server.specs.Intakes.{IntakeCalls}
 use Rattle.fc_server.specs.Serving.{Serves}
 use Rattle.fc_server.specs.Settling.{AreQuietUntil, AreSettled, AreStepsBy, SettlingStep, sent_in_steps}
 use Rattle.fc_server.specs.States.{begin_of}
-use Rattle.fc_server.specs.declared.alone.Alone.{Alone}
+use Rattle.fc_record.specs.ProgramRequests.{Requested}
+use Rattle.fc_record.specs.Recording.{Recording, recorded_calls}
 use Rattle.fc_server.specs.declared.server.Begin.{Begin}
 use Rattle.fc_host.specs.Sockets.{Comes, Incoming, IsHanded, Receive}
 use Rattle.fc_host.specs.Timers.{GoesPastTimers, IsTimedReceive}
 use Rattle.fc_host.specs.declared.timer.Timer.{Timer}
-use Rattle.fc_service.specs.Alone.{ReadiesAlone}
+use Rattle.fc_service.specs.Alone.{ReadiesRecorded}
 use Rattle.fc_host.specs.Clocks.{AreReadAt}
 use Rattle.fc_service.specs.Counting.{both_replies, replies_by, replies_of}
 use Rattle.fc_service.specs.Intakes.{IsHeardBy}
@@ -29,7 +29,8 @@ use Rattle.fc_service.specs.declared.serve.Extent.{Extent}
 use Rattle.fc_service.specs.declared.replies.Outbox.{Outbox}
 use Rattle.fc_service.specs.declared.replies.Replies.{Replies}
 
--- a round: how long a datagram was waited for, what was received, if anything was in time, and at which moment; what it was answered at once, and the steps that followed; and what was handed to the sink
+-- a round: how long its receive waits, the datagram received, if any came in time, and the time.
+-- Then the immediate response, the steps that followed, and the emissions passed to the sink.
 pub record Round : Type 0 where
   pub wait : Option ℕ
   pub received : Option Incoming
@@ -38,11 +39,12 @@ pub record Round : Type 0 where
   pub steps : List SettlingStep
   pub sendings : List Sending
 
--- the receive that a round begins with
+-- the receive at the beginning of a round.
 abbrev pub receive_of : Round → Receive
 receive_of r = record { wait = r.wait; came = r.received }
 
--- the receives of rounds, what was received in them, and what was handed to the sink, the oldest first, where the newest round is first
+-- the receives of rounds, their received datagrams, and the emissions passed to the sink, the
+-- oldest first; the list of rounds begins with the newest.
 abbrev pub round_receives : List Round → List Receive
 round_receives [] = []
 round_receives (r ∷ rs) = round_receives rs ++ receive_of r ∷ []
@@ -55,25 +57,28 @@ abbrev pub sendings_in : List Round → List Sending
 sendings_in [] = []
 sendings_in (r ∷ rs) = sendings_in rs ++ r.sendings
 
--- ---- how long a datagram is waited for, by until when each shard is quiet
+-- ---- how long a receive waits, by the times until which the shards are idle
 
--- how long a datagram is waited for, from now until a moment: 100 ms at least, and without end if the moment is none
+-- how long a receive waits, from now until a time: at least 100 ms, and without limit if that isn't
+-- a time.
 abbrev pub wait_until : ℕ → ℕ → Option ℕ
 wait_until now moment = if nat_lt moment 18446744073709551615 then Some (max (moment - now) 100) else None
 
--- after a round that received a datagram, the next is waited for 100 ms; after an idle round, until the earliest moment at which there may be something to do
+-- after a round that received a datagram, the next receive waits 100 ms; after an idle round, until
+-- the earliest time at which there may be work.
 abbrev pub EndsInTime : (ℕ → ℕ → Type 0) → ℕ → Bool → Option ℕ → Type 0
 EndsInTime StaysQuiet now false wait = wait ≡ Some 100
 EndsInTime StaysQuiet now true wait = (moment : ℕ) × AreQuietUntil StaysQuiet moment × (wait ≡ wait_until now moment)
 
--- how long a datagram is waited for first, and after rounds that left a server so
+-- how long the first receive waits, and the one after rounds that left a server in this state.
 abbrev pub WaitsAfter : {S : Type 0} → IntakeCalls S → List Round → S → Option ℕ → Type 0
 WaitsAfter calls [] left wait = wait ≡ Some 100
 WaitsAfter calls (r ∷ rs) left wait = EndsInTime (λ shard until. calls.stays_quiet shard left until) r.now (is_none r.received) wait
 
--- ---- in which order a round calls
+-- ---- the order of a round's calls
 
--- which calls were made of a source, of who tells moments, and of a sink, each from one state of the caller's log to the next
+-- the calls of a source, of a clock, and of a sink, each from one state of the caller's log to the
+-- next.
 pub record RoundCalls : Type 1 where
   pub received : Receive → CallLog → CallLog → Type 0
   pub moment : ℕ → CallLog → CallLog → Type 0
@@ -82,7 +87,8 @@ pub record RoundCalls : Type 1 where
 abbrev pub round_calls : (Receive → CallLog → CallLog → Type 0) → (ℕ → CallLog → CallLog → Type 0) → (Emission → Bool → CallLog → CallLog → Type 0) → RoundCalls
 round_calls received moment went = record { received = received; moment = moment; went = went }
 
--- a source was asked for a datagram, then the moment was asked for, and then this was handed to a sink, in order. The log has no other call
+-- a source was called for a datagram, then the clock was read, and then these emissions were passed
+-- to a sink, in order. The log has no other call.
 pub record IsCalledIn (e : RoundCalls) (r : Round) (before after : CallLog) : Type 0 where
   pub asked : CallLog
   pub receives : e.received (receive_of r) before asked
@@ -90,20 +96,21 @@ pub record IsCalledIn (e : RoundCalls) (r : Round) (before after : CallLog) : Ty
   pub moment : e.moment r.now asked told
   pub handed : AreHanded e.went r.sendings told after
 
--- rounds called so one after the other, the newest first
+-- the calls of rounds, one after the other, the newest first.
 abbrev pub AreCalledIn : RoundCalls → List Round → CallLog → CallLog → Type 0
 AreCalledIn e [] before after = after ≡ before
 AreCalledIn e (r ∷ rs) before after = (mid : CallLog) × AreCalledIn e rs before mid × IsCalledIn e r mid after
 
--- ---- of a server, by what each call does to it
+-- ---- a server, by the effects of its calls
 module _ {S : Type 0} (Readies : ℕ → S → S → Type 0) (calls : IntakeCalls S) where
-  -- what was received was heard; or nothing was, and time passed
+  -- a received datagram was handled; or none was received, and time passed.
   abbrev pub IsReceivedBy : ℕ → Option Incoming → S → Option Emission → S → Type 0
   IsReceivedBy now (Some incoming) old sent new = IsHeardBy calls.hears now incoming old sent new
   IsReceivedBy now None old sent new = calls.passes now old new × (sent ≡ None)
 
-  -- the server was made ready; what was received was carried out; what was late was sent again, and observers were notified, until nothing was left; and just what this emitted
-  -- was handed to the sink, in order
+  -- the server was prepared, and a received datagram was handled. Then notifications that had timed
+  -- out were retransmitted, and observers were notified, until no notification was left. Exactly
+  -- the emissions of this were passed to the sink, in order.
   pub record IsRoundBy (r : Round) (old new : S) : Type 0 where
     pub ready : S
     pub readied : Readies r.now old ready
@@ -113,20 +120,21 @@ module _ {S : Type 0} (Readies : ℕ → S → S → Type 0) (calls : IntakeCall
     pub settled : AreSettled r.steps
     pub sent : map (λ s. s.emission) r.sendings ≡ option_to_list r.sent ++ sent_in_steps r.steps
 
-  -- rounds one after the other, the newest first
+  -- rounds one after the other, the newest first.
   abbrev pub AreRoundsBy : List Round → S → S → Type 0
   AreRoundsBy [] old new = new ≡ old
   AreRoundsBy (r ∷ rs) old new = (mid : S) × AreRoundsBy rs old mid × WaitsAfter calls rs mid r.wait × IsRoundBy r mid new
 
-  -- a source's receives were those of these rounds, in order; each round's calls were made in order, from this state of the log on; and the replies are those that the
-  -- rounds handed over, as the sink told
+  -- the receives of a source were those of these rounds, in order. The calls of each round were
+  -- made in order, from this state of the log. The replies are those that the rounds passed on, by
+  -- the results of the sink.
   pub record HasRounds (e : RoundCalls) (rounds : List Round) (before after : Option (List Receive)) (old new : S) (log : CallLog) (outbox : Outbox) : Type 0 where
     pub are_rounds : AreRoundsBy rounds old new
     pub came : Comes before after (round_receives rounds)
     pub called : AreCalledIn e rounds log outbox.log
     pub counted : outbox.replies ≡ replies_to (sendings_in rounds)
 
-  -- it ended when so many datagrams were received, and where there is a limit at all
+  -- the rounds ended when this number of datagrams was received, and there is a limit.
   pub record HasRun (e : RoundCalls) (limit : ℕ) (before after : Option (List Receive)) (old new : S) (replies : Replies) : Type 0 where
     pub rounds : List Round
     pub log : CallLog
@@ -136,55 +144,64 @@ module _ {S : Type 0} (Readies : ℕ → S → S → Type 0) (calls : IntakeCall
     pub limited : 0 < limit
     pub received : length (received_in rounds) ≡ limit
 
--- a receiver, which makes nothing ready before a round, has run
+-- a receiver, which prepares nothing before a round, has run.
 abbrev pub HasReceived : {S : Type 0} → IntakeCalls S → RoundCalls → ℕ → Option (List Receive) → Option (List Receive) → S → S → Replies → Type 0
 HasReceived c e limit before after first last replies = HasRun (λ now old new. new ≡ old) c e limit before after first last replies
 
 -- ---- a server on one thread
 
--- a server that began at this serial and message id has run on one thread, with these sensors, until so many datagrams were received
-pub record HasServed (sensors : List ℕ → Type 0) (e : RoundCalls) (limit : ℕ) (begin : Begin) (before after : Option (List Receive)) (replies : Replies) : Type 0 where
-  pub first : Alone
-  pub last : Alone
-  pub begins : Serves (begin_of begin) first.engine []
-  pub run : HasRun (ReadiesAlone sensors) alone_calls e limit before after first last replies
+-- a server that began at this serial and message ID has run on one thread, with these sensors,
+-- until this number of datagrams was received. Each program change that it answered was recorded,
+-- once.
+pub record HasServed (sensors : List ℕ → Type 0) (e : RoundCalls) (Recorded : Requested → CallLog → CallLog → Type 0) (limit : ℕ) (begin : Begin) (before after : Option (List Receive)) (replies : Replies) : Type 0 where
+  pub first : Recording
+  pub last : Recording
+  pub begins : Serves (begin_of begin) first.alone.engine []
+  pub run : HasRun (ReadiesRecorded sensors) (recorded_calls Recorded) e limit before after first last replies
 
 -- ---- a server with workers
 
--- the calls of a server with workers that began so: its programs read the clock and these sensors, and its replies go to the sink
-abbrev pub served_shop : (List ℕ → Type 0) → RoundCalls → Beginning → Shop Tallies
-served_shop sensors e begin = locked_shop begin (AreReadAt e.moment sensors) e.moment (λ random. ⊤) (IsHanded e.went)
+-- the calls of a server with workers that began in this way. Its programs read the clock and these
+-- sensors, and its replies are passed to the sink. Each program change that is answered is
+-- recorded, once.
+abbrev pub served_shop : (List ℕ → Type 0) → RoundCalls → (Requested → CallLog → CallLog → Type 0) → Beginning → Shop Tallies
+served_shop sensors e Recorded begin = locked_shop begin (AreReadAt e.moment sensors) e.moment (λ random. ⊤) (IsHanded e.went) Recorded
 
--- datagrams were received until there were so many, and each went through a round of one dispatcher, which began new. Runs of 6,000 instructions and more may go to the workers, or no
--- job where no worker was begun. The replies are those of the rounds, and of the jobs that as many workers and the dispatcher worked off
-pub record HasServedPooled (sensors : List ℕ → Type 0) (e : RoundCalls) (workers limit : ℕ) (begin : Beginning) (before after : Option (List Receive)) (replies : Replies) : Type 0 where
+-- this number of datagrams was received, each in a round of one dispatcher, which began new. Runs
+-- of 6,000 instructions and more may be sent to the workers, or no job if no worker was started.
+-- The replies are those of the rounds, of the jobs of this number of workers, and of the
+-- dispatcher's jobs.
+pub record HasServedPooled (sensors : List ℕ → Type 0) (e : RoundCalls) (Recorded : Requested → CallLog → CallLog → Type 0) (workers limit : ℕ) (begin : Beginning) (before after : Option (List Receive)) (replies : Replies) : Type 0 where
   pub channel : Channel
   pub first : Dispatching Tallies
   pub last : Dispatching Tallies
   pub has_workers : Bool
   pub new : IsNew channel (handover_where has_workers (Dear 6000)) first
   pub at_once : Replies
-  pub run : HasReceived (pooled_calls (served_shop sensors e begin)) e limit before after first last at_once
+  pub run : HasReceived (pooled_calls (served_shop sensors e Recorded begin)) e limit before after first last at_once
   pub shares : List (Share Tallies)
-  pub worked : AreSharesAt (served_shop sensors e begin) channel shares
+  pub worked : AreSharesAt (served_shop sensors e Recorded begin) channel shares
   pub count : length shares ≡ workers
   pub all : replies ≡ both_replies at_once (both_replies (replies_of shares) (replies_by last.done.share))
 
--- ---- a server by so many workers: one is the thread that receives. Its slots begin at serial 0
+-- ---- a server with this number of workers: one is the receiving thread. Its slots begin at serial
+-- 0
 
-abbrev pub IsServed : (List ℕ → Type 0) → RoundCalls → Extent → Option (List Receive) → Option (List Receive) → Replies → Type 0
-IsServed sensors e extent before after replies =
-    ((extent.workers ≡ 1) × HasServed sensors e extent.limit (record { serial = 0; id = extent.first_id; policy = extent.policy }) before after replies)
-    ⊎ ((extent.workers ≡ 1 → ⊥) × HasServedPooled sensors e extent.workers extent.limit (beginning extent.policy extent.first_id) before after replies)
+abbrev pub IsServed : (List ℕ → Type 0) → RoundCalls → (Requested → CallLog → CallLog → Type 0) → Extent → Option (List Receive) → Option (List Receive) → Replies → Type 0
+IsServed sensors e Recorded extent before after replies =
+    ((extent.workers ≡ 1) × HasServed sensors e Recorded extent.limit (record { serial = 0; id = extent.first_id; policy = extent.policy }) before after replies)
+    ⊎ ((extent.workers ≡ 1 → ⊥) × HasServedPooled sensors e Recorded extent.workers extent.limit (beginning extent.policy extent.first_id) before after replies)
 
--- ---- timers beside a source
+-- ---- timers together with a source
 
--- the calls of rounds by a source and timers: their requests come between the datagrams of the source, and their responses don't reach the sink
+-- the calls of rounds by a source and timers. The requests of the timers come between the datagrams
+-- of the source, and the responses to them don't reach the sink.
 abbrev pub timed_calls : (Receive → CallLog → CallLog → Type 0) → (ℕ → CallLog → CallLog → Type 0) → (Emission → Bool → CallLog → CallLog → Type 0) → RoundCalls
 timed_calls received moment went = round_calls (IsTimedReceive moment received) moment (GoesPastTimers went)
 
--- a server on a source whose receives aren't known, with timers or without. Which timers a receive had isn't known either
+-- a server on a source whose receives are unknown, with timers or without. The timers that a
+-- receive had are unknown too.
 abbrev pub IsServedBeside : List Timer → (List ℕ → Type 0) → (Receive → CallLog → CallLog → Type 0) → (ℕ → CallLog → CallLog → Type 0) → (Emission → Bool → CallLog → CallLog → Type 0)
-    → Extent → Replies → Type 0
-IsServedBeside [] sensors received moment went extent replies = IsServed sensors (round_calls received moment went) extent None None replies
-IsServedBeside (t ∷ ts) sensors received moment went extent replies = IsServed sensors (timed_calls received moment went) extent None None replies
+    → (Requested → CallLog → CallLog → Type 0) → Extent → Replies → Type 0
+IsServedBeside [] sensors received moment went Recorded extent replies = IsServed sensors (round_calls received moment went) Recorded extent None None replies
+IsServedBeside (t ∷ ts) sensors received moment went Recorded extent replies = IsServed sensors (timed_calls received moment went) Recorded extent None None replies

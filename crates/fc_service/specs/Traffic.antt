@@ -1,4 +1,4 @@
--- What goes to a sink, and how it is counted.
+-- Emissions passed to a sink, and their counts.
 use Rattle.std.specs.Prelude.{◌≡◌, Bool, not, List, [], ◌∷◌, count_by, map, Some}
 use Rattle.coap_msg.specs.declared.types.Emission.{Emission}
 use Rattle.fc_workers.specs.Answers.{saturated}
@@ -7,28 +7,30 @@ use Rattle.fc_service.specs.Counting.{counted}
 use Rattle.fc_service.specs.declared.replies.Outbox.{Outbox}
 use Rattle.fc_service.specs.declared.replies.Replies.{Replies}
 
--- an emission that was handed to a sink, and whether it went out
+-- an emission that was passed to a sink, and whether it was sent.
 pub record Sending : Type 0 where
   pub emission : Emission
   pub out : Bool
 
--- these were handed to a sink one after the other, the oldest first: the log of who handed them over has no other call, from one state to the other
+-- these were passed to a sink one after the other, the oldest first: the caller's log has no other
+-- call, from one state to the other.
 abbrev pub AreHanded : (Emission → Bool → CallLog → CallLog → Type 0) → List Sending → CallLog → CallLog → Type 0
 AreHanded Went [] before after = after ≡ before
 AreHanded Went (s ∷ ss) before after = (next : CallLog) × Went s.emission s.out before next × AreHanded Went ss next after
 
--- the replies with each of these counted, one after the other
+-- the replies with each of these counted, one after the other.
 abbrev pub counted_each : List Sending → Replies → Replies
 counted_each [] r = r
 counted_each (s ∷ ss) r = counted_each ss (counted (Some s.out) r)
 
--- just these emissions were handed to a sink, in order, and each is counted once, as that told
+-- exactly these emissions were passed to a sink, in order, and each is counted once, by the sink's
+-- result.
 abbrev pub Sends : (Emission → Bool → CallLog → CallLog → Type 0) → List Emission → Outbox → Outbox → Type 0
 Sends Went emissions before after =
     (sendings : List Sending) × AreHanded Went sendings before.log after.log × (map (λ s. s.emission) sendings ≡ emissions)
     × (after.replies ≡ counted_each sendings before.replies)
 
--- how many of them went out, and how many didn't; each count stops at its greatest
+-- how many of them were sent, and how many failed; each count stops at its maximum.
 abbrev pub replies_to : List Sending → Replies
 replies_to sendings = record {
   sent = saturated (count_by (λ s. s.out) sendings);

@@ -1,9 +1,9 @@
-//! The command line of the server's program, and what its help tells.
+//! The command line of `fcd`, and its help texts.
 use clap::{Arg, ArgAction, Command, Error, value_parser};
 use fc_cli::command_line::VERSION;
 use std::alloc::Global;
 
-/// What `--help` tells of the lines of `fcd play` and of how it ends.
+/// The `--help` text on the lines of `fcd play` and on its exit status.
 pub const LINES: &str = "\
 A line is `now peer hex`, parted by single spaces: the moment in milliseconds, the last
 number of the peer's address 127.0.0.peer (0 to 255), and the datagram in hex digits.
@@ -19,7 +19,7 @@ line is read; without, by the one thread there is. What is printed is the same.
 Exit status: 0 at the end of the input; 2 where a line or the command line is bad; 3 where
 reading or writing failed, or memory was refused.";
 
-/// What `--help` tells of `fcd serve` and of how it ends.
+/// The `--help` text of `fcd serve`, with its exit status.
 pub const SERVING: &str = "\
 The server speaks CoAP on UDP, at 127.0.0.1, so that this host alone reaches it, or at the
 address that `--bind` names; 0.0.0.0 is each of this host's. Whoever reaches it may upload
@@ -36,9 +36,10 @@ runs all. After each datagram observers are notified. Programs of the second ver
 milliseconds since the start, in eight bytes, the least first, and behind these 56 bytes of FILE,
 which is read again before a run; zeros where there are none.
 
-After N datagrams the server ends, where N isn't 0. With `--log info` standard error is told
+After N datagrams the server ends, where N isn't 0. With `--log info` standard error gets
 `listening on ADDRESS:PORT` once it receives, and at its end `sent S failed F`, how many replies
-went out and how many didn't.
+went out and how many didn't. With `--log changes` it gets a line for each request to install or
+remove a program that reaches its slot, with the sender, the response and the image's SHA-256.
 
   fcd serve --port 5683
   fcd serve --port 5683 --bind 0.0.0.0 --log info
@@ -49,7 +50,7 @@ be had, or memory was refused at the start.";
 /// Describes the command line of `fcd`.
 ///
 /// # Errors
-/// There was no memory for it.
+/// Memory for the description can't be allocated.
 pub fn command<'a>(alloc: Global) -> Result<Command<'a>, Error> {
     Ok(
         Command::new(alloc, "fcd")
@@ -62,7 +63,7 @@ pub fn command<'a>(alloc: Global) -> Result<Command<'a>, Error> {
     )
 }
 
-// An option that takes a value.
+// Makes an option that takes a value.
 fn option<'a>(
     alloc: Global,
     name: &'static str,
@@ -207,13 +208,14 @@ fn log<'a>(alloc: Global) -> Arg<'a> {
         alloc,
         "log",
         "L",
-        "Whether it says where it listens, and at its end how much was sent",
+        "What it logs: off, info or changes; may be repeated",
     )
-    .value_parser(["off", "info"].as_slice())
+    .value_parser(["off", "info", "changes"].as_slice())
+    .action(ArgAction::Append)
     .default_value("off")
 }
 
-// By how many workers jobs are worked off that may take long.
+// Makes the option for the number of workers that run long jobs.
 fn dear_workers<'a>(alloc: Global) -> Arg<'a> {
     option(
         alloc,

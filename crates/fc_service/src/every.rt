@@ -1,4 +1,4 @@
-//! The timers of `fcd serve --every`: `1000:7` asks the program of slot 7 each second.
+//! The timers of `fcd serve --every`: `1000:7` posts to slot 7 each second.
 ghost use Rattle.std.specs.Prelude.{◌≡◌, ◌≤◌, IfOk, IfSome, codes, map};
 ghost use Rattle.clap.specs.Matches.{found_of};
 ghost use Rattle.fc_service.specs.Every.{AreTimers, IsTimerText, Pushes, most_held, texts_of, timers_hold};
@@ -14,25 +14,28 @@ use thiserror::Error;
 /// The longest period in milliseconds: a day.
 pub const LONGEST: u64 = 86_400_000;
 
-/// Why `--every` gives no timers.
+/// The reason why `--every` gives no timers.
 #[derive(Debug, Drop, Error)]
 pub enum BadTimer {
-    /// A value is no period and slot.
+    /// A value isn't a period and a slot.
     #[error("error: `--every` takes a period of 1 to 86400000 ms and a slot of 0 to 63, for example 1000:7")]
     Form,
     /// The requests of all timers need more exchanges than this.
     #[error("error: the requests of `--every` need more than {0} exchanges: half of `--exchanges`, and no more than `--share`")]
     TooMany(u64),
-    /// There was no memory for them.
+    /// Memory for the timers couldn't be allocated.
     #[error("{0}")]
     Memory(#[from] AllocError),
 }
 
-/// Reads the timers that the options give. A request holds one of the server's exchanges for 247 s, and all timers together may hold half of them, as far as
-/// the share of an address goes.
+/// Reads the timers that the options give.
+///
+/// A request holds one of the server's exchanges for 247 s. All timers together may hold half of
+/// the exchanges, and no more than the share of an address.
 ///
 /// # Errors
-/// A value has another form, the timers need too many exchanges, or there was no memory for them.
+/// A value has another form, the timers need too many exchanges, or memory for the timers can't be
+/// allocated.
 pub fn timers_in(
     alloc: Global,
     matches: &ArgMatches<'_>,
@@ -47,14 +50,14 @@ pub fn timers_in(
     }
 }
 
-// How many exchanges all timers may hold.
+// Returns the number of exchanges that all timers may hold.
 fn most_held(limits: Limits) -> u64
     ensures { result ≡ most_held limits }
 {
     (limits.exchanges / 2).min(limits.share) as u64
 }
 
-// Reads the timers of these texts, which may hold so many exchanges.
+// Reads the timers of `texts`, which may hold `most` exchanges.
 fn timers_of(alloc: Global, texts: &[&str], most: u64) -> Result<Vec<Timer>, BadTimer>
     ensures timers { IfOk result (λ v. AreTimers (map (λ text. text.now) texts.now) v.items) }
     ensures few { IfOk result (λ v. timers_hold v.items ≤ most) }
@@ -67,7 +70,7 @@ fn timers_of(alloc: Global, texts: &[&str], most: u64) -> Result<Vec<Timer>, Bad
     Ok(timers)
 }
 
-// Reads one timer more, and returns how many exchanges are left.
+// Reads one more timer, and returns the number of exchanges left.
 fn push_timer(text: &str, left: u64, most: u64, timers: &mut Vec<Timer>) -> Result<u64, BadTimer>
     ensures { IfOk result (Pushes text.now left timers.old.items timers.new.items) }
 {
@@ -81,7 +84,7 @@ fn push_timer(text: &str, left: u64, most: u64, timers: &mut Vec<Timer>) -> Resu
     }
 }
 
-// Reads a timer, as `1000:7`.
+// Reads a timer, such as `1000:7`.
 fn timer_of(text: &str) -> Option<Timer>
     ensures { IfSome result (IsTimerText text.now) }
 {

@@ -1,5 +1,5 @@
-//! What the definitions of the service come to, in plainer words: each function is a law, and its contract says it.
-ghost use Rattle.std.specs.Prelude.{◌≡◌, ◌+◌, ◌*◌, ◌%◌, ◌<◌, ◌≤◌, ◌↔◌, ◌⊎◌, ℕ, Bool, List, [], ◌∷◌, None, Option, Some, false, flat_map, map, true};
+//! Consequences of the service's definitions: each function's contract is a law.
+ghost use Rattle.std.specs.Prelude.{◌≡◌, ◌+◌, ◌*◌, ◌%◌, ◌<◌, ◌≤◌, ◌↔◌, ◌⊎◌, ℕ, Bool, List, [], ◌∷◌, None, Option, Some, codes, false, flat_map, map, true};
 ghost use Rattle.fc_core.specs.declared.front.Heard.TheVariants.{Job, Nothing, Reply, Signal};
 ghost use Rattle.fc_observe.specs.declared.observers.Ticked.{Ticked};
 ghost use Rattle.fc_observe.specs.declared.observers.Ticked.TheVariants.{Quiet};
@@ -11,7 +11,8 @@ ghost use Rattle.fc_server.specs.declared.server.Begin.{Begin};
 ghost use Rattle.fc_host.specs.Sockets.{Receive};
 ghost use Rattle.fc_host.specs.declared.timer.Timer.{Timer};
 ghost use Rattle.fc_server.specs.Alone.{NotifiesAlone, ResendsAlone};
-ghost use Rattle.fc_service.specs.Every.{held_by, most_held, timers_hold};
+ghost use Rattle.fc_host.specs.Timers.{timers};
+ghost use Rattle.fc_service.specs.Every.{IsTimerText, held_by, most_held, timers_hold};
 ghost use Rattle.fc_service.specs.Histories.{IsOneHistory, arrivals_in, arrivals_in_lines, sent_in_lines};
 ghost use Rattle.fc_server.specs.Intakes.{is_reply};
 ghost use Rattle.fc_lines.specs.Emissions.{printed};
@@ -21,18 +22,51 @@ ghost use Rattle.fc_server.specs.Settling.{most_steps};
 ghost use Rattle.fc_server.specs.declared.alone.Alone.{Alone};
 ghost use Rattle.fc_service.specs.declared.replies.Replies.{Replies};
 
+use crate::every::LONGEST;
 use fc_host::sensors::Sensors;
 use fc_host::socket::{Sink, Source};
+use fc_host::timers::TIMERS;
+use fc_record::Recorder;
 use fc_server::Intake;
+use fc_server::settle::STEPS;
 use fc_workers::Moments;
 
-/// Settling takes more steps at one moment than there are: each of the 32 observers of 64 slots is sent one notification again at most, and notified once,
-/// and each of 8 shards tells once that nothing is late and once that nobody is due.
+/// The work at one time has more steps than all shards and observers need.
+///
+/// Each of the 32 observers of 64 slots gets at most one retransmission and one notification. Each
+/// of 8 shards returns once that no notification has timed out, and once that no observer has a
+/// pending one.
 pub fn settling_has_steps_for_all()
     ensures { 64 * (32 + 32) + 8 * 2 ≤ most_steps }
 {}
 
-/// What is answered at once is sent by who heard it; a job's reply, a signal and what is ignored are not.
+/// The work at one time has at most 8,192 steps, in code and definition.
+pub fn settling_takes_8192_steps()
+    ensures code { STEPS ≡ 8192 }
+    ensures definition { most_steps ≡ 8192 }
+{}
+
+/// The requests of timers come from 0.0.0.0:0, in code and definition.
+///
+/// No host has this address as its source (RFC 1122, section 3.2.1.3).
+pub fn timers_have_no_address()
+    ensures code { TIMERS ≡ record { ip = 0 ∷ 0 ∷ 0 ∷ 0 ∷ []; port = 0 } }
+    ensures definition { timers ≡ record { ip = 0 ∷ 0 ∷ 0 ∷ 0 ∷ []; port = 0 } }
+{}
+
+/// The longest period of a timer is a day.
+///
+/// A day is 24 hours of 60 minutes of 60 seconds of 1,000 ms. `86400000:7` is the text of a timer,
+/// and no text has a longer period.
+pub fn longest_period_is_a_day()
+    ensures code { LONGEST ≡ 24 * 60 * 60 * 1000 }
+    ensures day { IsTimerText (codes "86400000:7") (record { every = 86400000; slot = 7; due = 86400000 }) }
+    ensures most { (text : List ℕ) (t : Timer) → IsTimerText text t → t.every ≤ 24 * 60 * 60 * 1000 }
+{}
+
+/// The receiver sends immediate responses.
+///
+/// It doesn't send a job's reply, a signal, or anything for an ignored datagram.
 pub fn replies_are_sent_by_who_heard()
     ensures reply { is_reply Reply ≡ true }
     ensures job { is_reply Job ≡ false }
@@ -40,8 +74,10 @@ pub fn replies_are_sent_by_who_heard()
     ensures nothing { is_reply Nothing ≡ false }
 {}
 
-/// What a shard of a server on one thread tells is so: that nothing is late exactly where no notification of its slots is, and that nobody is due exactly where it has no turn
-/// to give.
+/// The results of shards of a server on one thread are true.
+///
+/// A shard returns that no notification has timed out exactly if none of its slots' notifications
+/// has. It returns that no observer has a pending notification exactly if it has no lease to give.
 pub fn shards_tell_what_is_so()
     ensures late { (shard now : ℕ) (old new : Alone) (ticked : Ticked) → ResendsAlone shard now old new ticked
         → ((ticked ≡ Quiet) ↔ (late_place (at_time (shard_at old.engine.shards (shard % 8)) now) ≡ None)) }
@@ -49,18 +85,24 @@ pub fn shards_tell_what_is_so()
         → ((told ≡ Nobody) ↔ (shard_turn now (shard_at old.engine.shards (shard % 8)) ≡ None)) }
 {}
 
-/// The first datagram is waited for 100 ms.
+/// The first receive waits 100 ms.
 pub fn first_wait_is_100_ms<N: Intake>()
     ensures { (left : N) (wait : Option ℕ) → WaitsAfter N.calls [] left wait → wait ≡ Some 100 }
 {}
 
-/// A line that is played ends before a line feed, the byte 10: the first of `a`, a line feed, `b` is `a`.
+/// A played line ends before a line feed, the byte 10.
+///
+/// The first line of `a`, a line feed, `b` is `a`.
 pub fn lines_end_before_line_feeds()
     ensures { (text : List ℕ) (left : Option (List ℕ)) → IsNextText text (Some (97 ∷ 10 ∷ 98 ∷ [])) left → text ≡ 97 ∷ [] }
 {}
 
-/// After a round that received a datagram, the next is waited for 100 ms. After an idle round, the wait is until the earliest moment that one of the eight shards told,
-/// and 100 ms at least. It has no end only if each shard told 2^64 - 1 ms, which is no moment. So a quiet server sleeps, and doesn't wake up before there may be something to do.
+/// The next receive waits 100 ms, or until the earliest time of the eight shards.
+///
+/// After a round that received a datagram, it waits 100 ms. After an idle round, the wait lasts
+/// until the earliest time that one of the eight shards returned, and at least 100 ms. It is
+/// unlimited only if each shard returned 2^64 - 1 ms, which isn't a time. So an idle server sleeps,
+/// and doesn't wake up before there may be work.
 pub fn waits_end_in_time()
     ensures received { (told : ℕ → ℕ) (now : ℕ) (wait : Option ℕ) → EndsInTime (λ shard until. until ≡ told shard) now false wait → wait ≡ Some 100 }
     ensures soon { (told : ℕ → ℕ) (now shard : ℕ) (wait : Option ℕ) → shard < 8 → told shard ≤ now + 100 → now + 100 < 18446744073709551615
@@ -71,25 +113,34 @@ pub fn waits_end_in_time()
         → EndsInTime (λ shard until. until ≡ told shard) now true wait → wait ≡ None }
 {}
 
-/// What a server on one thread does in all of its rounds is one history of events, from the serial and the message id that it begins with on, in which each event
-/// emitted what it may: just the datagrams that were received are delivered, in order, each at its round's moment, and time passes at the moments of the other rounds; and what its
-/// events emitted, in that order, is what the rounds handed to the sink, once each, and nothing besides with the log of these calls (`HasServed`).
-pub fn served_rounds_are_one_history<Z: Sensors, S: Source, M: Moments, K: Sink>()
+/// All rounds of a server on one thread are one history of events.
+///
+/// It begins with the server's initial serial and message ID, and each event emits a permitted
+/// emission. Exactly the received datagrams are delivered, in order, each at its round's time. Time
+/// passes at the times of the other rounds. The emissions of the events, in that order, are those
+/// that the rounds passed to the sink, once each. The log of these calls has nothing else
+/// (`HasServed`).
+pub fn served_rounds_are_one_history<Z: Sensors, S: Source, M: Moments, K: Sink, C: Recorder>()
     ensures { (limit : ℕ) (begin : Begin) (before after : Option (List Receive)) (replies : Replies)
-        (w : HasServed Z.are_sensed (round_calls S.received M.is_moment K.went) limit begin before after replies)
-        → IsOneHistory begin (arrivals_in w.run.rounds) (map (λ s. s.emission) (sendings_in w.run.rounds)) w.last.engine }
+        (w : HasServed Z.are_sensed (round_calls S.received M.is_moment K.went) C.recorded limit begin before after replies)
+        → IsOneHistory begin (arrivals_in w.run.rounds) (map (λ s. s.emission) (sendings_in w.run.rounds)) w.last.alone.engine }
 {}
 
-/// And so is what it does for all the lines that it plays: just the datagrams that they tell are delivered, in order, each at its line's moment, time passes at the moments of the
-/// other lines, and just what its events emitted is printed.
+/// All lines that a server on one thread plays are one history of events.
+///
+/// Exactly the datagrams of the lines are delivered, in order, each at its line's time. Time passes
+/// at the times of the other lines. Exactly the emissions of the events are printed.
 pub fn played_lines_are_one_history()
     ensures history { (begin : Begin) (had before after : Option (List ℕ)) (w : IsPlayedOut begin had before after)
         → IsOneHistory begin (arrivals_in_lines w.played.lines) (sent_in_lines w.played.lines) w.last.engine }
     ensures printed { (lines : List PlayedLine) → printed_lines lines ≡ flat_map printed (sent_in_lines lines) }
 {}
 
-/// A timer of 483 ms holds 512 exchanges at a time, half of 1,024, and one of 482 ms holds 513. All timers may hold 512 of 1,024, 32,768 of 65,536, and no more than the share
-/// of an address.
+/// All timers together may hold half of the exchanges, up to an address's share.
+///
+/// A timer of 483 ms holds 512 exchanges at a time, half of 1,024, and one of 482 ms holds 513. All
+/// timers may hold 512 of 1,024 exchanges, 32,768 of 65,536, and no more than the share of an
+/// address.
 pub fn timers_hold_half_of_the_exchanges()
     ensures held { (t : Timer) → (held_by (record t { every = 483 }) ≡ 512) × (held_by (record t { every = 482 }) ≡ 513) × (held_by (record t { every = 86400000 }) ≡ 1) }
     ensures half { most_held (record { exchanges = 1024; share = 65536 }) ≡ 512 }

@@ -1,4 +1,4 @@
-//! Lines: each is carried out by who takes them in, and what it sends is printed.
+//! Playing lines: an intake executes each line, and its output is printed.
 ghost use Rattle.std.specs.Prelude.{◌≡◌, ◌++◌, ⊤, ℕ, Err, List, Option, OnOk};
 ghost use Rattle.std.specs.Io.KnownBytes.{Appends, IsAtEnd};
 ghost use Rattle.coap_msg.specs.declared.types.Emission.{Emission};
@@ -21,21 +21,24 @@ use std::alloc::{AllocError, Global};
 use std::io;
 use std::io::{BufRead, Write};
 
-/// An intake whose jobs are handed the readings that lines tell.
+/// An intake whose jobs get the readings of the played lines.
 pub(crate) trait LineIntake: Intake {
-    // Jobs are handed these readings from now on: the intake before and after.
+    // Jobs get these readings from now on: the intake before and after.
     ghost hands: { List ℕ → Self → Self → Type 0 } = { λ readings old new. ⊤ };
 
-    /// Hands these readings to the jobs from now on.
+    /// Sets the readings for the jobs from now on.
     fn hand(&mut self, readings: &Readings)
         ensures { hands readings.now self.old self.new };
 }
 
-/// Reads lines, carries out each in turn, and prints what it sends before the next is read: what the datagram is answered, and then what is sent again, and what
-/// observers are told, at the line's moment.
+/// Reads lines, executes each of them, and prints the datagrams that it sends.
+///
+/// A line's output is printed before the next line is read. It has the response to the line's
+/// datagram, then the retransmissions and the notifications at the line's time.
 ///
 /// # Errors
-/// A line is bad, and then the lines before it were played, and just what they sent was printed. Or reading or writing failed, or there was no memory for a line.
+/// A line is bad; then the lines before it were played, and exactly their output was printed. Or
+/// reading or writing failed, or memory for a line couldn't be allocated.
 pub(crate) fn play_lines<N: LineIntake, R: BufRead + Drop, W: Write>(
     alloc: Global,
     intake: &mut N,
@@ -59,7 +62,7 @@ pub(crate) fn play_lines<N: LineIntake, R: BufRead + Drop, W: Write>(
     Ok(())
 }
 
-// Reads the line of this number, and carries it out.
+// Reads the line with this number, and executes it.
 fn play_line<N: LineIntake, W: Write>(
     alloc: Global,
     intake: &mut N,
@@ -90,7 +93,7 @@ fn play_line<N: LineIntake, W: Write>(
     }
 }
 
-// Hands the readings that a line tells, if it tells any.
+// Sets the readings that a line gives, if it gives any.
 fn hand<N: LineIntake>(intake: &mut N, line: &Line)
     ensures { IsHandedBy N.hands N.calls line.now intake.old intake.new }
 {
@@ -100,7 +103,7 @@ fn hand<N: LineIntake>(intake: &mut N, line: &Line)
     }
 }
 
-// Carries out a line, and prints what it sends, which is written over another emission.
+// Executes a line, and prints the datagram that it sends, which is written over another emission.
 fn carry_out<N: LineIntake, W: Write>(
     intake: &mut N,
     reply: &mut Emission,
@@ -122,7 +125,7 @@ fn carry_out<N: LineIntake, W: Write>(
     }
 }
 
-// The moment of a line, in milliseconds.
+// Returns the time of a line, in milliseconds.
 fn moment(line: &Line) -> u64
     ensures { result ≡ moment_of line.now }
 {
@@ -131,7 +134,8 @@ fn moment(line: &Line) -> u64
     }
 }
 
-// Prints what is sent again, and what observers are told, at a moment in milliseconds, until nothing is left. Each is written over an emission.
+// Prints the retransmissions and the notifications at `now`, in milliseconds, until none is left.
+// Each is written over an emission.
 fn settle<N: Intake, W: Write>(
     intake: &mut N,
     now: u64,
@@ -152,7 +156,7 @@ fn settle<N: Intake, W: Write>(
     Ok(())
 }
 
-// Prints an emission, where it is sent.
+// Prints an emission if it is sent.
 fn print_if<W: Write>(out: &mut W, sent: bool, emission: &Emission) -> io::Result<()>
     ensures { OnOk result (Appends (W.contents out.old) (W.contents out.new) (output_of (emission_if sent emission.now))) }
 {

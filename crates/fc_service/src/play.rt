@@ -12,11 +12,17 @@ use fc_server::{Alone, Begin};
 use std::alloc::Global;
 use std::io::{BufRead, Write};
 
-/// Reads lines, carries out each in turn on an engine of its own, and prints what each sends before it reads the next: what the datagram is
-/// answered, and then what is sent again, and what observers are told, at the line's moment.
-/// It ends `Done` at the end of the input, when each line was carried out once, in order, and just what they sent was printed; `Bad` if a
-/// line is bad, when the lines before it were carried out so and just what they sent was printed, and `err` is told its number from 1; and
-/// `Failed` where reading or writing failed, or there was no memory for the engine or a line, which `err` is told as well.
+/// Plays lines on a new single-threaded server, and prints the datagrams it sends.
+///
+/// A line's output is printed before the next line is read. It has the response to the line's
+/// datagram, then the retransmissions and the notifications at the line's time. The result is:
+///
+/// - `Done` at the end of the input. Each line was executed once, in order, and exactly their
+///   output was printed.
+/// - `Bad` if a line is bad. The lines before it were executed in this way, and exactly their
+///   output was printed. Its number, from 1, is written to `err`.
+/// - `Failed` if reading or writing failed, or if memory for the server or a line couldn't be
+///   allocated. The reason is written to `err` as well.
 pub fn play<R: BufRead + Drop, W: Write, E: Write>(
     alloc: Global,
     input: R,

@@ -9,8 +9,15 @@ use fc_core::Policy;
 use fc_lines::line::number;
 use fc_lines::policy::{DEFAULT_SECONDS, policy};
 
-/// Returns the policy that the options give, or `None` exactly if they give none: if `--managers` has no value, a value that is no network, or more than
-/// four, if `--exchanges` isn't 1 to 65,536, `--share` is 0, `--confirm-after` isn't 1 to 86,400, or one of them is no number below 2^64.
+/// Returns the policy that the options give, or `None`.
+///
+/// The result is `None` exactly if the options give no policy:
+///
+/// - `--managers` has no value, a value that isn't a network, or more than four values.
+/// - `--exchanges` isn't 1 to 65,536.
+/// - `--share` is 0.
+/// - `--confirm-after` isn't 1 to 86,400.
+/// - One of these three isn't a number below 2^64.
 pub fn policy_in(matches: &ArgMatches<'_>) -> Option<Policy>
     ensures { let found = found_of matches.now in MatchOption result (IsNoPolicyIn found) (IsPolicyIn found) }
 {
@@ -22,7 +29,7 @@ pub fn policy_in(matches: &ArgMatches<'_>) -> Option<Policy>
     )
 }
 
-// The number of an option, or the default if it isn't given.
+// Returns the number of an option, or the default if it isn't given.
 fn value(matches: &ArgMatches<'_>, name: &str, default: u64) -> Option<u64>
     ensures { let text = first_value (found_of matches.now) name.now in
         MatchOption result (IsNoValueOr text) (IsValueOr default text) }

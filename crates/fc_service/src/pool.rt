@@ -1,4 +1,4 @@
-//! Pools: a new server behind its locks, workers at it, and who feeds them with datagrams.
+//! Pools: a new server with locks, its workers, and a feeder of datagrams.
 ghost use Rattle.std.specs.Prelude.{◌≡◌, ◌+◌, ◌<◌, ◌≤◌, ℕ, ⊤, List, vec_len, IfOk};
 ghost use Rattle.fc_workers.specs.Fronts.{beginning};
 ghost use Rattle.fc_server.specs.States.{CanBegin};
@@ -14,6 +14,7 @@ use crate::replies::Replies;
 use coap_msg::{Emission, Endpoint};
 use fc_core::Heard;
 use fc_observe::Ticked;
+use fc_record::{RecordedBench, Recorder};
 use fc_server::Begin;
 pub use fc_server::Intake;
 use fc_server::engine::NotifyOutcome;
@@ -28,7 +29,7 @@ use std::sync::Wait;
 use std::sync::atomic::{AtomicU64, Ordering};
 use std::thread::Threads;
 
-// A wire that counts the jobs that have ended.
+// A transmitter that counts the jobs that have ended.
 #[derive(Drop)]
 struct Counting<'a, W: Wire> {
     wire: &'a W,
@@ -48,7 +49,7 @@ impl<'a, W: Wire> Wire for Counting<'a, W> {
     }
 }
 
-// A dispatcher, and the handle by which it waits; how many jobs came to it, and how many jobs have ended.
+// A dispatcher, and the handle for its waits; the number of jobs dispatched, and of jobs ended.
 #[derive(Drop)]
 struct Dispatching<'a, 'b, R: Wait, B: Bench, G: Gate, W: Wire, M: Moments> {
     rt: &'a R,
@@ -67,7 +68,7 @@ impl<'a, 'b, R: Wait, B: Bench, G: Gate, W: Wire, M: Moments> Model
 }
 
 impl<'a, 'b, R: Wait, B: Bench, G: Gate, W: Wire, M: Moments> Dispatching<'a, 'b, R, B, G, W, M> {
-    // What it has done itself.
+    // Closes the dispatcher and returns its own statistics.
     fn close(self) -> Share<B::Tallies>
         ensures { result ≡ self.entry.done.share }
     {
@@ -100,7 +101,8 @@ impl<'a, 'b, R: Wait, B: Bench, G: Gate, W: Wire, M: Moments> Intake
         self.dispatcher.advance_if_quiet(self.rt, shard, now)
     }
 
-    // While a job is at work, which may change a slot or register an observer, nothing is known. What has ended is read before the shard is asked.
+    // Returns 0 while a job is running, since it may change a slot or register an observer. The
+    // count of ended jobs is read before the shard is called.
     fn quiet_until(&self, shard: u8) -> u64 {
         if self.ended.load(Ordering::SeqCst) == self.begun {
             self.dispatcher.quiet_until(self.rt, shard)
@@ -120,17 +122,20 @@ impl<'a, 'b, R: Wait, B: Bench, G: Gate, W: Wire, M: Moments> Intake
     }
 }
 
-/// Who has datagrams taken in by a server.
+/// A driver that passes datagrams to a server.
 pub trait Feeder<X> {
-    // It fed an intake, whose calls do this, and gave what it gives: the intake before and after.
+    // The driver fed an intake with these calls, and returned this: the intake before and after.
     ghost feeds: { (S : Type 0) → IntakeCalls S → Self → S → S → X → Type 0 } = { λ S calls self first last given. ⊤ };
 
-    /// Feeds to the end.
+    /// Feeds the intake to the end.
     fn feed<N: Intake, R: Wait>(self, rt: &R, intake: &mut N) -> X
         ensures { feeds N N.calls self intake.old intake.new result };
 }
 
-/// What a feeder gave, whether workers were begun beside it, the replies to the jobs that it had worked off, and what the server came to.
+/// The result of a pool.
+///
+/// It has the feeder's result, whether workers were started, the replies of the jobs that were run,
+/// and the closed server.
 #[derive(Drop)]
 pub struct Fed<X: Drop> {
     pub given: X,
@@ -139,7 +144,7 @@ pub struct Fed<X: Drop> {
     pub closed: ClosedServer,
 }
 
-// A server whose workers haven't begun.
+// A server whose workers haven't been started.
 #[derive(Drop)]
 struct Begun<'a, B: Books, D: Device> {
     server: Locked<'a, B, D>,
@@ -147,7 +152,8 @@ struct Begun<'a, B: Books, D: Device> {
     tallies: Vec<Tallies<B>>,
 }
 
-// What a feeder gave, whether workers were begun beside it, and the shares of the workers and of who fed them.
+// The feeder's result, whether workers were started, and the statistics of the feeder's thread and
+// of the workers.
 #[derive(Drop)]
 struct Ended<X: Drop, T: Drop> {
     given: X,
@@ -156,19 +162,23 @@ struct Ended<X: Drop, T: Drop> {
     shares: Vec<Share<T>>,
 }
 
-/// How many workers there are, 1 to 16, and which jobs go to them; what their server begins with, where the replies of jobs go, what moment it is,
-/// and the device whose readings programs find.
+/// The parts of a pool.
+///
+/// It has the number of workers, 1 to 16, and the dispatch policy. It also has the server's initial
+/// state, the transmitter of the jobs' replies, and the clock. The last two are the device whose
+/// readings programs get, and the recorder of program changes.
 #[derive(Drop)]
-pub struct Pool<'a, W: Wire, M: Moments, D: Device> {
+pub struct Pool<'a, W: Wire, M: Moments, D: Device, C: Recorder> {
     pub workers: u8,
     pub handover: Handover,
     pub begin: Begin,
     pub wire: &'a W,
     pub moments: &'a M,
     pub device: &'a D,
+    pub recorder: &'a C,
 }
 
-// No job is held up.
+// A test hook that delays no job.
 #[derive(Drop)]
 struct Open;
 
@@ -180,17 +190,21 @@ impl Gate for Open {
     }
 }
 
-/// Makes a server of empty slots, and runs its workers, each in a thread of its own, beside a feeder in the caller's, until all
-/// have come to their end. Then it closes the server: the serials of each shard have risen by just what was counted. Where no thread can be made
-/// for a worker, the feeder's thread works all jobs off, and `err` is told.
+/// Makes a server with empty slots, and runs its workers and a feeder to their end.
+///
+/// Each worker runs on its own thread, and the feeder on the calling thread. Then the server is
+/// closed: the serials of each shard have risen by exactly the counted changes. If no thread can be
+/// created for a worker, the feeder's thread runs all jobs, and this is written to `err`.
 ///
 /// # Errors
-/// There was no memory for the server, the workers or their shares.
+/// Returns `AllocError` if memory for the server, the workers or their statistics can't be
+/// allocated.
 pub fn run_pool<
     R: Threads + Wait + Sync,
     W: Wire + Sync,
     M: Moments + Sync,
     D: Device + Sync,
+    C: Recorder + Sync,
     E: Write,
     X: Drop,
     F: Feeder<X> + Drop,
@@ -198,16 +212,16 @@ pub fn run_pool<
     rt: &R,
     alloc: Global,
     err: &mut E,
-    pool: &Pool<'_, W, M, D>,
+    pool: &Pool<'_, W, M, D, C>,
     feeder: F,
 ) -> Result<Fed<X>, AllocError>
     requires { CanBegin pool.now.begin }
     ensures counted { IfOk result (λ fed. HasCountedAll fed.closed) }
-    ensures fed { let shop = locked_shop (beginning pool.now.begin.policy pool.now.begin.id) D.are_readings M.is_moment M.is_random W.called in
+    ensures fed { let shop = locked_shop (beginning pool.now.begin.policy pool.now.begin.id) D.are_readings M.is_moment M.is_random W.called C.recorded in
         IfOk result (λ fed. IsFedBeside shop (F.feeds _) (handover_where fed.has_workers pool.now.handover) pool.now.workers feeder fed.given fed.replies) }
 {
     let blanks = Blanks::new(u64::from(pool.workers) + 2);
-    run_named::<Brand, R, W, M, D, E, X, F>(rt, alloc, err, pool, feeder, blanks)
+    run_named::<Brand, R, W, M, D, C, E, X, F>(rt, alloc, err, pool, feeder, blanks)
 }
 
 // Runs a pool, with books of these names.
@@ -217,6 +231,7 @@ fn run_named<
     W: Wire + Sync,
     M: Moments + Sync,
     D: Device + Sync,
+    C: Recorder + Sync,
     E: Write,
     X: Drop,
     F: Feeder<X> + Drop,
@@ -224,7 +239,7 @@ fn run_named<
     rt: &R,
     alloc: Global,
     err: &mut E,
-    pool: &Pool<'_, W, M, D>,
+    pool: &Pool<'_, W, M, D, C>,
     feeder: F,
     blanks: Blanks,
 ) -> Result<Fed<X>, AllocError>
@@ -234,7 +249,7 @@ fn run_named<
     requires books { blanks.parts ≡ B.parts }
     requires first { B.first ≡ beginning pool.now.begin.policy pool.now.begin.id }
     ensures counted { IfOk result (λ fed. HasCountedAll fed.closed) }
-    ensures fed { let shop = locked_shop B.first D.are_readings M.is_moment M.is_random W.called in
+    ensures fed { let shop = locked_shop B.first D.are_readings M.is_moment M.is_random W.called C.recorded in
         IfOk result (λ fed. IsFedBeside shop (F.feeds _) (handover_where fed.has_workers pool.now.handover) pool.now.workers feeder fed.given fed.replies) }
 {
     let Begun {
@@ -242,11 +257,15 @@ fn run_named<
         reserve,
         tallies,
     } = begin::<B, D>(alloc, pool.begin, pool.workers, pool.device, blanks)?;
-    let ended = run_at(rt, alloc, err, pool, &server, tallies, feeder)?;
+    let bench = RecordedBench {
+        bench: &server,
+        recorder: pool.recorder,
+    };
+    let ended = run_at(rt, alloc, err, pool, &bench, tallies, feeder)?;
     Ok(close(server, reserve, ended))
 }
 
-// A new server, the tallies of its workers and of who feeds them, and the parts of its books that are left.
+// Makes a server, the change counters of its workers and feeder, and the unassigned shares.
 fn begin<'a, B: Books, D: Device>(
     alloc: Global,
     begin: Begin,
@@ -278,7 +297,8 @@ fn begin<'a, B: Books, D: Device>(
     })
 }
 
-// Closes a server whose workers have come to their end, for the reserve that their tallies were split from.
+// Closes a server whose workers have ended. `reserve` has the unassigned shares that their change
+// counters were split from.
 fn close<B: Books, D: Device, X: Drop>(
     server: Locked<'_, B, D>,
     mut reserve: Reserve<B>,
@@ -308,13 +328,15 @@ fn close<B: Books, D: Device, X: Drop>(
     }
 }
 
-// Runs a worker for each of the tallies but the last at a bench, and the feeder with that. There is a share for each of the tallies.
+// Runs a worker for each change counter except the last, and the feeder with the last. The workers
+// and the feeder return one share for each change counter.
 fn run_at<
     B: Bench + Sync,
     R: Threads + Wait + Sync,
     W: Wire + Sync,
     M: Moments + Sync,
     D: Device + Sync,
+    C: Recorder + Sync,
     E: Write,
     X: Drop,
     F: Feeder<X> + Drop,
@@ -322,7 +344,7 @@ fn run_at<
     rt: &R,
     alloc: Global,
     err: &mut E,
-    pool: &Pool<'_, W, M, D>,
+    pool: &Pool<'_, W, M, D, C>,
     bench: &B,
     tallies: Vec<B::Tallies>,
     feeder: F,
@@ -384,7 +406,7 @@ where
     })
 }
 
-// Returns which jobs go to workers, by whether workers were begun.
+// Returns the dispatch policy: `Never` if no worker was started.
 fn handover_where(has_workers: bool, handover: Handover) -> Handover
     ensures { result ≡ handover_where has_workers handover }
 {
@@ -395,7 +417,7 @@ fn handover_where(has_workers: bool, handover: Handover) -> Handover
     }
 }
 
-// Tells that there is no worker. What can't be told changes nothing.
+// Reports that there is no worker. A failed write is ignored.
 fn tell_alone<E: Write>(err: &mut E) {
     let _told = writeln!(
         err,

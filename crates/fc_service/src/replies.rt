@@ -1,11 +1,13 @@
-//! Replies, counted: those that went out, and those that didn't.
+//! Counts of replies: those that were sent, and those that failed.
 ghost use Rattle.std.specs.Prelude.{◌≡◌};
 ghost use Rattle.fc_service.specs.Counting.{both_replies, counted, no_replies, replies_by, replies_of};
 
 use fc_workers::{CallLog, Share};
 use std::fmt;
 
-/// How many replies went out, and how many didn't. Each count stops at 2^64 - 1.
+/// The numbers of replies that were sent, and that failed.
+///
+/// Each count stops at 2^64 - 1.
 #[derive(Clone, Copy, PartialEq, Eq)]
 pub struct Replies {
     pub sent: u64,
@@ -13,14 +15,14 @@ pub struct Replies {
 }
 
 impl Replies {
-    /// Counts none yet.
+    /// Returns counts of zero.
     pub fn none() -> Replies
         ensures { result ≡ no_replies }
     {
         Replies { sent: 0, failed: 0 }
     }
 
-    /// Counts the replies of a worker.
+    /// Returns the replies of a worker.
     pub fn by<T: Drop>(share: &Share<T>) -> Replies
         ensures { result ≡ replies_by share.now }
     {
@@ -30,7 +32,7 @@ impl Replies {
         }
     }
 
-    /// Sums the replies of these workers.
+    /// Sums the replies of workers.
     pub fn of<T: Drop>(shares: &[Share<T>]) -> Replies
         ensures { result ≡ replies_of shares.now }
     {
@@ -51,7 +53,7 @@ impl Replies {
         }
     }
 
-    /// Counts a reply, where there was one: it went out, or it didn't.
+    /// Counts a reply, if there was one: it was sent, or it failed.
     pub fn count_if_any(&mut self, out: Option<bool>)
         ensures { self.new ≡ counted out self.old }
     {
@@ -63,7 +65,7 @@ impl Replies {
     }
 }
 
-/// The replies that were handed to a sink, and the log of these calls.
+/// The counts of the replies passed to a sink, and the log of these calls.
 #[derive(Drop)]
 pub(crate) struct Outbox {
     pub(crate) replies: Replies,
@@ -71,7 +73,7 @@ pub(crate) struct Outbox {
 }
 
 impl Outbox {
-    /// Returns what holds no reply yet, and a new log.
+    /// Returns an outbox without replies, and with a new log.
     pub(crate) fn new() -> Outbox
         ensures { result.replies ≡ no_replies }
     {
@@ -82,7 +84,7 @@ impl Outbox {
     }
 }
 
-/// They are written as in `sent 2 failed 0`.
+/// The text of replies, such as `sent 2 failed 0`.
 impl fmt::Display for Replies {
     ghost use Rattle.std.specs.Prelude.{Some};
     ghost use Rattle.fc_service.specs.Counting.{replies_text};

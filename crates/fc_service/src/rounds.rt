@@ -1,4 +1,4 @@
-//! Rounds of a server: what is received is taken in, or time passes, and then what is late is sent again, and observers that are due are notified.
+//! Rounds of a server: receive a datagram, retransmit, and notify observers.
 ghost use Rattle.std.specs.Prelude.{◌≡◌, ⊤, ℕ, [], ◌∷◌, List, Option};
 ghost use Rattle.std.specs.Option.{option_to_list};
 ghost use Rattle.coap_msg.specs.declared.types.Emission.{Emission};
@@ -18,17 +18,17 @@ use fc_server::settle::{STEPS, Settling, quiet_until};
 use fc_workers::Moments;
 use std::sync::Wait;
 
-/// What an intake needs at the start of a round.
+/// Work on an intake at the start of a round.
 pub(crate) trait Preparation<N: Intake> {
-    // An intake was made ready for a round at a moment: the intake before and after.
+    // An intake was prepared for a round at a time: the intake before and after.
     ghost readies: { ℕ → N → N → Type 0 } = { λ now old new. ⊤ };
 
-    /// Makes an intake ready for a round at a moment in milliseconds.
+    /// Prepares an intake for a round at `now`, in milliseconds.
     fn ready<R: Wait>(&self, rt: &R, intake: &mut N, now: u64)
         ensures { readies now intake.old intake.new };
 }
 
-/// Nothing: who works a job off finds its readings then.
+/// No preparation: the readings of a job are read when it runs.
 #[derive(Drop)]
 pub(crate) struct Unprepared;
 
@@ -42,9 +42,13 @@ impl<N: Intake> Preparation<N> for Unprepared {
     }
 }
 
-/// Receives datagrams until so many came, 0 is never: each is taken in, in order, before the next is received, and answered where it needs no worker. After each,
-/// and where none came in time, what is late is sent again, and the observers that are due are notified. A datagram is waited for 100 ms, and, once none came in
-/// these, up to the moment that is known to be the next at which there may be something to do, or without end. The replies that were handed to the sink, each counted once.
+/// Receives `limit` datagrams, or never ends if that is 0; returns the replies.
+///
+/// Each datagram is handled in order, before the next is received, and answered unless it needs a
+/// worker. After each datagram, and after each receive without one, notifications that have
+/// timed out are retransmitted. Then observers with pending notifications are notified. A receive
+/// waits 100 ms. After a round without one, the next waits until the earliest time at which there
+/// may be work, or without limit. The result counts the replies passed to the sink, once each.
 pub(crate) fn run_rounds<R: Wait, N: Intake, P: Preparation<N>, S: Source, K: Sink, M: Moments>(
     rt: &R,
     intake: &mut N,
@@ -83,8 +87,10 @@ pub(crate) fn run_rounds<R: Wait, N: Intake, P: Preparation<N>, S: Source, K: Si
     outbox.replies
 }
 
-// Returns how long a datagram is waited for after a round at a moment in milliseconds; `None` is without end. After a round that received a datagram the wait
-// is 100 ms, and no shard is asked. After an idle round the wait is until the earliest moment at which there may be something to do, and 100 ms at least.
+// Returns how long the next receive waits after a round at `now`, in milliseconds. `None` is
+// unlimited. After a round that received a datagram the wait is 100 ms, and no shard is called.
+// After an idle round it lasts until the earliest time at which there may be work, and at least 100
+// ms.
 fn next_wait<N: Intake>(intake: &N, now: u64, idle: bool) -> Option<u64>
     ensures { EndsInTime (λ shard until. N.calls.stays_quiet shard intake.now until) now idle result }
 {
@@ -97,7 +103,8 @@ fn next_wait<N: Intake>(intake: &N, now: u64, idle: bool) -> Option<u64>
     }
 }
 
-// Has a datagram heard at a moment in milliseconds, and sends what it is answered at once, if anything, which is written over another emission.
+// Handles a datagram at `now`, in milliseconds, and sends its immediate response, if there is one.
+// The response is written over another emission.
 fn hear<N: Intake, K: Sink>(
     intake: &mut N,
     now: u64,
@@ -116,7 +123,8 @@ fn hear<N: Intake, K: Sink>(
     }
 }
 
-// Sends what is late at a moment in milliseconds again, and has the observers that are due notified, until nothing is left. Each is written over an emission.
+// Retransmits the notifications that have timed out at `now`, in milliseconds, and notifies
+// observers, until no notification is left. Each is written over an emission.
 fn settle<N: Intake, K: Sink>(
     intake: &mut N,
     now: u64,
@@ -137,7 +145,7 @@ fn settle<N: Intake, K: Sink>(
     }
 }
 
-// Hands an emission to the sink, where it is to be sent, and counts whether it went out.
+// Passes an emission to the sink if it is to be sent, and counts whether it was sent.
 fn send_if<K: Sink>(sent: bool, emission: &Emission, sink: &K, outbox: &mut Outbox)
     ensures { Sends K.went (option_to_list (emission_if sent emission.now)) outbox.old outbox.new }
 {
@@ -146,7 +154,7 @@ fn send_if<K: Sink>(sent: bool, emission: &Emission, sink: &K, outbox: &mut Outb
     }
 }
 
-// Hands an emission to the sink, and counts whether it went out.
+// Passes an emission to the sink, and counts whether it was sent.
 fn send<K: Sink>(emission: &Emission, sink: &K, outbox: &mut Outbox)
     ensures { Sends K.went (emission.now ∷ []) outbox.old outbox.new }
 {

@@ -1,4 +1,6 @@
-//! A server on a socket: datagrams are received on one thread, and their jobs are worked off by others, or by the same.
+//! A server on a socket, with one thread or with workers.
+//!
+//! One thread receives the datagrams. Their jobs run on worker threads or on the receiving thread.
 ghost use Rattle.std.specs.Prelude.{◌≡◌, ◌≤◌, ◌⊎◌, ⊤, if◌then◌else◌, IfOk, IfSome, None};
 ghost use Rattle.fc_server.specs.States.{CanBegin};
 ghost use Rattle.fc_service.specs.Rounds.{HasReceived, HasServed, IsServed, IsServedBeside, round_calls, timed_calls};
@@ -16,6 +18,7 @@ use fc_host::sensors::Sensors;
 use fc_host::socket::{Receiving, Replying, Sink, Source, open};
 use fc_host::timer::Timer;
 use fc_host::timers::{PastTimers, Timed, Timers};
+use fc_record::{RecordedAlone, Recorder};
 use fc_server::{Alone, Begin};
 use fc_workers::{Handover, Moments};
 use log::{Log, info};
@@ -28,14 +31,19 @@ use std::thread::Threads;
 use std::time::Clock;
 use thiserror::Error;
 
-/// The serial that empty slots begin with.
+/// The initial serial of empty slots.
 const FIRST_SERIAL: u64 = 0;
 
-/// From how many instructions on a run is a worker's. A hand-over wakes a thread, which costs some 14 us of processor time: as much as some thousand instructions
-/// of a program. A cheaper job is worked off by the thread that received it.
+/// The least cost of a run, in instructions, that is dispatched to a worker.
+///
+/// Dispatching a job wakes a thread, which costs about 14 us of processor time. A program executes
+/// some thousand instructions in this time. A cheaper job runs on the thread that received it.
 const DEAR: u32 = 6_000;
 
-/// By how many workers a server works jobs off, 1 to 16, after how many datagrams it ends, where 0 is never, the first message id of its own, and its policy.
+/// The extent of a server.
+///
+/// It has the number of workers, 1 to 16, and the number of datagrams after which the server ends;
+/// 0 is never. It also has the first message ID of the server's own, and its policy.
 #[derive(Clone, Copy)]
 pub struct Extent {
     pub workers: u8,
@@ -44,7 +52,7 @@ pub struct Extent {
     pub policy: Policy,
 }
 
-// Why a server doesn't start.
+// The reason why a server doesn't start.
 #[derive(Debug, Drop, Error)]
 enum ServeStop {
     #[error("UDP {0}: {1}")]
@@ -55,19 +63,35 @@ enum ServeStop {
     Memory(#[from] AllocError),
 }
 
-/// Where a server listens, and whether it says so.
+/// The listening address of a server, and whether the server reports it.
 #[derive(Clone, Copy)]
 pub struct Listening {
     pub address: SocketAddrV4,
     pub told: bool,
 }
 
-/// Serves on UDP at an address and a port of this host, as [`serve_at`] does, and the requests of timers between the datagrams; `err` is told that it listens, where that is asked for. It fails, and `err` is told why, where
-/// the socket can't be had as well.
-pub fn serve<R: Threads + Wait + Clock + Net + Sync, L: Log, E: Write, Z: Sensors + Sync>(
+/// The receivers of a server's records: of its end, and of each program change.
+#[derive(Clone, Copy)]
+pub struct Records<'a, L: Log, C: Recorder> {
+    pub end: &'a L,
+    pub changes: &'a C,
+}
+
+/// Serves on UDP at an address and a port of this host, as [`serve_at`] does.
+///
+/// The requests of timers come between the datagrams. The listening address is written to `err` if
+/// `listening.told` is set. Serving also fails if the socket can't be opened; the reason is written
+/// to `err`.
+pub fn serve<
+    R: Threads + Wait + Clock + Net + Sync,
+    L: Log,
+    C: Recorder + Sync,
+    E: Write,
+    Z: Sensors + Sync,
+>(
     rt: &R,
     alloc: Global,
-    log: &L,
+    records: &Records<'_, L, C>,
     err: &mut E,
     sensors: &Z,
     listening: Listening,
@@ -76,7 +100,7 @@ pub fn serve<R: Threads + Wait + Clock + Net + Sync, L: Log, E: Write, Z: Sensor
 ) -> Status
     ensures status { (result ≡ Done) ⊎ (result ≡ Failed) }
     ensures served { result ≡ Done → (replies : Counts) × IsServedBeside timers.items Z.are_sensed
-        (λ receive before after. after ≡ before) (λ now before after. after ≡ before) (λ emission out before after. ⊤) extent replies }
+        (λ receive before after. after ≡ before) (λ now before after. after ≡ before) (λ emission out before after. ⊤) C.recorded extent replies }
 {
     let address = listening.address;
     match open(rt, address) {
@@ -87,30 +111,32 @@ pub fn serve<R: Threads + Wait + Clock + Net + Sync, L: Log, E: Write, Z: Sensor
             let source = Receiving::new(&socket);
             if timers.is_empty() {
                 return done_if(serve_at(
-                    rt, alloc, log, err, sensors, source, &socket, extent,
+                    rt, alloc, records, err, sensors, source, &socket, extent,
                 ).is_some());
             }
             let timers = Timers::new(timers);
             serve_timed(
-                rt, alloc, log, err, sensors, source, &socket, timers, extent,
+                rt, alloc, records, err, sensors, source, &socket, timers, extent,
             )
         }
         Err(error) => tell(err, &ServeStop::Socket(address, error), Status::Failed),
     }
 }
 
-// Serves datagrams of a source, and the requests of timers between them, whose responses don't reach the sink.
+// Serves datagrams of a source, and the requests of timers between them. The responses to timers
+// don't reach the sink.
 fn serve_timed<
     R: Threads + Wait + Clock + Sync,
     S: Source + Drop,
     K: Sink + Sync,
     L: Log,
+    C: Recorder + Sync,
     E: Write,
     Z: Sensors + Sync,
 >(
     rt: &R,
     alloc: Global,
-    log: &L,
+    records: &Records<'_, L, C>,
     err: &mut E,
     sensors: &Z,
     source: S,
@@ -120,7 +146,7 @@ fn serve_timed<
 ) -> Status
     ensures status { (result ≡ Done) ⊎ (result ≡ Failed) }
     ensures served { result ≡ Done → (replies : Counts)
-        × IsServed Z.are_sensed (timed_calls S.received (λ now before after. after ≡ before) K.went) extent None None replies }
+        × IsServed Z.are_sensed (timed_calls S.received (λ now before after. after ≡ before) K.went) C.recorded extent None None replies }
 {
     let moments = match Elapsed::start(rt) {
         Ok(moments) => moments,
@@ -133,7 +159,7 @@ fn serve_timed<
         rt,
     };
     let sink = PastTimers { sink };
-    done_if(serve_at(rt, alloc, log, err, sensors, timed, &sink, extent).is_some())
+    done_if(serve_at(rt, alloc, records, err, sensors, timed, &sink, extent).is_some())
 }
 
 fn done_if(done: bool) -> Status
@@ -142,25 +168,41 @@ fn done_if(done: bool) -> Status
     if done { Status::Done } else { Status::Failed }
 }
 
-/// Serves datagrams of a source, on a new server of empty slots, until so many were received. Programs read the milliseconds since the start, and what the sensors say. This thread answers each whose job is cheap before it receives the
-/// next; a job whose program may run long is worked off by workers, each in a thread of its own. One worker is this thread, for all jobs; and so it is where no
-/// thread can be made for a worker, which `err` is told. After each datagram what is late is sent again, and the observers that are due are notified.
-/// Where none comes in time, time passes: one is waited for 100 ms, and after those without end while no job is at work, no notification waits for an acknowledgement, and
-/// nobody is due. Then the workers work off the jobs that are
-/// left, and `log` is told how many replies went to the sink and how many couldn't be sent: a record `sent 2 failed 0` of level info. It gives the source back.
+/// Serves datagrams of a source on a new server with empty slots.
 ///
-/// It gives `None`, and `err` is told why, where the clock couldn't be read or there was no memory at the start.
+/// The server ends once it has received `extent.limit` datagrams. Programs read the milliseconds
+/// since the start, and the sensor readings. This thread answers a datagram with a cheap job before
+/// it receives the next. Workers run a job whose program may run long, each on its own thread. If
+/// there is one worker, it is this thread, for all jobs. The same holds if no thread can be created
+/// for a worker, and this is written to `err`.
+///
+/// After each datagram notifications that have timed out are retransmitted, and observers with
+/// pending notifications are notified. If no datagram comes in time, time passes. A receive waits
+/// 100 ms. Then it waits without limit while no job is running, no notification waits for an
+/// acknowledgement, and no observer has a pending notification.
+///
+/// At the end the workers run the remaining jobs. The logger of the end gets the numbers of replies
+/// that were passed to the sink and that couldn't be sent: a record `sent 2 failed 0` of level
+/// info. The source is returned.
+///
+/// The recorder gets each program change that is answered, once: an image that is installed or
+/// refused, and a removal. A duplicate request is no change. A block-wise upload is one change, at
+/// its last block.
+///
+/// Returns `None` if the clock can't be read or memory can't be allocated at the start. The reason
+/// is written to `err`.
 pub fn serve_at<
     R: Threads + Wait + Clock + Sync,
     S: Source + Drop,
     K: Sink + Sync,
     L: Log,
+    C: Recorder + Sync,
     E: Write,
     Z: Sensors + Sync,
 >(
     rt: &R,
     alloc: Global,
-    log: &L,
+    records: &Records<'_, L, C>,
     err: &mut E,
     sensors: &Z,
     source: S,
@@ -168,11 +210,12 @@ pub fn serve_at<
     extent: Extent,
 ) -> Option<S>
     ensures { IfSome result (λ left. (replies : Counts)
-        × IsServed Z.are_sensed (round_calls S.received (λ now before after. after ≡ before) K.went) extent (S.came source) (S.came left) replies) }
+        × IsServed Z.are_sensed (round_calls S.received (λ now before after. after ≡ before) K.went) C.recorded extent (S.came source) (S.came left) replies) }
 {
-    match serve_to_end(rt, alloc, err, sensors, source, sink, extent) {
+    let recorder = records.changes;
+    match serve_to_end(rt, alloc, recorder, err, sensors, source, sink, extent) {
         Ok(Received { source, replies }) => {
-            info!(log; "{replies}");
+            info!(records.end; "{replies}");
             Some(source)
         }
         Err(stop) => {
@@ -182,7 +225,7 @@ pub fn serve_at<
     }
 }
 
-// A source that datagrams were received from, and the replies.
+// A source after its datagrams were received, and the replies.
 #[derive(Drop)]
 struct Received<S: Source + Drop> {
     source: S,
@@ -192,6 +235,7 @@ struct Received<S: Source + Drop> {
 // Serves to the end.
 fn serve_to_end<
     R: Threads + Wait + Clock + Sync,
+    C: Recorder + Sync,
     E: Write,
     Z: Sensors + Sync,
     S: Source + Drop,
@@ -199,13 +243,14 @@ fn serve_to_end<
 >(
     rt: &R,
     alloc: Global,
+    recorder: &C,
     err: &mut E,
     sensors: &Z,
     source: S,
     sink: &K,
     extent: Extent,
 ) -> Result<Received<S>, ServeStop>
-    ensures { IfOk result (λ r. IsServed Z.are_sensed (round_calls S.received (λ now before after. after ≡ before) K.went) extent (S.came source) (S.came r.source) r.replies) }
+    ensures { IfOk result (λ r. IsServed Z.are_sensed (round_calls S.received (λ now before after. after ≡ before) K.went) C.recorded extent (S.came source) (S.came r.source) r.replies) }
 {
     let moments = Elapsed::start(rt).map_err(ServeStop::Clock)?;
     let begin = Begin {
@@ -215,7 +260,9 @@ fn serve_to_end<
     };
     let limit = extent.limit;
     if extent.workers == 1 {
-        return Ok(serve_alone(rt, alloc, begin, sensors, source, sink, &moments, limit)?);
+        return Ok(serve_alone(
+            rt, alloc, begin, recorder, sensors, source, sink, &moments, limit,
+        )?);
     }
     let pool = Pool {
         workers: extent.workers,
@@ -227,6 +274,7 @@ fn serve_to_end<
             moments: &moments,
             sensors,
         },
+        recorder,
     };
     let receiver = Receiver {
         source,
@@ -242,7 +290,7 @@ fn serve_to_end<
     })
 }
 
-// Who receives datagrams, up to a limit, and sends what needs no job.
+// A receiver of datagrams, up to a limit. It sends what needs no job.
 #[derive(Drop)]
 struct Receiver<'a, S: Source + Drop, K: Sink, M: Moments> {
     source: S,
@@ -267,11 +315,13 @@ impl<'a, S: Source + Drop, K: Sink, M: Moments> Feeder<Received<S>> for Receiver
     }
 }
 
-// Works each datagram off on this thread, before the next is received: the replies, each counted once.
-fn serve_alone<R: Wait, S: Source + Drop, K: Sink, M: Moments, Z: Sensors>(
+// Runs each datagram's job on this thread, before the next is received. Returns the replies, each
+// counted once.
+fn serve_alone<R: Wait, C: Recorder, S: Source + Drop, K: Sink, M: Moments, Z: Sensors>(
     rt: &R,
     alloc: Global,
     begin: Begin,
+    recorder: &C,
     sensors: &Z,
     mut source: S,
     sink: &K,
@@ -279,9 +329,9 @@ fn serve_alone<R: Wait, S: Source + Drop, K: Sink, M: Moments, Z: Sensors>(
     limit: u32,
 ) -> Result<Received<S>, AllocError>
     requires { CanBegin begin }
-    ensures { IfOk result (λ r. HasServed Z.are_sensed (round_calls S.received M.is_moment K.went) limit begin (S.came source) (S.came r.source) r.replies) }
+    ensures { IfOk result (λ r. HasServed Z.are_sensed (round_calls S.received M.is_moment K.went) C.recorded limit begin (S.came source) (S.came r.source) r.replies) }
 {
-    let mut alone = Alone::new(alloc, &begin)?;
+    let mut alone = RecordedAlone::new(Alone::new(alloc, &begin)?, recorder);
     let sensed = Sensed { sensors };
     let replies = run_rounds(rt, &mut alone, &sensed, &mut source, sink, moments, limit);
     Ok(Received { source, replies })

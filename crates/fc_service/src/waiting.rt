@@ -1,4 +1,4 @@
-//! Who plays lines by workers, and waits for the one that has a line's job.
+//! Lock-step playing: an intake that waits for the worker with a line's job.
 ghost use Rattle.std.specs.Prelude.{◌≡◌};
 ghost use Rattle.fc_service.specs.Intakes.{calls_through, waited_calls};
 
@@ -12,7 +12,7 @@ use fc_server::Intake;
 use fc_server::engine::NotifyOutcome;
 use std::sync::Wait;
 
-// Who waits at a board for each job that is taken in, and for each turn, until it was worked off.
+// An intake that waits at a board for each job and each lease until it was run.
 #[derive(Drop)]
 pub(crate) struct Waiting<'a, 'b, R: Wait, N: Intake> {
     pub(crate) rt: &'a R,
@@ -53,7 +53,7 @@ impl<'a, 'b, R: Wait, N: Intake> Intake for Waiting<'a, 'b, R, N> {
         self.intake.quiet_until(shard)
     }
 
-    // A turn of which nothing is sent had no message id, or no memory.
+    // A lease without a datagram had no message ID, or no memory.
     fn notify(&mut self, shard: u8, now: u64, emission: &mut Emission) -> NotifyOutcome {
         self.board.begin(self.rt, now);
         match self.intake.notify(shard, now, emission) {

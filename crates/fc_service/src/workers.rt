@@ -1,4 +1,4 @@
-//! Playing lines by workers: the job of a line is worked off by one of them, before the next line is read.
+//! Playing lines by workers: a worker runs a line's job before the next is read.
 ghost use Rattle.std.specs.Prelude.{◌≡◌, Bool, OnOk};
 ghost use Rattle.fc_cli.specs.declared.status.Status.TheVariants.{Done};
 ghost use Rattle.fc_server.specs.States.{CanBegin};
@@ -13,6 +13,7 @@ use crate::waiting::Waiting;
 use fc_cli::status::{Status, tell};
 use fc_cli::stop::Stop;
 use fc_host::board::Board;
+use fc_record::NoChanges;
 use fc_server::Begin;
 use fc_workers::Handover;
 use std::alloc::Global;
@@ -20,7 +21,7 @@ use std::io::{BufRead, Write};
 use std::sync::Wait;
 use std::thread::Threads;
 
-// The lines that a pool's workers play, and where what they send is printed.
+// The lines that a pool's workers play, and the writer that their output is printed to.
 #[derive(Drop)]
 struct Player<'a, I: BufRead + Drop, W: Write> {
     alloc: Global,
@@ -44,9 +45,11 @@ impl<'a, I: BufRead + Drop, W: Write> Feeder<Result<(), Stop>> for Player<'a, I,
     }
 }
 
-/// Plays lines as [`play`](crate::play::play) does, and ends as it does, but a line's job is worked off by one of so many
-/// workers, 1 to 16, each in a thread of its own, and so is each turn of an observer. No line is read before the worker of the one before it
-/// is done. Where no thread can be made for a worker, `err` is told, and this thread works them off.
+/// Plays lines on 1 to 16 workers, with the results of [`play`](crate::play::play).
+///
+/// Each worker has its own thread. One of them runs the job of a line, and each lease of an
+/// observer. No line is read before the worker of the previous line has finished. If no thread can
+/// be created for a worker, this is written to `err`, and this thread runs the jobs.
 pub fn play_by_workers<R: Threads + Wait + Sync, I: BufRead + Drop, W: Write, E: Write>(
     rt: &R,
     alloc: Global,
@@ -65,7 +68,7 @@ pub fn play_by_workers<R: Threads + Wait + Sync, I: BufRead + Drop, W: Write, E:
     }
 }
 
-// Plays lines by the workers of a pool.
+// Plays lines on the workers of a pool.
 fn play_in_pool<R: Threads + Wait + Sync, I: BufRead + Drop, W: Write, E: Write>(
     rt: &R,
     alloc: Global,
@@ -86,6 +89,7 @@ fn play_in_pool<R: Threads + Wait + Sync, I: BufRead + Drop, W: Write, E: Write>
         wire: &board,
         moments: &board,
         device: &board,
+        recorder: &NoChanges,
     };
     let player = Player {
         alloc,

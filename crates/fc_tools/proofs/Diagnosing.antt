@@ -1,4 +1,4 @@
--- What each step of a diagnosis finds is right for the image.
+-- Each step of a diagnosis is right for the image.
 use Rattle.std.proofs.Common.{◌≡◌, ℕ, ◌+◌, ◌*◌, ◌<◌, ◌≤◌, Bool, true, false, cond, nat_lt, List, length, Option, Some, None, Result, Ok, Err, sym, ap, ◌∙◌, subst, arith}
 use Rattle.std.proofs.lemmas.Option.{slice_get_within}
 use Rattle.std.specs.Prelude.{IfErr, slice_get}
@@ -21,17 +21,17 @@ use Rattle.fc_tools.specs.declared.diagnosis.Diagnosis.{Diagnosis}
 use Rattle.fc_tools.specs.declared.diagnosis.Cause.{Cause}
 use Rattle.fc_tools.specs.declared.diagnosis.Cause.TheVariants.{Header, Slot, Flow, Back, Frames, Cost, Typing}
 
--- what an error's conversion leaves
+-- the error after a conversion.
 pub err_of : {T E : Type 0} (r : Result T E) (e : E) (P : E → Type 0) → IsErrAnd r (λ x. x ≡ e) → P e → IfErr r P
 err_of (Ok x) e P h p = absurd h
 err_of (Err x) e P h p = subst P (sym h) p
 
--- a slot that breaks a rule lies wholly within bytes that are slots
+-- a slot that breaks a rule is wholly within bytes that are slots.
 pub whole_slot : (bytes : List ℕ) (slot count : ℕ) (rule : Rule) → length bytes ≡ 8 * count → fault_at bytes slot ≡ Some rule → 8 * slot + 8 ≤ length bytes
 unfolding fault_at
 whole_slot bytes slot count rule n e = grind (arith, n, e)
 
--- a slot of the shape's fault is one of the program
+-- a slot of the shape's fault is one of the program.
 pub fault_within : (head : Head) (code : List Insn) (slot : ℕ) (rule : Rule) → IsShapeFault head code slot rule → slot < length code
 fault_within head code slot rule f = slice_get_within code slot f.insn f.stands
 
@@ -45,9 +45,9 @@ cause_in_image image head code f Frames h k s = tt
 cause_in_image image head code f (Cost cost budget) h k s = (subst (λ x. IsCost x (code_in image) cost) h.stated_is (subst (λ c. IsCost head c cost) k.code_is s.0), s.1 ∙ ap (λ x. x.budget) h.stated_is)
 cause_in_image image head code f (Typing insn known demand) h k s = absurd s
 
--- ---- which rules are broken where
+-- ---- the ranges of rule numbers
 
--- the number of a rule that is found lies within these
+-- the number of the rule, if there is one, is from `low` to `high`.
 abbrev IsWithin : ℕ → ℕ → Option Rule → Type 0
 IsWithin low high None = Unit {0}
 IsWithin low high (Some rule) = (low ≤ number_of rule) × (number_of rule ≤ high)

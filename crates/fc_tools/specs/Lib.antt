@@ -3,3 +3,4 @@ pub mod Reads
 pub mod Diagnosed
 pub mod Numbered
 pub mod Runs
+pub mod Digests

@@ -1,16 +1,16 @@
--- The listing of a program with the slots' numbers.
+-- The disassembly of a program with slot numbers.
 use Rattle.std.specs.Prelude.{ℕ, ◌+◌, List, [], ◌∷◌, ◌++◌, codes}
 use Rattle.std.specs.Fmt.{decimal}
 use Rattle.fc_isa.specs.declared.insn.Insn.{Insn}
 use Rattle.fc_isa.specs.declared.insn.Insn.TheVariants.{WideSecond}
 use Rattle.fc_asm.specs.Listing.{line_of}
 
--- an instruction's line behind its slot's number; the second half of a wide load has none
+-- an instruction's line after its slot number; the second half of a wide load has none.
 abbrev pub numbered_line : ℕ → Insn → List ℕ
 numbered_line slot WideSecond = []
 numbered_line slot insn = decimal slot ++ (codes ": " ++ line_of insn)
 
--- the lines of a program that begins at this slot
+-- the lines of a program that begins at this slot.
 abbrev pub numbered_from : ℕ → List Insn → List ℕ
 numbered_from slot [] = []
 numbered_from slot (insn ∷ program) = numbered_line slot insn ++ numbered_from (slot + 1) program

@@ -1,4 +1,4 @@
--- The registers that an instruction reads: their kinds decide whether its demands are met.
+-- The registers that an instruction reads: their abstract values decide its preconditions.
 use Rattle.std.specs.Prelude.{◌≡◌, ℕ, ℤ, List, [], ◌∷◌, Option, Some, None, is_some}
 use Rattle.fc_isa.specs.declared.insn.Insn.{Insn}
 use Rattle.fc_isa.specs.declared.insn.Insn.TheVariants.{Alu, Neg, SignExtend, End, Load, StoreImm, Store, JumpIf, CallHelper, Exit}
@@ -28,7 +28,7 @@ operand_read (Reg r) = r ∷ []
 abbrev pub read_with : ℕ → Operand → List ℕ
 read_with first operand = first ∷ operand_read operand
 
--- R1, or R1 and R2, as a helper takes them
+-- R1, or R1 and R2, for a helper's arguments.
 abbrev pub argument_list : Arguments → List ℕ
 argument_list NoArgument = []
 argument_list OneNumber = 1 ∷ []
@@ -42,12 +42,12 @@ helper_reads (Some helper) = argument_list (signature_of helper).arguments
 abbrev pub arguments_read : ℤ → List ℕ
 arguments_read number = helper_reads (helper_of number)
 
--- a move reads its operand alone
+-- a move reads only its operand.
 abbrev pub arithmetic_reads : AluOp → ℕ → Operand → List ℕ
 arithmetic_reads Mov dst operand = operand_read operand
 arithmetic_reads op dst operand = read_with dst operand
 
--- what an instruction reads
+-- the registers that an instruction reads.
 abbrev pub read_by : Insn → List ℕ
 read_by (Alu op width dst operand) = arithmetic_reads op dst operand
 read_by (Neg width dst) = dst ∷ []
@@ -61,12 +61,13 @@ read_by (CallHelper number) = arguments_read number
 read_by Exit = 0 ∷ []
 read_by other = []
 
--- these registers have the same kinds
+-- these registers have the same abstract values.
 abbrev pub AreSame : List ℕ → List Kind → List Kind → Type 0
 AreSame [] before other = Unit {0}
 AreSame (r ∷ more) before other = (kind_at before r ≡ kind_at other r) × AreSame more before other
 
--- whether an instruction's demands are met is decided by the kinds of the registers that it reads
+-- the abstract values of the registers that an instruction reads decide whether its preconditions
+-- hold.
 abbrev pub ReadsDecide : Type 0
 ReadsDecide =
     (vars : ℕ) (insn : Insn) (before other : List Kind) → AreSame (read_by insn) before other

@@ -1,18 +1,18 @@
-//! The budget of an image, as it is asked for.
+//! The budget of an image, as an option gives it.
 
 use std::str::FromStr;
 use thiserror::Error;
 
-/// The budget that an image is given.
+/// The budget for an image.
 #[derive(Clone, Copy, Debug, PartialEq, Eq)]
 pub enum Budget {
-    /// So many steps.
+    /// This number of steps.
     Steps(u32),
     /// The program's cost: the steps of its longest path.
     Auto,
 }
 
-/// A text is no budget.
+/// The error that a text isn't a budget.
 #[derive(Clone, Copy, Debug, PartialEq, Eq, Drop, Error)]
 #[error("a budget is 1 to 65536, or `auto`")]
 pub struct BudgetError;

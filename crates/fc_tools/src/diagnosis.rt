@@ -1,4 +1,4 @@
-//! Why an image isn't accepted, with what shows that.
+//! Diagnoses: the broken rule of an image, and the evidence for it.
 ghost use Rattle.std.specs.Prelude.{IfErr, IfOk, Some, None, length, true, ◌≡◌, ◌+◌, ◌*◌, ◌<◌, ◌≤◌, take, drop, slice_get};
 ghost use Rattle.fc_image.specs.Judged.{IsCostOf};
 ghost use Rattle.fc_image.specs.Paths.{longest};
@@ -19,15 +19,19 @@ use fc_verify::{Demand, Untyped};
 use std::alloc::{AllocError, Global};
 use std::fmt;
 
-/// The greatest budget of an image.
+/// The greatest budget of an image, in steps.
 pub const GREATEST_BUDGET: u32 = 65_536;
 
-/// A broken rule of an image, with what shows that it is broken. It prints as its fault does, as `V16 slot 0`.
+/// A broken rule of an image, and the evidence for it.
+///
+/// It prints like its fault: `V16 slot 0`.
 #[derive(Clone, Copy)]
 pub struct Diagnosis {
-    /// The first rule that is broken, with its slot; where only the typing is missing, some rule from 20 to 28.
+    /// The first broken rule, and its slot.
+    ///
+    /// If only the typing is missing, some rule from 20 to 28.
     pub fault: Fault,
-    /// What shows it.
+    /// The evidence.
     pub cause: Cause,
 }
 
@@ -48,29 +52,35 @@ impl fmt::Debug for Diagnosis {
     }
 }
 
-/// What shows that a rule is broken.
+/// The evidence that a rule is broken.
 #[derive(Clone, Copy)]
 pub enum Cause {
     /// The header.
     Header,
-    /// The bytes of a slot that spells no instruction.
+    /// The bytes of a slot that encodes no instruction.
     Slot([u8; 8]),
-    /// The slot's instruction, where it stands.
+    /// The slot's instruction, at its place.
     Flow(Insn),
-    /// The slot's instruction, a jump that leads to no later slot, and why it isn't that of a counted loop.
+    /// The slot's instruction, a jump that leads to no later slot.
+    ///
+    /// With the reason why it isn't the jump of a counted loop.
     Back {
         insn: Insn,
         reason: Uncounted,
     },
-    /// All calls of the program: its slot says nothing of them.
+    /// All calls of the program; the slot by itself shows nothing.
     Frames,
-    /// The steps of the longest path, if these are at most the greatest budget and no other rule of the control flow is broken, and the
-    /// budget.
+    /// The cost and the budget, in steps.
+    ///
+    /// The cost is the number of steps of the longest path. It is `None` if that is above the
+    /// greatest budget, or if another rule of the control flow is broken.
     Cost {
         cost: Option<u32>,
         budget: u32,
     },
-    /// The slot's instruction, what is known of the registers before it, and the demand that isn't met.
+    /// The slot's instruction, and the precondition that doesn't hold.
+    ///
+    /// With the registers' abstract values before the instruction.
     Typing {
         insn: Insn,
         known: Regs,
@@ -78,12 +88,12 @@ pub enum Cause {
     },
 }
 
-/// Why an image isn't accepted.
+/// The reason why an image isn't accepted.
 #[derive(Clone, Copy)]
 pub enum Rejection {
-    /// It breaks a rule.
+    /// The image breaks a rule.
     Broken(Diagnosis),
-    /// There was no memory to find that out.
+    /// Memory for the diagnosis couldn't be allocated.
     NoMemory,
 }
 
@@ -109,11 +119,11 @@ impl From<AllocError> for Rejection {
     }
 }
 
-/// Judges an image as `verify` does.
+/// Verifies an image, like `verify`, with the evidence for a broken rule.
 ///
 /// # Errors
-/// The first rule that the image breaks, or a rule from 20 to 28 where only the typing is missing, with what shows it; or
-/// memory was refused.
+/// Returns `Broken` with the first broken rule and its evidence. If only the typing is missing, the
+/// rule is one from 20 to 28. Returns `NoMemory` if memory can't be allocated.
 pub fn diagnose(alloc: Global, image: &[u8]) -> Result<(), Rejection>
     ensures accepted { IfOk result (λ u. IsAcceptable image.now) }
     ensures rejected { IfErr result (IsRejection image.now) }
@@ -129,10 +139,10 @@ pub fn diagnose(alloc: Global, image: &[u8]) -> Result<(), Rejection>
     }
 }
 
-/// What the header says.
+/// Parses the header of an image.
 ///
 /// # Errors
-/// The least rule of the header, 1 to 5, that the image breaks.
+/// Returns the least rule of the header, 1 to 5, that the image breaks.
 pub(crate) fn read_head(image: &[u8]) -> Result<Head, Rejection>
     ensures head { IfOk result (IsHeadOf image.now) }
     ensures rejected { IfErr result (IsRejection image.now) }
@@ -146,10 +156,11 @@ pub(crate) fn read_head(image: &[u8]) -> Result<Head, Rejection>
     }
 }
 
-/// The program that the slots spell.
+/// Decodes the program in the slots.
 ///
 /// # Errors
-/// The first slot that breaks a rule, 6 to 10, with its bytes; or memory was refused.
+/// Returns the first slot that breaks a rule, 6 to 10, with its bytes; or `NoMemory` if memory
+/// can't be allocated.
 pub(crate) fn read_code(alloc: Global, image: &[u8], head: &Head) -> Result<Vec<Insn>, Rejection>
     requires { IsHeadOf image.now head.now }
     ensures code { IfOk result (λ code. IsCodeOf image.now code.items) }
@@ -165,7 +176,7 @@ pub(crate) fn read_code(alloc: Global, image: &[u8], head: &Head) -> Result<Vec<
     }
 }
 
-/// The bytes of a slot.
+/// Returns the bytes of a slot.
 fn slot_bytes(image: &[u8], slot: usize) -> [u8; 8]
     requires { 16 + 8 * slot + 8 ≤ length image.now }
     ensures { result ≡ take 8 (drop (16 + 8 * slot) image.now) }
@@ -176,10 +187,10 @@ fn slot_bytes(image: &[u8], slot: usize) -> [u8; 8]
     bytes
 }
 
-/// Computes the cost of a program: the greatest number of steps on any path to its exit.
+/// Computes the cost of a program: the most steps on any path to its exit.
 ///
 /// # Errors
-/// The least rule of the control flow, 11 to 17, that a slot breaks, with what shows it.
+/// Returns the least rule of the control flow, 11 to 17, that a slot breaks, with the evidence.
 pub fn shape_cost(head: &Head, code: &[Insn]) -> Result<u32, Diagnosis>
     requires count { length code.now ≡ head.now.count }
     requires whole { is_program code.now ≡ true }
@@ -198,7 +209,7 @@ pub fn shape_cost(head: &Head, code: &[Insn]) -> Result<u32, Diagnosis>
     }
 }
 
-/// What shows that a rule of the control flow is broken.
+/// Returns the evidence that a rule of the control flow is broken.
 fn shape_cause(head: &Head, code: &[Insn], fault: Fault) -> Cause
     requires count { length code.now ≡ head.now.count }
     requires whole { is_program code.now ≡ true }
@@ -218,7 +229,9 @@ fn shape_cause(head: &Head, code: &[Insn], fault: Fault) -> Cause
     }
 }
 
-/// Why the jump at a slot, which leads to no later one, isn't that of a counted loop.
+/// Returns why the jump at a slot isn't the jump of a counted loop.
+///
+/// The jump leads to no later slot.
 #[tactic(auto, unfolding(fc_image::specs::ShapeRules::breaks_shape))]
 fn back(head: &Head, code: &[Insn], slot: usize) -> Cause
     requires count { length code.now ≡ head.now.count }
@@ -226,7 +239,7 @@ fn back(head: &Head, code: &[Insn], slot: usize) -> Cause
     requires broken { BreaksFlow head.now code.now slot BackwardJump }
     ensures { IsShapeCause head.now code.now (record { rule = BackwardJump; slot = slot }) result }
 {
-    // The checker learns from this call how many slots there are at most.
+    // This call gives the checker the maximum number of slots.
     let _slots = head.count();
     let insn = code[slot];
     match why_uncounted(head.version(), code, slot, &insn) {
@@ -235,7 +248,9 @@ fn back(head: &Head, code: &[Insn], slot: usize) -> Cause
     }
 }
 
-/// The cost of a program that breaks no rule of the control flow but for the budget, if that is at most the greatest budget.
+/// Returns the cost of a program, if it is at most the greatest budget.
+///
+/// `None` also if another rule of the control flow is broken.
 fn cost_of(head: &Head, code: &[Insn]) -> Option<u32>
     requires count { length code.now ≡ head.now.count }
     requires whole { is_program code.now ≡ true }
@@ -244,7 +259,7 @@ fn cost_of(head: &Head, code: &[Insn]) -> Option<u32>
     shape(&head.with_budget(GREATEST_BUDGET), code).ok()
 }
 
-/// What shows that a typing is missing.
+/// Returns the diagnosis of a missing typing.
 fn typing(code: &[Insn], untyped: &Untyped) -> Diagnosis
     requires { untyped.now.fault.slot < length code.now }
     ensures fault { result.fault ≡ untyped.now.fault }

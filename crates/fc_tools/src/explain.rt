@@ -1,4 +1,4 @@
-//! Why an image or a text is refused, in a few lines.
+//! Explanations of why an image or a source is refused, in a few lines.
 use crate::diagnosis::{Cause, Diagnosis};
 use crate::facts::Known;
 use crate::loops::{write_entry, write_insn, write_reason};
@@ -11,25 +11,29 @@ use fc_expand::words::{first_word, split_label};
 use fc_isa::{Insn, Reg};
 use fc_kinds::Regs;
 use fc_verify::Demand;
-use std::alloc::Global;
+use std::alloc::{AllocError, Global};
 use std::io;
 use std::io::Write;
 
-/// Writes why an image is refused: the rule, what shows that it is broken, and what to change, each on lines of its own.
+/// Writes why an image is refused.
+///
+/// Writes the rule, the evidence that it is broken, and the change to make, each on its own lines.
 ///
 /// # Errors
-/// Writing failed, or memory was refused.
+/// Returns an error if writing fails, or if memory can't be allocated.
 pub fn explain<W: Write>(alloc: Global, out: &mut W, diagnosis: &Diagnosis) -> io::Result<()> {
     writeln!(out, "rule: {}", broken_text(diagnosis))?;
     write_cause(alloc, out, diagnosis.fault.slot, &diagnosis.cause)?;
     writeln!(out, "change: {}", remedy(diagnosis))
 }
 
-/// Writes why a text is refused: what is wrong with the line, the line, if it is text, the form of its instruction, where an operand is wrong, and
-/// what to change.
+/// Writes why a source is refused.
+///
+/// Writes the mistake, the line if it is text, the form of its instruction if an operand is wrong,
+/// and the change to make.
 ///
 /// # Errors
-/// Writing failed, or memory was refused.
+/// Returns an error if writing fails, or if memory can't be allocated.
 pub fn explain_line<W: Write>(
     alloc: Global,
     out: &mut W,
@@ -42,13 +46,19 @@ pub fn explain_line<W: Write>(
     if mistake == Mistake::Operand {
         write_form(alloc, out, text, line)?;
     }
-    writeln!(out, "change: {}", correction(mistake))
+    match width_missing(alloc, text, line)? {
+        Some(name) if mistake == Mistake::UnknownWord => writeln!(
+            out,
+            "change: `{name}` needs its width: write {name}64, or {name}32 for the low 32 bits"
+        ),
+        _ => writeln!(out, "change: {}", correction(mistake)),
+    }
 }
 
-/// Writes why a text isn't expanded, as `explain_line` does.
+/// Writes why a source isn't expanded, like `explain_line`.
 ///
 /// # Errors
-/// Writing failed.
+/// Returns an error if writing fails.
 pub fn explain_form<W: Write>(out: &mut W, text: &[u8], bad: BadForm) -> io::Result<()> {
     writeln!(out, "rule: {}", bad.form.text())?;
     write_line(out, text, bad.line)?;
@@ -62,19 +72,33 @@ fn write_line<W: Write>(out: &mut W, text: &[u8], line: usize) -> io::Result<()>
     }
 }
 
-// The line of a text, counted from 1.
+// Returns the line of a source with this number, counted from 1.
 fn line_of(text: &[u8], line: usize) -> Option<&str> {
     let text = str::from_utf8(text).ok()?;
     text.split('\n').nth(line.checked_sub(1)?)
 }
 
-// The form of the instruction that a line names.
-fn write_form<W: Write>(alloc: Global, out: &mut W, text: &[u8], line: usize) -> io::Result<()> {
-    let Some(code) = line_of(text, line) else {
-        return Ok(());
-    };
+// Returns the first word of a line after its label.
+fn name_of(text: &[u8], line: usize) -> Option<&str> {
+    let code = line_of(text, line)?;
     let (_, body) = split_label(code.as_bytes());
-    let Ok(name) = str::from_utf8(first_word(body)) else {
+    str::from_utf8(first_word(body)).ok()
+}
+
+// Returns the first word of a line, if that with 64 and that with 32 appended are instructions.
+fn width_missing(alloc: Global, text: &[u8], line: usize) -> Result<Option<&str>, AllocError> {
+    let Some(name) = name_of(text, line) else {
+        return Ok(None);
+    };
+    let wide = format!(in alloc; "{name}64")?;
+    let narrow = format!(in alloc; "{name}32")?;
+    let both = operands_of(alloc, &wide)?.is_some() && operands_of(alloc, &narrow)?.is_some();
+    Ok(both.then_some(name))
+}
+
+// Writes the form of the instruction that a line names.
+fn write_form<W: Write>(alloc: Global, out: &mut W, text: &[u8], line: usize) -> io::Result<()> {
+    let Some(name) = name_of(text, line) else {
         return Ok(());
     };
     match operands_of(alloc, name)? {
@@ -105,7 +129,7 @@ fn write_cause<W: Write>(alloc: Global, out: &mut W, slot: usize, cause: &Cause)
     }
 }
 
-// What is known of the registers that a demand speaks of.
+// Writes the abstract values of the registers that a precondition is about.
 fn write_demand<W: Write>(
     out: &mut W,
     insn: Insn,
@@ -137,7 +161,7 @@ fn write_cost<W: Write>(out: &mut W, cost: Option<u32>, budget: u32) -> io::Resu
     }
 }
 
-// What is known of each register that the instruction reads.
+// Writes the abstract value of each register that the instruction reads.
 fn write_registers<W: Write>(out: &mut W, insn: Insn, known: &Regs) -> io::Result<()> {
     match registers_read(insn) {
         Reads::Nothing => Ok(()),
@@ -149,7 +173,7 @@ fn write_registers<W: Write>(out: &mut W, insn: Insn, known: &Regs) -> io::Resul
     }
 }
 
-// A register that is read twice is told once.
+// Writes the second register, unless it is the first one again.
 fn write_second<W: Write>(out: &mut W, first: Reg, second: Reg, known: &Regs) -> io::Result<()> {
     if second == first {
         Ok(())

@@ -1,11 +1,11 @@
-//! What is known of a register, in words.
+//! Abstract values of registers, in words.
 use fc_kinds::Kind;
 use std::fmt;
 
-/// Where a stack frame ends, counted from its first byte: R10 points there.
+/// The end of a stack frame, counted from its first byte; R10 points to it.
 const FRAME_END: i64 = 256;
 
-/// What is known of a register: it prints as `a number from 0 to 1024`.
+/// A register's abstract value, printed as `a number from 0 to 1024`.
 #[derive(Clone, Copy)]
 pub struct Known(pub Kind);
 

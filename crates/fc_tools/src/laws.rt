@@ -1,7 +1,11 @@
-//! What the registers that an instruction reads are to its typing.
+//! A law about the registers that an instruction reads.
+//!
+//! It is the contract of an empty function.
 ghost use Rattle.fc_tools.specs.Reads.{ReadsDecide};
 
-/// Whether an instruction's demands are met is decided by what is known of the registers that it reads.
+/// The registers that an instruction reads decide its preconditions.
+///
+/// Whether they hold depends only on the abstract values of these registers.
 pub fn reads_decide()
     ensures { ReadsDecide }
 {}

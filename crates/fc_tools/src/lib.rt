@@ -1,22 +1,27 @@
-//! What the assembler's program does with texts and images: it assembles, lists, judges and explains, and runs them.
+//! The `fcasm` commands: assemble, disassemble, verify and explain, and run.
 //!
 //! # What is proved
 //!
-//! - An image is the header of the version that is asked for and the slots of what the text means, with the budget that is given or the
-//!   longest path.
-//! - A listing is that of the program that the image's slots spell, also with its slots' numbers.
-//! - What is told of a refused image is a fault that the verifier may tell, and by its rule the slot's bytes (V06 to V10), its instruction
-//!   (V11 to V14, V17), for a jump back (V12) also why it isn't a counted loop's, the cost exactly where no rule of the control flow is
-//!   broken with a budget of 65,536 (V16), or its instruction, what is known of the registers before it and the demand that isn't met (V20
-//!   to V28). The registers that are told decide whether the instruction's demands are met.
+//! - An image consists of a header of the requested version and the slots of the source's program.
+//!   Its budget is the given one, or the steps of the longest path.
+//! - A disassembly is that of the program that the image's slots encode, also with slot numbers.
+//! - The diagnosis of a refused image is a fault that the verifier may report, with the evidence
+//!   for its rule. For V06 to V10 that is the slot's bytes. For V11 to V14 and V17 it is the slot's
+//!   instruction, and for a backward jump (V12) also why it isn't that of a counted loop. For V16
+//!   it is the cost, exactly if no rule of the control flow is broken with a budget of 65,536. For
+//!   V20 to V28 it is the slot's instruction, the registers' abstract values before it, and the
+//!   precondition that doesn't hold. The registers in the explanation decide whether the
+//!   instruction's preconditions hold.
 //! - A run's report is that of the meaning of the program, request, readings and variables.
+//! - A digest is the SHA-256 (FIPS 180-4) of all bytes of the image, in 64 lowercase hex digits.
 //!
-//! By the contracts of `tools::image_of`, `priced_image_of`, `listing_of`, `numbered_listing_of`, `diagnosis::diagnose`, `runner::report`,
-//! `laws`.
+//! By the contracts of `tools::image_of`, `priced_image_of`, `listing_of`, `numbered_listing_of`,
+//! `diagnosis::diagnose`, `runner::report`, `digest::digest_of`, `laws`.
 #![tactic(auto)]
 
 pub mod budget;
 pub mod diagnosis;
+pub mod digest;
 pub mod explain;
 pub mod facts;
 pub mod laws;

@@ -1,4 +1,4 @@
-//! What is told of loops.
+//! Descriptions of loops.
 use crate::facts::Known;
 use crate::numbered_listing::listed;
 use fc_image::loops::Loop;
@@ -9,7 +9,7 @@ use std::alloc::Global;
 use std::io::Write;
 use std::{fmt, io};
 
-/// A loop in words: it prints as `slots 2 to 6, counted in r6 below 4`.
+/// A loop in words, printed as `slots 2 to 6, counted in r6 below 4`.
 #[derive(Clone, Copy)]
 pub(crate) struct CountedLoop(pub Loop);
 
@@ -27,7 +27,9 @@ impl fmt::Display for CountedLoop {
     }
 }
 
-/// Writes why a jump back isn't that of a counted loop, and the instruction that is in the way, each on a line of its own.
+/// Writes why a backward jump isn't the jump of a counted loop.
+///
+/// Then the instruction that prevents it, on a line of its own.
 pub(crate) fn write_reason<W: Write>(
     alloc: Global,
     out: &mut W,
@@ -62,7 +64,7 @@ pub(crate) fn write_reason<W: Write>(
     }
 }
 
-/// What an instruction does that disturbs a loop.
+/// Returns the way in which an instruction disturbs a loop.
 fn harm(by: Disturbance) -> &'static str {
     match by {
         Disturbance::Write => "writes the counter",
@@ -73,7 +75,9 @@ fn harm(by: Disturbance) -> &'static str {
     }
 }
 
-/// Writes a loop whose counter doesn't enter below its bound, and with what it enters.
+/// Writes a loop whose counter isn't below its bound at the entry.
+///
+/// Then the counter's abstract value at the entry.
 pub(crate) fn write_entry<W: Write>(
     out: &mut W,
     counted: &Loop,
@@ -95,7 +99,7 @@ pub(crate) fn write_insn<W: Write>(
     writeln!(out, "slot {slot}: {}", listed.trim_end())
 }
 
-/// What to change where a jump back isn't that of a counted loop.
+/// Returns the change to make if a backward jump isn't that of a counted loop.
 pub(crate) fn loop_remedy(reason: &Uncounted) -> &'static str {
     match reason {
         Uncounted::NoLoops =>

@@ -1,4 +1,4 @@
-//! Listings with the slots' numbers.
+//! Disassemblies with slot numbers.
 ghost use Rattle.std.specs.Prelude.{IfOk, OnOk, string_bytes, ◌++◌, ◌≡◌};
 ghost use Rattle.fc_asm.specs.Listing.{line_of};
 ghost use Rattle.fc_tools.specs.Numbered.{numbered_from, numbered_line};
@@ -7,10 +7,12 @@ use fc_asm::disassemble;
 use fc_isa::Insn;
 use std::alloc::{AllocError, Global};
 
-/// Disassembles a program, each line behind the number of its first slot, as `3: exit`. A wide load has two slots.
+/// Disassembles a program with the slot number before each line.
+///
+/// A line is printed as `3: exit`, with the number of its first slot. A wide load has two slots.
 ///
 /// # Errors
-/// Memory was refused.
+/// Returns `AllocError` if memory can't be allocated.
 pub fn numbered(alloc: Global, program: &[Insn]) -> Result<String, AllocError>
     ensures { IfOk result (λ s. string_bytes s ≡ numbered_from 0 program.now) }
 {
@@ -21,7 +23,7 @@ pub fn numbered(alloc: Global, program: &[Insn]) -> Result<String, AllocError>
     Ok(text)
 }
 
-/// Adds the line of a slot; the second slot of a wide load has none.
+/// Appends the line of a slot; the second slot of a wide load has none.
 fn push_numbered(
     alloc: Global,
     text: &mut String,
@@ -37,10 +39,12 @@ fn push_numbered(
     write!(text, "{slot}: {line}")
 }
 
-/// Writes the line of an instruction in a listing, its line feed included; the second slot of a wide load has none.
+/// Returns the line of an instruction in a disassembly, with its line feed.
+///
+/// The second slot of a wide load has none.
 ///
 /// # Errors
-/// Memory was refused.
+/// Returns `AllocError` if memory can't be allocated.
 pub fn listed(alloc: Global, insn: Insn) -> Result<String, AllocError>
     ensures { IfOk result (λ s. string_bytes s ≡ line_of insn) }
 {

@@ -1,4 +1,4 @@
-//! Which registers decide whether an instruction's demands are met.
+//! The registers that decide whether an instruction's preconditions hold.
 ghost use Rattle.std.specs.Prelude.{◌≡◌};
 ghost use Rattle.fc_tools.specs.Reads.{argument_list, arguments_read, arithmetic_reads, operand_read, read_by, read_with, registers_in};
 
@@ -13,7 +13,9 @@ pub enum Reads {
     Two(Reg, Reg),
 }
 
-/// Returns the registers that an instruction reads: what is known of them decides whether its demands are met.
+/// Returns the registers that an instruction reads.
+///
+/// Their abstract values decide whether its preconditions hold.
 pub fn registers_read(insn: Insn) -> Reads
     ensures { registers_in result ≡ read_by insn }
 {
@@ -38,7 +40,7 @@ pub fn registers_read(insn: Insn) -> Reads
     }
 }
 
-/// The registers of an operation: a move reads its operand alone.
+/// Returns the registers of an operation; a move reads only its operand.
 fn arithmetic_reads(op: AluOp, dst: Target, operand: Operand) -> Reads
     ensures { registers_in result ≡ arithmetic_reads op dst operand }
 {
@@ -48,14 +50,14 @@ fn arithmetic_reads(op: AluOp, dst: Target, operand: Operand) -> Reads
     }
 }
 
-/// A register that may be written, as one that is read.
+/// Returns a writable register as one to read.
 fn register(target: Target) -> Reg
     ensures { result ≡ target }
 {
     Reg::new(target.number())
 }
 
-/// The register of a second operand.
+/// Returns the register of a second operand.
 fn operand_read(operand: Operand) -> Reads
     ensures { registers_in result ≡ operand_read operand }
 {
@@ -65,7 +67,7 @@ fn operand_read(operand: Operand) -> Reads
     }
 }
 
-/// A register, and that of a second operand.
+/// Returns a register, and that of a second operand.
 fn read_with(first: Reg, operand: Operand) -> Reads
     ensures { registers_in result ≡ read_with first operand }
 {
@@ -75,7 +77,7 @@ fn read_with(first: Reg, operand: Operand) -> Reads
     }
 }
 
-/// The registers of a helper's arguments.
+/// Returns the registers of a helper's arguments.
 fn arguments_read(number: i32) -> Reads
     ensures { registers_in result ≡ arguments_read number }
 {
@@ -85,7 +87,7 @@ fn arguments_read(number: i32) -> Reads
     }
 }
 
-/// R1, or R1 and R2, as a helper takes them.
+/// Returns R1, or R1 and R2, for a helper's arguments.
 fn argument_registers(arguments: Arguments) -> Reads
     ensures { registers_in result ≡ argument_list arguments }
 {

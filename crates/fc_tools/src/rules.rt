@@ -1,4 +1,4 @@
-//! The rules in plain words, and what to change where one is broken.
+//! The rules in words, and the change to make if one is broken.
 use crate::diagnosis::{Cause, Diagnosis, GREATEST_BUDGET};
 use crate::loops::loop_remedy;
 use fc_asm::Mistake;
@@ -6,7 +6,7 @@ use fc_isa::Rule;
 use fc_rules::rule_text;
 use fc_verify::Demand;
 
-/// Returns what an image has done that breaks a rule.
+/// Returns the fault of an image that breaks a rule.
 pub fn broken_text(diagnosis: &Diagnosis) -> &'static str {
     match diagnosis.cause {
         Cause::Typing {
@@ -21,7 +21,9 @@ pub fn broken_text(diagnosis: &Diagnosis) -> &'static str {
     }
 }
 
-/// Returns what to change in an image that breaks a rule: with the greatest budget there is none that would do.
+/// Returns the change to make in an image that breaks a rule.
+///
+/// If the budget is the greatest already, the change isn't a greater one.
 pub fn remedy(diagnosis: &Diagnosis) -> &'static str {
     match &diagnosis.cause {
         Cause::Cost { budget, .. } if *budget == GREATEST_BUDGET =>
@@ -81,7 +83,7 @@ fn rule_remedy(rule: Rule) -> &'static str {
     }
 }
 
-/// Returns what is wrong with a line that has this mistake.
+/// Returns the fault of a line with this mistake.
 pub fn mistake_text(mistake: Mistake) -> &'static str {
     match mistake {
         Mistake::UnknownWord => "the first word names no instruction, or the text isn't UTF-8",
@@ -91,7 +93,7 @@ pub fn mistake_text(mistake: Mistake) -> &'static str {
     }
 }
 
-/// Returns what to change in a line that has this mistake.
+/// Returns the change to make in a line with this mistake.
 pub fn correction(mistake: Mistake) -> &'static str {
     match mistake {
         Mistake::UnknownWord => "write an instruction's name first",

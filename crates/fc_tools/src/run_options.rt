@@ -1,4 +1,4 @@
-//! What a program is asked in a run, by hex digits.
+//! The input of a program in a run, in hex digits.
 ghost use Rattle.std.specs.Prelude.{IfOk, length, option_copied, ◌≡◌, ◌≤◌};
 ghost use Rattle.hex.specs.Hex.{decode_of};
 ghost use Rattle.fc_help.specs.Region.{no_readings, padded};
@@ -14,18 +14,18 @@ use std::alloc::Global;
 use std::fmt;
 use thiserror::Error;
 
-/// What a program is asked, and the variables and the readings that it finds.
+/// The request, the variables and the readings for a program.
 #[derive(Drop)]
 pub struct Asked {
     /// A GET or POST of slot 0, whose payload has no Content-Format.
     pub request: Request,
-    /// The variables; zeros where they aren't given.
+    /// The variables; zeros if none are given.
     pub vars: Option<Vars>,
     /// The readings of the device.
     pub readings: Readings,
 }
 
-/// What is given by hex digits.
+/// A part of the input that is given in hex digits.
 #[derive(Clone, Copy, Debug, PartialEq, Eq)]
 pub enum RunPart {
     Payload,
@@ -45,22 +45,22 @@ impl fmt::Display for RunPart {
     }
 }
 
-/// Why a program can't be asked so.
+/// The reason why the input is refused.
 #[derive(Clone, Copy, Debug, PartialEq, Eq, Drop, Error)]
 pub enum AskedError {
-    /// What is given isn't hex digits.
+    /// The part isn't hex digits.
     #[error("{0} bytes are to be hex digits, two a byte")]
     NoHex(RunPart),
-    /// There is too much of it.
+    /// The part has too many bytes.
     #[error("{part} bytes are more than {most}")]
     TooLong { part: RunPart, most: usize },
-    /// There was no memory.
+    /// Memory couldn't be allocated.
     #[error("out of memory")]
     NoMemory,
 }
 
 impl AskedError {
-    /// Returns how a program ends that is asked so.
+    /// Returns the status of a command with this error.
     pub fn status(self) -> Status {
         match self {
             AskedError::NoHex(_) | AskedError::TooLong { .. } => Status::Bad,
@@ -70,12 +70,14 @@ impl AskedError {
 }
 
 impl Asked {
-    /// Parses a GET or POST of slot 0 with this payload and query, and these variables, if they are given: hex digits of either case. The
+    /// Parses a GET or POST of slot 0 with this payload and query.
+    ///
+    /// Also parses the variables, if they are given. All are hex digits of either case. The
     /// readings are zeros.
     ///
     /// # Errors
-    /// One of them isn't hex digits, or has more bytes than a request (payload 1,024, query 64) or a program (variables 256) may
-    /// have; or memory was refused.
+    /// Returns an error if a part isn't hex digits, or has too many bytes for a request (payload
+    /// 1,024, query 64) or a program (variables 256); or if memory can't be allocated.
     pub fn new(
         alloc: Global,
         method: Method,
@@ -97,10 +99,13 @@ impl Asked {
         })
     }
 
-    /// Makes the same, but these hex digits of either case spell how the readings begin: 64 bytes at most, and zeros after them.
+    /// Returns the same input with readings in hex digits of either case.
+    ///
+    /// The digits encode at most 64 bytes, and zeros follow.
     ///
     /// # Errors
-    /// They aren't hex digits, or spell more bytes; or memory was refused.
+    /// Returns an error if they aren't hex digits, or encode more bytes; or if memory can't be
+    /// allocated.
     pub fn with_readings(self, alloc: Global, digits: &str) -> Result<Asked, AskedError>
         ensures spelled { IfOk result (λ a. SpellReadings digits.now a.readings) }
         ensures rest { IfOk result (λ a. a ≡ record self { readings = a.readings }) }
@@ -110,7 +115,7 @@ impl Asked {
     }
 }
 
-/// The readings that hex digits spell.
+/// Parses readings in hex digits.
 fn readings(alloc: Global, digits: &str) -> Result<Readings, AskedError>
     ensures { IfOk result (SpellReadings digits.now) }
 {
@@ -118,7 +123,7 @@ fn readings(alloc: Global, digits: &str) -> Result<Readings, AskedError>
     Ok(padded(&bytes))
 }
 
-/// Readings that begin with these bytes, and have zeros behind them.
+/// Returns readings that begin with these bytes, followed by zeros.
 fn padded(bytes: &[u8]) -> Readings
     requires { length bytes.now ≤ 64 }
     ensures { result ≡ padded 64 bytes.now }
@@ -128,7 +133,7 @@ fn padded(bytes: &[u8]) -> Readings
     readings
 }
 
-/// The variables, if they are given.
+/// Parses the variables if they are given.
 fn variables(alloc: Global, digits: Option<&str>) -> Result<Option<Vars>, AskedError>
     ensures { IfOk result (AreHex (option_copied digits.entry)) }
 {
@@ -141,7 +146,7 @@ fn variables(alloc: Global, digits: Option<&str>) -> Result<Option<Vars>, AskedE
     }
 }
 
-/// The bytes of hex digits, so many at most.
+/// Parses hex digits into at most `most` bytes.
 fn bytes(alloc: Global, part: RunPart, digits: &str, most: usize) -> Result<Vec<u8>, AskedError>
     ensures bytes { IfOk result (λ v. decode_of digits.now ≡ Ok v.items) }
     ensures limit { IfOk result (λ v. length v.items ≤ most) }

@@ -1,4 +1,4 @@
-//! Running a program once, as the server does.
+//! A single run of a program, as the server runs it.
 ghost use Rattle.std.specs.Prelude.{IfOk, length, string_bytes, ◌≡◌};
 ghost use Rattle.fc_machine.specs.Ran.{meaning_of};
 ghost use Rattle.fc_tools.specs.Runs.{found_by, hex_or_dash, report_of, report_text};
@@ -11,11 +11,15 @@ use fc_machine::{Frame, Outcome, run};
 use fc_verify::Verified;
 use std::alloc::{AllocError, Global};
 
-/// Runs a program once, and tells what came of it in lines: the reply's code, the reply and the variables after in hex digits, or
-/// `-` where there are none, the steps, and whether a notice was given.
+/// Runs a program once and returns the result in lines.
+///
+/// The lines are the response's code, its payload, the variables after the run, the steps, and
+/// whether the program set the notify flag. The payload and the variables are in hex digits, or `-`
+/// if empty.
 ///
 /// # Errors
-/// The variables that are given have another size than the program's; or memory was refused.
+/// Returns an error if the given variables have another size than the program's, or if memory can't
+/// be allocated.
 pub fn report(alloc: Global, program: &Verified, asked: &Asked) -> Result<String, ToolError>
     ensures { IfOk result (λ s. string_bytes s ≡ report_of program.now asked.now) }
 {
@@ -25,7 +29,7 @@ pub fn report(alloc: Global, program: &Verified, asked: &Asked) -> Result<String
     Ok(outcome_text(alloc, &outcome)?)
 }
 
-/// The variables that the program finds.
+/// Returns the variables for the program.
 fn variables(program: &Verified, given: &Option<Vars>) -> Result<Vars, ToolError>
     ensures found { IfOk result (λ v. v ≡ found_by program.now.vars_size given.now) }
     ensures size { IfOk result (λ v. length v ≡ program.now.vars_size) }
@@ -37,7 +41,7 @@ fn variables(program: &Verified, given: &Option<Vars>) -> Result<Vars, ToolError
     }
 }
 
-/// Variables that are given, where they have the program's size.
+/// Returns the given variables if they have the program's size.
 fn sized(vars: &Vars, size: u16) -> Result<Vars, ToolError>
     ensures found { IfOk result (λ v. v ≡ vars.now) }
     ensures size { IfOk result (λ v. length v ≡ size) }
@@ -53,7 +57,7 @@ fn sized(vars: &Vars, size: u16) -> Result<Vars, ToolError>
     }
 }
 
-/// What came of a run, in lines.
+/// Returns the result of a run in lines.
 fn outcome_text(alloc: Global, outcome: &Outcome<'_>) -> Result<String, AllocError>
     ensures { IfOk result (λ s. string_bytes s ≡ report_text (meaning_of outcome.now)) }
 {
@@ -67,7 +71,7 @@ fn outcome_text(alloc: Global, outcome: &Outcome<'_>) -> Result<String, AllocErr
     format!(in alloc; "code {code}\nreply {reply}\nvars {vars}\nsteps {steps}\nnotice {notice}\n")
 }
 
-/// Bytes by hex digits, or `-`.
+/// Returns bytes in hex digits, or `-` if there are none.
 fn digits(alloc: Global, bytes: &[u8]) -> Result<String, AllocError>
     ensures { IfOk result (λ s. string_bytes s ≡ hex_or_dash bytes.now) }
 {

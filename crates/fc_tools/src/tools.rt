@@ -1,4 +1,4 @@
-//! Assembling, listing and checking images: the bodies of `fcasm`.
+//! The commands of `fcasm`: assemble, expand, disassemble, verify and run.
 ghost use Rattle.std.specs.Prelude.{IfOk, IsTrue, None, string_bytes, true, ◌++◌, ◌≡◌};
 ghost use Rattle.fc_asm.specs.Assembled.{IsAssembled};
 ghost use Rattle.fc_asm.specs.Syntax.{lines_of};
@@ -28,28 +28,32 @@ use std::io;
 use std::io::{Read, Write};
 use thiserror::Error;
 
-/// The most bytes of an image whose length fits its count: a header, and 65,535 slots of eight bytes.
-const LONGEST_IMAGE: u64 = 16 + 8 * 65_535;
+/// Maximum length of an image whose slots can be counted, in bytes.
+///
+/// It has a header, and 65,535 slots of eight bytes.
+pub(crate) const LONGEST_IMAGE: u64 = 16 + 8 * 65_535;
 
-/// The most bytes of a text. The longest listing has 32,768: 1,024 lines of 32 bytes.
+/// Maximum length of a source, in bytes.
+///
+/// The longest disassembly has 32,768: 1,024 lines of 32 bytes.
 const LONGEST_TEXT: u64 = 1_048_576;
 
-/// Why a tool has no result.
+/// The errors of a command.
 #[derive(Debug, Drop, Error)]
 pub enum ToolError {
-    /// The text has a mistake.
+    /// The source has a mistake.
     #[error("{0}")]
     Text(AsmError),
-    /// A label, a constant, a helper's name, a number or a text of the text has one.
+    /// The source has a faulty label, constant, helper's name, number or text.
     #[error("{0}")]
     Form(BadForm),
-    /// The text is too long to be read.
+    /// The source is too long to be read.
     #[error("the text has more than 1048576 bytes")]
     LongText,
     /// The image, or a number of its header, breaks a rule.
     #[error("{0}")]
     Image(Diagnosis),
-    /// The variables that are given to a run have another size than the program's.
+    /// The given variables have another size than the program's.
     #[error("`--vars` gives {given} bytes, and the image says {wanted}")]
     Variables { given: usize, wanted: u16 },
     /// Reading failed.
@@ -58,7 +62,7 @@ pub enum ToolError {
     /// Writing failed.
     #[error("standard output: {0}")]
     Output(io::Error),
-    /// There was no memory.
+    /// Memory couldn't be allocated.
     #[error("{0}")]
     Memory(#[from] AllocError),
 }
@@ -101,11 +105,19 @@ impl From<Rejection> for ToolError {
     }
 }
 
-/// Reads a text, expands and assembles it, and writes the image of this version with this size of the variables, in bytes, and this
-/// budget of steps.
-/// It ends `Done` where the image is written; `Refused` where the text has more than 1,048,576 bytes or a mistake, or else a number of the header is
-/// out of its limits, or the control flow breaks a rule where the budget is to be the cost; `Failed` where reading or writing failed, or there was no memory. `err` is told why: after a line with the mistake or
-/// the rule come those of `explain_line` or `explain`.
+/// Reads a source, expands and assembles it, and writes the image.
+///
+/// The image is of this version, with this size of the variables in bytes and this budget of steps.
+/// Returns:
+///
+/// - `Done` if the image is written;
+/// - `Refused` if the source has more than 1,048,576 bytes or a mistake; or else if a number of the
+///   header is out of its limits; or if the budget is to be the cost and the control flow breaks a
+///   rule;
+/// - `Failed` if reading or writing fails, or if memory can't be allocated.
+///
+/// Writes the reason to `err`: a line with the mistake or the rule, and then those of
+/// `explain_line` or `explain`.
 pub fn image<R: Read, W: Write, E: Write>(
     alloc: Global,
     input: &mut R,
@@ -125,9 +137,16 @@ pub fn image<R: Read, W: Write, E: Write>(
     }
 }
 
-/// Reads a text and writes the one that it is expanded to, which `image` assembles. It ends `Done` where that is written; `Refused` where the
-/// text has more than 1,048,576 bytes, or a mistake in what is expanded; `Failed` where reading or writing failed, or there was no memory. `err` is told
-/// why, as by `image`.
+/// Reads a source and writes it expanded, as `image` assembles it.
+///
+/// Returns:
+///
+/// - `Done` if the source is written;
+/// - `Refused` if the source has more than 1,048,576 bytes, or a mistake in a form that is
+///   expanded;
+/// - `Failed` if reading or writing fails, or if memory can't be allocated.
+///
+/// Writes the reason to `err`, as `image` does.
 pub fn expand<R: Read, W: Write, E: Write>(
     alloc: Global,
     input: &mut R,
@@ -144,9 +163,15 @@ pub fn expand<R: Read, W: Write, E: Write>(
     }
 }
 
-/// Reads an image and writes its listing, with the slots' numbers if they are asked for. It ends `Done` where the listing is written; `Refused` where the header or a
-/// slot breaks a rule; `Failed` where reading or writing failed, or there was no memory. `err` is told why: after a line with the rule
-/// come those of `explain`.
+/// Reads an image and writes its disassembly.
+///
+/// The lines have slot numbers if `with_slots` is true. Returns:
+///
+/// - `Done` if the disassembly is written;
+/// - `Refused` if the header or a slot breaks a rule;
+/// - `Failed` if reading or writing fails, or if memory can't be allocated.
+///
+/// Writes the reason to `err`: a line with the rule, and then those of `explain`.
 pub fn list<R: Read, W: Write, E: Write>(
     alloc: Global,
     input: &mut R,
@@ -160,9 +185,14 @@ pub fn list<R: Read, W: Write, E: Write>(
     }
 }
 
-/// Reads an image, and says on `out` whether it is accepted: with its cost and budget, or the first rule that it breaks.
-/// It ends `Done` where it is accepted, `Refused` where it is not, and then `err` is told why, by `explain`; and `Failed` where
-/// reading or writing failed, or there was no memory, which `err` is told.
+/// Reads an image, and writes to `out` whether it is accepted.
+///
+/// The line has the cost and the budget, or the first broken rule. Returns:
+///
+/// - `Done` if the image is accepted;
+/// - `Refused` if it isn't, and then `explain` writes the reason to `err`;
+/// - `Failed` if reading or writing fails, or if memory can't be allocated; the reason is written
+///   to `err`.
 pub fn check<R: Read, W: Write, E: Write>(
     alloc: Global,
     input: &mut R,
@@ -176,7 +206,9 @@ pub fn check<R: Read, W: Write, E: Write>(
     }
 }
 
-/// Reads an image from standard input, and runs it as `run_image` does. It ends as that does, and `Failed` where reading failed.
+/// Reads an image from standard input, and runs it like `run_image`.
+///
+/// Returns the status of `run_image`, or `Failed` if reading fails.
 pub fn run<R: Read, W: Write, E: Write>(
     alloc: Global,
     input: &mut R,
@@ -190,9 +222,16 @@ pub fn run<R: Read, W: Write, E: Write>(
     }
 }
 
-/// Runs an image's program once, as the server would, and writes the report of it. It ends `Done` where that is written; `Refused`
-/// where the image is refused, which is told as by `check`; `Bad` where the variables that are given have another size than the program's; and `Failed`
-/// where writing failed, or there was no memory. `err` is told why.
+/// Runs an image's program once, like the server, and writes the report.
+///
+/// Returns:
+///
+/// - `Done` if the report is written;
+/// - `Refused` if the image is refused, with the output of `check`;
+/// - `Bad` if the given variables have another size than the program's;
+/// - `Failed` if writing fails, or if memory can't be allocated.
+///
+/// Writes the reason to `err`.
 pub fn run_image<W: Write, E: Write>(
     alloc: Global,
     image: &[u8],
@@ -207,7 +246,7 @@ pub fn run_image<W: Write, E: Write>(
     }
 }
 
-// Tells why there is no result, and what to change where a text or an image is refused.
+// Writes why there is no result, and the change to make if a source or an image is refused.
 fn tell_whole<E: Write>(alloc: Global, err: &mut E, error: &ToolError, text: &[u8]) -> Status {
     let told = tell(err, error, error.status());
     match error {
@@ -220,7 +259,7 @@ fn tell_whole<E: Write>(alloc: Global, err: &mut E, error: &ToolError, text: &[u
     }
 }
 
-// Tells why an image is refused.
+// Writes why an image is refused.
 fn tell_cause<E: Write>(alloc: Global, err: &mut E, diagnosis: &Diagnosis) -> Status {
     match explain(alloc, err, diagnosis) {
         Ok(()) => Status::Refused,
@@ -228,7 +267,7 @@ fn tell_cause<E: Write>(alloc: Global, err: &mut E, diagnosis: &Diagnosis) -> St
     }
 }
 
-// Tells what is wrong with a line of a text.
+// Writes the mistake in a line of a source.
 fn tell_line<E: Write>(
     alloc: Global,
     err: &mut E,
@@ -242,7 +281,7 @@ fn tell_line<E: Write>(
     }
 }
 
-// Tells why a text isn't expanded.
+// Writes why a source isn't expanded.
 fn tell_form<E: Write>(err: &mut E, text: &[u8], bad: BadForm) -> Status {
     match explain_form(err, text, bad) {
         Ok(()) => Status::Refused,
@@ -254,10 +293,12 @@ fn read_image<R: Read>(alloc: Global, input: &mut R) -> Result<Vec<u8>, ToolErro
     image_bytes(alloc, input).map_err(ToolError::Input)
 }
 
-/// Reads an image; of one that is too long to have its length fit its count, as much as shows that.
+/// Reads an image.
+///
+/// Of an image that is too long for its slots to be counted, reads one byte more than the maximum.
 ///
 /// # Errors
-/// Reading failed, or memory was refused.
+/// Returns an error if reading fails, or if memory can't be allocated.
 pub fn image_bytes<R: Read>(alloc: Global, input: &mut R) -> io::Result<Vec<u8>> {
     let mut image = Vec::new(alloc);
     let mut input = input.by_ref().take(LONGEST_IMAGE + 1);
@@ -265,7 +306,7 @@ pub fn image_bytes<R: Read>(alloc: Global, input: &mut R) -> io::Result<Vec<u8>>
     Ok(image)
 }
 
-// Reads a text; of one that is too long, no more than shows that.
+// Reads a source; of one that is too long, one byte more than the maximum.
 fn read_text<R: Read>(alloc: Global, input: &mut R) -> Result<Vec<u8>, ToolError> {
     let mut text = Vec::new(alloc);
     let mut input = input.by_ref().take(LONGEST_TEXT + 1);
@@ -276,7 +317,7 @@ fn read_text<R: Read>(alloc: Global, input: &mut R) -> Result<Vec<u8>, ToolError
     Ok(text)
 }
 
-// Writes all of these bytes, and has them written out.
+// Writes all of these bytes, and flushes the output.
 fn write_whole<W: Write>(out: &mut W, bytes: &[u8]) -> Result<(), ToolError> {
     out.write_all(bytes).map_err(ToolError::Output)?;
     out.flush().map_err(ToolError::Output)
@@ -318,7 +359,7 @@ fn write_listing<R: Read, W: Write>(
     write_whole(out, listing.as_bytes())
 }
 
-// The verdict on an image, and why it is refused.
+// Writes the verdict on an image, and returns the diagnosis if it is refused.
 fn write_verdict<R: Read, W: Write>(
     alloc: Global,
     input: &mut R,
@@ -337,7 +378,7 @@ fn write_verdict<R: Read, W: Write>(
     }
 }
 
-// The report of a run, or the verdict on an image that is refused.
+// Writes the report of a run, or the verdict on an image that is refused.
 fn write_report<W: Write>(
     alloc: Global,
     image: &[u8],
@@ -355,7 +396,7 @@ fn write_report<W: Write>(
     }
 }
 
-// The verdict on an image that is refused.
+// Writes the verdict on an image that is refused.
 fn write_refusal<W: Write>(
     alloc: Global,
     image: &[u8],
@@ -369,10 +410,10 @@ fn write_refusal<W: Write>(
     Ok(Some(diagnosis))
 }
 
-/// Why an image is refused that breaks a rule.
+/// Returns the diagnosis of an image that breaks a rule.
 ///
 /// # Errors
-/// Memory was refused.
+/// Returns `AllocError` if memory can't be allocated.
 fn diagnosis_of(alloc: Global, image: &[u8]) -> Result<Diagnosis, AllocError>
     requires { IsUnacceptable image.now }
     ensures { IfOk result (IsDiagnosisOf image.now) }
@@ -384,12 +425,15 @@ fn diagnosis_of(alloc: Global, image: &[u8]) -> Result<Diagnosis, AllocError>
     }
 }
 
-/// Assembles the image of a text's program. A text that isn't UTF-8 has an unknown word in its first line.
+/// Assembles a source into an image.
+///
+/// In a source that isn't UTF-8, the first line has an unknown word.
 ///
 /// # Errors
-/// The first line of the text that has a mistake, with the first of these that it has: an unknown first word (A1), a bad
-/// operand (A2), a value out of range (A3). In a text without one, the first rule of the header that a number breaks. Or
-/// memory was refused, where that comes first.
+/// Returns the first line with a mistake, and the first of these that it has: an unknown first word
+/// (A1), a bad operand (A2), a value out of range (A3). If there is no mistake, returns the first
+/// rule of the header that a number breaks. Returns `Memory` if memory can't be allocated and no
+/// such fault was found before.
 pub fn image_of(
     alloc: Global,
     text: &[u8],
@@ -404,11 +448,13 @@ pub fn image_of(
     image_with(alloc, &head, &program)
 }
 
-/// Assembles the image of a text's program whose budget is the program's cost: the least budget that the program may have.
+/// Assembles a source into an image whose budget is the program's cost.
+///
+/// That is the least budget that the program may have.
 ///
 /// # Errors
-/// As of `image_of`; and after the header's rules the first rule of the control flow, 11 to 17, that the program breaks with the
-/// greatest budget.
+/// Returns the errors of `image_of`. After the header's rules, returns the first rule of the
+/// control flow, 11 to 17, that the program breaks with the greatest budget.
 pub fn priced_image_of(
     alloc: Global,
     text: &[u8],
@@ -422,7 +468,7 @@ pub fn priced_image_of(
     image_with(alloc, &head, &program)
 }
 
-/// The header of a program whose budget is its cost.
+/// Builds the header of a program, with its cost as the budget.
 fn priced_head(vars_size: u16, program: &[Insn], version: ImageVersion) -> Result<Head, ToolError>
     requires { is_program program.now ≡ true }
     ensures head { IfOk result (λ h. (h ≡ program_head vars_size h.budget version program.now) × (limit_fault h ≡ None)) }
@@ -437,7 +483,7 @@ fn priced_head(vars_size: u16, program: &[Insn], version: ImageVersion) -> Resul
     }
 }
 
-/// The program of a text.
+/// Assembles the program of a source.
 fn program_of(alloc: Global, text: &[u8]) -> Result<Vec<Insn>, ToolError>
     ensures program { IfOk result (λ v. IsAssembled (lines_of text.now) v.items) }
     ensures slots { IfOk result (λ v. IsTrue (is_program v.items)) }
@@ -451,7 +497,7 @@ fn program_of(alloc: Global, text: &[u8]) -> Result<Vec<Insn>, ToolError>
     Ok(assemble(alloc, text)?)
 }
 
-/// The image of a header and its program.
+/// Builds the image of a header and its program.
 fn image_with(alloc: Global, head: &Head, program: &[Insn]) -> Result<Vec<u8>, ToolError>
     requires { IsTrue (is_program program.now) }
     ensures { IfOk result (λ v. v.items ≡ head_bytes head.now ++ encoded program.now) }
@@ -463,7 +509,7 @@ fn image_with(alloc: Global, head: &Head, program: &[Insn]) -> Result<Vec<u8>, T
     Ok(image)
 }
 
-// A number of the header that is out of its limits.
+// Returns the error for a number of the header that is out of its limits.
 fn header_error(fault: Fault) -> ToolError {
     ToolError::Image(Diagnosis {
         fault,
@@ -474,7 +520,8 @@ fn header_error(fault: Fault) -> ToolError {
 /// Disassembles an image's program.
 ///
 /// # Errors
-/// The first rule of the header or of a slot that the image breaks, with its slot; or memory was refused.
+/// Returns the first rule of the header or of a slot that the image breaks, with its slot; or
+/// `Memory` if memory can't be allocated.
 pub fn listing_of(alloc: Global, image: &[u8]) -> Result<String, ToolError>
     ensures { IfOk result (λ s. IsListingOf image.now (string_bytes s)) }
 {
@@ -483,10 +530,10 @@ pub fn listing_of(alloc: Global, image: &[u8]) -> Result<String, ToolError>
     Ok(disassemble(alloc, &program)?)
 }
 
-/// Disassembles an image's program, each line behind the number of its slot.
+/// Disassembles an image's program with the slot number before each line.
 ///
 /// # Errors
-/// As of `listing_of`.
+/// Returns the errors of `listing_of`.
 pub fn numbered_listing_of(alloc: Global, image: &[u8]) -> Result<String, ToolError>
     ensures { IfOk result (λ s. IsNumberedListingOf image.now (string_bytes s)) }
 {

@@ -1,10 +1,13 @@
-//! The version of an image, as it is asked for.
+//! The version of an image, as an option gives it.
 ghost use Rattle.std.specs.Prelude.{IfSome, option_copied};
 ghost use Rattle.fc_tools.specs.Tools.{NamesVersion};
 
 use fc_isa::ImageVersion;
 
-/// Parses the version that an image is made of: that of the word `1` or `2`, and the first where no word is given. Another word names none.
+/// Parses the version for a new image.
+///
+/// It is that of the word `1` or `2`, and version 1 without a word. Returns `None` for another
+/// word.
 pub fn version_named(word: Option<&str>) -> Option<ImageVersion>
     ensures { IfSome result (NamesVersion (option_copied word.entry)) }
 {

@@ -1,4 +1,4 @@
-//! The assembler's `main`: it parses its command line, and calls the tools.
+//! The assembler's `main`, which parses its command line and calls the tools.
 #![tactic(auto)]
 
 use clap::{Arg, ArgAction, ArgMatches, Command, value_parser};
@@ -7,8 +7,9 @@ use fc_cli::command_line::{VERSION, exit_code, parse, words};
 use fc_cli::status::tell;
 use fc_help::Method;
 use fc_tools::budget::Budget;
+use fc_tools::digest::digest;
 use fc_tools::run_options::{Asked, AskedError};
-use fc_tools::tools::{check, expand, image, image_bytes, list, run as run_input, run_image};
+use fc_tools::tools::{check, expand, image, image_bytes, list, run};
 use fc_tools::version::version_named;
 use std::alloc::{AllocError, Global};
 use std::io::{BufReader, BufWriter, Read, Write};
@@ -16,17 +17,17 @@ use std::process::ExitCode;
 use std::rt::Runtime;
 use std::{fs, io};
 
-/// What `--help` tells of how the commands are used and how they end.
+/// The help on the commands and exit statuses.
 const STATUSES: &str = "\
 Example: a text with the lines `mov64 r0, 0` and `exit`
 
   fcasm image --vars 0 --budget auto < program.txt > program.img
-  fcasm check < program.img
+  fcasm check program.img
 
 Exit status: 0 where the work is done; 1 where a text or an image is refused; 2 where the
 command line is bad; 3 where reading or writing failed, or memory was refused.";
 
-// An option that takes a value and can't be left out.
+// Defines a required option with a value.
 fn wanted<'a>(
     alloc: Global,
     name: &'static str,
@@ -64,56 +65,65 @@ fn image_command<'a>(alloc: Global) -> Result<Command<'a>, AllocError> {
         .arg(format)
 }
 
+// Defines a command on an image, which is read from a file or from standard input.
+fn on_image<'a>(
+    alloc: Global,
+    name: &'static str,
+    about: &'static str,
+) -> Result<Command<'a>, AllocError> {
+    let image = Arg::new(alloc, "image").value_name("IMAGE").help(
+        "The image's file; standard input if it is `-` or not given",
+    );
+    Command::new(alloc, name).about(about).arg(image)
+}
+
 fn list_command<'a>(alloc: Global) -> Result<Command<'a>, AllocError> {
-    Command::new(alloc, "list")
-        .about("List the program of an image")
-        .arg(
-            Arg::new(alloc, "slots")
-                .long("slots")
-                .action(ArgAction::SetTrue)
-                .help("Put the number of its slot in front of each line"),
-        )
+    on_image(alloc, "list", "List the program of an image")?.arg(
+        Arg::new(alloc, "slots")
+            .long("slots")
+            .action(ArgAction::SetTrue)
+            .help("Put the number of its slot in front of each line"),
+    )
 }
 
 fn run_command<'a>(alloc: Global) -> Result<Command<'a>, AllocError> {
-    let image = Arg::new(alloc, "image").value_name("IMAGE").help(
-        "The image's file; standard input where it is `-` or not given",
-    );
     let method = Arg::new(alloc, "method")
         .long("method")
         .value_name("METHOD")
         .value_parser(["get", "post"].as_slice())
         .help("What is asked; get where it is not given");
-    Command::new(alloc, "run")
-        .about("Run an image's program once, and tell what it answers")
-        .after_help(
-            "The reply is sent with a success alone; variables and notice count for a POST with a success alone.",
-        )
-        .arg(image)?
-        .arg(method)?
-        .arg(hex_bytes(
-            alloc,
-            "payload",
-            "The request's payload in hex, 1024 bytes at most; none where it is not given",
-        ))?
-        .arg(hex_bytes(
-            alloc,
-            "query",
-            "The request's query in hex, 64 bytes at most; none where it is not given",
-        ))?
-        .arg(hex_bytes(
-            alloc,
-            "vars",
-            "The variables in hex, as many bytes as the image says; zeros where they are not given",
-        ))?
-        .arg(hex_bytes(
-            alloc,
-            "readings",
-            "The device's readings in hex, 64 bytes at most; zeros after them",
-        ))
+    on_image(
+        alloc,
+        "run",
+        "Run an image's program once, and tell what it answers",
+    )?
+    .after_help(
+        "The reply is sent with a success alone; variables and notice count for a POST with a success alone.",
+    )
+    .arg(method)?
+    .arg(hex_bytes(
+        alloc,
+        "payload",
+        "The request's payload in hex, 1024 bytes at most; none where it is not given",
+    ))?
+    .arg(hex_bytes(
+        alloc,
+        "query",
+        "The request's query in hex, 64 bytes at most; none where it is not given",
+    ))?
+    .arg(hex_bytes(
+        alloc,
+        "vars",
+        "The variables in hex, as many bytes as the image says; zeros where they are not given",
+    ))?
+    .arg(hex_bytes(
+        alloc,
+        "readings",
+        "The device's readings in hex, 64 bytes at most; zeros after them",
+    ))
 }
 
-// An option that takes bytes in hex.
+// Defines an option with bytes in hex.
 fn hex_bytes<'a>(alloc: Global, name: &'static str, help: &'static str) -> Arg<'a> {
     Arg::new(alloc, name)
         .long(name)
@@ -124,9 +134,7 @@ fn hex_bytes<'a>(alloc: Global, name: &'static str, help: &'static str) -> Arg<'
 fn command<'a>(alloc: Global) -> Result<Command<'a>, AllocError> {
     Command::new(alloc, "fcasm")
         .version(VERSION)
-        .about(
-            "Assemble, list, check and run resource programs: from standard input to standard output",
-        )
+        .about("Assemble, list, check, run and identify resource programs")
         .after_help(STATUSES)
         .subcommand_required(true)
         .subcommand(image_command(alloc)?)?
@@ -134,18 +142,19 @@ fn command<'a>(alloc: Global) -> Result<Command<'a>, AllocError> {
             "Write a text as `image` assembles it: without labels, hexadecimal numbers, characters and texts",
         ))?
         .subcommand(list_command(alloc)?)?
-        .subcommand(Command::new(alloc, "check").about("Say whether an image is accepted"))?
+        .subcommand(on_image(alloc, "check", "Say whether an image is accepted")?)?
+        .subcommand(on_image(alloc, "digest", "Print the SHA-256 of an image, in hex")?)?
         .subcommand(run_command(alloc)?)
 }
 
-fn run<R: Runtime + AllocGlobal, E: Write>(rt: &R, err: &mut E) -> anyhow::Result<Status> {
+fn start<R: Runtime + AllocGlobal, E: Write>(rt: &R, err: &mut E) -> anyhow::Result<Status> {
     match words(rt, err)? {
         Some(words) => obey(rt, err, words),
         None => Ok(Status::Bad),
     }
 }
 
-// Does what the words of the command line ask for.
+// Runs the command line's command.
 fn obey<R: Runtime + AllocGlobal, E: Write>(
     rt: &R,
     err: &mut E,
@@ -161,7 +170,7 @@ fn obey<R: Runtime + AllocGlobal, E: Write>(
     carry_out(rt, &mut input, &mut out, err, &matches)
 }
 
-// Carries out the command that the command line names.
+// Runs the command that the command line names.
 fn carry_out<R: Runtime + AllocGlobal, I: Read, W: Write, E: Write>(
     rt: &R,
     input: &mut I,
@@ -173,10 +182,40 @@ fn carry_out<R: Runtime + AllocGlobal, I: Read, W: Write, E: Write>(
     match matches.subcommand() {
         Some(("image", numbers)) => Ok(write_image(alloc, input, out, err, numbers)),
         Some(("expand", _)) => Ok(expand(alloc, input, out, err)),
-        Some(("list", asked)) => Ok(list(alloc, input, out, err, asked.get_flag("slots"))),
-        Some(("check", _)) => Ok(check(alloc, input, out, err)),
-        Some(("run", asked)) => run_asked(rt, input, out, err, asked),
-        _ => Ok(Status::Bad),
+        Some((command, words)) => match words.get_str("image") {
+            None | Some("-") => Ok(use_image(alloc, input, out, err, command, words)),
+            Some(path) => match file_bytes(rt, path) {
+                Ok(image) => {
+                    Ok(use_image(alloc, &mut image.as_slice(), out, err, command, words))
+                }
+                Err(error) => {
+                    writeln!(err, "{path}: {error}")?;
+                    Ok(Status::Failed)
+                }
+            },
+        },
+        None => Ok(Status::Bad),
+    }
+}
+
+// Runs a command on an image.
+fn use_image<I: Read, W: Write, E: Write>(
+    alloc: Global,
+    input: &mut I,
+    out: &mut W,
+    err: &mut E,
+    command: &str,
+    words: &ArgMatches<'_>,
+) -> Status {
+    match command {
+        "list" => list(alloc, input, out, err, words.get_flag("slots")),
+        "check" => check(alloc, input, out, err),
+        "digest" => digest(alloc, input, out, err),
+        "run" => match asked_by(alloc, words) {
+            Ok(asked) => run(alloc, input, out, err, &asked),
+            Err(error) => tell(err, &error, error.status()),
+        },
+        _ => Status::Bad,
     }
 }
 
@@ -202,25 +241,7 @@ fn write_image<R: Read, W: Write, E: Write>(
     }
 }
 
-// Runs the image that the command line names, as it asks.
-fn run_asked<R: Runtime + AllocGlobal, I: Read, W: Write, E: Write>(
-    rt: &R,
-    input: &mut I,
-    out: &mut W,
-    err: &mut E,
-    words: &ArgMatches<'_>,
-) -> anyhow::Result<Status> {
-    let asked = match asked_by(rt.alloc(), words) {
-        Ok(asked) => asked,
-        Err(error) => return Ok(tell(err, &error, error.status())),
-    };
-    match words.get_str("image") {
-        None | Some("-") => Ok(run_input(rt.alloc(), input, out, err, &asked)),
-        Some(path) => run_file(rt, path, out, err, &asked),
-    }
-}
-
-// What the command line asks a program.
+// Returns the request that the command line sends to a program.
 fn asked_by(alloc: Global, words: &ArgMatches<'_>) -> Result<Asked, AskedError> {
     let method = match words.get_str("method") {
         Some("post") => Method::Post,
@@ -232,23 +253,7 @@ fn asked_by(alloc: Global, words: &ArgMatches<'_>) -> Result<Asked, AskedError> 
     Asked::new(alloc, method, payload, query, words.get_str("vars"))?.with_readings(alloc, readings)
 }
 
-// Runs the image of this file.
-fn run_file<R: Runtime + AllocGlobal, W: Write, E: Write>(
-    rt: &R,
-    path: &str,
-    out: &mut W,
-    err: &mut E,
-    asked: &Asked,
-) -> anyhow::Result<Status> {
-    match file_bytes(rt, path) {
-        Ok(image) => Ok(run_image(rt.alloc(), &image, out, err, asked)),
-        Err(error) => {
-            writeln!(err, "{path}: {error}")?;
-            Ok(Status::Failed)
-        }
-    }
-}
-
+// Reads the bytes of an image's file.
 fn file_bytes<R: Runtime + AllocGlobal>(rt: &R, path: &str) -> io::Result<Vec<u8>> {
     let mut file = fs::open(rt, path)?;
     image_bytes(rt.alloc(), &mut file)
@@ -256,6 +261,6 @@ fn file_bytes<R: Runtime + AllocGlobal>(rt: &R, path: &str) -> io::Result<Vec<u8
 
 fn main(rt: HostRuntime) -> ExitCode {
     let mut err = rt.stderr();
-    let ended = run(&rt, &mut err);
+    let ended = start(&rt, &mut err);
     exit_code(&mut err, ended)
 }

@@ -1,4 +1,4 @@
-//! The server's `main`: it parses its command line, and calls the service.
+//! The server's `main`, which parses its command line and calls the service.
 #![tactic(auto)]
 
 use clap::ArgMatches;
@@ -8,13 +8,14 @@ use fc_cli::message_id::random_id;
 use fc_core::Policy;
 use fc_host::sensors::{FileSensors, NoSensors};
 use fc_lines::LineLimit;
+use fc_record::LoggedChanges;
 use fc_server::Begin;
 use fc_service::command::command;
 use fc_service::every::{BadTimer, timers_in};
 use fc_service::options::{BadOption, ServeOptions, serve_options};
 use fc_service::play::play;
 use fc_service::policy::policy_in;
-use fc_service::serve::{Extent, serve};
+use fc_service::serve::{Extent, Records, serve};
 use fc_service::workers::play_by_workers;
 use log::sink::Console;
 use log::{LevelFilter, Logged};
@@ -27,9 +28,10 @@ use std::rt::Runtime;
 use std::sync::Wait;
 use std::thread::Threads;
 
-/// The serial that an empty slot begins with, and the first message id of the server's own.
+/// Revision that an empty slot begins with.
 const FIRST_SERIAL: u64 = 0;
 
+/// First message ID of the server's own.
 const FIRST_ID: u16 = 0;
 
 fn run<R: Runtime + AllocGlobal + Threads + Wait + Net + RandomSource + Sync, E: Write>(
@@ -43,7 +45,8 @@ fn run<R: Runtime + AllocGlobal + Threads + Wait + Net + RandomSource + Sync, E:
     }
 }
 
-// Does what the words of the command line ask for. `files` is the same runtime: several threads read by it, which is shown of its own type alone.
+// Runs the command line's command. `files` is the same runtime: several threads read with it, which
+// is proved for its own type only.
 fn obey<R: Runtime + AllocGlobal + Threads + Wait + Net + RandomSource + Sync, E: Write>(
     rt: &R,
     files: &HostRuntime,
@@ -67,7 +70,7 @@ fn obey<R: Runtime + AllocGlobal + Threads + Wait + Net + RandomSource + Sync, E
     }
 }
 
-// Plays standard input, onto standard output, by so many workers, or on this thread alone.
+// Plays standard input to standard output, with this number of workers or on this thread alone.
 fn play_input<R: Runtime + AllocGlobal + Threads + Wait + Net + Sync, E: Write>(
     rt: &R,
     err: &mut E,
@@ -88,7 +91,7 @@ fn play_input<R: Runtime + AllocGlobal + Threads + Wait + Net + Sync, E: Write>(
     })
 }
 
-// Serves at the address and port that the command line names.
+// Serves at the address and port of the command line.
 fn serve_socket<R: Runtime + AllocGlobal + Threads + Wait + Net + RandomSource + Sync, E: Write>(
     rt: &R,
     files: &HostRuntime,
@@ -105,18 +108,19 @@ fn serve_socket<R: Runtime + AllocGlobal + Threads + Wait + Net + RandomSource +
         limit,
         policy,
         readings,
+        logs,
     } = options;
     let alloc = rt.alloc();
     let timers = match timers_in(alloc, matches, policy.limits) {
         Ok(timers) => timers,
         Err(bad) => return tell_bad_timer(err, &bad),
     };
-    let level = if listening.told {
-        LevelFilter::Info
-    } else {
-        LevelFilter::Off
+    let end = Logged::new(rt, level_if(logs.info), Console(rt));
+    let changes = Logged::new(rt, level_if(logs.changes), Console(rt));
+    let records = Records {
+        end: &end,
+        changes: &LoggedChanges { logger: &changes },
     };
-    let log = Logged::new(rt, level, Console(rt));
     let first_id = random_id(rt).map_err(|error| anyhow::anyhow!("random bytes: {error}"))?;
     let extent = Extent {
         workers,
@@ -127,10 +131,23 @@ fn serve_socket<R: Runtime + AllocGlobal + Threads + Wait + Net + RandomSource +
     Ok(match readings {
         Some(path) => {
             let sensors = FileSensors::new(files, path);
-            serve(rt, alloc, &log, err, &sensors, listening, timers, extent)
+            serve(
+                rt, alloc, &records, err, &sensors, listening, timers, extent,
+            )
         }
-        None => serve(rt, alloc, &log, err, &NoSensors, listening, timers, extent),
+        None => serve(
+            rt, alloc, &records, err, &NoSensors, listening, timers, extent,
+        ),
     })
+}
+
+// Returns the filter of a logger: records of level info, or none.
+fn level_if(is_asked: bool) -> LevelFilter {
+    if is_asked {
+        LevelFilter::Info
+    } else {
+        LevelFilter::Off
+    }
 }
 
 // Reports that an option has no meaning.
@@ -139,7 +156,7 @@ fn tell_bad<E: Write>(err: &mut E, bad: BadOption) -> anyhow::Result<Status> {
     Ok(Status::Bad)
 }
 
-// Reports that `--every` gives no timers: 3 for want of memory, else 2.
+// Reports that `--every` defines no timers. The status is 3 if memory can't be allocated, else 2.
 fn tell_bad_timer<E: Write>(err: &mut E, bad: &BadTimer) -> anyhow::Result<Status> {
     writeln!(err, "{bad}")?;
     Ok(match bad {

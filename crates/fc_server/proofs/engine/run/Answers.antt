@@ -1,5 +1,5 @@
-use Rattle.std.proofs.Common.{length, ◌++◌, ◌∷◌, []}
-use Rattle.fc_server.proofs.Served.{at_work, took_on, committed_on, raised_on, answered_on}
+use Rattle.std.proofs.Common.{length, ◌++◌, ◌∷◌, [], ◌∙◌}
+use Rattle.fc_server.proofs.Served.{answered_on, at_work, committed_on, kept_by, kept_by_answer, raised_on, took_on}
 use Rattle.fc_server.proofs.engine.run.Goals as goal
 
 pub take-requires : goal.take-requires
@@ -23,9 +23,12 @@ respond-requires c =
     let committed = committed_on rest took c.args.now (c.commit.ensures (length rest)) in
     at_work rest (raised_on rest committed (c.raise.ensures (length rest)))
 
-pub returns : goal.returns
-returns c = λ count h rest v.
+pub returns-clause-works : goal.returns-clause-works
+returns-clause-works c = λ count h rest v.
     let took = took_on rest v c.take.result _ (c.take.ensures (length rest)) in
     let committed = committed_on rest took c.args.now (c.commit.ensures (length rest)) in
     let raised = raised_on rest committed (c.raise.ensures (length rest)) in
     record { memory = c.take.result; tasks = rest ++ c.respond.new.task ∷ []; serves = answered_on rest raised c.args.now _ c.respond.ensures }
+
+pub returns-clause-job : goal.returns-clause-job
+returns-clause-job c = kept_by_answer c.respond.ensures ∙ (kept_by (c.raise.ensures 0) ∙ (kept_by (c.commit.ensures 0) ∙ kept_by (c.take.ensures 0)))

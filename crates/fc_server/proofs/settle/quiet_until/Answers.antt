@@ -3,7 +3,7 @@ use Rattle.std.specs.Prelude.{min}
 use Rattle.fc_server.specs.Settling.{AreTold, earliest}
 use Rattle.fc_server.proofs.settle.quiet_until.Goals as goal
 
--- what the shards told so far, and one more
+-- the times of the shards so far, and one more.
 one_more : (StaysQuiet : ℕ → ℕ → Type 0) (next before until moment : ℕ) → StaysQuiet next until → moment ≡ min before until
     → (told : List ℕ) × AreTold StaysQuiet told × (length told ≡ next) × (before ≡ earliest told)
     → (told : List ℕ) × AreTold StaysQuiet told × (length told ≡ next + 1) × (moment ≡ earliest told)

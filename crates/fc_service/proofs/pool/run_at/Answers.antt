@@ -7,7 +7,7 @@ use Rattle.fc_service.specs.Pooled.{open_shop}
 use Rattle.fc_service.proofs.Seats.{all_before}
 use Rattle.fc_service.proofs.pool.run_at.Goals as goal
 
--- the seats but the last are the workers', whose shares were given
+-- the handles except the last are the workers', whose shares were returned.
 pub returns-clause-fed : goal.returns-clause-fed
 returns-clause-fed g c =
     let s = open_shop g.B.Bench.changes g.B.Bench.ended g.B.Bench.called g.B.Bench.logged g.M.Moments.is_moment g.M.Moments.is_random g.W.Wire.called in

@@ -4,7 +4,7 @@ use Rattle.fc_service.proofs.pool.run_named.Goals as goal
 
 pub returns-clause-fed : goal.returns-clause-fed
 returns-clause-fed g c =
-    let shop = locked_shop g.B.Books.first g.D.Device.are_readings g.M.Moments.is_moment g.M.Moments.is_random g.W.Wire.called in
+    let shop = locked_shop g.B.Books.first g.D.Device.are_readings g.M.Moments.is_moment g.M.Moments.is_random g.W.Wire.called g.C.Recorder.recorded in
     let Feeds = g.F.Feeder.feeds _ in
     let ended = c.in_ok-ended.ended in
     let handover = handover_where c.close.result.has_workers c.args.pool.now.handover in

@@ -5,7 +5,7 @@ use Rattle.fc_server.specs.States.{ServerState}
 use Rattle.fc_server.proofs.Quiet.{passed_quietly, quiet_served}
 use Rattle.fc_server.proofs.engine.Engine.advance_if_quiet.Goals as goal
 
--- what it does to its server is a tick of the shard, or nothing
+-- its effect on its server is a tick of the shard, or nothing.
 passes : (c : goal.After-advance_if_quiet) → MatchBool c.advance_if_quiet.result (TicksShard c.args.shard c.args.now c.self.inside.server c.advance_if_quiet.new.self None) (c.advance_if_quiet.new.self ≡ c.self.inside.server)
 passes c =
     let e = c.advance_if_quiet.ensures in

@@ -1,0 +1,2 @@
+pub mod ProgramRequests
+pub mod Recording

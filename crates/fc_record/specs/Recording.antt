@@ -1,0 +1,69 @@
+-- The changes that are recorded: each answered one, once, and nothing else.
+use Rattle.std.specs.Prelude.{◌≡◌, ◌⊎◌, ℕ, List, Option}
+use Rattle.std.specs.Borrow.{Bor}
+use Rattle.coap_msg.specs.declared.types.Emission.{Emission}
+use Rattle.coap_msg.specs.declared.types.Endpoint.{Endpoint}
+use Rattle.fc_registry.specs.declared.job.Ask.{Ask}
+use Rattle.fc_registry.specs.declared.job.Ask.TheVariants.{Install, Remove}
+use Rattle.fc_registry.specs.declared.job.Job.{Job}
+use Rattle.fc_core.specs.declared.front.Heard.{Heard}
+use Rattle.fc_core.specs.Exchanges.{advanced}
+use Rattle.fc_core.specs.Receiving.{delivered, emission_if}
+use Rattle.fc_calls.specs.Logged.{AnswersRequest, LoggedCall}
+use Rattle.fc_server.specs.Alone.{HearsAlone, NotifiesAlone, PassesAlone, PassesOverAlone, ResendsAlone, StaysQuietAlone}
+use Rattle.fc_server.specs.Intakes.{IntakeCalls, is_reply}
+use Rattle.fc_server.specs.Shown.{IsShown}
+use Rattle.fc_server.specs.declared.alone.Alone.{Alone}
+use Rattle.fc_workers.specs.declared.call_log.CallLog.{CallLog}
+use Rattle.fc_record.specs.ProgramRequests.{Requested, IsRequestOf}
+
+-- the change that a job asked for was recorded, once, from one state of the caller's log to the
+-- next.
+pub record RecordsRequest (Recorded : Requested → CallLog → CallLog → Type 0) (job : Job) (sent : Option Emission) (before after : CallLog) : Type 0 where
+  pub change : Requested
+  pub is : IsRequestOf job sent change
+  pub recorded : Recorded change before after
+
+-- if the job asks for a change, that change is recorded; else nothing is.
+abbrev pub IsRecordedFor : (Requested → CallLog → CallLog → Type 0) → Ask → Job → Option Emission → CallLog → CallLog → Type 0
+IsRecordedFor Recorded (Install body initial) job sent before after = RecordsRequest Recorded job sent before after
+IsRecordedFor Recorded Remove job sent before after = RecordsRequest Recorded job sent before after
+IsRecordedFor Recorded other job sent before after = after ≡ before
+
+abbrev pub IsRecorded : (Requested → CallLog → CallLog → Type 0) → Job → Option Emission → CallLog → CallLog → Type 0
+IsRecorded Recorded job sent before after = IsRecordedFor Recorded job.ask job sent before after
+
+-- ---- by workers
+
+-- a call of the backend in a log. After each response the change that its request asked for is
+-- recorded, before the next call.
+abbrev pub IsRecordedCall : (LoggedCall → CallLog → CallLog → Type 0) → (Requested → CallLog → CallLog → Type 0) → LoggedCall → CallLog → CallLog → Type 0
+IsRecordedCall Logged Recorded (AnswersRequest now job content sent) before after =
+    (log : CallLog) × Logged (AnswersRequest now job content sent) before log × IsRecorded Recorded job sent log after
+IsRecordedCall Logged Recorded other before after = Logged other before after
+
+-- ---- on one thread
+
+-- a single-threaded server, and the log of its records.
+pub record Recording : Type 0 where
+  pub alone : Alone
+  pub log : CallLog
+
+module _ (Recorded : Requested → CallLog → CallLog → Type 0) where
+  -- a datagram was received. Then the change that it asked for is recorded, if it produced such a
+  -- job.
+  abbrev pub HearsRecorded : ℕ → Endpoint → Bor (List ℕ) → Recording → Recording → Heard → Emission → Type 0
+  HearsRecorded now from bytes old new heard reply =
+      HearsAlone now from bytes old.alone new.alone heard reply
+      × IsShown (IsRecorded Recorded) (delivered (advanced old.alone.engine.front now) from bytes.now) (emission_if (is_reply heard) reply) old.log new.log
+
+  -- the other calls record nothing.
+  abbrev pub recorded_calls : IntakeCalls Recording
+  recorded_calls = record {
+    hears = HearsRecorded;
+    passes = λ now old new. PassesAlone now old.alone new.alone × (new.log ≡ old.log);
+    resends = λ shard now old new ticked. ResendsAlone shard now old.alone new.alone ticked × (new.log ≡ old.log);
+    passes_over = λ shard now old new. PassesOverAlone shard now old.alone new.alone × (new.log ≡ old.log);
+    notifies = λ shard now old new told. NotifiesAlone shard now old.alone new.alone told × (new.log ≡ old.log);
+    stays_quiet = λ shard now until. StaysQuietAlone shard now.alone until;
+  }

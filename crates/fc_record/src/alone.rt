@@ -1,0 +1,81 @@
+//! A single-threaded server whose changes are recorded.
+ghost use Rattle.std.specs.Prelude.{◌≡◌};
+ghost use Rattle.fc_record.specs.Recording.{recorded_calls};
+
+use crate::recorder::{ChangeLog, Recorder};
+use coap_msg::{Emission, Endpoint};
+use fc_core::Heard;
+use fc_help::Readings;
+use fc_observe::Ticked;
+use fc_server::engine::NotifyOutcome;
+use fc_server::{Alone, Intake};
+use std::marker::Model;
+
+/// A single-threaded server that records each change after its response.
+///
+/// Contracts see the server, and the log of its records.
+#[derive(Drop)]
+pub struct RecordedAlone<'a, C: Recorder> {
+    alone: Alone,
+    changes: ChangeLog<'a, C>,
+}
+
+impl<'a, C: Recorder> Model for RecordedAlone<'a, C> {
+    ghost use Rattle.fc_record.specs.Recording.{Recording};
+
+    ghost Value = { Recording };
+
+    ghost view = { λ r. record { alone = r.alone; log = r.changes } };
+}
+
+impl<'a, C: Recorder> RecordedAlone<'a, C> {
+    /// Wraps a server, whose changes are recorded from now on.
+    pub fn new(alone: Alone, recorder: &'a C) -> RecordedAlone<'a, C>
+        ensures { result.alone ≡ alone }
+    {
+        RecordedAlone {
+            alone,
+            changes: ChangeLog::new(recorder),
+        }
+    }
+
+    /// Sets the readings and the random word for jobs that run from now on.
+    ///
+    /// See [`Alone::set_handed`].
+    pub fn set_handed(&mut self, readings: &Readings, random: u16)
+        ensures engine { self.new.alone.engine ≡ self.old.alone.engine }
+        ensures handed { self.new.alone.handed ≡ record { readings = readings.now; random = random } }
+        ensures log { self.new.log ≡ self.old.log }
+    {
+        self.alone.set_handed(readings, random);
+    }
+}
+
+impl<'a, C: Recorder> Intake for RecordedAlone<'a, C> {
+    ghost calls = { recorded_calls C.recorded };
+
+    fn hear(&mut self, now: u64, from: Endpoint, bytes: &[u8], reply: &mut Emission) -> Heard {
+        self.alone
+            .hear_with(now, from, bytes, reply, &mut self.changes)
+    }
+
+    fn tick(&mut self, now: u64) {
+        self.alone.tick(now);
+    }
+
+    fn resend(&mut self, shard: u8, now: u64) -> Ticked {
+        self.alone.resend(shard, now)
+    }
+
+    fn advance_if_quiet(&mut self, shard: u8, now: u64) -> bool {
+        self.alone.advance_if_quiet(shard, now)
+    }
+
+    fn quiet_until(&self, shard: u8) -> u64 {
+        self.alone.quiet_until(shard)
+    }
+
+    fn notify(&mut self, shard: u8, now: u64, emission: &mut Emission) -> NotifyOutcome {
+        self.alone.notify(shard, now, emission)
+    }
+}

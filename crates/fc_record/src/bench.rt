@@ -1,0 +1,203 @@
+//! A backend of workers whose changes are recorded.
+ghost use Rattle.fc_record.specs.Recording.{IsRecordedCall};
+
+use crate::recorder::{Recorder, record_answer};
+use coap_msg::{Emission, Endpoint};
+use fc_core::{Answer, Heard};
+use fc_heads::HeadSeat;
+use fc_help::Readings;
+use fc_machine::Outcome;
+use fc_observe::{Ticked, Turn};
+use fc_registry::{
+    Committed, Found, Job, Made, NoteOutcome, Notification, Receipt, Removal, SlotNumber, Taken,
+    Ticket,
+};
+use fc_verify::Verified;
+use fc_workers::{Bench, CallLog};
+use std::sync::{Arc, Wait};
+
+/// A backend that records each response to a change, once, before the next call.
+#[derive(Drop)]
+pub struct RecordedBench<'a, B: Bench, C: Recorder> {
+    pub bench: &'a B,
+    pub recorder: &'a C,
+}
+
+impl<'a, B: Bench, C: Recorder> Bench for RecordedBench<'a, B, C> {
+    type Tallies = B::Tallies;
+
+    ghost changes = { B.changes };
+
+    ghost ended = { B.ended };
+
+    ghost heads = { λ b. B.heads b.bench.now };
+
+    ghost called = { B.called };
+
+    ghost logged = { IsRecordedCall B.logged C.recorded };
+
+    fn hear<R: Wait>(
+        &self,
+        rt: &R,
+        now: u64,
+        endpoint: Endpoint,
+        bytes: &[u8],
+        job: &mut Job,
+        reply: &mut Emission,
+        log: &mut CallLog,
+    ) -> Heard {
+        self.bench.hear(rt, now, endpoint, bytes, job, reply, log)
+    }
+
+    fn tick<R: Wait>(&self, rt: &R, now: u64, log: &mut CallLog) {
+        self.bench.tick(rt, now, log);
+    }
+
+    fn fresh_id<R: Wait>(&self, rt: &R, now: u64, log: &mut CallLog) -> Option<u16> {
+        self.bench.fresh_id(rt, now, log)
+    }
+
+    fn readings<R: Wait>(&self, rt: &R, log: &mut CallLog) -> Readings {
+        self.bench.readings(rt, log)
+    }
+
+    fn take<R: Wait>(
+        &self,
+        rt: &R,
+        job: &Job,
+        readings: &Readings,
+        found: &mut Found,
+        tallies: &mut B::Tallies,
+        log: &mut CallLog,
+    ) -> Taken {
+        self.bench.take(rt, job, readings, found, tallies, log)
+    }
+
+    fn signal<R: Wait>(
+        &self,
+        rt: &R,
+        shard: u8,
+        endpoint: Endpoint,
+        id: u16,
+        reset: bool,
+        log: &mut CallLog,
+    ) {
+        self.bench.signal(rt, shard, endpoint, id, reset, log);
+    }
+
+    fn tick_shard<R: Wait>(&self, rt: &R, shard: u8, now: u64, log: &mut CallLog) -> Ticked {
+        self.bench.tick_shard(rt, shard, now, log)
+    }
+
+    fn advance_if_quiet<R: Wait>(&self, rt: &R, shard: u8, now: u64, log: &mut CallLog) -> bool {
+        self.bench.advance_if_quiet(rt, shard, now, log)
+    }
+
+    fn quiet_until<R: Wait>(&self, rt: &R, shard: u8) -> u64 {
+        self.bench.quiet_until(rt, shard)
+    }
+
+    fn next_due<R: Wait>(
+        &self,
+        rt: &R,
+        shard: u8,
+        now: u64,
+        job: &mut Job,
+        log: &mut CallLog,
+    ) -> bool {
+        self.bench.next_due(rt, shard, now, job, log)
+    }
+
+    fn note<R: Wait>(
+        &self,
+        rt: &R,
+        turn: Turn,
+        id: u16,
+        now: u64,
+        random: u16,
+        told: &Notification<'_>,
+        emission: &mut Emission,
+        tallies: &mut B::Tallies,
+        log: &mut CallLog,
+    ) -> NoteOutcome {
+        self.bench
+            .note(rt, turn, id, now, random, told, emission, tallies, log)
+    }
+
+    fn give_up<R: Wait>(
+        &self,
+        rt: &R,
+        turn: Turn,
+        now: u64,
+        tallies: &mut B::Tallies,
+        log: &mut CallLog,
+    ) {
+        self.bench.give_up(rt, turn, now, tallies, log);
+    }
+
+    fn commit<R: Wait>(
+        &self,
+        rt: &R,
+        now: u64,
+        outcome: &Outcome<'_>,
+        ticket: &Ticket<'_>,
+        tallies: &mut B::Tallies,
+        log: &mut CallLog,
+    ) -> Committed {
+        self.bench.commit(rt, now, outcome, ticket, tallies, log)
+    }
+
+    fn install<R: Wait>(
+        &self,
+        rt: &R,
+        job: &Job,
+        program: Arc<Verified>,
+        tallies: &mut B::Tallies,
+        log: &mut CallLog,
+    ) -> Made {
+        self.bench.install(rt, job, program, tallies, log)
+    }
+
+    fn remove<R: Wait>(
+        &self,
+        rt: &R,
+        job: &Job,
+        tallies: &mut B::Tallies,
+        log: &mut CallLog,
+    ) -> Removal {
+        self.bench.remove(rt, job, tallies, log)
+    }
+
+    fn receipt<R: Wait>(&self, rt: &R, job: &Job, log: &mut CallLog) -> Option<Receipt> {
+        self.bench.receipt(rt, job, log)
+    }
+
+    fn head_seat(&self) -> HeadSeat {
+        self.bench.head_seat()
+    }
+
+    fn peek(&self, slot: SlotNumber, seat: &mut HeadSeat, log: &mut CallLog) -> u64 {
+        self.bench.peek(slot, seat, log)
+    }
+
+    fn raise(&self, job: &Job, word: u64, seat: &mut HeadSeat, log: &mut CallLog) {
+        self.bench.raise(job, word, seat, log);
+    }
+
+    fn respond<R: Wait>(
+        &self,
+        rt: &R,
+        now: u64,
+        job: &Job,
+        answer: &Answer,
+        reply: &mut Emission,
+        tallies: &mut B::Tallies,
+        log: &mut CallLog,
+    ) -> bool {
+        let has_reply = self
+            .bench
+            .respond(rt, now, job, answer, reply, tallies, log);
+        record_answer(self.recorder, job, has_reply, reply, log);
+        has_reply
+    }
+}

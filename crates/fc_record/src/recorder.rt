@@ -1,0 +1,104 @@
+//! Recorders of changes.
+ghost use Rattle.std.specs.Prelude.{◌≡◌, ⊤};
+ghost use Rattle.fc_core.specs.Receiving.{emission_if};
+ghost use Rattle.fc_record.specs.ProgramRequests.{Requested};
+ghost use Rattle.fc_record.specs.Recording.{IsRecorded};
+ghost use Rattle.fc_workers.specs.declared.call_log.CallLog.{CallLog as Log};
+
+use crate::request::ProgramRequest;
+use coap_msg::Emission;
+use fc_registry::Job;
+use fc_server::Witness;
+use fc_workers::CallLog;
+use log::{Log as Logger, info};
+use std::marker::Model;
+
+/// A recorder of changes.
+pub trait Recorder {
+    // The changes that were recorded, each from one state of the caller's log to the next.
+    ghost recorded: { Requested → Log → Log → Type 0 } = { λ change before after. ⊤ };
+
+    /// Records an answered change.
+    fn record(&self, change: &ProgramRequest<'_>, log: &mut CallLog)
+        ensures { recorded change.now log.old log.new };
+}
+
+/// Records the change that a job asked for, if it asked for one, with its response.
+///
+/// The response is `reply` if `has_reply`.
+pub fn record_answer<C: Recorder>(
+    recorder: &C,
+    job: &Job,
+    has_reply: bool,
+    reply: &Emission,
+    log: &mut CallLog,
+)
+    ensures { IsRecorded C.recorded job.now (emission_if has_reply reply.now) log.old log.new }
+{
+    if let Some(change) = ProgramRequest::of(job, has_reply, reply) {
+        recorder.record(&change, log);
+    }
+}
+
+/// A recorder that records nothing.
+#[derive(Clone, Copy)]
+pub struct NoChanges;
+
+impl Recorder for NoChanges {
+    ghost recorded = { λ change before after. after ≡ before };
+
+    fn record(&self, change: &ProgramRequest<'_>, log: &mut CallLog) {
+        let _ = change;
+        let _ = log;
+    }
+}
+
+/// A recorder that passes each change to a logger, as a record of level info.
+#[derive(Clone, Copy)]
+pub struct LoggedChanges<'a, L: Logger> {
+    pub logger: &'a L,
+}
+
+impl<'a, L: Logger> Recorder for LoggedChanges<'a, L> {
+    ghost recorded = { λ change before after. after ≡ before };
+
+    fn record(&self, change: &ProgramRequest<'_>, log: &mut CallLog) {
+        let _ = log;
+        info!(self.logger; target: "fcd", "{change}");
+    }
+}
+
+/// A recorder, and the log of the changes passed to it.
+///
+/// Contracts see the log.
+#[derive(Drop)]
+pub struct ChangeLog<'a, C: Recorder> {
+    recorder: &'a C,
+    log: CallLog,
+}
+
+impl<'a, C: Recorder> Model for ChangeLog<'a, C> {
+    ghost use Rattle.fc_workers.specs.declared.call_log.CallLog.{CallLog as Log};
+
+    ghost Value = { Log };
+
+    ghost view = { λ c. c.log };
+}
+
+impl<'a, C: Recorder> ChangeLog<'a, C> {
+    /// Creates the log of a recorder that got no change yet.
+    pub fn new(recorder: &'a C) -> ChangeLog<'a, C> {
+        ChangeLog {
+            recorder,
+            log: CallLog::new(),
+        }
+    }
+}
+
+impl<'a, C: Recorder> Witness for ChangeLog<'a, C> {
+    ghost shown = { IsRecorded C.recorded };
+
+    fn show(&mut self, job: &Job, has_reply: bool, reply: &Emission) {
+        record_answer(self.recorder, job, has_reply, reply, &mut self.log);
+    }
+}

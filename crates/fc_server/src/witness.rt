@@ -1,0 +1,37 @@
+//! Witnesses of the jobs that a single-threaded server answers.
+ghost use Rattle.std.specs.Prelude.{◌≡◌, ⊤, Option};
+ghost use Rattle.coap_msg.specs.declared.types.Emission.{Emission as Emitted};
+ghost use Rattle.fc_core.specs.Receiving.{emission_if};
+ghost use Rattle.fc_registry.specs.declared.job.Job.{Job as Asked};
+
+use coap_msg::Emission;
+use fc_registry::Job;
+
+/// A witness of a server's answers.
+///
+/// Each request's job is shown to it after the job's answer.
+pub trait Witness {
+    // The relation between the witness before and after it is shown a job, with the response to
+    // send, if there is one.
+    ghost shown: { Asked → Option Emitted → Self → Self → Type 0 } = { λ job sent old new. ⊤ };
+
+    /// Records a request's job that was answered.
+    ///
+    /// `reply` is the response to send if `has_reply`.
+    fn show(&mut self, job: &Job, has_reply: bool, reply: &Emission)
+        ensures { shown job.now (emission_if has_reply reply.now) self.old self.new };
+}
+
+/// A witness that records nothing.
+#[derive(Clone, Copy)]
+pub struct NoWitness;
+
+impl Witness for NoWitness {
+    ghost shown = { λ job sent old new. new ≡ old };
+
+    fn show(&mut self, job: &Job, has_reply: bool, reply: &Emission) {
+        let _ = job;
+        let _ = has_reply;
+        let _ = reply;
+    }
+}

@@ -1,0 +1,85 @@
+//! The digest of an image, to compare two images.
+ghost use Rattle.std.specs.Prelude.{◌≡◌, IfOk, string_bytes};
+ghost use Rattle.fc_tools.specs.Digests.{digest_text};
+
+use crate::tools::{LONGEST_IMAGE, image_bytes};
+use fc_cli::status::{Status, tell};
+use sha2::{Digest, Sha256};
+use std::alloc::{AllocError, Global};
+use std::io;
+use std::io::{Read, Write};
+use thiserror::Error;
+
+/// The errors of a digest.
+#[derive(Debug, Drop, Error)]
+enum DigestError {
+    /// The input has too many bytes for an image.
+    #[error("the input has more than 524296 bytes: no image is longer")]
+    Long,
+    /// Reading failed.
+    #[error("standard input: {0}")]
+    Input(io::Error),
+    /// Writing failed.
+    #[error("standard output: {0}")]
+    Output(io::Error),
+    /// Memory couldn't be allocated.
+    #[error("{0}")]
+    Memory(#[from] AllocError),
+}
+
+impl DigestError {
+    fn status(&self) -> Status {
+        match self {
+            DigestError::Long => Status::Refused,
+            DigestError::Input(_) | DigestError::Output(_) | DigestError::Memory(_) =>
+                Status::Failed,
+        }
+    }
+}
+
+/// Returns the SHA-256 digest of an image in hex.
+///
+/// It is 64 lowercase hex digits (FIPS 180-4). The image isn't verified.
+///
+/// # Errors
+/// Returns `AllocError` if memory can't be allocated.
+pub fn digest_of(alloc: Global, image: &[u8]) -> Result<String, AllocError>
+    ensures { IfOk result (λ s. string_bytes s ≡ digest_text image.now) }
+{
+    hex::encode(alloc, Sha256::digest(image))
+}
+
+/// Reads an image and writes its digest in a line.
+///
+/// The digest is that of [`digest_of`]. Returns:
+///
+/// - `Done` if the line is written;
+/// - `Refused` if the input has more than 524,296 bytes, which no image has;
+/// - `Failed` if reading or writing fails, or if memory can't be allocated.
+///
+/// Writes the reason to `err`.
+pub fn digest<R: Read, W: Write, E: Write>(
+    alloc: Global,
+    input: &mut R,
+    out: &mut W,
+    err: &mut E,
+) -> Status {
+    match write_digest(alloc, input, out) {
+        Ok(()) => Status::Done,
+        Err(error) => tell(err, &error, error.status()),
+    }
+}
+
+fn write_digest<R: Read, W: Write>(
+    alloc: Global,
+    input: &mut R,
+    out: &mut W,
+) -> Result<(), DigestError> {
+    let image = image_bytes(alloc, input).map_err(DigestError::Input)?;
+    if image.len() as u64 > LONGEST_IMAGE {
+        return Err(DigestError::Long);
+    }
+    let text = digest_of(alloc, &image)?;
+    writeln!(out, "{text}").map_err(DigestError::Output)?;
+    out.flush().map_err(DigestError::Output)
+}

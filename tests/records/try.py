@@ -1,0 +1,112 @@
+#!/usr/bin/env python3
+"""Tries `fcd serve --log changes`: which lines standard error gets, by the built program, over its socket.
+
+Run it at the top of the repository, after `rt run` in crates/fcd, which builds what it runs:
+
+    python3 tests/records/try.py
+
+Each of `off`, `info`, `changes` and both is tried with 1 worker and with 2. The digests are those of Python's hashlib. Each row that isn't as it has to be is
+printed with what came, and then the status is 1.
+"""
+import hashlib
+import re
+import socket
+import subprocess
+import sys
+import time
+from pathlib import Path
+
+TOP = Path(__file__).resolve().parent.parent.parent
+FCD = TOP / "crates/fcd/out/fcd"
+
+# The worked program counter.s; and an image of 512 slots, `mov64 r0, 0`, 511 times, and `exit`, which goes up in five blocks.
+COUNTER = bytes.fromhex(
+    "4643423108000f000f00000000000000" "7116000000000000" "bf27000000000000" "5506070002000000" "b701000000000000" "8500000003000000"
+    "bf02000000000000" "0702000001000000" "b701000000000000" "8500000004000000" "8500000007000000" "bf71000000000000" "b702000008000000"
+    "8500000005000000" "b700000000000000" "9500000000000000"
+)
+LARGEST = b"FCB1\0\0\0\2\0\2\0\0\0\0\0\0" + b"\xb7\0\0\0\0\0\0\0" * 511 + b"\x95" + bytes(7)
+# A budget one below the cost.
+DEAR = COUNTER[:8] + b"\x0e" + COUNTER[9:]
+GET, PUT, DELETE = 1, 3, 4
+
+
+def request(method, message_id, slot, payload=b"", block=None):
+    """Returns a confirmable request of /p/N without a token (RFC 7252, 3), with a value of Block1, if there is one (RFC 7959, 2.2)."""
+    digits = str(slot).encode()
+    options = b"\xb1p" + bytes([len(digits)]) + digits + (b"" if block is None else bytes([0xD1, 3, block]))
+    return bytes([0x40, method, message_id >> 8, message_id & 255]) + options + (b"\xff" + payload if payload else b"")
+
+
+def changes(ask):
+    """Makes the requests, and returns the code that each has to get, and the one that it got.
+
+    They are an upload, its duplicate, a look, an upload that is refused, a removal, one that finds nothing, five blocks, and a block that begins nowhere."""
+    upload = request(PUT, 1, 3, COUNTER)
+    blocks = [LARGEST[at : at + 1024] for at in range(0, len(LARGEST), 1024)]
+    asked = [(upload, 0x41), (upload, 0x41), (request(GET, 2, 3), 0x45), (request(PUT, 3, 4, DEAR), 0x80)]
+    asked += [(request(DELETE, 4, 3), 0x42), (request(DELETE, 5, 3), 0x42)]
+    asked += [(request(PUT, 10 + k, 63, it, k * 16 + 8 * (k < 4) + 6), 0x5F if k < 4 else 0x41) for k, it in enumerate(blocks)]
+    asked += [(request(PUT, 20, 62, blocks[1], 16 + 8 + 6), 0x88)]
+    return [(code, ask(it)) for it, code in asked]
+
+
+def lines_of(peer):
+    """Returns the lines of these changes. The refused block is no request that reaches its slot."""
+    digest = {name: hashlib.sha256(it).hexdigest() for name, it in (("counter", COUNTER), ("dear", DEAR), ("largest", LARGEST))}
+    return [
+        f"change PUT /p/3 peer={peer} code=2.01 version=1 cost=15 budget=15 vars=8 sha256={digest['counter']}",
+        f"change PUT /p/4 peer={peer} code=4.00 V16 slot 0 sha256={digest['dear']}",
+        f"change DELETE /p/3 peer={peer} code=2.02",
+        f"change DELETE /p/3 peer={peer} code=2.02",
+        f"change PUT /p/63 peer={peer} code=2.01 version=1 cost=512 budget=512 vars=0 sha256={digest['largest']}",
+    ]
+
+
+def serve(workers, logs):
+    """Returns what is wrong, and the lines of standard error, of a server that is asked for these changes."""
+    with socket.socket(socket.AF_INET, socket.SOCK_DGRAM) as it:
+        it.bind(("127.0.0.1", 0))
+        port = it.getsockname()[1]
+    words = [FCD, "serve", "--port", str(port), "--workers", str(workers), "--limit", "13", *(it for log in logs for it in ("--log", log))]
+    server = subprocess.Popen([str(it) for it in words], stderr=subprocess.PIPE)
+    with socket.socket(socket.AF_INET, socket.SOCK_DGRAM) as client:
+        client.bind(("127.0.0.1", 0))
+        client.settimeout(5)
+        # an empty confirmable message is answered by a Reset message, and takes no place
+        for _ in range(100):
+            try:
+                client.connect(("127.0.0.1", port))
+                client.send(b"\x40\0\0\0")
+                client.recv(1500)
+                break
+            except ConnectionRefusedError:
+                time.sleep(0.05)
+        peer = "127.0.0.1:%d" % client.getsockname()[1]
+
+        def ask(it):
+            client.send(it)
+            return client.recv(1500)[1]
+
+        wrong = [f"{got:02x} for {code:02x}" for code, got in changes(ask) if got != code]
+    _, told = server.communicate(timeout=20)
+    return wrong, told.decode().splitlines(), peer, port
+
+
+def main():
+    failed = 0
+    for workers in (1, 2):
+        for logs in ((), ("off",), ("info",), ("changes",), ("info", "changes")):
+            wrong, told, peer, port = serve(workers, logs)
+            bare = [re.sub(r"^\[INFO  [^]]*\] ", "", it) for it in told]
+            wanted = ([f"listening on 127.0.0.1:{port}"] if "info" in logs else []) + (lines_of(peer) if "changes" in logs else [])
+            wanted += ["sent 13 failed 0"] if "info" in logs else []
+            right = not wrong and bare == wanted
+            failed += not right
+            print(f"{'right' if right else 'WRONG'}  --workers {workers} {' '.join(logs) or 'nothing'}", *([] if right else [*wrong, *told]), sep="\n    ")
+    print(f"{failed} wrong")
+    return int(failed > 0)
+
+
+if __name__ == "__main__":
+    sys.exit(main())
