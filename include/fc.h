@@ -1,4 +1,5 @@
-/* Programs in C for Numzela. docs/C.md says how one is compiled and uploaded, docs/PROGRAMS.md what a run does and what is accepted.
+/* Programs in C for Numzela. docs/C.md explains how to compile and upload one, docs/PROGRAMS.md the effect
+   of a run, and docs/REFERENCE.md which programs are accepted.
 
    A program is one function that isn't static, of any name, and the static ones that it calls:
 
@@ -40,13 +41,14 @@ typedef __INT16_TYPE__ fc_i16;
 typedef __INT32_TYPE__ fc_i32;
 typedef __INT64_TYPE__ fc_i64;
 
-/* The request. Numbers have their least byte first. Alignment isn't asked; the attribute has clang read several bytes by one instruction. */
+/* The request. Numbers have their least byte first. Alignment isn't required; the attribute has clang read
+   several bytes by one instruction. */
 struct fc_request {
     fc_u8 method;           /*  0: FC_GET or FC_POST */
     fc_u8 slot;             /*  1: N of /r/N, 0 to 63 */
     fc_u16 length;          /*  2: the payload's length, 0 to 1,024 */
-    fc_u16 format;          /*  4: the payload's Content-Format, 0 where it isn't said */
-    fc_u8 has_format;       /*  6: 1 where it is said, else 0 */
+    fc_u16 format;          /*  4: the payload's Content-Format, 0 if it isn't given */
+    fc_u8 has_format;       /*  6: 1 if it is given, otherwise 0 */
     fc_u8 query_length;     /*  7: 0 to 64 */
     fc_u8 zero[8];          /*  8 */
     fc_u8 query[64];        /* 16: the values of Uri-Query, joined by &, then zeros */
@@ -56,7 +58,7 @@ struct fc_request {
 /* The readings. */
 struct fc_readings {
     fc_u64 clock;           /*  0: by `fcd serve`: milliseconds since the server's start */
-    fc_u8 sensors[56];      /*  8: of the device's sensors, as whoever runs the server says */
+    fc_u8 sensors[56];      /*  8: of the device's sensors, as the server's operator defines */
 } __attribute__((aligned(8)));
 
 /* FC_VARS(struct state); outside all functions: elf2img then takes the variables' size from here. */
@@ -65,9 +67,10 @@ struct fc_readings {
     static const fc_u32 fc_size_of_variables __attribute__((section(".fc.vars"), used)) = sizeof(type)
 
 enum { FC_GET = 1, FC_POST = 2 };
-enum { FC_REPLY_GET = 4096, FC_REPLY_POST = 1024 }; /* the reply's room */
+enum { FC_REPLY_GET = 4096, FC_REPLY_POST = 1024 }; /* the capacity of the reply, in bytes */
 
-/* What a program may return; all else becomes 5.00. A reply's bytes are sent with a success alone. */
+/* The codes that a program may return; any other number becomes 5.00. A reply's bytes are sent only with a
+   success. */
 enum {
     FC_OK = 0,              /* 2.05 to a GET, 2.04 to a POST */
     FC_CONTENT = 0x45,      /* 2.05, to a GET alone */
@@ -77,8 +80,8 @@ enum {
     FC_NOT_FOUND = 0x84     /* 4.04 */
 };
 
-/* The helpers, by their numbers; a call is one step. Of the answers of payload_byte and var_get nothing is known but that they are
-   numbers: bound one (`if (x < 100)`, `x & 63`) before it becomes an index. */
+/* The helpers, by their numbers; a call is one step. The results of payload_byte and var_get are numbers
+   without a known bound: bound one (`if (x < 100)`, `x & 63`) before it becomes an index. */
 #if defined(__BPF__) && defined(__clang__)
 #define FC_HELPER(number, name, ...) static fc_u64 (*const name)(__VA_ARGS__) = (fc_u64 (*)(__VA_ARGS__))number
 #elif defined(__BPF__)
@@ -89,29 +92,32 @@ enum {
 FC_HELPER(1, payload_len, void);                    /* 0 to 1,024 */
 FC_HELPER(2, payload_byte, fc_u64 i);               /* byte i of the payload, or FC_NO_BYTE past its end */
 FC_HELPER(3, var_get, fc_u64 i);                    /* the variables' i-th 8 bytes, or 0 past their end */
-FC_HELPER(4, var_put, fc_u64 i, fc_u64 x);          /* sets them and gives 1; 0 past their end */
-FC_HELPER(5, reply_put, const void *p, fc_u64 n);   /* adds n bytes and gives 1; 0 where they have no room */
-FC_HELPER(6, reply_byte, fc_u64 x);                 /* adds the low byte and gives 1; 0 where it has no room */
-FC_HELPER(7, notify, void);                         /* observers are told of the change that this POST makes */
+FC_HELPER(4, var_put, fc_u64 i, fc_u64 x);          /* sets them and returns 1; 0 past their end */
+FC_HELPER(5, reply_put, const void *p, fc_u64 n);   /* adds n bytes and returns 1; 0 if they don't fit */
+FC_HELPER(6, reply_byte, fc_u64 x);                 /* adds the low byte and returns 1; 0 if it doesn't fit */
+FC_HELPER(7, notify, void);                         /* notifies observers of the change that this POST makes */
 
 #define FC_NO_BYTE 0xffffffffffffffffu
 
-/* FC_INLINE: a function that stands in place of each of its calls. FC_FUNCTION: one that stands once and is called, at most eight deep with
-   run, with five arguments at most; it returns a number, also where nobody wants it. A function that is called twice costs twice. */
+/* FC_INLINE: a function that replaces each of its calls. FC_FUNCTION: one that exists once and is called, at
+   most eight deep including run, with at most five arguments; it returns a number, even if no caller uses
+   it. A function that is called twice costs twice. */
 #define FC_INLINE static inline __attribute__((always_inline))
 #define FC_FUNCTION static __attribute__((noinline, used))
 
-/* In front of a `for` with a constant count: its turns are written out. */
+/* Before a `for` with a constant count: its iterations are written out. */
 #ifdef __clang__
 #define FC_UNROLL _Pragma("clang loop unroll(full)")
 #else
 #define FC_UNROLL _Pragma("GCC unroll 1024")
 #endif
 
-/* From here on clang doesn't know where the variable x got its value, so that it compares the very register that is used later. */
+/* From here on clang doesn't know the source of the variable x, so that it compares the same register that
+   is used later. */
 #define fc_keep(x) __asm__ volatile("" : "+r"(x))
 
-/* array[i] as an addition of a number to a pointer; clang, left alone, may add the pointer to the number, which is refused. */
+/* array[i] as an addition of a number to a pointer; otherwise clang may add the pointer to the number, which
+   is refused. */
 #define fc_at(array, i)                                                                        \
     (*__extension__({                                                                          \
         __typeof__(&(array)[0]) fc_element = (array);                                          \
@@ -126,8 +132,8 @@ FC_HELPER(7, notify, void);                         /* observers are told of the
 #define fc_move(p, bytes) (p = (__typeof__(p))((const char *)(p) + (bytes)))
 #endif
 
-/* Signed division and remainder, towards zero: one instruction each, which compilers for BPF don't write, or by -mcpu=v4 alone. By zero
-   they give 0 and a. */
+/* Signed division and remainder, towards zero: one instruction each, which compilers for BPF don't write, or
+   only with -mcpu=v4. Divided by zero they give 0 and a. */
 #define fc_sdiv(a, b) fc_signed(a, b, "0x3f", (fc_b == 0 ? 0 : fc_b == -1 ? (fc_i64)-(fc_u64)fc_a : fc_a / fc_b))
 #define fc_smod(a, b) fc_signed(a, b, "0x9f", (fc_b == 0 ? fc_a : fc_b == -1 ? 0 : fc_a % fc_b))
 #ifdef __BPF__
@@ -143,7 +149,8 @@ FC_HELPER(7, notify, void);                         /* observers are told of the
 #define fc_signed(a, b, opcode, answer) __extension__({ fc_i64 fc_a = (a), fc_b = (b); answer; })
 #endif
 
-/* Is the query this literal, of 1 to 8 characters? Behind the query there are zeros, so its first eight bytes tell. */
+/* Whether the query is this literal, of 1 to 8 characters. Zeros follow the query, so its first eight bytes
+   are enough. */
 #define fc_query_is(request, word)                                                             \
     __extension__({                                                                            \
         _Static_assert(sizeof(word) >= 2 && sizeof(word) <= 9, "a word of 1 to 8 characters");  \
@@ -152,22 +159,23 @@ FC_HELPER(7, notify, void);                         /* observers are told of the
 #define fc_word(w) (fc_char(w, 0) | fc_char(w, 1) | fc_char(w, 2) | fc_char(w, 3) | fc_char(w, 4) | fc_char(w, 5) | fc_char(w, 6) | fc_char(w, 7))
 #define fc_char(w, i) ((fc_u64)(i < sizeof(w) ? (fc_u8)(w)[i < sizeof(w) ? i : 0] : 0) << 8 * i)
 
-/* FC_TABLE(fc_u16, name, 1, 2, 3); in a function: an array that is filled where this stands. Other constants, as `static const fc_u16
-   name[] = {..}`, are put on the stack where their function begins, eight bytes by one store or two: that costs less, but on each path. */
+/* FC_TABLE(fc_u16, name, 1, 2, 3); in a function: an array that is filled at this place. Other constants, such
+   as `static const fc_u16 name[] = {..}`, are stored on the stack at their function's start, eight bytes by
+   one store or two: that costs less, but on each path. */
 #define FC_TABLE(type, name, first, ...)                                                       \
     fc_u64 name##_zero = 0;                                                                    \
     fc_keep(name##_zero);                                                                      \
     type name[] = {(type)((first) + name##_zero), __VA_ARGS__}
 
-/* Adds a string literal, of at most some 200 bytes, to the reply: it is written to the stack where this stands. */
+/* Adds a string literal, of at most some 200 bytes, to the reply: it is written to the stack at this place. */
 #define fc_reply_text(text)                    \
     __extension__({                            \
         char fc_text[sizeof(text) - 1] = text; \
         reply_put(fc_text, sizeof fc_text);    \
     })
 
-/* Bytes at a computed place, for a loop or an index without a known bound: as request->payload[i] and request->query[i], with 0 past the end. The
-   query's costs some 20 steps, and no pointer. */
+/* Bytes at a computed place, for a loop or an index without a known bound: like request->payload[i] and
+   request->query[i], with 0 past the end. That of the query costs some 20 steps, and no pointer. */
 FC_INLINE fc_u64 fc_payload_at(fc_u64 i)
 {
     fc_u64 byte = payload_byte(i);
@@ -190,7 +198,7 @@ FC_INLINE fc_u64 fc_query_at(const struct fc_request *request, fc_u64 i)
     return word >> 8 * (i & 7) & 255;
 }
 
-/* Adds a number in decimal to the reply, without leading zeros. A function: it stands once. */
+/* Adds a number in decimal to the reply, without leading zeros. It is a function, so its code exists once. */
 #define fc_reply_decimal(n) fc_decimal_(n)
 FC_FUNCTION __attribute__((unused)) fc_u64 fc_decimal_(fc_u64 n)
 {
@@ -203,7 +211,7 @@ FC_FUNCTION __attribute__((unused)) fc_u64 fc_decimal_(fc_u64 n)
     return 0;
 }
 
-/* The same of a signed number. */
+/* The same for a signed number. */
 #define fc_reply_signed(n)                                                                     \
     __extension__({                                                                            \
         fc_i64 fc_n = (n);                                                                     \

@@ -1,11 +1,15 @@
 /*
- * A gateway: serves CoAP on a UDP socket with poll, a clock, a sensor and a relay of its own.
+ * A gateway: serves CoAP on a UDP socket with poll and a clock, for the sensor and the relay of
+ * device.h.
  *
- *   gateway PORT [DATAGRAMS]    ends after so many datagrams, or at SIGTERM or SIGINT
+ *   gateway PORT [DATAGRAMS [IMAGE]]
+ *
+ * It ends after so many datagrams, if they aren't 0, or at SIGTERM or SIGINT. The program of IMAGE is
+ * in slot 1 from the start. Clients upload others.
  *
  * A program of version 2 reads the milliseconds since the start in bytes 0 to 7 of the sensor
- * input, and the sensor's value in bytes 8 and 9. If slot 1 answers `on` or `off`, the gateway
- * switches its relay: here it prints. docs/C-HOST.md explains each step.
+ * input, and the sensor's value in bytes 8 and 9, the low byte first. If a program answers `on` or
+ * `off`, the gateway switches its relay. docs/C-HOST.md explains each step.
  */
 #include <arpa/inet.h>
 #include <errno.h>
@@ -19,6 +23,7 @@
 #include <time.h>
 #include <unistd.h>
 
+#include "device.h"
 #include "numzela.h"
 
 static volatile sig_atomic_t is_stopped;
@@ -36,12 +41,6 @@ static uint64_t milliseconds(void)
     return (uint64_t)t.tv_sec * 1000 + (uint64_t)t.tv_nsec / 1000000;
 }
 
-/* The sensor's driver: a temperature that rises by one each second. */
-static uint16_t read_sensor(uint64_t now)
-{
-    return (uint16_t)(150 + now / 1000);
-}
-
 static void read_device(uint64_t now, uint8_t readings[NUMZELA_READINGS])
 {
     memset(readings, 0, NUMZELA_READINGS);
@@ -52,15 +51,6 @@ static void read_device(uint64_t now, uint8_t readings[NUMZELA_READINGS])
     readings[9] = (uint8_t)(value >> 8);
 }
 
-/* The relay's driver. */
-static void set_relay(int on)
-{
-    static int is_on = -1;
-    if (on != is_on)
-        printf("relay %s\n", on ? "on" : "off");
-    is_on = on;
-}
-
 /* Acts on a response or notification whose payload is `on` or `off`. */
 static void act(const numzela_datagram *out)
 {
@@ -68,17 +58,17 @@ static void act(const numzela_datagram *out)
     const uint8_t *marker = memchr(out->bytes + 4, 0xff, out->size > 4 ? out->size - 4u : 0);
     size_t size = marker ? (size_t)(end - marker - 1) : 0;
     if (size == 2 && !memcmp(marker + 1, "on", 2))
-        set_relay(1);
+        set_relay(true);
     if (size == 3 && !memcmp(marker + 1, "off", 3))
-        set_relay(0);
+        set_relay(false);
 }
 
 static void transmit(int fd, const numzela_datagram *out)
 {
     struct sockaddr_in to = {.sin_family = AF_INET, .sin_port = htons(out->to.port)};
     memcpy(&to.sin_addr, out->to.address, 4);
-    sendto(fd, out->bytes, out->size, 0, (struct sockaddr *)&to, sizeof to);
     act(out);
+    sendto(fd, out->bytes, out->size, 0, (struct sockaddr *)&to, sizeof to);
 }
 
 static int open_socket(uint16_t port)
@@ -90,6 +80,34 @@ static int open_socket(uint16_t port)
         return fd;
     perror("socket");
     exit(1);
+}
+
+/* Uploads an image to slot 1 as a client does, by PUT of /p/1 in blocks of 1,024 bytes (RFC 7959). The
+   client is this program itself, at an address that no datagram comes from. */
+static bool install(numzela_server *server, const uint8_t *image, size_t size)
+{
+    static const uint8_t readings[NUMZELA_READINGS];
+    static const numzela_endpoint self = {{0, 0, 0, 0}, 0};
+    static numzela_datagram out;
+    for (size_t at = 0, n = 0; at < size; at += 1024, n++) {
+        size_t part = size - at > 1024 ? 1024 : size - at;
+        uint8_t block = (uint8_t)(n << 4 | (at + part < size) << 3 | 6);
+        uint8_t put[12 + 1024] = {0x40, 3, 0, (uint8_t)n, 0xb1, 'p', 1, '1', 0xd1, 3, block, 0xff};
+        memcpy(put + 12, image + at, part);
+        numzela_server_receive(server, 0, &self, put, 12 + part, readings, &out);
+    }
+    return out.bytes[1] == (2 << 5 | 1); /* 2.01 (Created) */
+}
+
+static bool install_file(numzela_server *server, const char *name)
+{
+    static uint8_t image[16 + 8 * 1024 + 1];
+    FILE *file = fopen(name, "rb");
+    if (!file)
+        return false;
+    size_t size = fread(image, 1, sizeof image, file);
+    fclose(file);
+    return install(server, image, size);
 }
 
 static uint16_t random_word(void)
@@ -125,6 +143,8 @@ int main(int count, char **words)
     numzela_server server = {0};
     if (numzela_server_new(&server, &config) != NUMZELA_OK)
         return 1;
+    if (count > 3 && !install_file(&server, words[3]))
+        return fprintf(stderr, "no program in %s\n", words[3]), 1;
 
     static numzela_datagram out;
     static uint8_t buffer[NUMZELA_DATAGRAM + 1];

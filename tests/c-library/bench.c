@@ -24,15 +24,16 @@ static int time_programs(void)
     static uint8_t reply[NUMZELA_REPLY];
     uint8_t vars[NUMZELA_VARS] = {0}, payload;
     numzela_program program = {0};
+    numzela_frame frame = {0};
     numzela_verdict verdict;
     numzela_request request = {.is_post = true};
     numzela_response response = {0};
-    if (numzela_program_load(&program, image, image_size, &verdict) != NUMZELA_OK)
+    if (numzela_program_load(&program, image, image_size, &verdict) != NUMZELA_OK || numzela_frame_new(&frame) != NUMZELA_OK)
         return 2;
     double begin = nanoseconds();
     for (long i = 0; i < RUNS; i++) {
         payload = (uint8_t)(0x13 + (i & 3));
-        numzela_program_run(&program, &request, NULL, 0, &payload, 1, readings, vars, verdict.vars_size, reply, sizeof reply, &response);
+        numzela_program_run(&program, &frame, &request, NULL, 0, &payload, 1, readings, vars, verdict.vars_size, reply, sizeof reply, &response);
     }
     printf("run %.0f ns (%u steps the last)\n", (nanoseconds() - begin) / RUNS, response.steps);
     numzela_program_free(&program);
@@ -42,6 +43,7 @@ static int time_programs(void)
         numzela_program_free(&program);
     }
     printf("load and free %.0f ns\n", (nanoseconds() - begin) / LOADS);
+    numzela_frame_free(&frame);
     return 0;
 }
 

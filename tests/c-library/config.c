@@ -1,5 +1,5 @@
 /*
- * config: tries what a server's configuration may be, the ranges of a run, and what managers may do.
+ * config: tries what a server's configuration may be, and what managers may do.
  * Prints the line that failed and ends with status 1, or with 0.
  */
 #include <stdio.h>
@@ -159,37 +159,7 @@ static int try_confirm_after(void)
     return 0;
 }
 
-static int try_runs(void)
-{
-    static uint8_t reply[NUMZELA_REPLY], payload[NUMZELA_PAYLOAD + 1], vars[8];
-    uint8_t readings[NUMZELA_READINGS] = {0};
-    numzela_program program = {0};
-    numzela_verdict verdict;
-    numzela_request get = {0}, post = {.is_post = true};
-    numzela_response response = {0};
-    CHECK(numzela_program_run(&program, &get, 0, 0, 0, 0, readings, 0, 0, reply, sizeof reply, &response) == NUMZELA_EMPTY);
-    CHECK(numzela_program_load(&program, image, sizeof image - 1, &verdict) == NUMZELA_REFUSED && verdict.rule == 1);
-    CHECK(numzela_program_load(&program, image, sizeof image, &verdict) == NUMZELA_OK);
-    CHECK(verdict.version == 1 && verdict.cost == 2 && verdict.budget == 2 && verdict.vars_size == 0);
-    CHECK(numzela_program_load(&program, image, sizeof image, &verdict) == NUMZELA_IN_USE);
-    CHECK(numzela_program_run(&program, &get, 0, 0, 0, 0, readings, 0, 0, reply, sizeof reply, &response) == NUMZELA_OK);
-    CHECK(response.code == 69 && response.steps == 2 && response.size == 0 && !response.notify);
-    CHECK(numzela_program_run(&program, &get, payload, 65, 0, 0, readings, 0, 0, reply, sizeof reply, &response) == NUMZELA_RANGE);
-    CHECK(numzela_program_run(&program, &get, payload, 64, payload, 1024, readings, 0, 0, reply, sizeof reply, &response) == NUMZELA_OK);
-    CHECK(numzela_program_run(&program, &get, 0, 0, payload, 1025, readings, 0, 0, reply, sizeof reply, &response) == NUMZELA_RANGE);
-    CHECK(numzela_program_run(&program, &get, 0, 0, 0, 0, readings, vars, 8, reply, sizeof reply, &response) == NUMZELA_RANGE);
-    CHECK(numzela_program_run(&program, &get, 0, 0, 0, 0, readings, 0, 0, reply, NUMZELA_REPLY - 1, &response) == NUMZELA_RANGE);
-    CHECK(numzela_program_run(&program, &post, 0, 0, 0, 0, readings, 0, 0, reply, NUMZELA_POST_REPLY, &response) == NUMZELA_OK);
-    CHECK(numzela_program_run(&program, &post, 0, 0, 0, 0, readings, 0, 0, reply, NUMZELA_POST_REPLY - 1, &response) == NUMZELA_RANGE);
-    numzela_program_free(&program);
-    numzela_program_free(&program);
-    CHECK(!program.held);
-    char text[8];
-    CHECK(numzela_rule_text(18, text, sizeof text) == 0 && numzela_rule_text(8, text, sizeof text) == 8 && !memcmp(text, "r10 is w", 8));
-    return 0;
-}
-
 int main(void)
 {
-    return try_ranges() || try_managers() || try_first_id() || try_limits() || try_confirm_after() || try_runs();
+    return try_ranges() || try_managers() || try_first_id() || try_limits() || try_confirm_after();
 }

@@ -1,14 +1,17 @@
 /*
- * nomem IMAGE: refuses each malloc of numzela_server_new and numzela_program_load in turn: NUMZELA_NOMEM,
- * nothing leaks, the handle stays empty. Then those of an upload: 5.03, and the server goes on.
+ * nomem IMAGE: refuses each malloc of numzela_server_new, numzela_frame_new and numzela_program_load in
+ * turn: NUMZELA_NOMEM, nothing leaks, the handle stays empty. Prints how much memory each handle holds.
+ * Then it refuses those of an upload: 5.03, and the server goes on.
  * Link it with -Wl,--wrap=malloc,--wrap=free.
  */
+#include <malloc.h>
 #include <stdio.h>
 #include <stdlib.h>
 
 #include "numzela.h"
 
-static long left = -1, live; /* mallocs that succeed before one is refused; blocks in use */
+static long left = -1; /* mallocs that succeed before one is refused */
+static long live, bytes; /* blocks in use, and their bytes */
 void *__real_malloc(size_t size);
 void __real_free(void *block);
 
@@ -20,51 +23,71 @@ void *__wrap_malloc(size_t size)
         left--;
     void *block = __real_malloc(size);
     live += block != NULL;
+    bytes += (long)malloc_usable_size(block);
     return block;
 }
 
 void __wrap_free(void *block)
 {
     live -= block != NULL;
+    bytes -= (long)malloc_usable_size(block);
     __real_free(block);
 }
 
 static uint8_t image[9000];
+static size_t image_size;
 
-static int try_new(void)
+/* Each makes what a handle holds, in a new handle; `kept` then has the handle. */
+static union { numzela_server server; numzela_frame frame; numzela_program program; } kept;
+
+static numzela_status make_server(void)
 {
     numzela_config config = {0};
-    for (long n = 0;; n++) {
-        numzela_server server = {0};
-        long before = live;
-        left = n;
-        numzela_status status = numzela_server_new(&server, &config);
-        left = -1;
-        if (status == NUMZELA_OK) {
-            numzela_server_free(&server);
-            printf("numzela_server_new: %ld mallocs refused in turn\n", n);
-            return live != before;
-        }
-        if (status != NUMZELA_NOMEM || live != before || server.held)
-            return 1;
-    }
+    kept.server = (numzela_server){0};
+    return numzela_server_new(&kept.server, &config);
 }
 
-static int try_load(size_t size)
+static void free_server(void)
+{
+    numzela_server_free(&kept.server);
+}
+
+static numzela_status make_frame(void)
+{
+    kept.frame = (numzela_frame){0};
+    return numzela_frame_new(&kept.frame);
+}
+
+static void free_frame(void)
+{
+    numzela_frame_free(&kept.frame);
+}
+
+static numzela_status load(void)
 {
     numzela_verdict verdict;
+    kept.program = (numzela_program){0};
+    return numzela_program_load(&kept.program, image, image_size, &verdict);
+}
+
+static void free_program(void)
+{
+    numzela_program_free(&kept.program);
+}
+
+static int try_each(const char *name, numzela_status (*make)(void), void (*free_it)(void))
+{
     for (long n = 0;; n++) {
-        numzela_program program = {0};
-        long before = live;
+        long before = live, bytes_before = bytes;
         left = n;
-        numzela_status status = numzela_program_load(&program, image, size, &verdict);
+        numzela_status status = make();
         left = -1;
         if (status == NUMZELA_OK) {
-            numzela_program_free(&program);
-            printf("numzela_program_load: %ld mallocs refused in turn\n", n);
-            return live != before;
+            printf("%s: %ld mallocs refused in turn; it holds %ld bytes in %ld blocks\n", name, n, bytes - bytes_before, live - before);
+            free_it();
+            return live != before || bytes != bytes_before || !n;
         }
-        if (status != NUMZELA_NOMEM || live != before || program.held)
+        if (status != NUMZELA_NOMEM || live != before || kept.server.held)
             return 1;
     }
 }
@@ -103,7 +126,8 @@ int main(int argc, char **argv)
     FILE *f = argc == 2 ? fopen(argv[1], "rb") : NULL;
     if (!f)
         return 2;
-    size_t size = fread(image, 1, sizeof image, f);
+    image_size = fread(image, 1, sizeof image, f);
     fclose(f);
-    return try_new() || try_load(size) || try_upload(size);
+    return try_each("numzela_server_new", make_server, free_server) || try_each("numzela_frame_new", make_frame, free_frame)
+        || try_each("numzela_program_load", load, free_program) || try_upload(image_size);
 }

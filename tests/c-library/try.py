@@ -1,15 +1,18 @@
 #!/usr/bin/env python3
-"""Tries the C library: installs it in a temporary folder, builds the programs of examples/c-host and of this folder over it, and runs them.
+"""Tries the C library: installs it in a temporary folder, builds programs with it, and runs them.
 
-Use, at the top of a checkout in which `rt lib` has built crates/numzela:
+The programs are those of examples/c-host and of this folder. Use, at the top of a checkout in which
+`rt lib` has built crates/numzela:
 
     tests/c-library/try.py            about half a minute
     tests/c-library/try.py --long     1,000,000 hostile datagrams in place of 100,000, and no valgrind for them
     tests/c-library/try.py --bench    prints processor times as well
 
-It wants gcc, ar and pkg-config. With clang it builds and runs everything a second time, with g++ it compiles the header as C++, with valgrind it runs each
-program under it, and with libcoap's coap-client-notls that client asks the gateway. What isn't there is told and left out. The status is 0 if all went well.
-Expected values are those of numzela.h, docs/PROTOCOL.md and docs/PROGRAMS.md."""
+It needs gcc, ar and pkg-config. With clang it builds and runs everything a second time, with g++ it
+compiles the header as C++, with valgrind it runs each program under it, and with libcoap's
+coap-client-notls that client sends requests to the gateway. A missing program is reported, and its
+part is omitted. The status is 0 if all went well. Expected values are those of numzela.h,
+docs/PROTOCOL.md and docs/PROGRAMS.md."""
 import os
 import shutil
 import socket
@@ -22,6 +25,7 @@ from pathlib import Path
 
 TOP = Path(__file__).resolve().parents[2]
 HERE = Path(__file__).resolve().parent
+EXAMPLES = TOP / "examples/c-host"
 IMAGE_FILE = TOP / "examples/c/thermostat.img"
 IMAGE = IMAGE_FILE.read_bytes()
 STRICT = ["-O1", "-g", "-std=c11", "-Wall", "-Wextra", "-Werror", "-D_GNU_SOURCE"]
@@ -30,7 +34,7 @@ RESOURCE, PROGRAM = [(11, b"r"), (11, b"1")], [(11, b"p"), (11, b"1")]
 
 
 def install(prefix):
-    """Installs the library, and returns the words that pkg-config gives for it."""
+    """Installs the library, and returns the words that pkg-config prints for it."""
     subprocess.run([str(TOP / "tools/install-c-library"), str(prefix)], cwd=TOP, check=True)
     found = dict(os.environ, PKG_CONFIG_PATH=f"{prefix}/lib/pkgconfig")
     return subprocess.run(["pkg-config", "--cflags", "--libs", "numzela"], env=found, check=True, capture_output=True, text=True).stdout.split()
@@ -38,9 +42,9 @@ def install(prefix):
 
 def build(compiler, folder, words):
     """Builds each program."""
-    for source in [*(TOP / "examples/c-host").glob("*.c"), *HERE.glob("*.c")]:
-        wraps = ["-Wl,--wrap=malloc,--wrap=free"] if source.stem == "nomem" else []
-        subprocess.run([compiler, *STRICT, "-o", f"{folder}/{source.stem}", str(source), *words, *wraps], check=True)
+    for source in [EXAMPLES / "filter.c", EXAMPLES / "gateway.c", *HERE.glob("*.c")]:
+        more = {"gateway": [str(EXAMPLES / "device.c")], "nomem": ["-Wl,--wrap=malloc,--wrap=free"]}.get(source.stem, [])
+        subprocess.run([compiler, *STRICT, "-o", f"{folder}/{source.stem}", str(source), *more, *words], check=True)
 
 
 def read_as_cpp(folder, words):
@@ -81,7 +85,7 @@ def seeds():
 
 
 def run(folder, words, under=(), **how):
-    """Runs a program, which has to end well, and returns what it printed."""
+    """Runs a program, which has to succeed, and returns its output."""
     ran = subprocess.run([*under, f"{folder}/{words[0]}", *words[1:]], capture_output=True, timeout=600, **how)
     if ran.returncode:
         sys.exit(f"{' '.join([*under, *words])}: status {ran.returncode}\n{ran.stdout.decode()}{ran.stderr.decode()}")
@@ -89,18 +93,19 @@ def run(folder, words, under=(), **how):
 
 
 def run_all(folder, hostile, under=()):
-    """Runs each program but the gateway."""
+    """Runs each program except the gateway."""
     print(run(folder, ["hostile", f"{folder}/seeds", str(hostile)], under).splitlines()[0])
     print(run(folder, ["nomem", str(IMAGE_FILE)], under).strip())
     run(folder, ["config"], under)
+    run(folder, ["programs", str(IMAGE_FILE)], under)
     # The thermostat switches on below 20 degrees, and off at 21 and above (examples/c/thermostat.c).
-    printed = run(folder, ["filter", str(IMAGE_FILE)], under, input=b"\x13\n\x15\n")
-    if printed != "2.04 on\n2.04 off\n":
+    printed = run(folder, ["filter", str(IMAGE_FILE), str(IMAGE_FILE)], under, input=b"\x13\n\x15\n")
+    if printed != "2.04 on\n2.04 on\n2.04 off\n2.04 off\n":
         sys.exit(f"filter: {printed}")
 
 
 def ask(peer, message_id, words):
-    """Sends a request until a response comes, and returns the response's code."""
+    """Sends a request until a response arrives, and returns the response's code."""
     for _ in range(30):
         try:
             peer.send(message(*words, message_id=message_id))
@@ -110,8 +115,25 @@ def ask(peer, message_id, words):
     return sys.exit("the gateway doesn't answer")
 
 
+def try_start(folder, under=()):
+    """Starts the gateway with a program of two blocks in slot 1, and asks it; and with what is none."""
+    port = 20000 + os.getpid() % 20000
+    # 199 times `mov64 r0, 69`, which is 2.05, and `exit`; without variables, with a budget of 200.
+    slots = struct.pack("<BBhi", 0xB7, 0, 0, 69) * 199 + b"\x95" + bytes(7)
+    Path(f"{folder}/long.img").write_bytes(b"FCB1" + struct.pack("<HHII", 0, 200, 200, 0) + slots)
+    served = subprocess.Popen([*under, f"{folder}/gateway", str(port), "1", f"{folder}/long.img"])
+    with socket.socket(socket.AF_INET, socket.SOCK_DGRAM) as peer:
+        peer.connect(("127.0.0.1", port))
+        peer.settimeout(1)
+        code = ask(peer, 1, (1, RESOURCE))
+    if code != 69 or served.wait(timeout=20):
+        sys.exit(f"gateway with a program: {code}, status {served.returncode}")
+    if subprocess.run([f"{folder}/gateway", str(port), "1", f"{folder}/seeds"], capture_output=True).returncode != 1:
+        sys.exit("the gateway starts with what is no image")
+
+
 def try_gateway(folder, under=()):
-    """Uploads to the gateway, asks it, observes, and has it switch its relay."""
+    """Uploads to the gateway, sends requests, observes, and has it switch its relay."""
     port = 20000 + os.getpid() % 20000
     served = subprocess.Popen([*under, f"{folder}/gateway", str(port)], stdout=subprocess.PIPE)
     with socket.socket(socket.AF_INET, socket.SOCK_DGRAM) as peer:
@@ -142,10 +164,12 @@ def main():
             print(compiler)
             build(compiler, folder, flags)
             run_all(folder, 1_000_000 if "--long" in words else hostile)
+            try_start(folder)
             try_gateway(folder)
         if there["valgrind"]:
             print("valgrind")
             run_all(folder, 1_000 if "--long" in words else 20_000, VALGRIND)
+            try_start(folder, VALGRIND)
             try_gateway(folder, VALGRIND)
         if there["g++"]:
             read_as_cpp(folder, flags)

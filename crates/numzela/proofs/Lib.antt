@@ -1,3 +1,4 @@
+mod FrameForms
 mod ProgramForms
 mod ServerForms
 mod Values

@@ -1,4 +1,4 @@
--- A handle, by its machine value: what its fields own, and what it owns beside.
+-- A handle, by its machine value: the ownership of its fields, and its additional ownership.
 use Rattle.std.proofs.Common.{◌≡◌, ℕ, List, [], ◌∷◌, ◌++◌, refl, subst, lit<}
 use lib.Dec.{T}
 use mir.Raw.{raw as bare}
@@ -7,7 +7,7 @@ use Rattle.std.specs.Prelude.{Option, Some, None, is_some}
 use Rattle.std.specs.Box.Ownership.{box_owns}
 use Rattle.libc.specs.Heap.{chunk}
 use Rattle.numzela.specs.Held.{owned_at}
-use Rattle.numzela.specs.contracts.program.Loaded as inner
+use Rattle.fc_verify.specs.contracts.verified.Verified as inner
 use denote.Memory.{lone}
 use denote.Param.{layout}
 use mathlib.Core.Bool.{Bool, true, false}
@@ -35,7 +35,7 @@ module _ {M : Type 1} {𝓤 : Ura M} {𝓛 : Logic 𝓤} {K : Type 0} {Γ : List
       feq_i t (List Val) (v ∷ []) (v ∷ []) refl $ fjoin t $
       fpack t (Valss (RawPtr ∷ bool ∷ [])) (within (shape handle.the_type) (h.at, (h.held, tt)) (v ∷ [])) (ptr_val h.at ∷ [], (vbool h.held ∷ [], tt)) $ fjoin t $ s)
 
-  -- by whether it holds a box
+  -- by its flag, which says whether it holds a box
   by_value : K → (p : Ptr) (held : Bool) (value : Option (inner.the_row).Denot) → held ≡ is_some value
       → (value ≡ None → held ≡ false → Seq K 𝓛 Γ G)
       → ((b o : ℕ) (x : (inner.the_row).Denot) → value ≡ Some x → p ≡ block_ptr b o → held ≡ true → Seq K 𝓛 (‵ (box_owns chunk inner.the_row (block_ptr b o) x) ∷ Γ) G)

@@ -1,5 +1,5 @@
--- What each call on a program's handle does.
-use Rattle.std.specs.Prelude.{◌≡◌, ◌≤◌, ℕ, Bool, true, false, List, length, min, take, Option, Some, None}
+-- The effect of each call on a program's handle.
+use Rattle.std.specs.Prelude.{◌≡◌, ◌≤◌, ℕ, Bool, true, false, List, drop, length, min, take, Option, Some, None}
 use Rattle.fc_isa.specs.declared.rule.Fault.{Fault}
 use Rattle.fc_isa.specs.declared.version.ImageVersion.{ImageVersion}
 use Rattle.fc_isa.specs.declared.version.ImageVersion.TheVariants.{One, Two}
@@ -18,30 +18,31 @@ use Rattle.fc_verify.specs.declared.refusal.Refusal.TheVariants.{Broken}
 use Rattle.numzela.specs.declared.program.RequestHead.{RequestHead}
 use Rattle.numzela.specs.declared.program.ResponseHead.{ResponseHead}
 use Rattle.numzela.specs.declared.program.Verdict.{Verdict}
-use Rattle.numzela.specs.declared.program.Loaded.{Loaded}
 
 -- ---- loading
 
+-- the number of an image's version.
 abbrev pub number_in : ImageVersion → ℕ
 number_in One = 1
 number_in Two = 2
 
--- the verdict on an accepted program
+-- the verdict on an accepted program.
 abbrev pub verdict_for : Program → Verdict
 verdict_for p = record { version = number_in p.version; cost = p.cost; budget = p.budget; vars_size = p.vars_size; rule = 0; slot = 0 }
 
--- the verdict on a refused image: the rule and the slot, and zeros; a slot that 32 bits can't hold is told as the greatest number
+-- the verdict on a refused image: the rule and the slot, and zeros. A slot above the greatest
+-- 32-bit number is reported as that number.
 abbrev pub refusal_for : Fault → Verdict
 refusal_for f = record { version = 0; cost = 0; budget = 0; vars_size = 0; rule = number_of f.rule; slot = min f.slot 4294967295 }
 
--- the image is acceptable, the handle holds its program, and the verdict is the program's
-pub record HasLoaded (image : List ℕ) (new : Option Loaded) (verdict : Verdict) : Type 0 where
-  pub loaded : Loaded
-  pub holds : new ≡ Some loaded
-  pub accepts : judged image ≡ Accepts loaded.verified
-  pub told : verdict ≡ verdict_for loaded.verified
+-- the image is acceptable, the handle holds its program, and the verdict is the program's.
+pub record HasLoaded (image : List ℕ) (new : Option Program) (verdict : Verdict) : Type 0 where
+  pub program : Program
+  pub holds : new ≡ Some program
+  pub accepts : judged image ≡ Accepts program
+  pub told : verdict ≡ verdict_for program
 
--- the image breaks this rule at this slot, and the verdict is the refusal's
+-- the image breaks this rule at this slot, and the verdict is the refusal's.
 pub record HasRefused (image : List ℕ) (verdict : Verdict) : Type 0 where
   pub fault : Fault
   pub refused : IsRefusal image (Broken fault)
@@ -49,49 +50,53 @@ pub record HasRefused (image : List ℕ) (verdict : Verdict) : Type 0 where
 
 -- ---- running
 
+-- the method, by the flag of C.
 abbrev pub method_for : Bool → Method
 method_for true = Post
 method_for false = Get
 
+-- the Content-Format, if C passes one.
 abbrev pub format_for : Bool → ℕ → Option ℕ
 format_for true n = Some n
 format_for false n = None
 
+-- the request that C passes.
 abbrev pub request_for : RequestHead → List ℕ → List ℕ → Request
 request_for head query payload = request_with (method_for head.is_post) head.slot (format_for head.has_format head.format) query payload
 
--- the lengths are in their ranges: the variables are of the program's size, and the reply has room for the longest one
-pub record FitsRun (loaded : Loaded) (head : RequestHead) (query payload vars reply : List ℕ) : Type 0 where
+-- the lengths are in their ranges: the variables are of the program's size, and the reply has room
+-- for the longest one.
+pub record FitsRun (program : Program) (head : RequestHead) (query payload vars reply : List ℕ) : Type 0 where
   pub query_fits : length query ≤ 64
   pub payload_fits : length payload ≤ 1024
-  pub vars_fit : length vars ≡ loaded.verified.vars_size
+  pub vars_fit : length vars ≡ program.vars_size
   pub reply_fits : room_of (method_for head.is_post) ≤ length reply
 
--- the handle holds a program, and one of the lengths is out of its range
-pub record IsOutOfRange (old : Option Loaded) (head : RequestHead) (query payload vars reply : List ℕ) : Type 0 where
-  pub loaded : Loaded
-  pub held : old ≡ Some loaded
-  pub misfits : FitsRun loaded head query payload vars reply → ⊥
+-- the handle holds a program, and one of the lengths is out of its range.
+pub record IsOutOfRange (held : Option Program) (head : RequestHead) (query payload vars reply : List ℕ) : Type 0 where
+  pub program : Program
+  pub holds : held ≡ Some program
+  pub misfits : FitsRun program head query payload vars reply → ⊥
 
--- the code, the notify flag, the steps, the reply with its length, and the variables are those of the run's meaning
-pub record IsReported (r : Ran) (vars reply : List ℕ) (response : ResponseHead) : Type 0 where
+-- the code, the notify flag, the steps, the reply with its length, and the variables are those of
+-- the run's meaning. The bytes after the reply are unchanged.
+pub record IsReported (r : Ran) (vars old reply : List ℕ) (response : ResponseHead) : Type 0 where
   pub code : response.code ≡ (meaning_of r).code
   pub notify : response.notify ≡ (meaning_of r).notice
   pub steps : response.steps ≡ (meaning_of r).steps
   pub size : response.size ≡ length (meaning_of r).reply
   pub reply_is : take response.size reply ≡ (meaning_of r).reply
+  pub rest_is : drop response.size reply ≡ drop response.size old
   pub vars_are : vars ≡ (meaning_of r).vars
 
--- a loaded program has run, and stays loaded
-pub record HasRunLoaded (old new : Loaded) (request : Request) (readings found vars reply : List ℕ) (response : ResponseHead) : Type 0 where
-  pub same : new.verified ≡ old.verified
-  pub run : IsRun old.verified (input_with request found readings)
-  pub reported : IsReported (ran old.verified request found readings) vars reply response
+-- a program has run, and the frame doesn't matter: the program and its input determine all that was
+-- written.
+pub record HasRunProgram (program : Program) (request : Request) (readings found vars old reply : List ℕ) (response : ResponseHead) : Type 0 where
+  pub run : IsRun program (input_with request found readings)
+  pub reported : IsReported (ran program request found readings) vars old reply response
 
--- the program of a handle has run, and the handle still holds it
-pub record HasRunHeld (old new : Option Loaded) (request : Request) (readings found vars reply : List ℕ) (response : ResponseHead) : Type 0 where
-  pub before : Loaded
-  pub after : Loaded
-  pub held : old ≡ Some before
-  pub holds : new ≡ Some after
-  pub has_run : HasRunLoaded before after request readings found vars reply response
+-- the program of a handle has run.
+pub record HasRunHeld (held : Option Program) (request : Request) (readings found vars old reply : List ℕ) (response : ResponseHead) : Type 0 where
+  pub program : Program
+  pub holds : held ≡ Some program
+  pub has_run : HasRunProgram program request readings found vars old reply response

@@ -1,4 +1,4 @@
--- What each call on a server's handle does.
+-- The effect of each call on a server's handle.
 use Rattle.std.specs.Prelude.{◌≡◌, ◌⊎◌, ℕ, true, List, [], ◌∷◌, length, take, Option, Some, None}
 use Rattle.std.specs.Borrow.{Bor}
 use Rattle.coap_msg.specs.declared.types.Emission.{Emission}
@@ -16,7 +16,7 @@ use Rattle.numzela.specs.declared.server.Datagram.{Datagram}
 use Rattle.numzela.specs.declared.server.Peer.{Peer}
 use Rattle.numzela.specs.declared.server.Serving.{Serving}
 
--- the configuration is valid, and the handle holds a server that begins by it
+-- the configuration is valid, and the handle holds a server that begins by it.
 pub record HasBegun (config : Config) (new : Option Serving) : Type 0 where
   pub made : Serving
   pub holds : new ≡ Some made
@@ -25,26 +25,29 @@ pub record HasBegun (config : Config) (new : Option Serving) : Type 0 where
 
 -- ---- datagrams
 
+-- the endpoint that C passes.
 abbrev pub endpoint_for : Peer → Endpoint
 endpoint_for p = record { ip = p.address; port = p.port }
 
--- the datagram written is this emission, and its size is the emission's
+-- the datagram written is this emission, and its size is the emission's.
 pub record IsWritten (emission : Emission) (out : Datagram) : Type 0 where
   pub to : endpoint_for out.to ≡ emission.to
   pub size : out.size ≡ length emission.bytes.items
   pub bytes : take out.size out.bytes ≡ emission.bytes.items
 
--- the status is SEND, and the emission was written; or it is OK, and there is none
+-- the status is SEND, and the emission was written; or it is OK, and there is none.
 abbrev pub Writes : ℕ → Option Emission → Datagram → Type 0
 Writes status None out = status ≡ 0
 Writes status (Some emission) out = (status ≡ 1) × IsWritten emission out
 
--- the server handled a datagram as its engine does, whatever the history so far, and what this sends was written
+-- the server handled a datagram as its engine does, whatever the history so far, and the emission
+-- that this sends was written.
 pub record HasReceived (readings : List ℕ) (now : ℕ) (from : Peer) (bytes : Bor (List ℕ)) (old new : ServerState) (status : ℕ) (out : Datagram) : Type 0 where
   pub sent : Option Emission
   pub hears : let to = endpoint_for from in Hears readings now to bytes (delivered (advanced old.front now) to bytes.now) old new sent
   pub writes : Writes status sent out
 
+-- the same for the server of a handle.
 pub record HasReceivedHeld (readings : List ℕ) (now : ℕ) (from : Peer) (bytes : Bor (List ℕ)) (old new : Option Serving) (status : ℕ) (out : Datagram) : Type 0 where
   pub before : Serving
   pub after : Serving
@@ -54,7 +57,8 @@ pub record HasReceivedHeld (readings : List ℕ) (now : ℕ) (from : Peer) (byte
 
 -- ---- what is left to do
 
--- steps were taken: the status is OK, they sent nothing, and nothing is left; or it is SEND, and one of them sent just what was written, and the others nothing
+-- steps were taken. Either the status is OK, they sent nothing, and `AreSettled` holds; or it is
+-- SEND, one of them sent just the written datagram, and the others nothing.
 pub record HasFlushed (now : ℕ) (old new : Alone) (status : ℕ) (out : Datagram) : Type 0 where
   pub steps : List SettlingStep
   pub taken : AreStepsBy alone_calls now steps old new
@@ -62,13 +66,14 @@ pub record HasFlushed (now : ℕ) (old new : Alone) (status : ℕ) (out : Datagr
       ((status ≡ 0) × AreSettled steps × (sent_in_steps steps ≡ []))
       ⊎ ((status ≡ 1) × ((emission : Emission) × (sent_in_steps steps ≡ emission ∷ []) × IsWritten emission out))
 
--- its jobs were handed these readings and this random word, and what was left was done
+-- its jobs got these readings and this random word, and the pending steps were taken.
 pub record HasPolled (readings : List ℕ) (now random : ℕ) (old new : Alone) (status : ℕ) (out : Datagram) : Type 0 where
   pub handed : Alone
   pub same : handed.engine ≡ old.engine
   pub with : handed.handed ≡ record { readings = readings; random = random }
   pub flushed : HasFlushed now handed new status out
 
+-- the same for the server of a handle.
 pub record HasPolledHeld (readings : List ℕ) (now random : ℕ) (old new : Option Serving) (status : ℕ) (out : Datagram) : Type 0 where
   pub before : Serving
   pub after : Serving
@@ -78,7 +83,7 @@ pub record HasPolledHeld (readings : List ℕ) (now random : ℕ) (old new : Opt
 
 -- ---- time
 
--- the server's clock advanced, and it sent nothing
+-- the server's clock advanced, and it sent nothing.
 pub record HasAdvanced (now : ℕ) (old new : Option Serving) : Type 0 where
   pub before : Serving
   pub after : Serving
@@ -86,7 +91,7 @@ pub record HasAdvanced (now : ℕ) (old new : Option Serving) : Type 0 where
   pub holds : new ≡ Some after
   pub passes : Passes now before.alone.engine after.alone.engine
 
--- the deadline is a time before which the shards have nothing to do, and the server is unchanged
+-- the deadline is a time before which the shards have nothing to do, and the server is unchanged.
 pub record HasDeadline (old new : Option Serving) (deadline : ℕ) : Type 0 where
   pub before : Serving
   pub held : old ≡ Some before

@@ -1,4 +1,4 @@
-//! The configuration of a server, as C gives it: zeros stand for the defaults.
+//! The configuration of a server, as C passes it: zeros are the defaults.
 ghost use Rattle.std.specs.Prelude.{◌≡◌, true};
 ghost use Rattle.fc_server.specs.States.{CanBegin};
 ghost use Rattle.numzela.specs.Configs.{begin_for, is_prefix, is_valid, managers_for, network_for, or_default};
@@ -8,13 +8,17 @@ use fc_core::policy::ANY_ADDRESS;
 use fc_core::{Managers, Network, Policy};
 use fc_server::Begin;
 
-/// The longest time in milliseconds after which a notification is confirmable, and the default: 24 hours (RFC 7641, 4.5).
+/// Greatest `confirm_after`, in milliseconds, and its default: 24 hours.
+///
+/// After this time a notification is confirmable (RFC 7641, section 4.5).
 const LONGEST: u64 = 86_400_000;
 
 /// The greatest serial that slots may begin with.
 const LAST_SERIAL: u64 = 9_223_372_036_854_775_807;
 
-/// A network of IPv4 addresses: those that begin with as many bits of the address as the prefix is long.
+/// A network of IPv4 addresses, by a prefix.
+///
+/// Its addresses begin with the first `prefix` bits of `address`.
 #[repr(C)]
 #[derive(Clone, Copy)]
 pub struct Subnet {
@@ -22,8 +26,10 @@ pub struct Subnet {
     pub prefix: u8,
 }
 
-/// What a server begins with, and its policy. A 0 in `confirm_after`, `exchanges` or `share` stands for the default; with no managers any address may change
-/// programs.
+/// The initial state of a server, and its policy.
+///
+/// A 0 in `confirm_after`, `exchanges` or `share` is the default. With no managers any address may
+/// change programs.
 #[repr(C)]
 #[derive(Clone, Copy)]
 pub struct Config {
@@ -36,8 +42,10 @@ pub struct Config {
     pub managers: [Subnet; 4],
 }
 
-/// Returns whether each field is in its range: at most four managers, prefixes of at most 32 bits, at most 65,536 exchanges and 86,400,000 ms, and a serial
-/// below 2^63.
+/// Returns whether each field is in its range.
+///
+/// There are at most four managers, prefixes of at most 32 bits, and 65,536 exchanges.
+/// `confirm_after` is at most 86,400,000 ms, and the serial is below 2^63.
 pub(crate) fn is_valid(config: &Config) -> bool
     ensures valid { result ≡ is_valid config.now }
     ensures begins { result ≡ true → CanBegin (begin_for config.now) }
@@ -59,7 +67,7 @@ fn is_prefix(subnet: &Subnet) -> bool
     subnet.prefix <= 32
 }
 
-/// Returns what a server with this configuration begins with.
+/// Returns the initial state of a server with this configuration.
 pub(crate) fn begin_for(config: &Config) -> Begin
     ensures { result ≡ begin_for config.now }
 {
@@ -83,7 +91,7 @@ fn or_default(value: u64, default: u64) -> u64
     if value == 0 { default } else { value }
 }
 
-// The networks of the managers: the last one given stands for those that are missing.
+// Returns the networks of the managers. The last one given is repeated for those that are missing.
 fn managers_for(count: u8, subnets: &[Subnet; 4]) -> Managers
     ensures { result ≡ managers_for count subnets.now }
 {

@@ -1,4 +1,6 @@
-//! Laws of the statuses and the configuration in literals: each function is a law, and its contract says it.
+//! Laws about the statuses and the configuration, in literals.
+//!
+//! Each law is the contract of an empty function.
 ghost use Rattle.std.specs.Prelude.{◌≡◌, [], ◌∷◌, true};
 ghost use Rattle.fc_core.specs.Policies.{default_policy};
 ghost use Rattle.numzela.specs.Configs.{begin_for, is_valid, managers_for};
@@ -17,9 +19,10 @@ pub fn statuses_have_their_numbers()
     ensures out_of_range { OUT_OF_RANGE ≡ 6 }
 {}
 
-/// A server of a configuration of zeros begins with the defaults.
+/// A server with a configuration of zeros begins with the defaults.
 ///
-/// They are serial 0, message ID 0, and the default policy. The entries of `managers` don't count then.
+/// They are serial 0, message ID 0, and the default policy. The entries of `managers` don't count
+/// then.
 pub fn zeros_are_the_defaults()
     ensures begins { (a b c d : Subnet) → begin_for (record {
       first_serial = 0;
@@ -43,9 +46,10 @@ pub fn zeros_are_the_defaults()
         }) ≡ true }
 {}
 
-/// The last manager given stands for those that are missing.
+/// The last manager given is repeated for those that are missing.
 ///
-/// Of 192.0.2.0/24 and 10.0.0.0/8, with a count of 2, these are the four networks: the first, and three times the second.
+/// For 192.0.2.0/24 and 10.0.0.0/8, with a count of 2, these are the four networks: the first, and
+/// three times the second.
 pub fn the_last_manager_is_repeated()
     ensures { (c d : Subnet)
         → managers_for 2 (record { address = 192 ∷ 0 ∷ 2 ∷ 0 ∷ []; prefix = 24 } ∷ record { address = 10 ∷ 0 ∷ 0 ∷ 0 ∷ []; prefix = 8 } ∷ c ∷ d ∷ [])

@@ -1,9 +1,18 @@
-//! A box as its pointer, which owns what the box owned. The kit's `once_cell` has the same, with the same proofs, for itself alone.
+//! A box as its pointer, which owns the box's contents.
+//!
+//! The kit's `once_cell` has the same for itself alone, with the same proofs.
 ghost use Rattle.std.specs.Prelude.{◌≡◌};
 ghost use Rattle.std.specs.Box.Ownership.{box_owns};
 
 use std::alloc::Allocator;
 use std::marker::Model;
+
+/// The type that C sees at the end of a handle's pointer.
+#[repr(C)]
+#[derive(Drop)]
+pub struct Opaque {
+    byte: u8,
+}
 
 /// A box's pointer and its allocator.
 pub(crate) struct Loose<T, A: Allocator> {

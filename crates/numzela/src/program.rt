@@ -1,54 +1,42 @@
-//! A program by itself: verified once, and run any number of times.
+//! A program: verified once, and run any number of times, in any frame.
 ghost use Rattle.std.specs.Prelude.{◌≡◌, ◌≤◌, ◌⊎◌, length, is_some, true, Option, Some, None, IfOk, IfErr};
 ghost use Rattle.fc_help.specs.Helpers.{room_of};
+ghost use Rattle.fc_kinds.specs.Meaning.{Program as Accepted};
 ghost use Rattle.fc_verify.specs.Accepted.{Accepts};
 ghost use Rattle.fc_verify.specs.Judged.{judged};
 ghost use Rattle.fc_verify.specs.Refusals.{IsRefusal};
-ghost use Rattle.numzela.specs.Programs.{FitsRun, HasLoaded, HasRefused, HasRunHeld, HasRunLoaded, IsOutOfRange, IsReported, format_for, method_for, number_in, refusal_for, request_for, verdict_for};
+ghost use Rattle.numzela.specs.Programs.{FitsRun, HasLoaded, HasRefused, HasRunProgram, HasRunHeld, IsOutOfRange, IsReported, format_for, method_for, number_in, refusal_for, request_for, verdict_for};
 ghost use Rattle.numzela.specs.Held.{boxed, loose_value};
-ghost use Rattle.numzela.specs.declared.program.Loaded.{Loaded};
 
-use crate::loose::Loose;
+use crate::frame::Frame;
+use crate::loose::{Loose, Opaque};
 use crate::status::{EMPTY, IN_USE, NO_MEMORY, OK, OUT_OF_RANGE, REFUSED};
 use fc_help::request::{PAYLOAD, QUERY};
 use fc_help::{Method, Readings, Request, Vars, room_of};
 use fc_isa::{Fault, ImageVersion};
-use fc_machine::{Frame, Outcome, run};
+use fc_machine::{Outcome, run};
 use fc_verify::{Refusal, Verified, verify};
-use std::alloc::{AllocError, Global};
+use std::alloc::Global;
 use std::marker::Model;
 use std::mem::replace;
 
-/// A program that was accepted, and the frame that it runs in.
-#[derive(Drop)]
-pub struct Loaded {
-    verified: Verified,
-    frame: Frame,
-}
-
-/// The type that C sees at the end of a handle's pointer.
-#[repr(C)]
-#[derive(Drop)]
-pub struct Opaque {
-    byte: u8,
-}
-
-/// The handle of a program: a box, or nothing. A handle of zeros is empty.
+/// The handle of a program: a box, or nothing.
+///
+/// A handle of zeros is empty.
 #[repr(C)]
 #[derive(Drop)]
 pub struct Program {
     at: *mut Opaque,
     held: bool,
-    ghost value: { Option Loaded },
+    ghost value: { Option Accepted },
 }
 
 impl Model for Program {
     ghost use Rattle.libc.specs.Heap.{chunk};
     ghost use Rattle.numzela.specs.Held.{owned};
-    ghost use Rattle.numzela.specs.declared.program.Loaded.{Loaded};
-    ghost use Rattle.numzela.specs.contracts.program.Loaded.{the_row as loaded-row};
+    ghost use Rattle.fc_verify.specs.contracts.verified.Verified.{the_row as verified-row};
 
-    ghost also_owns = { λ p. owned chunk loaded-row p.at p.held p.value };
+    ghost also_owns = { λ p. owned chunk verified-row p.at p.held p.value };
 }
 
 impl Program {
@@ -63,7 +51,7 @@ impl Program {
     }
 
     // Moves a box's pointer into a handle.
-    fn hold(loose: Loose<Loaded, Global>) -> Program
+    fn hold(loose: Loose<Verified, Global>) -> Program
         ensures { result.value ≡ Some loose.value }
     {
         let Loose { at, alloc: _ } = loose;
@@ -74,13 +62,13 @@ impl Program {
     }
 
     // Moves a box's pointer out of a handle.
-    fn release(self, alloc: Global) -> Option<Loose<Loaded, Global>>
+    fn release(self, alloc: Global) -> Option<Loose<Verified, Global>>
         ensures { loose_value result ≡ self.value }
     {
         let Program { at, held } = self;
         if held {
             Some(Loose {
-                at: at as *mut Loaded,
+                at: at as *mut Verified,
                 alloc,
             })
         } else {
@@ -89,14 +77,14 @@ impl Program {
     }
 
     // Makes the handle of a program.
-    fn of(loaded: Box<Loaded>) -> Program
-        ensures { result.value ≡ Some loaded.value }
+    fn of(verified: Box<Verified>) -> Program
+        ensures { result.value ≡ Some verified.value }
     {
-        Program::hold(Loose::of(loaded))
+        Program::hold(Loose::of(verified))
     }
 
     // Returns the program that the handle holds, if it holds one.
-    fn into_box(self, alloc: Global) -> Option<Box<Loaded>>
+    fn into_box(self, alloc: Global) -> Option<Box<Verified>>
         ensures { boxed result ≡ self.value }
     {
         match self.release(alloc) {
@@ -106,7 +94,7 @@ impl Program {
     }
 
     // Takes the program out of the handle, which is empty then.
-    fn take(&mut self, alloc: Global) -> Option<Box<Loaded>>
+    fn take(&mut self, alloc: Global) -> Option<Box<Verified>>
         ensures held { boxed result ≡ self.old.value }
         ensures now { self.new.value ≡ None }
     {
@@ -114,15 +102,17 @@ impl Program {
     }
 
     // Puts a program into the handle.
-    fn put(&mut self, loaded: Box<Loaded>)
-        ensures { self.new.value ≡ Some loaded.value }
+    fn put(&mut self, verified: Box<Verified>)
+        ensures { self.new.value ≡ Some verified.value }
     {
-        *self = Program::of(loaded);
+        *self = Program::of(verified);
     }
 }
 
-/// The verdict on an image: its version, cost, budget and size of variables if it is accepted, and the rule that it breaks, with the slot, if it is refused.
-/// The other numbers are 0.
+/// The verdict on an image.
+///
+/// For an accepted image it has its version, cost, budget and size of variables. For a refused
+/// image it has the rule that the image breaks, and the slot. The other numbers are 0.
 #[repr(C)]
 #[derive(Clone, Copy)]
 pub struct Verdict {
@@ -134,7 +124,10 @@ pub struct Verdict {
     pub slot: u32,
 }
 
-/// A request without its bytes: the slot of its resource, which may be any, its method, and the Content-Format of its payload.
+/// A request without its bytes.
+///
+/// It has the slot of its resource, which may be any, its method, and the Content-Format of its
+/// payload.
 #[repr(C)]
 #[derive(Clone, Copy)]
 pub struct RequestHead {
@@ -144,7 +137,10 @@ pub struct RequestHead {
     pub format: u16,
 }
 
-/// A response without its bytes: its code, whether the program notifies, how many bytes of the reply were written, and the steps of the run.
+/// A response without its bytes.
+///
+/// It has its code, whether the program set the notify flag, the number of bytes written to the
+/// reply, and the steps of the run.
 #[repr(C)]
 #[derive(Clone, Copy)]
 pub struct ResponseHead {
@@ -155,6 +151,9 @@ pub struct ResponseHead {
 }
 
 /// Verifies an image, and loads its program into an empty handle.
+///
+/// Returns `OK`, `REFUSED`, `NO_MEMORY` or `IN_USE`. Unless it is `OK`, the handle is unchanged.
+/// The verdict is written if it is `OK` or `REFUSED`.
 #[unsafe(no_mangle)]
 pub extern "C" fn numzela_program_load(
     alloc: Global,
@@ -170,14 +169,14 @@ pub extern "C" fn numzela_program_load(
     ensures status { (result ≡ OK) ⊎ (result ≡ REFUSED) ⊎ (result ≡ NO_MEMORY) ⊎ (result ≡ IN_USE) }
     ensures unwritten { (result ≡ OK → ⊥) → (result ≡ REFUSED → ⊥) → verdict.new ≡ verdict.old }
 {
-    if let Some(loaded) = program.take(alloc) {
-        program.put(loaded);
+    if let Some(verified) = program.take(alloc) {
+        program.put(verified);
         return IN_USE;
     }
-    match make_loaded(alloc, image) {
-        Ok(loaded) => {
-            *verdict = accepted(&loaded.verified);
-            program.put(loaded);
+    match load(alloc, image) {
+        Ok(verified) => {
+            *verdict = accepted(&verified);
+            program.put(verified);
             OK
         }
         Err(Refusal::Broken(fault)) => {
@@ -188,13 +187,12 @@ pub extern "C" fn numzela_program_load(
     }
 }
 
-fn make_loaded(alloc: Global, image: &[u8]) -> Result<Box<Loaded>, Refusal>
-    ensures accepts { IfOk result (λ loaded. judged image.now ≡ Accepts loaded.value.verified) }
+fn load(alloc: Global, image: &[u8]) -> Result<Box<Verified>, Refusal>
+    ensures accepts { IfOk result (λ loaded. judged image.now ≡ Accepts loaded.value) }
     ensures refused { IfErr result (IsRefusal image.now) }
 {
     let verified = verify(alloc, image)?;
-    let frame = Frame::new(alloc)?;
-    match Box::new(alloc, Loaded { verified, frame }) {
+    match Box::new(alloc, verified) {
         Ok(loaded) => Ok(loaded),
         Err(_) => Err(Refusal::NoMemory),
     }
@@ -235,11 +233,15 @@ fn refused(fault: &Fault) -> Verdict
     }
 }
 
-/// Runs the program of a handle on a request, sensor input and variables.
+/// Runs a program in a frame on a request, sensor input and variables.
+///
+/// Both handles keep their contents. Returns `OK`, `EMPTY` or `OUT_OF_RANGE`. Unless it is `OK`,
+/// nothing is written.
 #[unsafe(no_mangle)]
 pub extern "C" fn numzela_program_run(
     alloc: Global,
     program: &mut Program,
+    frame: &mut Frame,
     request: &RequestHead,
     query: &[u8],
     payload: &[u8],
@@ -248,19 +250,56 @@ pub extern "C" fn numzela_program_run(
     reply: &mut [u8],
     response: &mut ResponseHead,
 ) -> u32
-    ensures ok { result ≡ OK → HasRunHeld program.old.value program.new.value (request_for request.now query.now payload.now)
-        readings.now vars.old vars.new reply.new response.new }
-    ensures kept { (result ≡ OK → ⊥) → (program.new.value ≡ program.old.value) × (vars.new ≡ vars.old) × (reply.new ≡ reply.old)
+    ensures ok { result ≡ OK → HasRunHeld program.old.value (request_for request.now query.now payload.now)
+        readings.now vars.old vars.new reply.old reply.new response.new }
+    ensures program_kept { program.new.value ≡ program.old.value }
+    ensures frame_held { is_some frame.new.value ≡ is_some frame.old.value }
+    ensures unwritten { (result ≡ OK → ⊥) → (frame.new.value ≡ frame.old.value) × (vars.new ≡ vars.old) × (reply.new ≡ reply.old)
         × (response.new ≡ response.old) }
-    ensures empty { result ≡ EMPTY → program.old.value ≡ None }
+    ensures empty { result ≡ EMPTY → (program.old.value ≡ None) ⊎ (frame.old.value ≡ None) }
+    ensures held { (result ≡ EMPTY → ⊥) → (is_some program.old.value ≡ true) × (is_some frame.old.value ≡ true) }
     ensures status { (result ≡ OK) ⊎ (result ≡ EMPTY) ⊎ (result ≡ OUT_OF_RANGE) }
     ensures range { result ≡ OUT_OF_RANGE → IsOutOfRange program.old.value request.now query.now payload.now vars.old reply.old }
 {
-    let Some(mut loaded) = program.take(alloc) else {
+    let Some(verified) = program.take(alloc) else {
         return EMPTY;
     };
-    let status = run_loaded(
-        &mut loaded,
+    let status = run_held(
+        alloc, frame, &verified, request, query, payload, readings, vars, reply, response,
+    );
+    program.put(verified);
+    status
+}
+
+// Runs a program in the frame of a handle, if it holds one.
+fn run_held(
+    alloc: Global,
+    frame: &mut Frame,
+    verified: &Verified,
+    request: &RequestHead,
+    query: &[u8],
+    payload: &[u8],
+    readings: &Readings,
+    vars: &mut [u8],
+    reply: &mut [u8],
+    response: &mut ResponseHead,
+) -> u32
+    ensures ok { result ≡ OK → HasRunProgram verified.now (request_for request.now query.now payload.now)
+        readings.now vars.old vars.new reply.old reply.new response.new }
+    ensures frame_held { is_some frame.new.value ≡ is_some frame.old.value }
+    ensures unwritten { (result ≡ OK → ⊥) → (frame.new.value ≡ frame.old.value) × (vars.new ≡ vars.old) × (reply.new ≡ reply.old)
+        × (response.new ≡ response.old) }
+    ensures empty { result ≡ EMPTY → frame.old.value ≡ None }
+    ensures held { (result ≡ EMPTY → ⊥) → is_some frame.old.value ≡ true }
+    ensures range { result ≡ OUT_OF_RANGE → FitsRun verified.now request.now query.now payload.now vars.old reply.old → ⊥ }
+    ensures status { (result ≡ OK) ⊎ (result ≡ EMPTY) ⊎ (result ≡ OUT_OF_RANGE) }
+{
+    let Some(mut machine) = frame.take(alloc) else {
+        return EMPTY;
+    };
+    let status = run_in(
+        &mut machine,
+        verified,
         request,
         query,
         payload,
@@ -269,12 +308,14 @@ pub extern "C" fn numzela_program_run(
         reply,
         response,
     );
-    program.put(loaded);
+    frame.put(machine);
     status
 }
 
-fn run_loaded(
-    loaded: &mut Loaded,
+// Runs a program in a frame, if each length is in its range.
+fn run_in(
+    machine: &mut fc_machine::Frame,
+    verified: &Verified,
     request: &RequestHead,
     query: &[u8],
     payload: &[u8],
@@ -283,16 +324,16 @@ fn run_loaded(
     reply: &mut [u8],
     response: &mut ResponseHead,
 ) -> u32
-    ensures ok { result ≡ OK → HasRunLoaded loaded.old loaded.new (request_for request.now query.now payload.now)
-        readings.now vars.old vars.new reply.new response.new }
-    ensures kept { (result ≡ OK → ⊥) → (loaded.new ≡ loaded.old) × (vars.new ≡ vars.old) × (reply.new ≡ reply.old)
+    ensures ok { result ≡ OK → HasRunProgram verified.now (request_for request.now query.now payload.now)
+        readings.now vars.old vars.new reply.old reply.new response.new }
+    ensures unwritten { (result ≡ OK → ⊥) → (machine.new ≡ machine.old) × (vars.new ≡ vars.old) × (reply.new ≡ reply.old)
         × (response.new ≡ response.old) }
-    ensures range { result ≡ OUT_OF_RANGE → FitsRun loaded.old request.now query.now payload.now vars.old reply.old → ⊥ }
+    ensures range { result ≡ OUT_OF_RANGE → FitsRun verified.now request.now query.now payload.now vars.old reply.old → ⊥ }
     ensures status { (result ≡ OK) ⊎ (result ≡ OUT_OF_RANGE) }
 {
     let method = method_for(request.is_post);
     let format = format_for(request.has_format, request.format);
-    let size = usize::from(loaded.verified.vars_size());
+    let size = usize::from(verified.vars_size());
     if query.len() > QUERY
         || payload.len() > PAYLOAD
         || vars.len() != size
@@ -302,13 +343,7 @@ fn run_loaded(
     }
     let asked = Request::new(method, request.slot, format, query, payload);
     let found = Vars::of(vars);
-    let outcome = run(
-        &mut loaded.frame,
-        &loaded.verified,
-        &asked,
-        &found,
-        readings,
-    );
+    let outcome = run(machine, verified, &asked, &found, readings);
     write_outcome(&outcome, vars, reply, response);
     OK
 }
@@ -328,7 +363,7 @@ fn format_for(has_format: bool, format: u16) -> Option<u16>
 fn write_outcome(outcome: &Outcome, vars: &mut [u8], reply: &mut [u8], response: &mut ResponseHead)
     requires vars { length vars.old ≡ outcome.now.program.vars_size }
     requires room { room_of outcome.now.input.request.method ≤ length reply.old }
-    ensures { IsReported outcome.now vars.new reply.new response.new }
+    ensures { IsReported outcome.now vars.new reply.old reply.new response.new }
 {
     let bytes = outcome.reply();
     reply[..bytes.len()].copy_from_slice(bytes);
@@ -341,7 +376,9 @@ fn write_outcome(outcome: &Outcome, vars: &mut [u8], reply: &mut [u8], response:
     };
 }
 
-/// Frees the program of a handle, which is empty then. An empty handle stays empty.
+/// Frees the program of a handle, and leaves the handle empty.
+///
+/// An empty handle stays empty.
 #[unsafe(no_mangle)]
 pub extern "C" fn numzela_program_free(alloc: Global, program: &mut Program)
     ensures { program.new.value ≡ None }

@@ -1,4 +1,4 @@
-//! A server on one thread, for a caller that has the sockets, the clock and the device.
+//! A single-threaded server for a caller with the sockets, clock and device.
 ghost use Rattle.std.specs.Prelude.{◌≡◌, ◌≤◌, ◌⊎◌, [], false, is_some, true, Option, Some, None, IfOk};
 ghost use Rattle.fc_core.specs.Receiving.{emission_if};
 ghost use Rattle.fc_server.specs.Serving.{Serves};
@@ -9,8 +9,7 @@ ghost use Rattle.numzela.specs.Held.{boxed, loose_value};
 ghost use Rattle.numzela.specs.declared.server.Serving.{Serving};
 
 use crate::config::{Config, begin_for, is_valid};
-use crate::loose::Loose;
-use crate::program::Opaque;
+use crate::loose::{Loose, Opaque};
 use crate::status::{EMPTY, IN_USE, NO_MEMORY, OK, OUT_OF_RANGE, SEND};
 use coap_msg::types::DATAGRAM;
 use coap_msg::{Emission, Endpoint};
@@ -23,14 +22,16 @@ use std::alloc::{AllocError, Global};
 use std::marker::Model;
 use std::mem::replace;
 
-/// A server, and the place of what it sends.
+/// A server, and the memory for its emissions.
 #[derive(Drop)]
 pub struct Serving {
     alone: Alone,
     emission: Emission,
 }
 
-/// The handle of a server: a box, or nothing. A handle of zeros is empty.
+/// The handle of a server: a box, or nothing.
+///
+/// A handle of zeros is empty.
 #[repr(C)]
 #[derive(Drop)]
 pub struct Server {
@@ -118,7 +119,9 @@ impl Server {
     }
 }
 
-/// A UDP endpoint: the four bytes of an IPv4 address in network order, and a port.
+/// A UDP endpoint: an IPv4 address and a port.
+///
+/// The address has four bytes in network order.
 #[repr(C)]
 #[derive(Clone, Copy)]
 pub struct Peer {
@@ -136,6 +139,9 @@ pub struct Datagram {
 }
 
 /// Makes a server of empty slots in an empty handle.
+///
+/// Returns `OK`, `OUT_OF_RANGE`, `NO_MEMORY` or `IN_USE`. Unless it is `OK`, the handle is
+/// unchanged.
 #[unsafe(no_mangle)]
 pub extern "C" fn numzela_server_new(alloc: Global, server: &mut Server, config: &Config) -> u32
     ensures ok { result ≡ OK → HasBegun config.now server.new.value }
@@ -173,7 +179,10 @@ fn make_serving(alloc: Global, begin: &Begin) -> Result<Box<Serving>, AllocError
     }
 }
 
-/// Receives a datagram from an endpoint at a time in milliseconds, handles it with this sensor input, and writes the response, if there is one to send.
+/// Receives a datagram, handles it, and writes the response if there is one.
+///
+/// The time is in milliseconds, and `readings` is the sensor input. Returns `SEND` if a response
+/// was written, `OK` if there is none, and `EMPTY` if the handle is empty.
 #[unsafe(no_mangle)]
 pub extern "C" fn numzela_server_receive(
     alloc: Global,
@@ -197,7 +206,10 @@ pub extern "C" fn numzela_server_receive(
     status
 }
 
-/// Does what is left to do at a time in milliseconds, up to the next datagram to send, which is written: a retransmission or a notification.
+/// Performs the pending work, up to the next datagram to send.
+///
+/// The datagram, a retransmission or a notification, is written. The time is in milliseconds.
+/// Returns `SEND` if a datagram was written, else `OK`, or `EMPTY` if the handle is empty.
 #[unsafe(no_mangle)]
 pub extern "C" fn numzela_server_poll(
     alloc: Global,
@@ -219,7 +231,9 @@ pub extern "C" fn numzela_server_poll(
     status
 }
 
-/// Advances the server's clock to a time in milliseconds, if no datagram was received.
+/// Advances the server's clock, in milliseconds, if no datagram was received.
+///
+/// Returns `OK`, or `EMPTY` if the handle is empty.
 #[unsafe(no_mangle)]
 pub extern "C" fn numzela_server_advance(alloc: Global, server: &mut Server, now: u64) -> u32
     ensures ok { (result ≡ EMPTY → ⊥) → (result ≡ OK) × HasAdvanced now server.old.value server.new.value }
@@ -236,6 +250,7 @@ pub extern "C" fn numzela_server_advance(alloc: Global, server: &mut Server, now
 /// Writes a time in milliseconds before which there is nothing to do.
 ///
 /// A datagram that is received may change that. At 2^64 - 1 there is nothing to do at any time.
+/// Returns `OK`, or `EMPTY` if the handle is empty.
 #[unsafe(no_mangle)]
 pub extern "C" fn numzela_server_deadline(
     alloc: Global,
@@ -253,7 +268,9 @@ pub extern "C" fn numzela_server_deadline(
     OK
 }
 
-/// Frees the server of a handle, which is empty then. An empty handle stays empty.
+/// Frees the server of a handle, and leaves the handle empty.
+///
+/// An empty handle stays empty.
 #[unsafe(no_mangle)]
 pub extern "C" fn numzela_server_free(alloc: Global, server: &mut Server)
     ensures { server.new.value ≡ None }
@@ -292,7 +309,7 @@ impl Serving {
         self.flush(now, out)
     }
 
-    // Takes the steps that are left at a time, up to the first that sends.
+    // Takes the pending steps at a time, up to the first that sends.
     fn flush(&mut self, now: u64, out: &mut Datagram) -> u32
         ensures flushed { HasFlushed now self.old.alone self.new.alone result out.new }
         ensures status { result ≤ 1 }

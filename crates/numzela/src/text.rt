@@ -3,7 +3,10 @@ ghost use Rattle.std.specs.Prelude.{◌≤◌, length};
 
 use fc_rules::{rule_numbered, rule_text};
 
-/// Writes what an image has done that breaks the rule of a number, as far as it fits, and returns how many bytes were written. No rule's number has no text.
+/// Writes the text of the rule with a number, as far as it fits.
+///
+/// The text says how an image breaks the rule. Returns the number of bytes that were written. There
+/// is no text if no rule has the number.
 #[unsafe(no_mangle)]
 pub extern "C" fn numzela_rule_text(rule: u32, out: &mut [u8]) -> usize
     ensures { result ≤ length out.old }

@@ -4,7 +4,7 @@ use Rattle.fc_server.specs.Settling.{AreQuietUntil}
 use Rattle.numzela.specs.declared.server.Serving.{Serving}
 use Rattle.numzela.proofs.server.numzela_server_deadline.Goals as goal
 
--- the handle holds the server that was asked
+-- the handle holds the server that was called
 pub returns-clause-ok : goal.returns-clause-ok
 returns-clause-ok c = λ _. (
   refl,

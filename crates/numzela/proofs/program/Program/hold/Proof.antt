@@ -1,4 +1,4 @@
--- `hold` moves a box's pointer, and what it owns, into a handle.
+-- `hold` moves a box's pointer, with its ownership, into a handle.
 use Rattle.std.proofs.Common.{◌≡◌, List, [], ◌∷◌, ◌++◌, refl, sym, subst}
 use mathlib.Core.Bool.{Bool, true}
 use mir.Val.{Val, vptr}
@@ -24,7 +24,7 @@ use Rattle.std.specs.contracts.impls.GlobalAllocator.TheImpl.{ghosts}
 use Rattle.std.proofs.raw_atomic.Walks.{proved_at, leaves}
 use Rattle.numzela.proofs.Values.{both, Loose, loose_good, loose_out}
 use Rattle.numzela.proofs.ProgramForms.{handle_in, word}
-use Rattle.numzela.specs.contracts.program.Loaded as inner
+use Rattle.fc_verify.specs.contracts.verified.Verified as inner
 use Rattle.numzela.specs.declared.program.Program.{Program}
 use Rattle.numzela.specs.contracts.program.Program.hold.{ended, clauses}
 use Rattle.numzela.specs.contracts.program.Program.hold.Key.{name as #self}

@@ -1,4 +1,4 @@
--- `release` takes a handle apart: it held nothing, or a box, whose pointer it gives.
+-- `release` takes a handle apart: it held nothing, or a box, whose pointer is returned.
 use Rattle.std.proofs.Common.{◌≡◌, List, [], ◌∷◌, ◌++◌, refl, sym, subst, lit<}
 use mathlib.Core.Bool.{true, false}
 use mir.Val.{Val, vptr, vcons, vnil}
@@ -32,7 +32,7 @@ use Rattle.std_alloc.proofs.ResultValues.{and_tt}
 use Rattle.std.proofs.raw_atomic.Walks.{proved_at, leaves}
 use Rattle.numzela.proofs.Values.{both, Loose, al, loose_good, loose_in}
 use Rattle.numzela.proofs.ProgramForms.{handle_out, word, word_good}
-use Rattle.numzela.specs.contracts.program.Loaded as inner
+use Rattle.fc_verify.specs.contracts.verified.Verified as inner
 use Rattle.numzela.specs.contracts.program.Program as handle
 use Rattle.numzela.specs.contracts.program.Program.release.{ended, clauses}
 use Rattle.numzela.specs.contracts.program.Program.release.Key.{name as #self}

@@ -27,7 +27,7 @@ empty_spec 𝓤 𝓛 𝓜 𝓡 wired =
     (λ κs. tt) (λ κs. tt) (λ κs qs bounds a _ are.
     let y : W.Ghost = ((κs, qs, bounds, a, tt), tt) in
     qed 𝓛 ((‵ ftrue ⊛ ‵ ftrue) ∷ ‵ ftrue ∷ []) ∵ split ! $ move ! (2 ∷ []) $ drop ! $
-    -- [the tokens; what the parameters own]
+    -- [the tokens; the ownership of the parameters]
     enter ! _ _ _ _ _ $ alloc_all ! (λ l. pass_all ! refl tt $
     sets ! (agg ! (and_then ! (lit ! tt) (and_then ! (false_lit !) (no_more !)))) refl (tt, (record { fits = lit< tt }, (tt, tt))) $
     returns ! (look_at ! 0 refl) $ free_all ! refl $

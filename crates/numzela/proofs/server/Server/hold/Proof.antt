@@ -1,4 +1,4 @@
--- `hold` moves a box's pointer, and what it owns, into a handle.
+-- `hold` moves a box's pointer, with its ownership, into a handle.
 use Rattle.std.proofs.Common.{◌≡◌, List, [], ◌∷◌, ◌++◌, refl, sym, subst}
 use mathlib.Core.Bool.{Bool, true}
 use mir.Val.{Val, vptr}

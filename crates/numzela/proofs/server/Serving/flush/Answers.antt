@@ -10,7 +10,7 @@ use Rattle.numzela.proofs.server.Serving.flush.Goals as goal
 abbrev Silent : List Emission → Type 0
 Silent es = es ≡ []
 
--- after nothing was sent, what is sent is all
+-- if nothing was sent before, this emission is the only one
 sent_after : (es : List Emission) (o : Option Emission) → es ≡ [] → es ++ option_to_list o ≡ option_to_list o
 sent_after es o none = ap (λ (l : List Emission). l ++ option_to_list o) none
 

@@ -3,7 +3,7 @@ use Rattle.fc_server.proofs.SettlingSteps.{Steps}
 use Rattle.fc_server.specs.Alone.{alone_calls}
 use Rattle.numzela.proofs.server.Serving.flush.Given as goal
 
--- as many steps at least were taken, they sent nothing, and nothing was written
+-- at least this number of steps was taken, they sent nothing, and nothing was written
 abbrev pub invariant-steps : goal.invariant-steps
 invariant-steps l =
     (Steps alone_calls (λ es. es ≡ []) l.taken l.now l.fn.self.alone l.self.alone l.settling) × (l.out ≡ l.fn.out)

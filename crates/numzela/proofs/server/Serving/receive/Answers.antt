@@ -14,7 +14,7 @@ use Rattle.fc_server.specs.declared.alone.Handed.{Handed}
 use Rattle.numzela.specs.Servers.{Writes}
 use Rattle.numzela.proofs.server.Serving.receive.Goals as goal
 
--- a server that was handed readings handles a datagram as its engine does with these
+-- a server that got readings handles a datagram as its engine does with them
 hears_with : (now random : ℕ) (readings : List ℕ) (to : Endpoint) (bytes : Bor (List ℕ)) (old mid new : Alone) (heard : Heard) (reply : Emission)
     → mid.engine ≡ old.engine → mid.handed ≡ record { readings = readings; random = random } → HearsAlone now to bytes mid new heard reply
     → Hears readings now to bytes (delivered (advanced old.engine.front now) to bytes.now) old.engine new.engine (emission_if (is_reply heard) reply)
