@@ -1,4 +1,6 @@
-//! The worked programs of docs/PROGRAMS.md, and a `main` that assembles and checks each, installs it in slot 0 of a server, and asks it.
+//! The worked programs of docs/PROGRAMS.md, and a program that runs them.
+//!
+//! It assembles and checks each, installs it in slot 0 of a server, and sends it requests.
 #![tactic(auto)]
 
 use clap::{Arg, Command, Error};
@@ -14,8 +16,10 @@ use std::process::ExitCode;
 use std::rt::Files;
 use std::{fs, io};
 
-/// A worked program: the file of its text, the size of its variables in bytes, its budget of steps, and the lines of
-/// `fcd play` that ask slot 0.
+/// A worked program: the file of its source, its limits, and its requests.
+///
+/// The limits are the size of its variables in bytes and its budget of steps. The requests are
+/// lines of `fcd play` to slot 0.
 struct Example {
     file: &'static str,
     vars_size: u16,
@@ -23,23 +27,23 @@ struct Example {
     requests: &'static str,
 }
 
-/// Requests of slot 0: what they bring is told beside them.
+/// Requests to slot 0, each with its meaning above it.
 static EXAMPLES: [Example; 3] = [
-    // two POSTs, and a GET
+    // Two POSTs, and a GET.
     Example {
         file: "counter.s",
         vars_size: 8,
         budget: 15,
         requests: "1 1 40020002b1720130\n1 1 40020003b1720130\n1 1 40010004b1720130\n",
     },
-    // GETs with the payloads 101 and 100, and with none
+    // GETs with the payloads 101 and 100, and with none.
     Example {
         file: "threshold.s",
         vars_size: 0,
         budget: 13,
         requests: "1 1 40010002b1720130ff65\n1 1 40010003b1720130ff64\n1 1 40010004b1720130\n",
     },
-    // a POST of 101, and a GET
+    // A POST of 101, and a GET.
     Example {
         file: "level.s",
         vars_size: 8,
@@ -67,7 +71,7 @@ fn run<E: Write>(rt: &HostRuntime, err: &mut E) -> anyhow::Result<Status> {
     }
 }
 
-// Shows the programs of the folder that the command line names.
+// Runs the programs of the folder that the command line names.
 fn obey<E: Write>(rt: &HostRuntime, err: &mut E, words: Vec<String>) -> anyhow::Result<Status> {
     let matches = match parse(rt, command(rt.alloc())?, &words)? {
         Ok(matches) => matches,
@@ -76,7 +80,7 @@ fn obey<E: Write>(rt: &HostRuntime, err: &mut E, words: Vec<String>) -> anyhow::
     show_all(rt, err, matches.get_str("folder").unwrap_or("."))
 }
 
-// Shows each program, up to one that isn't accepted or can't be played.
+// Runs each program, up to one that isn't accepted or can't be played.
 fn show_all<E: Write>(rt: &HostRuntime, err: &mut E, folder: &str) -> anyhow::Result<Status> {
     let mut out = BufWriter::new(rt.alloc(), io::writer(rt))?;
     for example in &EXAMPLES {
@@ -89,7 +93,8 @@ fn show_all<E: Write>(rt: &HostRuntime, err: &mut E, folder: &str) -> anyhow::Re
     Ok(Status::Done)
 }
 
-// Prints the verdict on a program, the lines that install and ask it, and what those print.
+// Prints the verdict on a program, the lines that install it and send it requests, and their
+// output.
 fn show<R: Files + AllocGlobal, W: Write, E: Write>(
     rt: &R,
     out: &mut W,

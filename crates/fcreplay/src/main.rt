@@ -1,4 +1,4 @@
-//! The `main` that replays lists of events: it prints what each emits and what the slots are at the end.
+//! A program that replays lists of events, with their emissions and final slots.
 #![tactic(auto)]
 
 use clap::{Command, Error};
@@ -11,7 +11,7 @@ use std::io::{BufReader, BufWriter, Write};
 use std::process::ExitCode;
 use std::rt::Runtime;
 
-/// What `--help` tells of the events, of what is printed, and of how a replay ends.
+/// The part of `--help` on the events, on the output, and on the end of a replay.
 const EVENTS: &str = "\
 An event is its name and its parts in any order, parted by single spaces:
 
@@ -45,7 +45,7 @@ fn run<R: Runtime + AllocGlobal, E: Write>(rt: &R, err: &mut E) -> anyhow::Resul
     }
 }
 
-// Replays standard input onto standard output, where the command line has no mistake.
+// Replays standard input onto standard output, if the command line has no mistake.
 fn obey<R: Runtime + AllocGlobal, E: Write>(
     rt: &R,
     err: &mut E,

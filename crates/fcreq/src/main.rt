@@ -1,4 +1,4 @@
-//! The client's `main`: it parses its command line, and asks a server.
+//! The client's `main`, which parses its command line and sends its request.
 #![tactic(auto)]
 
 use clap::{Arg, ArgAction, Command, Error, value_parser};
@@ -17,7 +17,7 @@ use std::process::ExitCode;
 use std::random::RandomSource;
 use std::rt::Runtime;
 
-/// What `--help` tells of requests, of what is printed, and of how it ends.
+/// The help on requests, output and exit statuses.
 const ASKING: &str = "\
 TARGET is a path, a slash before each of its segments of 1 to 255 bytes, at `--port P` of
 127.0.0.1; or a URI, coap://HOST:PORT/path?query, whose host is an IPv4 address or localhost, and
@@ -52,7 +52,7 @@ came, or one with a critical option that isn't known, or blocks that don't fit o
 more than one; nobody listens at the port, the socket, reading or writing failed, or memory was
 refused.";
 
-/// A file that takes the place of a standard stream that is closed.
+/// A file to open in place of a closed standard stream.
 const NULL: &str = "/dev/null";
 
 fn command<'a>(alloc: Global) -> Result<Command<'a>, Error> {
@@ -129,7 +129,7 @@ fn port<'a>(alloc: Global) -> Arg<'a> {
         .help("The port of the server at 127.0.0.1, 1 to 65535: with a path")
 }
 
-// An option with a value.
+// Defines an option with a value.
 fn value<'a>(
     alloc: Global,
     name: &'static str,
@@ -144,7 +144,7 @@ fn value<'a>(
         .help(help)
 }
 
-// A bound of an observation, 1 and more.
+// Defines a limit of an observation, of at least 1.
 fn limit<'a>(
     alloc: Global,
     name: &'static str,
@@ -158,7 +158,7 @@ fn limit<'a>(
         .help(help)
 }
 
-// An option without a value.
+// Defines an option without a value.
 fn flag<'a>(alloc: Global, name: &'static str, help: &'static str) -> Arg<'a> {
     Arg::new(alloc, name)
         .long(name)
@@ -177,7 +177,7 @@ fn run<R: Runtime + AllocGlobal + Net + RandomSource, E: Write>(
     }
 }
 
-// Asks what the words of the command line say, where standard input is a terminal, or isn't.
+// Runs the operation of the command line. `terminal` is whether standard input is a terminal.
 fn obey<R: Runtime + AllocGlobal + Net + RandomSource, E: Write>(
     rt: &R,
     err: &mut E,
@@ -199,7 +199,7 @@ fn obey<R: Runtime + AllocGlobal + Net + RandomSource, E: Write>(
     }
 }
 
-// Asks what the command line says.
+// Sends the request of the command line.
 fn ask<R: Runtime + AllocGlobal + Net + RandomSource, E: Write>(
     rt: &R,
     err: &mut E,
@@ -211,7 +211,9 @@ fn ask<R: Runtime + AllocGlobal + Net + RandomSource, E: Write>(
     Ok(ask_by(&System { rt }, rt, alloc, &mut input, &mut out, err, asking))
 }
 
-// Observes what the command line says. Its socket is open while it prints: where a standard stream is closed, a file has its descriptor, and not the socket.
+// Observes the target of the command line. The socket is open while the lines are printed. The
+// opened files have the descriptors of closed standard streams, so that the socket has none of
+// these.
 fn observe_by<R: Runtime + AllocGlobal + Net + RandomSource, E: Write>(
     rt: &R,
     err: &mut E,

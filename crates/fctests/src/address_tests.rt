@@ -1,4 +1,6 @@
-// Where a client's request goes, as its command line says it (RFC 7252, 6.1 and 6.4), and how an answer is printed.
+//! Addresses on a client's command line, and the printing of a response.
+//!
+//! See RFC 7252, sections 6.1 and 6.4.
 use coap_client::Fetched;
 use coap_msg::Code;
 use fc_fetch::Shown;
@@ -32,7 +34,7 @@ static URIS: [(&str, [u8; 4], u16, &[u8], &[&[u8]]); 7] = [
         b"/a b/\xc3\xa9",
         &[b"="],
     ),
-    // an escaped ampersand parts no arguments (RFC 7252, 6.4)
+    // An escaped ampersand doesn't separate arguments (RFC 7252, section 6.4).
     (
         "coap://127.0.0.1/a?b%26c&&d",
         [127, 0, 0, 1],
@@ -78,7 +80,8 @@ fn a_path_is_at_a_port_of_this_host(rt: HostRuntime) -> Result<(), Fail> {
     Ok(())
 }
 
-// A path with a query, and what they are: the first `?` parts them, and each `&` of the query its arguments. Escapes aren't read.
+// A path with a query, and its parts: the first `?` separates them, and each `&` of the query
+// separates arguments. Escapes aren't decoded.
 static QUERIES: [(&str, &[u8], &[&[u8]]); 4] = [
     ("/r/1?x=1", b"/r/1", &[b"x=1"]),
     (
@@ -102,7 +105,7 @@ fn a_path_has_a_query(rt: HostRuntime) -> Result<(), Fail> {
     Ok(())
 }
 
-// What is no address, with the port that `--port` gives.
+// Words that are no address, with the port that `--port` gives.
 static NONE: [(&str, Option<u16>, AddressError); 8] = [
     ("/r/1", None, AddressError::NoPort),
     ("coap://127.0.0.1/r/1", Some(5683), AddressError::TwoPorts),
@@ -125,7 +128,7 @@ fn what_is_no_address_is_told(rt: HostRuntime) -> Result<(), Fail> {
     Ok(())
 }
 
-// How bytes are shown, and what is printed of them.
+// How bytes are shown, and what is printed for them.
 static SHOWN: [(Shown, &[u8], &[u8]); 7] = [
     (Shown::Hex, b"on", b"2.05\n6f6e\n"),
     (Shown::Text, b"on", b"2.05\non\n"),

@@ -1,5 +1,7 @@
-//! Rows worked out from the standard's words and this profile's choices, not from the definitions: the result of each
-//! operation, and the truth of each comparison, at both widths.
+//! Results of each operation and comparison, at both widths.
+//!
+//! The rows were worked out from the standard's words and this profile's choices, not from the
+//! definitions.
 ghost use Rattle.std.specs.Prelude.{true, ◌≡◌, ◌≤◌};
 ghost use Rattle.fc_alu.specs.Instructions.{is_computation};
 
@@ -37,7 +39,7 @@ fn jump(relation: Relation, width: Width) -> Jump {
     }
 }
 
-/// Operations, two numbers, and what comes of them at 32 bits and at 64.
+/// Operations, two numbers, and the results at 32 bits and at 64.
 static OPERATIONS: [(AluOp, u64, u64, u64, u64); 27] = [
     // Sums and products wrap; the upper half is zero at 32 bits.
     (
@@ -56,7 +58,8 @@ static OPERATIONS: [(AluOp, u64, u64, u64, u64); 27] = [
         0x2b4f_a4f2_b203_69cd,
     ),
     (AluOp::Mov, 7, MANY, 0x7654_3210, MANY),
-    // By zero a quotient is 0 and a remainder the dividend; signed quotients truncate toward zero, the least by -1 being itself.
+    // Divided by zero, a quotient is 0 and a remainder is the dividend. Signed quotients truncate
+    // toward zero; the least number divided by -1 is itself.
     (AluOp::Div, MANY, WIDE, 0x2771_6605, 0x2468_acf1),
     (AluOp::Div, MANY, 0, 0, 0),
     (AluOp::Mod, MANY, WIDE, 1, 0x1_091a_2b3d),
@@ -196,8 +199,10 @@ fn byte_orders_reverse_the_low_bytes(rt: HostRuntime) {
     }
 }
 
-/// Four pairs: a number with the sign of both widths, and 1; the same exchanged; a number and itself; two numbers whose low
-/// halves are equal. A row has a digit for each.
+/// Four pairs, with a digit for each in a row.
+///
+/// A number with the sign of both widths, and 1; the same exchanged; a number and itself; two
+/// numbers whose low halves are equal.
 #[test]
 fn comparisons_hold_as_their_rows_say(rt: HostRuntime) {
     for (relation, want32, want64) in [
@@ -218,7 +223,7 @@ fn comparisons_hold_as_their_rows_say(rt: HostRuntime) {
     }
 }
 
-/// One common bit is enough for JSET, and one is asked for.
+/// JSET needs one common bit, and one is enough.
 #[test]
 fn jset_asks_for_a_common_bit(rt: HostRuntime) {
     for (left, right, want32, want64) in [

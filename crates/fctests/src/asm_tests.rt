@@ -1,10 +1,10 @@
-//! Texts and what they mean: the expected values are the assembler's rules, row by row.
+//! Sources and their meaning: the expected values are the assembler's rules.
 use fc_asm::{AsmError, assemble, disassemble};
 use fc_isa::{AluOp, Insn, Jump, LoadType, Operand, Reg, Relation, Size, Target, Width};
 use std::alloc::{AllocError, Global};
 use std::test::Fail;
 
-// What is printed: the listing, or the fault.
+// Returns the output: the listing, or the fault.
 fn outcome(alloc: Global, text: &str) -> Result<String, AllocError> {
     match assemble(alloc, text) {
         Ok(program) => disassemble(alloc, &program),
@@ -68,7 +68,7 @@ fn lines_mean_instructions(rt: HostRuntime) -> Result<(), Fail> {
     Ok(())
 }
 
-// Each is listed as it stands.
+// Sources whose listing is the source itself.
 static LISTINGS: [&str; 29] = [
     "add64 r1, r2\n",
     "add32 r1, 5\n",
@@ -110,7 +110,7 @@ fn listed_lines_are_assembled(rt: HostRuntime) -> Result<(), Fail> {
     Ok(())
 }
 
-// Texts, and the listing of what they mean or their fault.
+// Sources, and the listing of their program or their fault.
 static OUTCOMES: [(&str, &str); 54] = [
     // comments, blank lines, spaces and commas
     ("; nothing\n\n  , ,\nexit ; done\n;exit", "exit\n"),

@@ -1,4 +1,6 @@
-// Fetches from a server that follows a script: the datagrams are worked out by hand (RFC 7252, 3; RFC 7959, 2.2 and 3).
+//! Fetches from a server that follows a script.
+//!
+//! The datagrams are worked out by hand (RFC 7252, section 3; RFC 7959, sections 2.2 and 3).
 use crate::scripted::{answers, check_sent, comes, fetched, follows, joined};
 use coap_client::{FetchFault, Path, PathError};
 use coap_opts::Method;
@@ -23,7 +25,7 @@ fn a_large_body_goes_by_blocks(rt: HostRuntime) -> Result<(), Fail> {
     Ok(())
 }
 
-// A server that carries each block out by itself answers it by a success that names it.
+// A server that executes each block by itself answers it with a success that names it.
 #[test]
 fn blocks_that_are_carried_out_one_by_one_go_on(rt: HostRuntime) -> Result<(), Fail> {
     let mut server = follows(rt.alloc());
@@ -38,7 +40,8 @@ fn blocks_that_are_carried_out_one_by_one_go_on(rt: HostRuntime) -> Result<(), F
     Ok(())
 }
 
-// Successes to the first of two blocks: without Block1, of another block, by 2.31 too, of a greater size, and with a Block1 of four bytes.
+// Successes to the first of two blocks: without Block1, for another block, also a 2.31, with a
+// greater size, and with a Block1 of four bytes.
 static NOT_TAKEN: [&[u8]; 5] = [
     b"\x60\x44\x00\x07",
     b"\x60\x44\x00\x07\xd1\x0e\x16",
@@ -58,7 +61,8 @@ fn no_success_leaves_a_block_out(rt: HostRuntime) -> Result<(), Fail> {
     Ok(())
 }
 
-// Successes to the last of two blocks that aren't the answer: 2.31, of another block, and one that says that more is to come.
+// Successes to the last of two blocks that don't fit: a 2.31, one for another block, and one that
+// says that more blocks follow.
 static NOT_LAST: [&[u8]; 3] = [
     b"\x60\x5f\x00\x08\xd1\x0e\x16",
     b"\x60\x44\x00\x08\xd1\x0e\x06",
@@ -120,7 +124,7 @@ fn a_large_answer_comes_by_blocks(rt: HostRuntime) -> Result<(), Fail> {
     Ok(())
 }
 
-// The answer to a GET changes between its blocks: the GET is made again, once.
+// The response to a GET changes between its blocks: the GET is repeated, once.
 #[test]
 fn an_answer_that_changes_is_asked_for_anew(rt: HostRuntime) -> Result<(), Fail> {
     let begun: (&[u8], &[u8]) = (b"\x60\x45\x00\x07\x41\x02\xd1\x06\x0e\xff", &[8; 1024]);
@@ -152,7 +156,7 @@ fn an_answer_that_changes_twice_is_a_fault(rt: HostRuntime) -> Result<(), Fail> 
     Ok(())
 }
 
-// A further block that is refused ends it by its code, though it has no ETag.
+// A further block that is refused ends the fetch by its code, though it has no ETag.
 #[test]
 fn a_refused_further_block_ends_it(rt: HostRuntime) -> Result<(), Fail> {
     let mut server = answers(
@@ -171,7 +175,8 @@ fn a_refused_further_block_ends_it(rt: HostRuntime) -> Result<(), Fail> {
 fn a_request_is_sent_again(rt: HostRuntime) -> Result<(), Fail> {
     let mut server = follows(rt.alloc());
     comes(&mut server, &[], &[])?;
-    // another id, a token, no acknowledgement, no message, and an acknowledgement of another request
+    // Another message ID, a token, no acknowledgement, no message, and an acknowledgement of
+    // another request.
     comes(&mut server, b"\x60\x45\x00\x06", &[])?;
     comes(&mut server, b"\x61\x45\x00\x07\x01", &[])?;
     comes(&mut server, b"\x50\x45\x00\x07", &[])?;

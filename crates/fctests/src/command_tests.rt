@@ -1,5 +1,7 @@
-// The command line of the server's program. The first line of the version is the program's, by the convention of `NAME VERSION`; the values of options are those that
-// docs/COMMANDS.md gives.
+//! The command line of the server's program.
+//!
+//! The first line of the version is the program's, by the convention of `NAME VERSION`; the values
+//! of options are those that docs/COMMANDS.md gives.
 use fc_core::Network;
 use fc_service::command::{LINES, command};
 use fc_service::options::{BadOption, ServeOptions, serve_options};
@@ -8,7 +10,7 @@ use std::net::{Ipv4Addr, SocketAddrV4};
 use std::process::Abort;
 use std::test::Fail;
 
-// The text that answers words which are no command.
+// Returns the text for words that are no command.
 fn told(alloc: Global, word: &str) -> Result<String, Fail> {
     let mut text = String::new(alloc);
     let words = ["fcd", word];
@@ -75,6 +77,8 @@ fn serve_has_the_options_that_it_is_given(rt: HostRuntime) -> Result<(), Fail> {
         "7",
         "--log",
         "info",
+        "--log",
+        "changes",
         "--readings",
         "sensors",
         "--managers",
@@ -93,6 +97,7 @@ fn serve_has_the_options_that_it_is_given(rt: HostRuntime) -> Result<(), Fail> {
     let address = SocketAddrV4::new(Ipv4Addr::new(0, 0, 0, 0), 61_616);
     assert_eq!(rt; options.listening.address, address);
     assert!(rt; options.listening.told);
+    assert!(rt; options.logs.info && options.logs.changes);
     assert_eq!(rt; options.workers, 16);
     assert_eq!(rt; options.limit, 7);
     assert_eq!(rt; options.readings, Some("sensors"));

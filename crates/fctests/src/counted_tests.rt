@@ -1,14 +1,14 @@
-// A shard beside a book of its own: what its calls count.
+//! A shard with its ledger: the changes that its calls count.
 ghost use Rattle.std.specs.Prelude.{◌≡◌, ◌<◌};
 
 use crate::job_tests::job;
 use crate::overtaking_tests::COUNTER;
+use fc_calls::calls::Take;
 use fc_help::{Method, NO_READINGS, Request};
 use fc_machine::{Frame, run};
 use fc_observe::CONFIRM_AFTER;
 use fc_registry::{Ask, Committed, Found, Job, Shard, SlotNumber, Taken, Ticket};
 use fc_verify::verify;
-use fc_workers::calls::Take;
 use fc_workers::{Counted, Tally};
 use std::alloc::Global;
 use std::marker::Brand;
@@ -26,7 +26,7 @@ fn post() -> Job
     post
 }
 
-// Takes what the job finds, and commits its run: whether the commit is of serial 8.
+// Takes a snapshot for the job, and commits its run: returns whether the commit has serial 8.
 fn commit<L: Ledger>(
     alloc: Global,
     counted: &mut Counted<L>,
@@ -56,7 +56,8 @@ fn commit<L: Ledger>(
     Ok(false)
 }
 
-// An install, a commit and a removal, and a removal of nothing: the slot's serial at the end, and how many changes the tally shows.
+// Installs, commits, removes, and removes nothing. Returns the slot's serial at the end, and the
+// number of changes in the tally.
 fn change<L: Ledger>(alloc: Global, blank: Blank) -> Result<(u64, u64), Fail>
     requires name { blank.name ≡ L.name }
     requires parts { (blank.parts ≡ L.parts) × (0 < blank.parts) }

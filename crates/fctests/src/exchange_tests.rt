@@ -1,4 +1,4 @@
-//! What a caller sees of the exchanges that are held.
+//! The exchange table, as a caller sees it.
 ghost use Rattle.std.specs.Prelude.{◌≡◌, ◌≤◌};
 
 use coap_dedup::{Closed, DEFAULT_LIMITS, Exchanges, Looked, Room};
@@ -12,7 +12,8 @@ const CLIENT: Endpoint = Endpoint {
     port: 5683,
 };
 
-// Looks a confirmable request up, and opens an exchange where it is new. Tells whether it was.
+// Looks up the exchange of a confirmable request, and opens one if the request is new. Returns
+// whether it was.
 fn arrives(exchanges: &mut Exchanges, now: u64, from: Endpoint, id: u16) -> bool
     requires { exchanges.old.now ≤ now }
     ensures { exchanges.new.now ≡ now }
@@ -29,7 +30,8 @@ fn arrives(exchanges: &mut Exchanges, now: u64, from: Endpoint, id: u16) -> bool
     }
 }
 
-// Exchanges end in the order in which they were opened, and a key that is opened again comes last.
+// Exchanges expire in the order in which they were opened, and a key that is opened again comes
+// last.
 #[test]
 fn exchanges_end_in_order_of_arrival(rt: HostRuntime) -> Result<(), AllocError> {
     let mut exchanges = Exchanges::new(rt.alloc(), DEFAULT_LIMITS)?;
@@ -46,7 +48,8 @@ fn exchanges_end_in_order_of_arrival(rt: HostRuntime) -> Result<(), AllocError> 
     Ok(())
 }
 
-// A look compares no key where none is held, and else begins in the middle; what follows it compares none that is counted.
+// A search compares no key if no exchange is stored, and otherwise begins in the middle; the call
+// after it makes no comparison that is counted.
 #[test]
 fn looks_count_their_comparisons(rt: HostRuntime) -> Result<(), AllocError> {
     let mut exchanges = Exchanges::new(rt.alloc(), DEFAULT_LIMITS)?;
@@ -61,7 +64,7 @@ fn looks_count_their_comparisons(rt: HostRuntime) -> Result<(), AllocError> {
     Ok(())
 }
 
-// Clients of two hosts and of 1,024 ports, and message ids, in no order.
+// Clients of two hosts and 1,024 ports, and message IDs, in no order.
 fn key(number: u16) -> (Endpoint, u16) {
     let host = if number % 2 == 0 { 1 } else { 2 };
     let client = Endpoint {
@@ -90,7 +93,7 @@ fn fill(rt: &impl Abort, exchanges: &mut Exchanges)
     }
 }
 
-// Each of 1,024 exchanges is found by at most eleven comparisons, and its answer is its own.
+// Each of 1,024 exchanges is found with at most eleven comparisons, and has its own answer.
 fn find_all(rt: &impl Abort, exchanges: &mut Exchanges)
     requires { exchanges.old.now ≡ 0 }
     ensures { exchanges.new.now ≡ 0 }

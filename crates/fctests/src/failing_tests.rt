@@ -1,7 +1,9 @@
-// A source that fails at every second receive, and a sink that fails at every second send: what is answered is worked out by hand.
+//! A source and a sink that fail at every second call.
+//!
+//! The source fails to receive, and the sink to send. The answers are worked out by hand.
 ghost use Rattle.std.specs.Prelude.{◌≤◌, IfSome, length};
 
-use crate::socket_tests::{check_logged, put_datagram};
+use crate::socket_tests::{check_logged, put_datagram, unrecorded};
 use coap_msg::{Emission, Endpoint};
 use fc_core::DEFAULT_POLICY;
 use fc_host::sensors::NoSensors;
@@ -16,31 +18,31 @@ use std::sync::atomic::{AtomicUsize, Ordering};
 use std::thread::Threads;
 use std::time::Clock;
 
-// A program that counts POSTs in eight bytes of variables goes into slot 1.
+// A program for slot 1 that counts POSTs in eight bytes of variables.
 pub(crate) const PUT: &[u8] =
     b"\x40\x03\x00\x01\xb1\x70\x01\x31\xff\x46\x43\x42\x31\x08\x00\x09\x00\x09\x00\x00\x00\x00\x00\x00\x00\xb7\x01\x00\x00\x00\x00\x00\x00\x85\x00\x00\x00\x03\x00\x00\x00\x07\x00\x00\x00\x01\x00\x00\x00\xbf\x02\x00\x00\x00\x00\x00\x00\xb7\x01\x00\x00\x00\x00\x00\x00\x85\x00\x00\x00\x04\x00\x00\x00\x85\x00\x00\x00\x07\x00\x00\x00\xb7\x00\x00\x00\x00\x00\x00\x00\x95\x00\x00\x00\x00\x00\x00\x00";
 
-// It is posted to, and asked.
+// A POST and a GET of the slot.
 pub(crate) const POST: &[u8] = b"\x40\x02\x00\x02\xb1\x72\x01\x31";
 
 const GET: &[u8] = b"\x40\x01\x00\x03\xb1\x72\x01\x31";
 
-// What it is, is asked.
+// A GET of the receipt.
 const DESCRIBE: &[u8] = b"\x40\x01\x00\x04\xb1\x70\x01\x31";
 
-// Each datagram comes twice.
+// Each datagram is received twice.
 static REQUESTS: [&[u8]; 8] = [PUT, PUT, POST, POST, GET, GET, DESCRIBE, DESCRIBE];
 
 const CREATED: &[u8] = b"\x60\x41\x00\x01\xffversion=1 cost=9 budget=9 vars=8";
 
 const CHANGED: &[u8] = b"\x60\x44\x00\x02";
 
-// The one POST that was carried out made serial 2.
+// The one POST that was executed made serial 2.
 const CONTENT: &[u8] = b"\x60\x45\x00\x03\x48\x00\x00\x00\x00\x00\x00\x00\x02";
 
 const DESCRIBED: &[u8] = b"\x60\x45\x00\x04\xffversion=1 cost=9 budget=9 vars=8";
 
-// So is each answer.
+// So is each response.
 static ANSWERS: [&[u8]; 8] = [
     CREATED, CREATED, CHANGED, CHANGED, CONTENT, CONTENT, DESCRIBED, DESCRIBED,
 ];
@@ -73,7 +75,8 @@ impl Source for Letters {
     }
 }
 
-// A sink that counts what isn't the next answer, and fails at every second call, the first among them, or never.
+// A sink that counts the datagrams that aren't the next response. It fails at every second call,
+// beginning with the first, or never.
 #[derive(Drop)]
 struct Matching {
     fails: bool,
@@ -96,8 +99,9 @@ impl Sink for Matching {
     }
 }
 
-// The requests are served by so many workers, and each repeat is answered by the same bytes, whether or not the source and the sink fail. What was sent and what
-// couldn't be are all the answers.
+// Serves the requests with this many workers. Each duplicate is answered by the same bytes, whether
+// or not the source and the sink fail. The responses that were sent and those that failed are all
+// responses.
 fn check_served<R: Abort + AllocGlobal + Threads + Wait + Clock + Sync>(
     rt: &R,
     fails: bool,
@@ -121,7 +125,14 @@ fn check_served<R: Abort + AllocGlobal + Threads + Wait + Clock + Sync>(
         policy: DEFAULT_POLICY,
     };
     let served = serve_at(
-        rt, alloc, &log, &mut err, &NoSensors, letters, &matching, extent,
+        rt,
+        alloc,
+        &unrecorded(&log),
+        &mut err,
+        &NoSensors,
+        letters,
+        &matching,
+        extent,
     );
     assert!(rt; served.is_some() && err.is_empty());
     assert!(rt;

@@ -1,8 +1,8 @@
-// Readers and writers that fail.
+//! Readers and writers that fail.
 use std::io;
 use std::io::{ErrorKind, Read, Write};
 
-// A writer that fails behind so many bytes.
+// A writer that fails after this many bytes.
 #[derive(Drop)]
 pub(crate) struct Full(pub(crate) usize);
 
@@ -21,7 +21,7 @@ impl Write for Full {
     }
 }
 
-// A reader that fails at once.
+// A reader that fails immediately.
 #[derive(Drop)]
 pub(crate) struct Unreadable;
 
@@ -32,7 +32,7 @@ impl Read for Unreadable {
     }
 }
 
-// A writer that takes everything, and then can't hand it on.
+// A writer that accepts everything and then can't be flushed.
 #[derive(Drop)]
 pub(crate) struct Unflushed;
 

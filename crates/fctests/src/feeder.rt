@@ -1,4 +1,4 @@
-// The feeder of a pool of workers: it has datagrams taken in, and sends the jobs that they bring.
+//! The feeder of a pool of workers: it delivers datagrams, and sends their jobs.
 ghost use Rattle.std.specs.Prelude.{◌≡◌};
 
 use coap_msg::Endpoint;
@@ -10,13 +10,13 @@ use fc_workers::{Bench, CallLog};
 use std::alloc::{AllocError, Global};
 use std::sync::Wait;
 
-/// What all datagrams come from.
+/// The source of all datagrams.
 pub(crate) const PEER: Endpoint = Endpoint {
     ip: [127, 0, 0, 1],
     port: 5683,
 };
 
-/// What a datagram asks.
+/// The request of a datagram.
 #[derive(Clone, Copy)]
 pub(crate) enum Request<'a> {
     /// `PUT /p/SLOT` of an image.
@@ -29,7 +29,7 @@ pub(crate) enum Request<'a> {
     Post,
 }
 
-/// The datagram of a confirmable request, with this message id.
+/// Makes the datagram of a confirmable request, with this message ID.
 pub(crate) fn datagram(
     alloc: Global,
     request: Request<'_>,
@@ -65,7 +65,7 @@ pub(crate) fn datagram(
     Ok(bytes)
 }
 
-/// Where a feeder has its datagrams taken in, and sends the jobs.
+/// A feeder: it delivers datagrams to a server, and sends their jobs to workers.
 #[derive(Drop)]
 pub(crate) struct Feeder<'a, B: Bench> {
     pub(crate) alloc: Global,
@@ -74,7 +74,9 @@ pub(crate) struct Feeder<'a, B: Bench> {
 }
 
 impl<'a, B: Bench> Feeder<'a, B> {
-    /// Has a request's datagram taken in, at a moment in milliseconds, and sends the job that it brings. Whether there was one.
+    /// Delivers a request's datagram at `now`, in milliseconds, and sends its job.
+    ///
+    /// Returns whether there was one.
     pub(crate) fn ask<R: Wait>(
         &self,
         rt: &R,
@@ -94,7 +96,7 @@ impl<'a, B: Bench> Feeder<'a, B> {
         }
     }
 
-    /// Has a datagram taken in, at a moment in milliseconds: the job that it brings.
+    /// Delivers a datagram at `now`, in milliseconds, and returns its job.
     pub(crate) fn job<R: Wait>(&self, rt: &R, now: u64, bytes: &[u8]) -> Option<Job> {
         let mut job = blank_job();
         let mut reply = blank_emission();

@@ -1,4 +1,6 @@
-// The client's program over a socket of this host: what it sends, and how long it observes. The datagrams are worked out by hand (RFC 7252, 3; RFC 7641, 2).
+//! The client's program over a socket of this host: its requests and observations.
+//!
+//! The datagrams are worked out by hand (RFC 7252, section 3; RFC 7641, section 2).
 use crate::faulty::{Unflushed, Unreadable};
 use crate::scripted::joined;
 use crate::socket_tests::{at_port, free_port, serve_while};
@@ -26,14 +28,14 @@ use std::thread::Threads;
 use std::time::{Clock, Duration, Instant};
 use std::{fs, io, thread};
 
-// A server's socket at a port that is free. A client that sends nothing is waited for 20 seconds.
+// Opens a server's socket at a free port. It waits 20 seconds for a client that sends nothing.
 fn server_socket<R: Net>(rt: &R) -> io::Result<UdpSocket> {
     let socket = UdpSocket::bind(rt, at_port(0))?;
     socket.set_read_timeout(Some(Duration::from_secs(20)))?;
     Ok(socket)
 }
 
-// The datagram that comes to a server, and who sent it.
+// Returns the datagram that a server receives, and its sender.
 fn received(alloc: Global, socket: &UdpSocket) -> io::Result<(Vec<u8>, SocketAddr)> {
     let mut buffer = [0; 64];
     let (count, client) = socket.recv_from(&mut buffer)?;
@@ -41,7 +43,8 @@ fn received(alloc: Global, socket: &UdpSocket) -> io::Result<(Vec<u8>, SocketAdd
     Ok((bytes, client))
 }
 
-// A server that answers a request under its message id and token, by a message of this type and code and these bytes behind the token: the request, but for its id.
+// Answers one request with its message ID and token, by a message of this type and code and these
+// bytes after the token. Returns the request without its message ID.
 fn answer_once(
     alloc: Global,
     socket: &UdpSocket,
@@ -60,7 +63,8 @@ fn answer_once(
     Ok(joined(alloc, front, bytes.get(4..).unwrap_or(&[]))?)
 }
 
-// `-N post` with a body: type 1, code 0.02, the path, and the body behind the marker; and a confirmable DELETE: type 0, code 0.04. The answers are 2.04 and 2.02.
+// `-N post` with a body: type 1, code 0.02, the path, and the body after the marker; and a
+// confirmable DELETE: type 0, code 0.04. The responses are 2.04 and 2.02.
 static ASKED: [(bool, Method, &[u8], [u8; 2], &[u8]); 2] = [
     (
         false,
@@ -111,7 +115,8 @@ fn a_request_has_the_type_the_method_and_the_body_that_are_asked_for(
     Ok(())
 }
 
-// A server that has an observer, and notifies of nothing: its registration is answered with Observe 1 and its deregistration without.
+// Serves an observer without any notification: its registration is answered with Observe 1 and its
+// deregistration without.
 fn have_observer(alloc: Global, socket: &UdpSocket) -> io::Result<()> {
     answer_once(alloc, socket, [0x64, 0x45], b"\x61\x01\xff\x61")?;
     answer_once(alloc, socket, [0x64, 0x45], b"\xff\x61")?;
@@ -148,7 +153,7 @@ fn an_observation_of_one_second_ends_in_seconds(rt: HostRuntime) -> Result<(), F
     Ok(())
 }
 
-// The system, whose random bytes are those from 0x51 on.
+// The system, with the random bytes from 0x51 on.
 #[derive(Drop)]
 struct Known<'a, R: Net + Clock> {
     rt: &'a R,
@@ -186,7 +191,8 @@ impl<'a, R: Net + Clock> Net for Known<'a, R> {
         self.rt.connect(addr)
     }
 
-    // A client reaches each server of its network: its own address is left open, and its port is one that is free.
+    // A client reaches each server of its network: its own address is left open, and its port is a
+    // free one.
     fn bind_udp(&self, addr: SocketAddr) -> io::Result<UdpSocket> {
         if addr != SocketAddr::V4(SocketAddrV4::new(Ipv4Addr::UNSPECIFIED, 0)) {
             return Err(io::Error::from(io::ErrorKind::AddrNotAvailable));
@@ -195,14 +201,15 @@ impl<'a, R: Net + Clock> Net for Known<'a, R> {
     }
 }
 
-// A server that has an observer: its registration and its deregistration, each but for its message ID.
+// Serves an observer, and returns its registration and its deregistration without their message
+// IDs.
 fn observed(alloc: Global, socket: &UdpSocket) -> io::Result<(Vec<u8>, Vec<u8>)> {
     let registration = answer_once(alloc, socket, [0x64, 0x45], b"\x61\x01\xff\x61")?;
     let deregistration = answer_once(alloc, socket, [0x64, 0x45], b"\xff\x61")?;
     Ok((registration, deregistration))
 }
 
-// How a fetch without a body ends, and what it prints.
+// Returns the status of a fetch without a body, and its output.
 fn fetched_from<R: Net + Clock + RandomSource>(
     rt: &R,
     alloc: Global,
@@ -214,7 +221,7 @@ fn fetched_from<R: Net + Clock + RandomSource>(
     (ended, out)
 }
 
-// How an observation by known random bytes ends, and what it prints.
+// Returns the status of an observation with known random bytes, and its output.
 fn observed_by_known<R: Net + Clock>(
     rt: &R,
     alloc: Global,
@@ -226,7 +233,8 @@ fn observed_by_known<R: Net + Clock>(
     (ended, out)
 }
 
-// `--count 1` ends after the first answer, and the token is of the system's random bytes (RFC 7252, 5.3.1).
+// `--count 1` ends after the first response, and the token consists of the system's random bytes
+// (RFC 7252, section 5.3.1).
 #[test]
 fn an_observer_has_a_random_token_and_ends_by_its_count(rt: HostRuntime) -> Result<(), Fail> {
     let alloc = rt.alloc();
@@ -252,7 +260,8 @@ fn an_observer_has_a_random_token_and_ends_by_its_count(rt: HostRuntime) -> Resu
     Ok(())
 }
 
-// Targets that aren't one, and what is told of them: nothing is printed, and no server is asked.
+// Words that are no target, and the error for each: nothing is printed, and no server gets a
+// request.
 static BAD_TARGETS: [(&str, &[u8]); 3] = [
     ("r/1", b"a path begins with a slash, as /r/1\n"),
     (
@@ -265,7 +274,7 @@ static BAD_TARGETS: [(&str, &[u8]); 3] = [
     ),
 ];
 
-// A POST goes in one datagram, and 1,263 bytes have no room in it behind a path.
+// A POST is sent in one datagram, and 1,263 bytes don't fit into it after a path.
 #[test]
 fn a_request_without_room_is_told(rt: HostRuntime) {
     let alloc = rt.alloc();
@@ -289,7 +298,7 @@ fn a_request_without_room_is_told(rt: HostRuntime) {
     );
 }
 
-// A path of five segments of 255 bytes has no room in a datagram.
+// A path of five segments of 255 bytes doesn't fit into a datagram.
 #[test]
 fn a_registration_without_room_is_told(rt: HostRuntime) -> Result<(), Fail> {
     let alloc = rt.alloc();
@@ -381,7 +390,7 @@ fn a_bad_target_is_told(rt: HostRuntime) {
     }
 }
 
-// An answer that can't be handed on isn't printed: it is flushed when it is written.
+// An answer that can't be flushed isn't printed: it is flushed when it is written.
 #[test]
 fn an_answer_is_flushed(rt: HostRuntime) -> Result<(), Fail> {
     let alloc = rt.alloc();
@@ -396,7 +405,8 @@ fn an_answer_is_flushed(rt: HostRuntime) -> Result<(), Fail> {
     Ok(())
 }
 
-// A POST of JSON: Content-Format, option 12, is 50, in one byte (RFC 7252, 5.10 and 12.3), between the path and the marker.
+// A POST of JSON: Content-Format, option 12, is 50, in one byte (RFC 7252, sections 5.10 and 12.3),
+// between the path and the marker.
 #[test]
 fn a_body_has_the_format_that_is_given(rt: HostRuntime) -> Result<(), Fail> {
     let alloc = rt.alloc();
@@ -424,7 +434,7 @@ fn a_body_has_the_format_that_is_given(rt: HostRuntime) -> Result<(), Fail> {
     Ok(())
 }
 
-// How a request at this port ends, and what is printed: its input fails where it is read.
+// Returns the status of a request at this port, and its output. Its input fails when it is read.
 fn ended_at<'a, R: Net + Clock + RandomSource + Files>(
     rt: &R,
     alloc: Global,
@@ -480,7 +490,8 @@ fn no_input_is_read_where_the_body_is_none_or_a_text(rt: HostRuntime) -> Result<
 // The file of a test, before and after.
 const KEPT: &str = "answer-of-a-test";
 
-// How a GET ends that is answered so, with the answer's bytes to a file of this name, and what is printed.
+// Returns the status of a GET with this response, and its output. The response's bytes are written
+// to a file with this name.
 fn kept_in<R: Net + Clock + RandomSource + Files + Threads + Sync>(
     rt: &R,
     alloc: Global,
@@ -499,7 +510,8 @@ fn kept_in<R: Net + Clock + RandomSource + Files + Threads + Sync>(
     Ok(ended)
 }
 
-// `-o FILE`: the bytes of a success are the file's, as they are, and its code is printed. An error is printed, and the file stays.
+// `-o FILE`: the bytes of a success are written to the file, and its code is printed. An error is
+// printed, and the file is unchanged.
 #[test]
 fn a_success_goes_to_its_file(rt: HostRuntime) -> Result<(), Fail> {
     let alloc = rt.alloc();
@@ -519,7 +531,7 @@ fn a_success_goes_to_its_file(rt: HostRuntime) -> Result<(), Fail> {
     Ok(())
 }
 
-// How a ping of a port of this host ends, and what is told.
+// Returns the status of a ping of a port of this host, and its messages.
 fn pinged<R: Net + Clock + RandomSource>(rt: &R, alloc: Global, port: u16) -> (Status, Vec<u8>) {
     let mut err = Vec::new(alloc);
     let pinging = Pinging {
@@ -530,7 +542,7 @@ fn pinged<R: Net + Clock + RandomSource>(rt: &R, alloc: Global, port: u16) -> (S
     (ended, err)
 }
 
-// How a ping of a URI ends, and what is told.
+// Returns the status of a ping of a URI, and its messages.
 fn pinged_at<R: Net + Clock + RandomSource>(rt: &R, alloc: Global, uri: &str) -> (Status, Vec<u8>) {
     let mut err = Vec::new(alloc);
     let pinging = Pinging {
@@ -541,7 +553,7 @@ fn pinged_at<R: Net + Clock + RandomSource>(rt: &R, alloc: Global, uri: &str) ->
     (ended, err)
 }
 
-// A server of ours rejects a ping by a Reset message with its id (RFC 7252, 4.3).
+// A server rejects a ping by a Reset message with its message ID (RFC 7252, section 4.3).
 #[test]
 fn a_server_answers_a_ping(rt: HostRuntime) -> Result<(), Fail> {
     let extent = Extent {
@@ -558,7 +570,7 @@ fn a_server_answers_a_ping(rt: HostRuntime) -> Result<(), Fail> {
     Ok(())
 }
 
-// A URI of a server names no resource, with and without a `/` at its end (RFC 7252, 6.4).
+// A server's URI names no resource, with or without a `/` at its end (RFC 7252, section 6.4).
 #[test]
 fn a_server_answers_a_ping_of_its_uri(rt: HostRuntime) -> Result<(), Fail> {
     let extent = Extent {
@@ -579,7 +591,7 @@ fn a_server_answers_a_ping_of_its_uri(rt: HostRuntime) -> Result<(), Fail> {
     Ok(())
 }
 
-// Where nobody listens at the port, the system says so at once.
+// If no server listens at the port, the system reports it immediately.
 #[test]
 fn a_ping_that_nobody_hears_fails(rt: HostRuntime) -> Result<(), Fail> {
     let port = free_port(&rt)?;
@@ -593,7 +605,8 @@ fn a_ping_that_nobody_hears_fails(rt: HostRuntime) -> Result<(), Fail> {
     Ok(())
 }
 
-// Targets of a ping that it ends `Bad` at: a resource, a path without a port, and a port beside a URI.
+// Targets at which a ping ends with `Bad`: a resource, a path without a port, and a port with a
+// URI.
 static BAD_PINGS: [(&str, Option<u16>); 4] = [
     ("coap://127.0.0.1/r/1", None),
     ("coap://127.0.0.1?a", None),

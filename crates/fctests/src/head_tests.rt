@@ -1,8 +1,8 @@
-//! What seats see of the head words.
+//! The head words, as their handles see them.
 use fc_heads::Heads;
 use std::test::Fail;
 
-// A seat sees what it raised, and nothing of another slot.
+// A handle sees the word that it raised, and nothing of another slot.
 #[test]
 fn a_raised_word_is_seen(rt: HostRuntime) -> Result<(), Fail> {
     let (heads, mut seat) = Heads::new(rt.alloc())?;
@@ -12,7 +12,7 @@ fn a_raised_word_is_seen(rt: HostRuntime) -> Result<(), Fail> {
     Ok(())
 }
 
-// A seat that was met by one that raised a word sees that word.
+// A handle that exchanged knowledge with one that raised a word sees that word.
 #[test]
 fn a_met_seat_sees_what_the_other_raised(rt: HostRuntime) -> Result<(), Fail> {
     let (heads, mut one) = Heads::new(rt.alloc())?;
@@ -23,7 +23,7 @@ fn a_met_seat_sees_what_the_other_raised(rt: HostRuntime) -> Result<(), Fail> {
     Ok(())
 }
 
-// A lower word that another seat raises leaves the word.
+// A lower word that another handle raises has no effect.
 #[test]
 fn a_lower_word_is_not_raised(rt: HostRuntime) -> Result<(), Fail> {
     let (heads, mut one) = Heads::new(rt.alloc())?;

@@ -1,4 +1,4 @@
-// Hostile bytes: an image each of whose bytes was changed.
+//! Hostile bytes: an image each of whose bytes was changed.
 use fc_help::{Method, NO_READINGS, Request, Vars};
 use fc_machine::{Frame, run};
 use fc_verify::{Refusal, Verified, verify};
@@ -6,7 +6,8 @@ use std::alloc::AllocError;
 use std::process::Abort;
 use std::test::Fail;
 
-// `jgt r3, 1023, 4`, `mov64 r4, r1`, `add64 r4, r3`, `ldxb r0, r4, 80`, `exit`, `mov64 r0, 0`, `exit`: the byte of the payload behind the last.
+// `jgt r3, 1023, 4`, `mov64 r4, r1`, `add64 r4, r3`, `ldxb r0, r4, 80`, `exit`, `mov64 r0, 0`,
+// `exit`: it reads the byte after the payload's last.
 const BRANCHING: [u8; 72] = *b"FCB1\0\0\x07\0\x05\0\0\0\0\0\0\0\
     \x25\x03\x04\x00\xff\x03\0\0\
     \xbf\x14\0\0\0\0\0\0\
@@ -16,7 +17,7 @@ const BRANCHING: [u8; 72] = *b"FCB1\0\0\x07\0\x05\0\0\0\0\0\0\0\
     \xb7\0\0\0\0\0\0\0\
     \x95\0\0\0\0\0\0\0";
 
-// Whether a program ends a run of a payload within its budget.
+// Returns whether a program ends a run on a payload within its budget.
 fn ends_in_time(frame: &mut Frame, program: &Verified, payload: &[u8; 1024], size: usize) -> bool {
     let request = Request::new(
         Method::Post,
@@ -29,7 +30,7 @@ fn ends_in_time(frame: &mut Frame, program: &Verified, payload: &[u8; 1024], siz
     run(frame, program, &request, &found, &NO_READINGS).steps() <= program.budget()
 }
 
-// Verifies an image, and runs it, where it is accepted, on no payload and on the largest.
+// Verifies an image. If it is accepted, runs it on no payload and on the largest one.
 fn accepts<R: Abort + AllocGlobal>(rt: &R, frame: &mut Frame, image: &[u8]) -> Result<bool, Fail> {
     match verify(rt.alloc(), image) {
         Ok(program) => {
@@ -42,7 +43,8 @@ fn accepts<R: Abort + AllocGlobal>(rt: &R, frame: &mut Frame, image: &[u8]) -> R
     }
 }
 
-// How many images are accepted that differ from the one above in the byte at a place, or not even there.
+// Returns the number of accepted images that differ from the one above at most in the byte at a
+// place.
 fn accepted_at<R: Abort + AllocGlobal>(
     rt: &R,
     frame: &mut Frame,
@@ -59,7 +61,7 @@ fn accepted_at<R: Abort + AllocGlobal>(
     Ok(accepted)
 }
 
-// Each byte is set to each value, its own among them, which leaves the image as it is.
+// Each byte is set to each value, including its own, which leaves the image unchanged.
 #[test]
 fn each_byte_of_an_image_is_set(rt: HostRuntime) -> Result<(), Fail> {
     let mut frame = Frame::new(rt.alloc())?;

@@ -1,9 +1,9 @@
-// The message ids of the server's own (RFC 7252, 4.4).
+//! The message IDs that the server draws (RFC 7252, section 4.4).
 use fc_core::{DEFAULT_POLICY, Front};
 use std::process::Abort;
 use std::test::Fail;
 
-// Each message id is drawn once in a window, in order.
+// Each message ID is drawn once within its lifetime, in order.
 #[test]
 fn an_id_comes_again_behind_its_window(rt: HostRuntime) -> Result<(), Fail> {
     let mut front = Front::new(rt.alloc(), &DEFAULT_POLICY, 0)?;

@@ -1,4 +1,6 @@
-// Programs and their bytes: the expected values are worked out by hand from the standard's tables.
+//! Programs and their bytes.
+//!
+//! The expected values are worked out by hand from the standard's tables.
 use fc_asm::disassemble;
 use fc_isa::{
     AluOp, DecodeError, Fault, Insn, Jump, LoadType, Operand, Reg, Relation, Rule, Shape, Size,
@@ -7,7 +9,8 @@ use fc_isa::{
 use std::process::Abort;
 use std::test::Fail;
 
-// The bytes are read as the program, which is listed as the line, and the program is written as the bytes.
+// The bytes are decoded as the program, the program is listed as the line, and it is encoded as the
+// bytes.
 fn check_spelling<R: Abort + AllocGlobal>(
     rt: &R,
     line: &str,
@@ -103,7 +106,7 @@ fn signed_division_is_told_by_its_offset(rt: HostRuntime) -> Result<(), Fail> {
     )
 }
 
-// Bytes, and the fault that they are refused by.
+// Bytes, and the fault for which they are refused.
 static FAULTS: [(&[u8], Rule, usize); 8] = [
     (b"\x8d\x00\x00\x00\x00\x00\x00\x00", Rule::Opcode, 0),
     (b"\xb7\x0b\x00\x00\x00\x00\x00\x00", Rule::Register, 0),

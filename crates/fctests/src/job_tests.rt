@@ -1,4 +1,6 @@
-//! Jobs come in order, each with its number, and none once the sender is gone. A full channel takes no more.
+//! Jobs arrive in order, each with its number, and none after the sender is gone.
+//!
+//! A full channel accepts no more.
 ghost use Rattle.std.specs.Prelude.{◌≡◌};
 
 use coap_msg::{Endpoint, Token};
@@ -11,7 +13,7 @@ use std::test::Fail;
 use std::thread;
 use std::time::{Clock, Duration};
 
-// A job of slot 0, whose exchange has this number.
+// Makes a job of slot 0 whose exchange has this number.
 pub(crate) fn job(opened: u64) -> Job {
     let opening = Opening {
         number: opened,
@@ -55,13 +57,13 @@ fn jobs_come_in_order(rt: HostRuntime) -> Result<(), Fail> {
     Ok(())
 }
 
-// The number of what was got, and the number of its exchange.
+// Returns the number of the received job, and the number of its exchange.
 fn of(got: Option<(u64, Job)>) -> Option<(u64, u64)> {
     let (number, job) = got?;
     Some((number, job.origin.opening.number))
 }
 
-// Who waits for a worker goes on when one asks for a job, here of a closed channel.
+// A caller that waits for a worker continues when one asks for a job, here of a closed channel.
 #[test]
 fn a_worker_is_awaited(rt: HostRuntime) -> Result<(), Fail> {
     let (jobs, sent, mut gots) = Jobs::new(rt.alloc(), 1)?;
@@ -83,7 +85,7 @@ fn a_worker_is_awaited(rt: HostRuntime) -> Result<(), Fail> {
     Ok(())
 }
 
-// Where it is known that none comes, nobody waits.
+// If it is known that no worker will come, no caller waits.
 #[test]
 fn nobody_waits_for_workers_that_do_not_come(rt: HostRuntime) -> Result<(), Fail> {
     let (jobs, _sent, _gots) = Jobs::new(rt.alloc(), 1)?;
@@ -92,19 +94,20 @@ fn nobody_waits_for_workers_that_do_not_come(rt: HostRuntime) -> Result<(), Fail
     Ok(())
 }
 
-// How many jobs the channel holds, and how many are sent.
+// The capacity of the channel, and the number of jobs that are sent.
 const PLACES: usize = 256;
 
 const JOBS: u64 = 300;
 
-// How many sends were begun, and how many are done.
+// The number of sends that were begun, and of those that are done.
 #[derive(Drop)]
 struct Progress {
     begun: AtomicUsize,
     done: AtomicUsize,
 }
 
-// Sends 300 jobs, whose exchanges have the numbers from 0 on. Tells whether none came back.
+// Sends 300 jobs, whose exchanges have the numbers from 0 on. Returns whether all of them were
+// accepted.
 fn send_all<R: Wait>(rt: &R, jobs: &Jobs, mut sent: Sent, progress: &Progress) -> bool
     requires { sent.channel ≡ jobs.now }
 {
@@ -119,7 +122,8 @@ fn send_all<R: Wait>(rt: &R, jobs: &Jobs, mut sent: Sent, progress: &Progress) -
     are_taken
 }
 
-// Waits until one send more was begun than there are places, or many turns have passed; then how many are done.
+// Waits until one more send was begun than there are places, or many iterations have passed; then
+// returns the number of sends that are done.
 fn done_when_full<C: Clock>(clock: &C, progress: &Progress) -> usize {
     for _turn in 0..10_000u32 {
         if progress.begun.load(Ordering::SeqCst) > PLACES {
@@ -131,7 +135,7 @@ fn done_when_full<C: Clock>(clock: &C, progress: &Progress) -> usize {
     progress.done.load(Ordering::SeqCst)
 }
 
-// Whether the next jobs are all that were sent, in order, each once, and then none.
+// Returns whether the next jobs are all that were sent, in order, each once, and then none.
 fn takes_all<R: Wait>(rt: &R, jobs: &Jobs, mut got: Got) -> bool
     requires { got.channel ≡ jobs.now }
 {
@@ -144,7 +148,7 @@ fn takes_all<R: Wait>(rt: &R, jobs: &Jobs, mut got: Got) -> bool
     are_next && jobs.next(rt, &mut got).is_none()
 }
 
-// The 257th send waits until a job is taken.
+// The 257th send waits until a job is received.
 #[test]
 fn a_full_channel_waits(rt: HostRuntime) -> Result<(), Fail> {
     let (jobs, sent, mut gots) = Jobs::new(rt.alloc(), 1)?;

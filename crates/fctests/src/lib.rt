@@ -1,7 +1,8 @@
-//! The tests that cross crates, and those of crates that would be proved twice for theirs.
+//! Tests that cross crates, or would require a second proof of a crate.
 //!
-//! What each datagram, image and number here is to give follows from the RFCs of the protocol and of the instructions, worked out by hand.
-//! What the programs print of lines, lists of events, texts and images is data of fcvectors.
+//! The expected results of each datagram, image and number follow from the RFCs of the protocol and
+//! of the instructions, worked out by hand. The programs' output for lines, lists of events,
+//! sources and images is tested by the data of fcvectors.
 #![tactic(auto)]
 
 #[cfg(test)]
@@ -61,6 +62,8 @@ mod policy_tests;
 #[cfg(test)]
 mod pool_tests;
 #[cfg(test)]
+mod record_tests;
+#[cfg(test)]
 mod reply_tests;
 #[cfg(test)]
 mod request_tests;
@@ -88,5 +91,7 @@ mod tool_tests;
 mod tooling;
 #[cfg(test)]
 mod transfer_tests;
+#[cfg(test)]
+mod update_tests;
 #[cfg(test)]
 mod wait_tests;

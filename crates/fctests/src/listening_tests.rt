@@ -1,5 +1,8 @@
-// Where `serve` listens, by a client at another address of this host; and what a server has of its host: its socket, waits and random words.
-use crate::socket_tests::{at_port, free_port};
+//! The address of `serve`, and a server's use of its host.
+//!
+//! A client at another address of this host tests the address. The server's use of its host is its
+//! socket, its waits and its random words.
+use crate::socket_tests::{at_port, free_port, unrecorded};
 use coap_msg::Endpoint;
 use fc_cli::Status;
 use fc_core::DEFAULT_POLICY;
@@ -21,12 +24,12 @@ use std::thread::Threads;
 use std::time::{Clock, Duration, Instant};
 use std::{io, thread};
 
-// A port at another address of this host than 127.0.0.1.
+// Makes a port at another address of this host than 127.0.0.1.
 fn at_other(port: u16) -> SocketAddrV4 {
     SocketAddrV4::new(Ipv4Addr::new(127, 0, 0, 2), port)
 }
 
-// A writer that counts what it is told.
+// A writer that counts its writes.
 #[derive(Drop)]
 struct Told<'a> {
     writes: &'a AtomicUsize,
@@ -53,15 +56,16 @@ fn is_answered(client: &UdpSocket, server: SocketAddrV4, id: u8) -> bool {
     }
 }
 
-// A client at another address of this host, which waits so many milliseconds.
+// Opens a client at another address of this host, which waits this many milliseconds.
 fn other_client<R: Net>(rt: &R, wait: u64) -> io::Result<UdpSocket> {
     let client = open(rt, at_other(0))?;
     client.set_read_timeout(Some(Duration::from_millis(wait)))?;
     Ok(client)
 }
 
-// Serves at an address, up to so many datagrams, while a client asks, once the server has told
-// where it listens, or after five seconds. The server tells it exactly if it is to.
+// Serves at an address, up to this many datagrams, while a client sends a request. The client
+// begins when the server has printed its address, or after five seconds. The server prints it
+// exactly if it is to.
 fn serve_at_address<
     R: Abort + AllocGlobal + Threads + Wait + Clock + Net + Sync,
     F: FnOnce() -> Result<(), Fail> + Send,
@@ -96,7 +100,14 @@ fn serve_at_address<
             let mut err = Told { writes: &writes };
             let timers = Vec::new(alloc);
             serve(
-                rt, alloc, &log, &mut err, &NoSensors, listening, timers, extent,
+                rt,
+                alloc,
+                &unrecorded(&log),
+                &mut err,
+                &NoSensors,
+                listening,
+                timers,
+                extent,
             )
         },
     );
@@ -106,7 +117,8 @@ fn serve_at_address<
     Ok(())
 }
 
-// At 0.0.0.0 a server listens at each address of this host, and answers to the one that asked.
+// At 0.0.0.0 a server listens at each address of this host, and responds from the one that got the
+// request.
 #[test]
 fn a_server_listens_at_every_address_where_it_is_told_to(rt: HostRuntime) -> Result<(), Fail> {
     let port = free_port(&rt)?;
@@ -118,7 +130,7 @@ fn a_server_listens_at_every_address_where_it_is_told_to(rt: HostRuntime) -> Res
     })
 }
 
-// At 127.0.0.1 it listens there alone: what is sent to 127.0.0.2 reaches nobody.
+// At 127.0.0.1 it listens there alone: a datagram to 127.0.0.2 reaches no server.
 #[test]
 fn a_server_listens_at_its_own_address_alone(rt: HostRuntime) -> Result<(), Fail> {
     let port = free_port(&rt)?;
@@ -132,7 +144,7 @@ fn a_server_listens_at_its_own_address_alone(rt: HostRuntime) -> Result<(), Fail
     })
 }
 
-// Without `--log info` a server tells nothing.
+// Without `--log info` a server prints nothing.
 #[test]
 fn a_server_that_is_not_to_tell_where_it_listens_does_not(rt: HostRuntime) -> Result<(), Fail> {
     let port = free_port(&rt)?;
@@ -143,7 +155,7 @@ fn a_server_that_is_not_to_tell_where_it_listens_does_not(rt: HostRuntime) -> Re
     })
 }
 
-// A socket is bound at the address and the port that it is to have.
+// A socket is bound to the requested address and port.
 #[test]
 fn a_socket_has_the_address_that_it_is_opened_at(rt: HostRuntime) -> Result<(), Fail> {
     let address = at_other(free_port(&rt)?);
@@ -152,7 +164,8 @@ fn a_socket_has_the_address_that_it_is_opened_at(rt: HostRuntime) -> Result<(), 
     Ok(())
 }
 
-// What a receive brings that waits so long, and after how many milliseconds, while a datagram comes after 1,500 ms.
+// Returns the result of a receive that waits this long, and the time that it took in milliseconds,
+// while a datagram arrives after 1,500 ms.
 fn received_in<R: Threads + Clock + Net + Sync>(
     rt: &R,
     wait: Option<u64>,
@@ -178,7 +191,7 @@ fn received_in<R: Threads + Clock + Net + Sync>(
     Ok((count, start.elapsed(rt)?.as_millis()))
 }
 
-// A receive of 250 ms ends before the datagram comes, and one without end waits for it.
+// A receive of 250 ms ends before the datagram arrives, and one without end waits for it.
 #[test]
 fn a_receive_waits_as_long_as_it_is_told(rt: HostRuntime) -> Result<(), Fail> {
     let (count, _) = received_in(&rt, Some(250))?;
@@ -188,7 +201,8 @@ fn a_receive_waits_as_long_as_it_is_told(rt: HostRuntime) -> Result<(), Fail> {
     Ok(())
 }
 
-// How many bytes two receives bring, the first without end and the second of 250 ms: a datagram comes at once, and another one after 1,500 ms.
+// Returns the number of bytes of two receives, the first without end and the second of 250 ms: a
+// datagram arrives immediately, and another one after 1,500 ms.
 fn received_twice<R: Threads + Clock + Net + Sync>(
     rt: &R,
 ) -> Result<(Option<usize>, Option<usize>), Fail> {
@@ -221,7 +235,7 @@ fn a_receive_after_one_without_end_ends_in_time(rt: HostRuntime) -> Result<(), F
     Ok(())
 }
 
-// The longest message has 1,280 bytes. A datagram comes whole up to one more.
+// The longest message has 1,280 bytes. A datagram of up to one more byte is received complete.
 #[test]
 fn a_datagram_comes_whole(rt: HostRuntime) -> Result<(), Fail> {
     let socket = open(&rt, at_port(0))?;
@@ -236,7 +250,7 @@ fn a_datagram_comes_whole(rt: HostRuntime) -> Result<(), Fail> {
     Ok(())
 }
 
-// No datagram goes to port 0, which the system refuses.
+// No datagram can be sent to port 0, which the system refuses.
 #[test]
 fn a_refused_datagram_counts_as_failed(rt: HostRuntime) -> Result<(), Fail> {
     let socket = open(&rt, at_port(0))?;
@@ -249,7 +263,8 @@ fn a_refused_datagram_counts_as_failed(rt: HostRuntime) -> Result<(), Fail> {
     Ok(())
 }
 
-// A random word is what the clock's low bits are, so that it differs from one moment to another; a moment is told in milliseconds.
+// A random word consists of the clock's low bits, so that it differs from one time to another;
+// times are in milliseconds.
 #[test]
 fn a_random_word_is_of_the_clock(rt: HostRuntime) -> Result<(), Fail> {
     let elapsed = Elapsed::start(&rt)?;

@@ -1,25 +1,26 @@
-//! Locks that are apart: what a worker does while the lock of another shard is held.
+//! Separate locks: a worker's actions while the lock of another shard is held.
 ghost use Rattle.std.specs.Prelude.{◌≡◌};
 
 use crate::feeder::{Feeder, Request, datagram};
 use crate::overtaking_tests::{
     COUNTER, CREATED, Feed, Held, Replies, Reply, Trial, hold, work_fed,
 };
+use fc_calls::ShardCall;
 use fc_jobs::Sent;
 use fc_registry::{Job, Shard, SlotNumber};
-use fc_workers::{Bench, Books, CallLog, Device, Gate, Locked, ShardCall};
+use fc_workers::{Bench, Books, CallLog, Device, Gate, Locked};
 use std::alloc::{AllocError, Global};
 use std::sync::Wait;
 use std::test::Fail;
 use std::thread::Threads;
 use std::time::Clock;
 
-// The codes of answers to a GET (RFC 7252, 12.1.2).
+// The codes of responses to a GET (RFC 7252, section 12.1.2).
 const VALID: u8 = 0x43;
 
 const CONTENT: u8 = 0x45;
 
-// A call of a shard that asks it nothing, and calls this while the shard's lock is held.
+// A call of a shard that requests nothing of it, and runs this while the shard's lock is held.
 #[derive(Drop)]
 struct WhileHeld<F: Drop> {
     call: F,
@@ -41,7 +42,7 @@ impl<X, F: FnOnce() -> X + Drop> ShardCall for WhileHeld<F> {
     }
 }
 
-// A bench of which a test can hold the lock of a shard.
+// A backend of which a test can hold the lock of a shard.
 pub(crate) trait Locks: Bench {
     fn hold<X, F: FnOnce() -> X + Drop, R: Wait>(&self, rt: &R, shard: u8, call: F) -> X
         requires { F.pre call }
@@ -54,7 +55,7 @@ impl<'a, B: Books, D: Device> Locks for Locked<'a, B, D> {
     }
 }
 
-// No job is held up.
+// A test hook that delays no job.
 #[derive(Drop)]
 pub(crate) struct Open;
 
@@ -66,7 +67,8 @@ impl Gate for Open {
     }
 }
 
-// An install in slot 1, and a GET of it, which a worker answers while the lock of this shard is held. The GET may have the ETag of a serial.
+// An install in slot 1, and a GET of it, which a worker answers while the lock of this shard is
+// held. The GET may have the ETag of a serial.
 #[derive(Drop)]
 pub(crate) struct ShardHeld {
     pub(crate) shard: u8,
@@ -91,7 +93,8 @@ impl ShardHeld {
 }
 
 impl<B: Locks> Feed<B> for ShardHeld {
-    // Has the counter installed, and sends a GET while it holds the lock, until that is answered or many turns have passed.
+    // Installs the counter, and sends a GET while it holds the lock, until that is answered or many
+    // iterations have passed.
     fn feed<R: Wait + Clock>(
         &self,
         rt: &R,
@@ -125,7 +128,7 @@ impl<B: Locks> Feed<B> for ShardHeld {
     }
 }
 
-// Whether the GET is answered by this code, while the lock is held.
+// Returns whether the GET is answered with this code while the lock is held.
 fn is_answered<R: Threads + Wait + Clock + Sync>(
     rt: &R,
     alloc: Global,
@@ -141,7 +144,7 @@ fn is_answered<R: Threads + Wait + Clock + Sync>(
     Ok(held.replies.as_slice() == wanted.as_slice())
 }
 
-// While the lock of shard 0 is held, a worker answers a GET of slot 1, which is of shard 1.
+// While the lock of shard 0 is held, a worker answers a GET of slot 1, which belongs to shard 1.
 #[test]
 fn another_shards_lock_holds_nobody_up(rt: HostRuntime) -> Result<(), Fail> {
     let held = ShardHeld {
@@ -152,7 +155,8 @@ fn another_shards_lock_holds_nobody_up(rt: HostRuntime) -> Result<(), Fail> {
     Ok(())
 }
 
-// While the lock of shard 1 is held, a worker answers a GET of slot 1 that names the slot's serial: it takes no shard's lock.
+// While the lock of shard 1 is held, a worker answers a GET of slot 1 that names the slot's serial:
+// it takes no shard's lock.
 #[test]
 fn a_valid_state_takes_no_shards_lock(rt: HostRuntime) -> Result<(), Fail> {
     let held = ShardHeld {

@@ -1,4 +1,7 @@
-// Runs of a POST: what they give follows from the tables of instructions, helpers and the request, worked out by hand.
+//! Runs of a POST.
+//!
+//! Their results follow from the tables of instructions, helpers and the request, worked out by
+//! hand.
 use crate::tooling::assembled;
 use fc_cli::Status;
 use fc_help::{Method, NO_READINGS, Request, Vars};
@@ -7,7 +10,7 @@ use fc_verify::verify;
 use std::process::Abort;
 use std::test::Fail;
 
-// What a run is to give beside its code.
+// The results of a run, apart from its code.
 #[derive(Drop)]
 struct Given<'a> {
     reply: &'a [u8],
@@ -16,7 +19,7 @@ struct Given<'a> {
     steps: u32,
 }
 
-// The text's program answers a POST of slot 5, which brings nothing, with 2.04, and gives this.
+// The program of the source answers a POST of slot 5 without a payload with 2.04 and these results.
 fn check_post<R: Abort + AllocGlobal>(
     rt: &R,
     text: &[u8],
@@ -41,8 +44,8 @@ fn check_post<R: Abort + AllocGlobal>(
     Ok(())
 }
 
-// The method, which is 2, becomes the first word of two, and there is a notice and a reply. The way that a GET goes has one
-// step more.
+// The method, which is 2, becomes the first word of two, and there is a notify flag and a reply.
+// The path of a GET has one step more.
 #[test]
 fn a_post_puts_a_word_replies_and_notifies(rt: HostRuntime) -> Result<(), Fail> {
     check_post(
@@ -58,8 +61,9 @@ fn a_post_puts_a_word_replies_and_notifies(rt: HostRuntime) -> Result<(), Fail> 
     )
 }
 
-// 1,025 bytes don't fit into the reply of a POST, 1,024 do, and then no byte more: the answers 0, 1 and 0 are the three
-// words. The reply is the request's first bytes: the method 2, the slot, and zeros.
+// 1,025 bytes don't fit into the reply of a POST, 1,024 do, and then no byte more: the results 0, 1
+// and 0 are the three words. The reply consists of the request's first bytes: the method 2, the
+// slot, and zeros.
 #[test]
 fn a_reply_to_a_post_has_1024_bytes(rt: HostRuntime) -> Result<(), Fail> {
     let mut reply = [0u8; 1024];

@@ -1,4 +1,6 @@
-// Each call that asks for memory, once with ample memory, and nothing else beside it: tests/refused-memory refuses each of its requests.
+//! Each call that allocates memory, once with ample memory, and nothing else.
+//!
+//! tests/refused-memory refuses each of their allocations.
 use crate::overtaking_tests::COUNTER;
 use coap_block::Uploads;
 use coap_dedup::{DEFAULT_LIMITS, Exchanges};

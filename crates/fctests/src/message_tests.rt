@@ -1,9 +1,11 @@
-//! Datagrams with their meaning, from RFC 7252 and the server's own tables, and what no clause says.
+//! Datagrams with their meaning, from RFC 7252 and the server's own tables.
+//!
+//! They cover what no clause says.
 use coap_msg::{Bad, Code, Datagram, Message, MessageType, Outgoing, read, write};
 use std::alloc::AllocError;
 use std::process::Abort;
 
-/// What `read` answers: nothing where it reads a message.
+/// Returns the rejection by `read`, or `None` if it parses a message.
 fn refusal(bytes: &[u8]) -> Option<Bad> {
     match read(bytes) {
         Ok(_) => None,
@@ -29,22 +31,22 @@ static HEADER_CASES: [(&[u8], Option<Bad>); 10] = [
     (b"\x40\x00\x00", Some(Bad::Ignore)),
     (b"\x81\x01\x00\x0c", Some(Bad::Ignore)),
     (b"\x00\x01\x00\x0c", Some(Bad::Ignore)),
-    // A token of nine bytes, confirmable or not, and one that is cut.
+    // A token of nine bytes, confirmable or not, and a truncated one.
     (b"\x49\x01\x00\x08", Some(Bad::Reset(8))),
     (b"\x59\x01\x00\x08", Some(Bad::Ignore)),
     (b"\x42\x01\x12\x34\x70", Some(Bad::Reset(0x1234))),
-    // An empty message with something behind the id.
+    // An empty message with bytes after the message ID.
     (b"\x41\x00\x00\x07\x70", Some(Bad::Reset(7))),
     (b"\x60\x00\x00\x07\xff\x01", Some(Bad::Ignore)),
 ];
 
 static OPTION_CASES: [(&[u8], Option<Bad>); 10] = [
-    // A marker with nothing behind it.
+    // A marker with nothing after it.
     (b"\x40\x01\x00\x0a\xff", Some(Bad::Reset(10))),
-    // A half byte of 15 in either place.
+    // A nibble of 15 in either place.
     (b"\x40\x01\x00\x0a\xf0", Some(Bad::Reset(10))),
     (b"\x40\x01\x00\x0a\xbf", Some(Bad::Reset(10))),
-    // A value, a byte of 13 and bytes of 14 that are cut.
+    // A truncated value, a missing byte for 13, and missing bytes for 14.
     (b"\x40\x01\x00\x0a\xb2\x72", Some(Bad::Reset(10))),
     (b"\x40\x01\x00\x0a\xd0", Some(Bad::Reset(10))),
     (b"\x40\x01\x00\x0a\xe0\x00", Some(Bad::Reset(10))),
@@ -90,7 +92,7 @@ fn has_parts(message: &Message<'_>) -> bool {
         && message.payload() == b"hi".as_slice()
 }
 
-/// The numbers of the options of that message, and how long their values are.
+/// The numbers of the options of that message, and the lengths of their values.
 static NUMBERS: [(u16, usize); 4] = [(11, 1), (11, 1), (29, 1), (554, 0)];
 
 fn has_options(message: &Message<'_>) -> bool {

@@ -1,4 +1,6 @@
-// Observers of a server that follows a script (RFC 7641): the datagrams are worked out by hand.
+//! Observers of a server that follows a script (RFC 7641).
+//!
+//! The datagrams are worked out by hand.
 use crate::faulty::{Full, Unflushed};
 use crate::scripted::{Scripted, check_sent, comes, comes_at, follows};
 use crate::socket_tests::free_port;
@@ -16,8 +18,9 @@ use std::test::Fail;
 
 const TOKEN: [u8; 4] = [1, 2, 3, 4];
 
-// Sequence numbers and moments of two states, and whether the second is newer (RFC 7641, 3.4): by less than 2^23, by more than that downwards,
-// where the numbers begin anew, or by more than 128 seconds.
+// Sequence numbers and times of two states, and whether the second is newer (RFC 7641, section
+// 3.4): by less than 2^23, by more than that downwards, where the numbers begin again, or by more
+// than 128 seconds.
 static ORDER: [(u32, u64, u32, u64, bool); 10] = [
     (0, 0, 1, 0, true),
     (1, 0, 0, 0, false),
@@ -41,8 +44,10 @@ fn states_are_in_order(rt: HostRuntime) {
     }
 }
 
-// A message, and what it is to an observer: a state by Observe of no byte, of one and of three; an error, without Observe and with it; a success without it, or with one
-// of four bytes; a whole answer in its first block, the first of two, and the second; and a critical option that isn't known.
+// A message, and its classification by an observer: a state with Observe of no byte, of one and of
+// three; an error, without Observe and with it; a success without it, or with one of four bytes; a
+// complete response in its first block, the first of two, and the second; and an unrecognised
+// critical option.
 static NOTICES: [(&[u8], Notice); 11] = [
     (b"\x50\x45\x00\x01\x60\xff\x61", Notice::State(0)),
     (b"\x50\x45\x00\x01\x61\x05", Notice::State(5)),
@@ -76,7 +81,7 @@ fn responses_are_noticed(rt: HostRuntime) {
     }
 }
 
-// What names slot 1.
+// Names slot 1.
 fn slot_one(alloc: Global) -> Result<Errand<'static>, Fail> {
     let target = RequestTarget {
         path: Path::parse(alloc, b"/r/1")?,
@@ -88,7 +93,8 @@ fn slot_one(alloc: Global) -> Result<Errand<'static>, Fail> {
     }
 }
 
-// What an observer of slot 1 prints, by requests from message id 7 on, until so many lines are there or the script is at its end.
+// Returns the output of an observer of slot 1, whose requests begin with message ID 7, until it has
+// this many lines or the script ends.
 fn watched(alloc: Global, server: &mut Scripted, count: u32) -> Result<Vec<u8>, Fail> {
     let errand = slot_one(alloc)?;
     Ok(printed(alloc, server, &errand, count)?)
@@ -123,7 +129,8 @@ fn printed(
     Ok(out)
 }
 
-// The header of a response: type and token length, the code, the message id, and the token.
+// Sends a response with this header: the type and token length, the code, the message ID, and the
+// token.
 fn comes_with(
     server: &mut Scripted,
     at: u64,
@@ -139,7 +146,7 @@ fn an_observer_shows_what_is_newer(rt: HostRuntime) -> Result<(), Fail> {
     let mut server = follows(rt.alloc());
     comes_with(&mut server, 0, b"\x64\x45\x00\x07", b"\x61\x02\xff\x61")?;
     comes_with(&mut server, 1, b"\x54\x45\x10\x00", b"\x61\x03\xff\x62")?;
-    // an older state, one with another token, the acknowledgement again, and one with no token
+    // An older state, one with another token, the acknowledgement again, and one with no token.
     comes_with(&mut server, 2, b"\x54\x45\x10\x01", b"\x61\x01\xff\x78")?;
     comes(
         &mut server,
@@ -148,7 +155,7 @@ fn an_observer_shows_what_is_newer(rt: HostRuntime) -> Result<(), Fail> {
     )?;
     comes_with(&mut server, 2, b"\x64\x45\x00\x07", b"\x61\x09\xff\x78")?;
     comes(&mut server, b"\x50\x45\x10\x02", b"\x61\x09\xff\x78")?;
-    // a confirmable state, twice, and the last
+    // A confirmable state, twice, and the last one.
     comes_with(&mut server, 3, b"\x44\x45\x10\x03", b"\x61\x04\xff\x63\x0a")?;
     comes_with(&mut server, 4, b"\x44\x45\x10\x03", b"\x61\x04\xff\x63\x0a")?;
     comes_with(&mut server, 5, b"\x54\x84\x10\x04", &[])?;
@@ -169,7 +176,8 @@ fn an_observer_shows_what_is_newer(rt: HostRuntime) -> Result<(), Fail> {
     Ok(())
 }
 
-// After 128 seconds each state is newer; but a message that was shown is shown again only 247 seconds later.
+// After 128 seconds each state is newer; but a message that was shown is shown again only 247
+// seconds later.
 #[test]
 fn a_message_is_shown_once(rt: HostRuntime) -> Result<(), Fail> {
     let mut server = follows(rt.alloc());
@@ -210,7 +218,7 @@ fn a_message_is_shown_once(rt: HostRuntime) -> Result<(), Fail> {
     Ok(())
 }
 
-// A registration that is acknowledged first, and answered by a confirmable state of its own.
+// A registration that is acknowledged first, and answered by a separate confirmable state.
 #[test]
 fn a_registration_is_answered_later(rt: HostRuntime) -> Result<(), Fail> {
     let mut server = follows(rt.alloc());
@@ -237,7 +245,7 @@ fn an_observer_prints_so_many_lines(rt: HostRuntime) -> Result<(), Fail> {
     Ok(())
 }
 
-// What comes of an observer's deregistration, whose message id is 0.
+// Returns the result of an observer's deregistration, whose message ID is 0.
 fn ended(alloc: Global, server: &mut Scripted, errand: &Errand<'_>) -> Result<(), FetchFault> {
     let observer = Observer {
         errand,
@@ -270,7 +278,7 @@ fn an_observer_ends(rt: HostRuntime) -> Result<(), Fail> {
     Ok(())
 }
 
-// Whether an observation ends by its output, which takes three bytes and no more.
+// Returns whether an observation ends because of its output, which has space for three bytes.
 fn ends_by_its_output(alloc: Global, server: &mut Scripted, errand: &Errand<'_>) -> bool {
     let observer = Observer {
         errand,
@@ -294,7 +302,7 @@ fn ends_by_its_output(alloc: Global, server: &mut Scripted, errand: &Errand<'_>)
     matches!(&shown, Err(NotesError::Print(_)))
 }
 
-// The answer can't be printed: the deregistration is sent by the whole schedule all the same.
+// The response can't be printed: the deregistration is still sent by the whole schedule.
 #[test]
 fn an_observer_that_fails_deregisters_by_the_schedule(rt: HostRuntime) -> Result<(), Fail> {
     let alloc = rt.alloc();
@@ -316,7 +324,8 @@ fn an_observer_that_fails_deregisters_by_the_schedule(rt: HostRuntime) -> Result
     Ok(())
 }
 
-// A first state that goes on in further blocks is a fault (Block2 with number 0, more, 1,024 bytes).
+// A first state that continues in further blocks is a fault (Block2 with number 0, more, 1,024
+// bytes).
 #[test]
 fn a_first_state_of_more_blocks_is_a_fault(rt: HostRuntime) -> Result<(), Fail> {
     let alloc = rt.alloc();
@@ -333,7 +342,7 @@ fn a_first_state_of_more_blocks_is_a_fault(rt: HostRuntime) -> Result<(), Fail> 
     Ok(())
 }
 
-// A line that can't be handed on isn't printed: each is flushed when it is written.
+// A line that can't be flushed isn't printed: each is flushed when it is written.
 #[test]
 fn each_line_of_an_observer_is_flushed(rt: HostRuntime) -> Result<(), Fail> {
     let alloc = rt.alloc();
@@ -358,7 +367,7 @@ fn a_registration_is_rejected(rt: HostRuntime) -> Result<(), Fail> {
     Ok(())
 }
 
-// Nobody listens at the port.
+// No server listens at the port.
 #[test]
 fn an_observer_of_nobody_is_status_3(rt: HostRuntime) -> Result<(), Fail> {
     let alloc = rt.alloc();

@@ -1,4 +1,4 @@
-//! Observers, turns and notifications, with the moments that RFC 7641 and RFC 7252 give.
+//! Observers, leases and notifications, with the times of RFC 7641 and RFC 7252.
 use coap_msg::{Datagram, Endpoint, Token};
 use fc_help::{Method, Request};
 use fc_observe::{Observers, Registered, Ticked, Turn};
@@ -33,7 +33,8 @@ fn register(observers: &mut Observers, now: u64, port: u16, byte: u8, serial: u6
     observers.register(now, peer(port), &token(byte), &request, Some(2), serial)
 }
 
-// Notifies the first that is due, by a datagram of its id's low byte. Gives its port, and whether it is confirmable.
+// Notifies the first observer with a pending notification, by a datagram with the low byte of its
+// message ID. Returns its port, and whether it is confirmable.
 fn notify(
     observers: &mut Observers,
     now: u64,
@@ -48,7 +49,7 @@ fn notify(
     Some((port, confirmable))
 }
 
-// What a tick does, by a word.
+// The effect of a tick, in a word.
 #[derive(Clone, Copy, Debug, PartialEq, Eq)]
 enum Did {
     Resent,
@@ -67,7 +68,8 @@ fn tick(rt: &impl Abort, observers: &mut Observers, now: u64, bytes: &[u8]) -> D
     }
 }
 
-// The ticks after a confirmable notification that was sent at DAY with the random word 0: after how long, and what each does.
+// The ticks after a confirmable notification that was sent at DAY with the random word 0: the time
+// until each, and its effect.
 static TICKS: [(u64, Did); 11] = [
     (1_999, Did::Nothing),
     (2_000, Did::Resent),
@@ -170,7 +172,7 @@ fn turns_are_given_up(rt: HostRuntime) -> Result<(), Fail> {
     observers.sent(20, first, 0, 8, 0, &datagram(b"late"));
     assert!(rt; observers.out(first).is_none() && observers.next_due(20, 9).is_none());
     let second = observers.next_due(21, 9).ok_or("due again")?;
-    // It is given up by itself at 247,021.
+    // It is released by itself at 247,021.
     observers.advance(247_020);
     assert!(rt; observers.out(second).is_some() && observers.next_due(247_020, 9).is_none());
     observers.advance(247_021);
@@ -194,7 +196,7 @@ fn turns_keep_that_the_slot_was_empty(rt: HostRuntime) -> Result<(), Fail> {
     observers.miss(second);
     observers.advance(247_000);
     assert!(rt; observers.is_missing(second) && !observers.is_missing(first));
-    // It is given up.
+    // It is released.
     observers.advance(247_001);
     assert!(rt; !observers.is_missing(second) && !observers.is_out(second));
     Ok(())

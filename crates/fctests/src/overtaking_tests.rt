@@ -1,4 +1,4 @@
-// Jobs that overtake one another: in which order they are answered, and what the workers count.
+//! Jobs that overtake one another: the order of the answers, the workers' counts.
 ghost use Rattle.std.specs.Prelude.{◌≡◌, ◌+◌, ◌<◌};
 ghost use Rattle.fc_workers.specs.Fronts.{beginning};
 ghost use Rattle.fc_core.specs.Policies.{default_policy};
@@ -32,36 +32,36 @@ use std::time::{Clock, Duration};
 pub(crate) const COUNTER: &[u8] =
     b"FCB1\x08\x00\x09\x00\x09\x00\x00\x00\x00\x00\x00\x00\xb7\x01\x00\x00\x00\x00\x00\x00\x85\x00\x00\x00\x03\x00\x00\x00\x07\x00\x00\x00\x01\x00\x00\x00\xbf\x02\x00\x00\x00\x00\x00\x00\xb7\x01\x00\x00\x00\x00\x00\x00\x85\x00\x00\x00\x04\x00\x00\x00\x85\x00\x00\x00\x07\x00\x00\x00\xb7\x00\x00\x00\x00\x00\x00\x00\x95\x00\x00\x00\x00\x00\x00\x00";
 
-// The codes of the replies (RFC 7252, 12.1.2).
+// The codes of the responses (RFC 7252, section 12.1.2).
 pub(crate) const CREATED: u8 = 0x41;
 
 const CHANGED: u8 = 0x44;
 
 const UNAVAILABLE: u8 = 0xa3;
 
-// What was done with a server.
+// The results of a trial with a server.
 #[derive(Drop)]
 pub(crate) struct Held<T: Drop> {
-    // the replies, in the order in which they went out
+    // The responses, in the order in which they were sent.
     pub(crate) replies: ArrayVec<Reply, 128>,
-    // how often a run was overtaken
+    // The number of conflicts at commits.
     pub(crate) overtakings: u64,
     pub(crate) tallies: Vec<T>,
-    // how often the device was read
+    // The number of readings of the device.
     pub(crate) readings: usize,
 }
 
-// How many times a thread looks, once a millisecond, for what another one is to do.
+// The number of times that a thread checks, once a millisecond, for another thread's progress.
 const TURNS: u32 = 10_000;
 
-// A reply that went out: the number of its job, and its code.
+// A response that was sent: the number of its job, and its code.
 #[derive(Clone, Copy, Debug, Default, PartialEq, Eq)]
 pub(crate) struct Reply {
     pub(crate) job: u64,
     pub(crate) code: u8,
 }
 
-// The replies in the order in which they went out, and whether a thread looked for one in vain.
+// The responses in the order in which they were sent, and whether a thread waited for one in vain.
 #[derive(Drop)]
 pub(crate) struct Replies {
     all: Mutex<ArrayVec<Reply, 128>>,
@@ -81,7 +81,7 @@ impl Replies {
         all.iter().any(|it| it.job == job)
     }
 
-    // Waits for the reply of a job, but no longer than so many turns.
+    // Waits for the response of a job, for a limited number of checks.
     pub(crate) fn wait_for<R: Wait, C: Clock>(&self, rt: &R, clock: &C, job: u64) {
         for _turn in 0..TURNS {
             if self.has(rt, job) {
@@ -92,7 +92,7 @@ impl Replies {
         *self.missed.lock(rt) = true;
     }
 
-    // What the workers did: an error where a reply that was looked for didn't come.
+    // Returns the workers' results, or an error if an expected response wasn't sent.
     pub(crate) fn seen<T: Drop>(
         self,
         alloc: Global,
@@ -146,7 +146,7 @@ impl Moments for Replies {
     }
 }
 
-// Holds job 1 until job 2's reply went out.
+// A test hook that delays job 1 until job 2's response was sent.
 #[derive(Drop)]
 struct Holding<'c, 'r, C: Clock> {
     clock: &'c C,
@@ -162,7 +162,7 @@ impl<'c, 'r, C: Clock> Gate for Holding<'c, 'r, C> {
     }
 }
 
-// What a server's workers are fed, by the end that sends.
+// The input for a server's workers, through the sending end.
 pub(crate) trait Feed<B: Bench> {
     fn feed<R: Wait + Clock>(
         &self,
@@ -174,7 +174,7 @@ pub(crate) trait Feed<B: Bench> {
         requires { sent.channel ≡ feeder.now.jobs.now };
 }
 
-// Has workers work off what they are fed, through this gate: their shares.
+// Runs workers on an input, with this test hook, and returns their statistics.
 pub(crate) fn work_fed<
     B: Bench + Sync,
     G: Gate + Sync,
@@ -218,7 +218,7 @@ where
     Ok(shares?)
 }
 
-// An install, and then two POSTs for two workers. The first one is held.
+// An install, and then two POSTs for two workers. The first one is delayed.
 #[derive(Drop)]
 pub(crate) struct TwoAtOnce;
 
@@ -260,7 +260,7 @@ impl<B: Bench> Feed<B> for TwoAtOnce {
     }
 }
 
-// The job that the worker is at, and how often its run was asked about.
+// The worker's current job, and the number of hook calls for its run.
 #[derive(Drop)]
 struct Turn<T: Drop> {
     tallies: T,
@@ -268,7 +268,8 @@ struct Turn<T: Drop> {
     runs: u64,
 }
 
-// Installs the counter in slot 0 before the commits of the first runs of some jobs, with tallies of its own.
+// A test hook that installs the counter in slot 0 before the commits of the first runs of some
+// jobs, with tallies of its own.
 #[derive(Drop)]
 struct Changing<'a, B: Bench> {
     bench: &'a B,
@@ -298,8 +299,8 @@ impl<'a, B: Bench> Gate for Changing<'a, B> {
     }
 }
 
-// So many POSTs for one worker, to a slot that has the counter. Of each job whose number is a multiple of `every` so many runs
-// are overtaken.
+// POSTs for one worker, to a slot that has the counter. Of each job whose number is a multiple of
+// `every`, this many runs have a conflict.
 #[derive(Drop)]
 pub(crate) struct Overtaken {
     posts: u16,
@@ -362,7 +363,7 @@ impl<B: Bench> Feed<B> for Overtaken {
     }
 }
 
-// What is tried with a new server.
+// The trials with a new server.
 #[derive(Drop)]
 pub(crate) enum Trial {
     TwoAtOnce(TwoAtOnce),
@@ -391,7 +392,7 @@ impl Trial {
     }
 }
 
-// A device that has no sensor. It counts how often it is read.
+// A device that has no sensor. It counts its readings.
 #[derive(Drop)]
 pub(crate) struct Bare {
     reads: AtomicUsize,
@@ -414,7 +415,8 @@ impl Device for Bare {
     }
 }
 
-// Holds a trial with a new server of empty slots and so many tallies: how many changes of shard 0 each of them counted.
+// Runs a trial with a new server of empty slots and this many tallies. Returns the number of
+// changes of shard 0 that each of them counted.
 pub(crate) fn hold<R: Threads + Wait + Clock + Sync>(
     rt: &R,
     alloc: Global,
@@ -425,7 +427,7 @@ pub(crate) fn hold<R: Threads + Wait + Clock + Sync>(
     hold_named::<Brand, R>(rt, alloc, tallies, trial, blanks)
 }
 
-// Holds it with a server whose books have these names.
+// Runs it with a server whose ledgers have these names.
 fn hold_named<B: Books + Send + Sync, R: Threads + Wait + Clock + Sync>(
     rt: &R,
     alloc: Global,
@@ -491,7 +493,7 @@ fn overtaken_runs_are_run_again(rt: HostRuntime) -> Result<(), Fail> {
     assert!(rt; held.replies.iter().all(|it| it.code == CHANGED));
     assert_eq!(rt; held.overtakings, 7);
     assert!(rt; held.tallies.as_slice() == [100, 8].as_slice());
-    // one reading of the device for each taking, of which seven were overtaken
+    // One reading of the device for each snapshot, of which seven had a conflict.
     assert_eq!(rt; held.readings, 107);
     Ok(())
 }

@@ -1,4 +1,6 @@
-// A server as a client's own socket has it, over a socket of this host: the units of its waits and moments, and whose datagrams it hears.
+//! A server through a client's own socket, over a socket of this host.
+//!
+//! They test the units of its waits and times, and the sources of the datagrams that it accepts.
 use crate::socket_tests::at_port;
 use coap_client::peer::BUFFER;
 use coap_client::{Peer, UdpPeer};
@@ -9,12 +11,12 @@ use std::sync::atomic::{AtomicU64, Ordering};
 use std::test::Fail;
 use std::time::{Clock, Duration, Instant};
 
-// A socket of this host at a port that is free.
+// Opens a socket of this host at a free port.
 fn free_socket<R: Net>(rt: &R) -> io::Result<UdpSocket> {
     UdpSocket::bind(rt, at_port(0))
 }
 
-// A wait of one second is over after a second, and not much later.
+// A wait of one second ends after a second, and not much later.
 #[test]
 fn a_wait_is_of_seconds(rt: HostRuntime) -> Result<(), Fail> {
     let server = free_socket(&rt)?;
@@ -29,7 +31,7 @@ fn a_wait_is_of_seconds(rt: HostRuntime) -> Result<(), Fail> {
     Ok(())
 }
 
-// A clock that is 1,500 ms later each time that it is read.
+// A clock that advances by 1,500 ms each time that it is read.
 #[derive(Drop)]
 struct Stepping {
     reads: AtomicU64,
@@ -58,7 +60,8 @@ fn a_moment_is_of_milliseconds(rt: HostRuntime) -> Result<(), Fail> {
     Ok(())
 }
 
-// A network where another endpoint sends a byte to each socket that is bound, before the socket is connected.
+// A network in which another endpoint sends a byte to each socket that is bound, before the socket
+// is connected.
 #[derive(Drop)]
 struct Intruding<'a, R: Net> {
     net: &'a R,
@@ -86,7 +89,8 @@ impl<'a, R: Net> Net for Intruding<'a, R> {
     }
 }
 
-// A byte of another endpoint came first, and then one of the server: the server's is heard.
+// A byte from another endpoint arrived first, and then one from the server: the server's is
+// received.
 #[test]
 fn another_endpoint_s_datagram_is_passed_over(rt: HostRuntime) -> Result<(), Fail> {
     let server = free_socket(&rt)?;
@@ -106,7 +110,8 @@ fn another_endpoint_s_datagram_is_passed_over(rt: HostRuntime) -> Result<(), Fai
     Ok(())
 }
 
-// A datagram of 1,281 bytes fills the buffer, as each longer one does, and is passed over; one of 1,280 bytes is the longest that is heard.
+// A datagram of 1,281 bytes fills the buffer, as each longer one does, and is ignored; one of 1,280
+// bytes is the longest that is accepted.
 #[test]
 fn a_datagram_that_may_be_cut_is_passed_over(rt: HostRuntime) -> Result<(), Fail> {
     let server = free_socket(&rt)?;

@@ -1,4 +1,6 @@
-// Plays whose reading or writing fails or has no end, or that get no worker; what lines print is data of fcvectors.
+//! Plays whose reading or writing fails or doesn't end, or that get no worker.
+//!
+//! The output for lines is tested by the data of fcvectors.
 use crate::faulty::{Full, Unflushed};
 use clap::Error;
 use fc_cli::Status;
@@ -13,7 +15,8 @@ use std::io::{BufRead, BufReader, ErrorKind, Read, Write};
 use std::process::Abort;
 use std::test::Fail;
 
-// Whether a play ends in this status, and writes just this to its output and to where faults are told.
+// Returns whether a play ends in this status, with exactly these bytes on its output and its error
+// stream.
 fn plays<R: BufRead + Drop>(
     alloc: Global,
     input: R,
@@ -28,7 +31,7 @@ fn plays<R: BufRead + Drop>(
         && err.as_slice() == told.as_bytes()
 }
 
-// A reader that fails behind its bytes.
+// A reader that fails after its bytes.
 #[derive(Drop)]
 struct Torn<'a>(&'a [u8]);
 
@@ -66,7 +69,8 @@ fn failed_reading_is_status_3(rt: HostRuntime) {
     );
 }
 
-// What comes behind a line is read no further than shows that it is too long for one; the line before it was carried out.
+// After a line, no more text is read than shows that it is too long for a line; the line was
+// executed.
 #[test]
 fn a_line_without_end_is_bad(rt: HostRuntime) -> Result<(), Fail> {
     let line = b"0 1 4101123471b1720130\n".as_slice();
@@ -84,14 +88,15 @@ fn a_line_without_end_is_bad(rt: HostRuntime) -> Result<(), Fail> {
     Ok(())
 }
 
-// A line of these bytes and so many zeros is played.
+// Plays a line of these bytes and this many zeros, and returns the status.
 fn status_of_line(alloc: Global, start: &[u8], zeros: u64) -> io::Result<Status> {
     let line = LineLimit::new(start.chain(io::repeat(b'0').take(zeros)));
     let input = BufReader::new(alloc, line)?;
     Ok(play(alloc, input, &mut Full(0), &mut Full(99), DEFAULT_BEGIN))
 }
 
-// The longest line has the greatest moment, peer 255 and 65,507 bytes, which are ignored. With a zero in front it is too long.
+// The longest line has the greatest time, peer 255 and 65,507 bytes, which are ignored. With a
+// leading zero it is too long.
 #[test]
 fn the_longest_line_is_read(rt: HostRuntime) -> Result<(), Fail> {
     let status = status_of_line(rt.alloc(), b"18446744073709551615 255 ", 131_014)?;
@@ -101,7 +106,8 @@ fn the_longest_line_is_read(rt: HostRuntime) -> Result<(), Fail> {
     Ok(())
 }
 
-// The status of a play whose output, and then whose faults, have room for so many bytes.
+// Returns the status of a play whose output, and then whose error stream, has space for this many
+// bytes.
 fn status_in(alloc: Global, input: &[u8], out_room: usize, err_room: usize) -> Status {
     play(
         alloc,
@@ -139,14 +145,14 @@ fn failed_flushing_is_status_3(rt: HostRuntime) {
     );
 }
 
-// A command line that finds no memory isn't a bad one.
+// A command line without memory isn't a bad one.
 #[test]
 fn a_command_without_memory_is_status_3(rt: HostRuntime) {
     let status = explain(&rt, &Error::from(AllocError));
     assert!(rt; status.is_ok_and(|status| status == Status::Failed));
 }
 
-// Where no worker could be started the thread that takes the lines in works their jobs off, and says so.
+// If no worker could be started, the thread that reads the lines runs their jobs, and reports it.
 #[test]
 fn jobs_are_worked_off_without_workers(rt: HostRuntime) {
     let alloc = rt.alloc();

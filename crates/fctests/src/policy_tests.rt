@@ -1,4 +1,6 @@
-//! A server with a policy, and clients at two addresses of this host: the expected bytes are worked out by hand.
+//! A server with a policy, and clients at two addresses of this host.
+//!
+//! The expected bytes are worked out by hand.
 use crate::socket_tests::{at_port, check_logged, serve_while};
 use coap_dedup::Limits;
 use fc_core::{MOST_NETWORKS, Network, Policy};
@@ -27,7 +29,7 @@ const POLICY: Policy = Policy {
     confirm_after: CONFIRM_AFTER,
 };
 
-// DELETE /p/0 and GET /r/0, confirmable, with these ids; and a GET that isn't confirmable.
+// DELETE /p/0 and GET /r/0, confirmable, with these message IDs; and a GET that isn't confirmable.
 const DELETE_1: [u8; 8] = [0x40, 0x04, 0x00, 0x01, 0xb1, b'p', 0x01, b'0'];
 
 const GET_2: [u8; 8] = [0x40, 0x01, 0x00, 0x02, 0xb1, b'r', 0x01, b'0'];
@@ -36,12 +38,13 @@ const GET_3: [u8; 8] = [0x40, 0x01, 0x00, 0x03, 0xb1, b'r', 0x01, b'0'];
 
 const NON_4: [u8; 8] = [0x50, 0x01, 0x00, 0x04, 0xb1, b'r', 0x01, b'0'];
 
-// A client at an address of this host.
+// Opens a client at an address of this host.
 fn client_at<R: Net>(rt: &R, ip: Ipv4Addr) -> io::Result<UdpSocket> {
     open(rt, SocketAddrV4::new(ip, 0))
 }
 
-// The first four bytes of what a datagram is answered within so many milliseconds; zeros where nothing comes.
+// Returns the first four bytes of the response to a datagram within this many milliseconds; zeros
+// if there is none.
 fn answered(client: &UdpSocket, port: u16, datagram: &[u8], wait: u64) -> io::Result<[u8; 4]> {
     client.set_read_timeout(Some(Duration::from_millis(wait)))?;
     client.send_to(datagram, at_port(port))?;
@@ -52,7 +55,8 @@ fn answered(client: &UdpSocket, port: u16, datagram: &[u8], wait: u64) -> io::Re
     }
 }
 
-// Another address is forbidden to remove a program, its repeat gets the same, and above its share it is answered 5.03 or not at all; the manager removes.
+// Another address is forbidden to remove a program, and its duplicate gets the same response. Above
+// its share the address gets 5.03 or no response; the manager removes the program.
 fn ask_from_two<R: Abort + Net>(rt: &R, port: u16) -> Result<(), Fail> {
     let other = client_at(rt, Ipv4Addr::new(127, 0, 0, 2))?;
     let manager = client_at(rt, Ipv4Addr::LOCALHOST)?;

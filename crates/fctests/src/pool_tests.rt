@@ -1,8 +1,9 @@
-//! Pools: what a server comes to when its workers have come to their end.
+//! Pools: the state of a server after its workers have ended.
 use crate::feeder::{PEER, Request, datagram};
 use crate::overtaking_tests::{Bare, COUNTER, Replies};
 use fc_core::DEFAULT_POLICY;
 use fc_core::front::blank_emission;
+use fc_record::NoChanges;
 use fc_registry::SlotNumber;
 use fc_server::Begin;
 use fc_service::pool::{Feeder, Intake, Pool, run_pool};
@@ -11,7 +12,7 @@ use std::alloc::{AllocError, Global};
 use std::sync::Wait;
 use std::test::Fail;
 
-// The counter is installed in slots 1 and 9, which shard 1 owns, in slot 2, and in slot 9 again.
+// Installs the counter in slots 1 and 9, which shard 1 owns, in slot 2, and in slot 9 again.
 #[derive(Drop)]
 struct Installs {
     alloc: Global,
@@ -30,7 +31,8 @@ impl Feeder<Result<(), AllocError>> for Installs {
     }
 }
 
-// Each install is counted once, whichever worker it was, and the serials of its slot's shard have risen by as many.
+// Each install is counted once, whichever worker made it, and the serials of its slot's shard have
+// increased by as many.
 #[test]
 fn a_pool_counts_the_changes_of_each_shard(rt: HostRuntime) -> Result<(), Fail> {
     let replies = Replies::new();
@@ -45,6 +47,7 @@ fn a_pool_counts_the_changes_of_each_shard(rt: HostRuntime) -> Result<(), Fail> 
         wire: &replies,
         moments: &replies,
         device: &Bare::new(),
+        recorder: &NoChanges,
     };
     let mut err = Vec::new(rt.alloc());
     let installs = Installs { alloc: rt.alloc() };

@@ -1,5 +1,7 @@
-// Programs with calls that are installed and asked: the expected replies follow from the tables of instructions, helpers and
-// options, worked out by hand.
+//! Programs with calls that are installed and run.
+//!
+//! The expected replies follow from the tables of instructions, helpers and options, worked out by
+//! hand.
 use crate::tooling::assembled;
 use fc_cli::Status;
 use fc_server::DEFAULT_BEGIN;
@@ -8,8 +10,9 @@ use std::alloc::Global;
 use std::process::Abort;
 use std::test::Fail;
 
-// What is printed where slot 0 gets the text's program, with this size of the variables, and is asked twice, with the
-// end of a datagram that follows its path: a payload's marker and bytes in hex digits, or nothing.
+// Returns the output if the source's program, with this size of the variables, is installed in slot
+// 0 and gets two requests. The end of each datagram follows its path: a payload's marker and bytes
+// in hex digits, or nothing.
 fn printed<R: Abort + AllocGlobal>(
     rt: &R,
     text: &[u8],
@@ -30,7 +33,8 @@ fn printed<R: Abort + AllocGlobal>(
     Ok(out)
 }
 
-// Each time slot 0 replies a 2.05 with the ETag of the first install, and these hex digits behind it.
+// Each time slot 0 responds with a 2.05 with the ETag of the first install, and these hex digits
+// after it.
 fn check_replied<R: Abort + AllocGlobal>(
     rt: &R,
     text: &[u8],
@@ -46,7 +50,7 @@ fn check_replied<R: Abort + AllocGlobal>(
     Ok(())
 }
 
-// Each time slot 0 replies this code's byte alone.
+// Each time slot 0 responds with this code's byte alone.
 fn check_code<R: Abort + AllocGlobal>(rt: &R, text: &[u8], code: &str) -> Result<(), Fail> {
     let printed = printed(rt, text, 0, "")?;
     let wanted = format!(in rt.alloc(); "\n1 60{code}0002\n1 60{code}0003\n")?;
@@ -62,22 +66,23 @@ static REPLIES: [(&[u8], &str); 11] = [
         "ff07",
     ),
     (b"mov64 r2, 0\ncall 5\nmov64 r0, 0\nexit", ""),
-    // the low byte of a number, and the answer 1 of that
+    // The low byte of a number, and the result 1 of that.
     (
         b"mov64 r1, 321\ncall 6\nmov64 r1, r0\ncall 6\nmov64 r0, 0\nexit",
         "ff4101",
     ),
-    // a function writes into its caller's frame: R0 is 69 at the end
+    // A function writes into its caller's frame: R0 is 69 at the end.
     (
         b"mov64 r1, r10\nadd64 r1, -8\ncallf 2\nldxdw r0, r10, -8\nexit\nstdw r1, 0, 69\nmov64 r0, 0\nexit",
         "",
     ),
-    // and into that of its caller's caller it looks
+    // And it reads that of its caller's caller.
     (
         b"stdw r10, -8, 65\nmov64 r1, r10\nadd64 r1, -8\ncallf 1\nexit\ncallf 1\nexit\nldxb r1, r1, 0\ncall 6\nmov64 r0, 0\nexit",
         "ff41",
     ),
-    // four frames: each function puts its number into its own, calls the next, and then shows the number
+    // Four frames: each function stores its number into its own, calls the next, and then shows the
+    // number.
     (
         b"stdw r10, -8, 1\ncallf 4\nldxb r1, r10, -8\ncall 6\nmov64 r0, 0\nexit\nstdw r10, -8, 2\ncallf 3\nldxb r1, r10, -8\ncall 6\nexit\nstdw r10, -8, 3\ncallf 3\nldxb r1, r10, -8\ncall 6\nexit\nstdw r10, -8, 4\nldxb r1, r10, -8\ncall 6\nexit",
         "ff04030201",
@@ -97,12 +102,13 @@ static REPLIES: [(&[u8], &str); 11] = [
         b"mov64 r6, 65\nmov64 r7, 66\nmov64 r8, 67\nmov64 r9, 68\ncallf 10\nmov64 r1, r6\ncall 6\nmov64 r1, r7\ncall 6\nmov64 r1, r8\ncall 6\nmov64 r1, r9\ncall 6\nmov64 r0, 0\nexit\nmov64 r6, 1\nmov64 r7, 1\nmov64 r8, 1\nmov64 r9, 1\nmov64 r0, 0\nexit",
         "ff41424344",
     ),
-    // arguments and answers: 65, 66 and 67 are handed on, their sum comes back, and its low byte is replied
+    // Arguments and results: 65, 66 and 67 are passed on, their sum is returned, and its low byte
+    // is the reply.
     (
         b"mov64 r1, 65\nmov64 r2, 66\nmov64 r5, 67\ncallf 4\nmov64 r1, r0\ncall 6\nmov64 r0, 0\nexit\nmov64 r0, r1\nadd64 r0, r2\nadd64 r0, r5\nexit",
         "ffc6",
     ),
-    // a notice, and its answer 0
+    // `notify`, and its result 0.
     (b"call 7\nmov64 r1, r0\ncall 6\nmov64 r0, 0\nexit", "ff00"),
 ];
 
@@ -114,7 +120,8 @@ fn programs_with_calls_reply(rt: HostRuntime) -> Result<(), Fail> {
     Ok(())
 }
 
-// A program with 16 bytes of variables: it puts 7 into the second word, and then replies a helper's answer.
+// A program with 16 bytes of variables: it stores 7 into the second word, and then replies with a
+// helper's result.
 fn check_answer<R: Abort + AllocGlobal>(
     rt: &R,
     calls: &str,
@@ -127,26 +134,26 @@ fn check_answer<R: Abort + AllocGlobal>(
     check_replied(rt, text.as_bytes(), 16, payload, reply)
 }
 
-// Calls, a payload, and the last call's answer, its least byte first.
+// Calls, a payload, and the last call's result, its least byte first.
 static HELPED: [(&str, &str, &str); 14] = [
-    // the payload's length
+    // The payload's length.
     ("call 1", "", "ff0000000000000000"),
     ("call 1", "ff0a0b0c", "ff0300000000000000"),
-    // its bytes, and what is told past its end
+    // Its bytes, and the result past its end.
     ("mov64 r1, 1\ncall 2", "ff0a0b", "ff0b00000000000000"),
     ("mov64 r1, 2\ncall 2", "ff0a0b", "ffffffffffffffffff"),
     ("mov64 r1, -1\ncall 2", "ff0a0b", "ffffffffffffffffff"),
-    // the variables' words, and what is told past their end
+    // The variables' words, and the result past their end.
     ("mov64 r1, 0\ncall 3", "", "ff0000000000000000"),
     ("mov64 r1, 1\ncall 3", "", "ff0700000000000000"),
     ("mov64 r1, 2\ncall 3", "", "ff0000000000000000"),
-    // a word's number whose bytes begin at 2^64
+    // The number of a word whose bytes begin at 2^64.
     (
         "lddw r1, 2305843009213693953\ncall 3",
         "",
         "ff0000000000000000",
     ),
-    // what is put is found; past the end nothing is put
+    // A stored word is read back; past the end nothing is stored.
     (
         "mov64 r1, 0\nmov64 r2, -2\ncall 4\nmov64 r1, 0\ncall 3",
         "",
@@ -159,7 +166,7 @@ static HELPED: [(&str, &str, &str); 14] = [
         "",
         "ff0700000000000000",
     ),
-    // a notice
+    // `notify`.
     ("call 7", "", "ff0000000000000000"),
 ];
 
@@ -171,7 +178,8 @@ fn helpers_answer(rt: HostRuntime) -> Result<(), Fail> {
     Ok(())
 }
 
-// What a GET's run writes into the variables is gone before the next: both replies count from zero.
+// The variables that a GET's run writes are discarded before the next: both replies count from
+// zero.
 #[test]
 fn a_get_keeps_no_variables(rt: HostRuntime) -> Result<(), Fail> {
     check_replied(
@@ -183,7 +191,7 @@ fn a_get_keeps_no_variables(rt: HostRuntime) -> Result<(), Fail> {
     )
 }
 
-// A counter with a notice: nothing is replied beside the ETag.
+// A counter that sets the notify flag: nothing follows the ETag.
 #[test]
 fn a_counter_is_asked(rt: HostRuntime) -> Result<(), Fail> {
     check_replied(
@@ -195,8 +203,8 @@ fn a_counter_is_asked(rt: HostRuntime) -> Result<(), Fail> {
     )
 }
 
-// A reply of the request's first bytes, as many as the text's number says: the method 1, and zeros. The first 1,024 are
-// sent behind these hex digits of options.
+// A reply with the request's first bytes, as many as the source's number says: the method 1, and
+// zeros. The first 1,024 are sent after these hex digits of options.
 fn check_block<R: Abort + AllocGlobal>(rt: &R, count: u16, options: &str) -> Result<(), Fail> {
     let alloc = rt.alloc();
     let text = format!(in alloc; "mov64 r2, {count}\ncall 5\nmov64 r0, 0\nexit")?;
@@ -208,7 +216,8 @@ fn check_block<R: Abort + AllocGlobal>(rt: &R, count: u16, options: &str) -> Res
     check_replied(rt, text.as_bytes(), 0, "", reply)
 }
 
-// Block2 is option 23, 19 above the ETag, with one byte: block 0 of 1,024 bytes, and more to come (RFC 7959, 2.2).
+// Block2 is option 23, 19 above the ETag, with one byte: block 0 of 1,024 bytes, with more to
+// follow (RFC 7959, section 2.2).
 #[test]
 fn a_reply_above_1024_bytes_is_block_0(rt: HostRuntime) -> Result<(), Fail> {
     check_block(&rt, 1024, "")?;
@@ -216,8 +225,9 @@ fn a_reply_above_1024_bytes_is_block_0(rt: HostRuntime) -> Result<(), Fail> {
     check_block(&rt, 1100, "d1060e")
 }
 
-// Three times 1,104 bytes fit into 4,096, a fourth time they don't and none is added: 784 fit then, and no byte more. The
-// answers are the bits 111010 of a number, and what is right is told by 4.03, with which no reply is sent.
+// Three times 1,104 bytes fit into 4,096; a fourth time they don't, and none is added; then 784
+// fit, and no byte more. The results are the bits 111010 of a number. The right number is answered
+// by 4.03, without a reply.
 #[test]
 fn what_does_not_fit_is_not_added(rt: HostRuntime) -> Result<(), Fail> {
     check_code(
@@ -259,7 +269,7 @@ fn what_does_not_fit_is_not_added(rt: HostRuntime) -> Result<(), Fail> {
     )
 }
 
-// A function's exit with 131 is no answer of the program: its own exit is.
+// A function's exit with 131 isn't the program's answer: its own exit is.
 #[test]
 fn the_last_exit_answers(rt: HostRuntime) -> Result<(), Fail> {
     check_code(
@@ -267,6 +277,6 @@ fn the_last_exit_answers(rt: HostRuntime) -> Result<(), Fail> {
         b"callf 2\nmov64 r0, 132\nexit\nmov64 r0, 131\nexit",
         "84",
     )?;
-    // 1 is no answer
+    // 1 is no answer.
     check_code(&rt, b"callf 1\nexit\nmov64 r0, 1\nexit", "a0")
 }

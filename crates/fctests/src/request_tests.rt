@@ -1,11 +1,13 @@
-//! Datagrams with what is done about them, from the server's own tables, and values from RFC 7252, 7641 and 7959.
+//! Datagrams with their classification, from the server's own tables.
+//!
+//! The values are those of RFC 7252, 7641 and 7959.
 use coap_msg::{Code, Datagram, MessageType, read};
 use coap_opts::{
     Asking, Block, Classified, Reply, ReplyOptions, Request, classify, decode_uint, encode_uint,
 };
 use std::process::Abort;
 
-/// What is done about a datagram.
+/// The classification of a datagram.
 #[derive(Clone, Copy, PartialEq)]
 enum Outcome {
     Unread,
@@ -55,7 +57,7 @@ fn check_outcomes(rt: &impl Abort, cases: &[(&[u8], Outcome)]) {
     }
 }
 
-/// The request that a datagram is.
+/// Returns the request of a datagram.
 fn request_of(bytes: &[u8]) -> Option<Request<'_>> {
     let message = read(bytes).ok()?;
     match classify(&message) {
@@ -75,7 +77,7 @@ static TYPE_CASES: [(&[u8], Outcome); 17] = [
     (b"\x50\x45\x00\x07", Outcome::Ignored),
     (b"\x60\x45\x00\x07", Outcome::Ignored),
     (b"\x70\x01\x00\x07", Outcome::Ignored),
-    // Each method at its resources, and where it isn't served.
+    // Each method at its resources, and where it isn't allowed.
     (b"\x40\x01\x00\x01\xb1\x72\x01\x30", Outcome::Accepted),
     (b"\x50\x03\x00\x01\xb1\x70\x02\x36\x33", Outcome::Accepted),
     (b"\x40\x02\x00\x01\xb1\x72\x01\x30", Outcome::Accepted),
@@ -106,11 +108,11 @@ static PATH_CASES: [(&[u8], Outcome); 7] = [
 ];
 
 static CRITICAL_CASES: [(&[u8], Outcome); 13] = [
-    // If-Match, and Accept behind the path.
+    // If-Match, and Accept after the path.
     (b"\x40\x01\x00\x0d\x10\xa1\x72\x01\x30", BAD_OPTION),
     (b"\x40\x01\x00\x09\xb1\x72\x01\x30\x60", BAD_OPTION),
     (b"\x50\x01\x00\x09\xb1\x72\x01\x30\x60", Outcome::Silent),
-    // Uri-Host is ignored; with no byte it isn't recognised, and neither is a second one.
+    // Uri-Host is ignored; without a byte it isn't recognised, and neither is a second one.
     (
         b"\x40\x01\x00\x10\x31\x61\x81\x72\x01\x30",
         Outcome::Accepted,
@@ -129,7 +131,8 @@ static CRITICAL_CASES: [(&[u8], Outcome); 13] = [
         b"\x40\x01\x00\x10\x73\x00\x16\x33\x41\x72\x01\x30",
         BAD_OPTION,
     ),
-    // Proxy-Scheme, before an option that isn't recognised and a path that isn't there; with no byte it isn't recognised.
+    // Proxy-Scheme, before an unrecognised option and an unknown path; without a byte it isn't
+    // recognised.
     (b"\x40\x01\x00\x10\xd1\x1a\x61", PROXYING_NOT_SUPPORTED),
     (b"\x40\x01\x00\x10\x10\xd1\x19\x61", PROXYING_NOT_SUPPORTED),
     (b"\x40\x01\x00\x10\xd0\x1a", BAD_OPTION),
@@ -166,7 +169,7 @@ static BLOCK_CASES: [(&[u8], Outcome); 13] = [
         b"\x40\x03\x40\x00\xb1\x70\x01\x32\xd1\x03\x0f\xff\x00",
         BAD_REQUEST,
     ),
-    // Block2 elsewhere, also on an unknown path, and to one who asked without confirmation.
+    // Block2 elsewhere, also on an unknown path, and in a non-confirmable request.
     (b"\x40\x02\x00\x01\xb1\x78\xc1\x06", BAD_OPTION),
     (b"\x40\x03\x00\x01\xb1\x70\x01\x32\xc1\x06", BAD_OPTION),
     (b"\x50\x04\x00\x01\xb1\x70\x01\x32\xc1\x06", Outcome::Silent),
@@ -184,7 +187,7 @@ fn datagrams_are_classified(rt: HostRuntime) {
     check_outcomes(&rt, &BLOCK_CASES);
 }
 
-// A block is the one of this number and size, of which more follow or don't.
+// Returns whether a block has this number and size, and more follow or not.
 fn is_block(block: Block, number: u32, more: bool, szx: u8) -> bool {
     block.number() == number && block.more() == more && block.szx() == szx
 }
@@ -201,14 +204,14 @@ fn requests_name_blocks(rt: HostRuntime) {
 
 #[test]
 fn values_of_blocks(rt: HostRuntime) {
-    // The least value is no byte; leading zeros are read and not written.
+    // The least value has no byte; leading zeros are read and not written.
     assert!(rt; Block::read(&[]).value().is_empty());
     let second = Block::read(&[0x00, 0x00, 0x16]);
     assert!(rt; is_block(second, 1, false, 6) && second.size() == 1024);
     assert!(rt; second.value().as_slice() == [0x16].as_slice());
 }
 
-/// Whether a datagram is a request with this content format and this value of Observe.
+/// Returns whether a request has this Content-Format and this value of Observe.
 fn has_electives(bytes: &[u8], content_format: Option<u16>, observe: Option<u32>) -> bool {
     request_of(bytes).is_some_and(|request| {
         request.content_format == content_format && request.observe == observe
@@ -226,7 +229,7 @@ fn check_electives(
 
 #[test]
 fn elective_options(rt: HostRuntime) {
-    // Content-Format: the first of two stands, and neither where the first is too long.
+    // Content-Format: the first of two counts, and neither if the first is too long.
     check_electives(
         &rt,
         b"\x40\x01\x00\x01\xb1\x72\x01\x30\x11\x28\x01\x32",
@@ -293,7 +296,7 @@ fn integers(rt: HostRuntime) {
     assert!(rt; decode_uint(&[0, 0, 1, 0]) == 256);
 }
 
-/// A reply with a token of one byte.
+/// Makes a reply with a token of one byte.
 fn reply_of<'a>(code: Code, id: u16, options: ReplyOptions, payload: &'a [u8]) -> Reply<'a> {
     Reply {
         kind: MessageType::Acknowledgement,
@@ -316,7 +319,8 @@ fn check_reply(rt: &impl Abort, reply: &Reply<'_>, wanted: &[u8]) {
 #[test]
 fn replies(rt: HostRuntime) {
     let none = ReplyOptions::default();
-    // Content-Format 40 (RFC 6690, 7.1), and Block1 with number 0, more blocks and a size of 64.
+    // Content-Format 40 (RFC 6690, section 7.1), and Block1 with number 0, more blocks and a size
+    // of 64.
     let format = ReplyOptions {
         content_format: Some(40),
         ..none

@@ -1,4 +1,4 @@
-//! Responses on the wire, byte by byte as RFC 7252, RFC 7641 and RFC 7959 spell them.
+//! Responses on the wire, byte by byte, by RFC 7252, RFC 7641 and RFC 7959.
 ghost use Rattle.std.specs.Prelude.{◌<◌};
 
 use coap_msg::{Code, Datagram, Emission, Endpoint};
@@ -6,7 +6,7 @@ use coap_opts::{Block, ReplyOptions};
 use coap_reply::{BodyBlock, Envelope, content, ran, reply_kind, reset, respond, text};
 use std::process::Abort;
 
-// A reply with message id 0x1234 and the token `q`.
+// Returns the header data of a response with message ID 0x1234 and the token `q`.
 fn envelope(confirmable: bool) -> Envelope<'static> {
     Envelope {
         to: Endpoint::default(),
@@ -23,7 +23,7 @@ fn check(rt: &impl Abort, bytes: &Datagram, wanted: &[u8]) {
 // A body of 17 bytes, of which a block of 16 leaves one.
 static BODY: [u8; 17] = *b"sixteen bytes, 1!";
 
-// The block of this number and 16 bytes of the body.
+// Returns the block of the body with this number and 16 bytes.
 fn part(number: u32) -> Option<BodyBlock<'static>>
     requires { number < 8 }
 {
@@ -64,7 +64,8 @@ fn resets_are_empty(rt: HostRuntime) {
     check(&rt, &emission.bytes, b"\x70\x00\x12\x34");
 }
 
-// A serial, whether the slot is observed, and the options of a 2.05 Content: the ETag, and Observe with 0 to 3 bytes.
+// A serial, whether the slot is observed, and the options of a 2.05 (Content): the ETag, and
+// Observe with 0 to 3 bytes.
 static VERSIONS: [(u64, bool, &[u8]); 5] = [
     (
         16_777_215,

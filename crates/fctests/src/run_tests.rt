@@ -1,4 +1,6 @@
-// What an image can be asked in a run, and a report that can't be written; what is told of runs is data of fcvectors.
+//! Requests to an image in a run, and a report that can't be written.
+//!
+//! The output of runs is tested by the data of fcvectors.
 use crate::faulty::Full;
 use crate::tooling::assembled;
 use fc_cli::Status;
@@ -34,7 +36,7 @@ fn readings_have_a_limit(rt: HostRuntime) -> Result<(), Fail> {
     Ok(())
 }
 
-// So many bytes, each zero, by hex digits.
+// Returns this many zero bytes in hex digits.
 fn zeros(alloc: Global, count: u16) -> Result<String, AllocError> {
     let mut digits = String::new(alloc);
     for _byte in 0..count {
@@ -43,7 +45,7 @@ fn zeros(alloc: Global, count: u16) -> Result<String, AllocError> {
     Ok(digits)
 }
 
-// How an image can't be asked.
+// Returns the error of an invalid request to an image.
 fn fault(asked: Result<Asked, AskedError>) -> Option<AskedError> {
     asked.err()
 }

@@ -1,4 +1,4 @@
-// A server that follows a script, for tests of the client.
+//! A server that follows a script, for tests of the client.
 use coap_client::peer::{BUFFER, Buffer};
 use coap_client::{Errand, FetchFault, Fetched, Path, Peer, RequestTarget, fetch};
 use coap_msg::Datagram;
@@ -7,8 +7,8 @@ use std::alloc::{AllocError, Global};
 use std::io;
 use std::process::Abort;
 
-// A server whose datagrams are these, in order, each at its moment; an empty one says that the wait is over. It keeps what it is sent, and
-// for how many seconds it was waited for.
+// A server with these datagrams, in order, each at its time; an empty one means that the wait is
+// over. It stores the datagrams that it receives, and how many seconds the client waited for it.
 #[derive(Drop)]
 pub(crate) struct Scripted {
     alloc: Global,
@@ -26,7 +26,7 @@ impl Peer for Scripted {
         Ok(())
     }
 
-    // Of each datagram it is the moment that its place in the script is told by.
+    // The time of a datagram is the one at its place in the script.
     fn now(&mut self) -> io::Result<u64> {
         let moments = &self.moments;
         Ok(
@@ -56,7 +56,7 @@ impl Peer for Scripted {
     }
 }
 
-// These bytes, and these behind them.
+// Returns these bytes, followed by those.
 pub(crate) fn joined(alloc: Global, first: &[u8], second: &[u8]) -> Result<Vec<u8>, AllocError> {
     let mut bytes = Vec::new(alloc);
     bytes.extend_from_slice(first)?;
@@ -75,12 +75,12 @@ pub(crate) fn follows(alloc: Global) -> Scripted {
     }
 }
 
-// The server sends these bytes, and these behind them.
+// Adds a datagram that the server sends: these bytes, followed by those.
 pub(crate) fn comes(server: &mut Scripted, first: &[u8], second: &[u8]) -> Result<(), AllocError> {
     comes_at(server, 0, first, second)
 }
 
-// The server sends them, and it is this moment, in milliseconds, when they have come.
+// Adds a datagram that arrives at this time, in milliseconds.
 pub(crate) fn comes_at(
     server: &mut Scripted,
     moment: u64,
@@ -92,7 +92,7 @@ pub(crate) fn comes_at(
     server.moments.push(moment).map_err(AllocError::from)
 }
 
-// What comes of asking this of a path by confirmable requests, from message id 7 on.
+// Returns the result of this request to a path by confirmable messages, with message IDs from 7 on.
 pub(crate) fn fetched(
     server: &mut Scripted,
     method: Method,
@@ -102,7 +102,7 @@ pub(crate) fn fetched(
     asked(server, true, method, path, payload)
 }
 
-// The same by confirmable requests or others.
+// The same by confirmable messages or others.
 pub(crate) fn asked(
     server: &mut Scripted,
     confirmable: bool,
@@ -124,7 +124,7 @@ pub(crate) fn asked(
     fetch(server.alloc, server, &errand, 7)
 }
 
-// A server that answers so: each datagram is two parts, one behind the other.
+// Makes a server with these responses: each datagram consists of two parts.
 pub(crate) fn answers(alloc: Global, script: &[(&[u8], &[u8])]) -> Result<Scripted, AllocError> {
     let mut server = follows(alloc);
     for (first, second) in script.iter().copied() {
@@ -133,7 +133,7 @@ pub(crate) fn answers(alloc: Global, script: &[(&[u8], &[u8])]) -> Result<Script
     Ok(server)
 }
 
-// The server got these bytes, and these behind them, as the datagram of this place.
+// The server received these bytes, followed by those, as the datagram at this place.
 pub(crate) fn check_sent<R: Abort>(
     rt: &R,
     server: &Scripted,

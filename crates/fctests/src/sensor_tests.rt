@@ -1,4 +1,4 @@
-// A server whose programs read a file: over a socket, while the file changes.
+//! A server whose programs read a file, over a socket, while the file changes.
 use crate::socket_tests::{at_port, client_of, install_reader, readings_of, serve_while};
 use fc_core::DEFAULT_POLICY;
 use fc_host::sensors::{FileSensors, Sensors};
@@ -13,7 +13,8 @@ use std::thread::Threads;
 use std::time::{Clock, Duration};
 use std::{fs, thread};
 
-// What a program reads behind the clock, some moments after the file was written.
+// Returns the sensor bytes that a program reads after the clock, some time after the file was
+// written.
 fn sensed<R: Clock>(
     rt: &R,
     client: &UdpSocket,
@@ -27,7 +28,7 @@ fn sensed<R: Clock>(
     Ok(sensed)
 }
 
-// The file isn't there, has 56 bytes and more, has others, has three, and isn't there again.
+// The file doesn't exist, has 56 bytes and more, has others, has three, and doesn't exist again.
 fn write_and_ask<R: Abort + AllocGlobal + Net + Clock + RandomSource + Files>(
     rt: &R,
     port: u16,
@@ -52,7 +53,7 @@ fn write_and_ask<R: Abort + AllocGlobal + Net + Clock + RandomSource + Files>(
     Ok(())
 }
 
-// Serves a program that replies its readings, while the file changes.
+// Serves a program that replies with its readings, while the file changes.
 fn check_sensed<
     R: Abort + AllocGlobal + Threads + Wait + Clock + Net + RandomSource + Files + Sync,
     Z: Sensors + Sync,

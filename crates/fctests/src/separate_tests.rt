@@ -1,4 +1,4 @@
-// Responses that come in messages of their own (RFC 7252, 5.2.2 and 5.2.3).
+//! Separate responses (RFC 7252, sections 5.2.2 and 5.2.3).
 use crate::scripted::{answers, asked, check_sent, fetched};
 use coap_client::FetchFault;
 use coap_opts::Method;
@@ -32,7 +32,8 @@ fn a_non_confirmable_response_is_taken(rt: HostRuntime) -> Result<(), Fail> {
     Ok(())
 }
 
-// Once it is acknowledged, a request isn't sent again; its answer is waited for, and given up.
+// After a request is acknowledged, it isn't sent again; the client waits for its response, and
+// gives up.
 #[test]
 fn an_acknowledged_request_is_not_sent_again(rt: HostRuntime) -> Result<(), Fail> {
     let mut server = answers(rt.alloc(), &[(b"", b""), (b"\x60\x00\x00\x07", b"")])?;
@@ -42,7 +43,8 @@ fn an_acknowledged_request_is_not_sent_again(rt: HostRuntime) -> Result<(), Fail
     Ok(())
 }
 
-// The response to the first block comes again: it is acknowledged again, and isn't taken for the response to the second.
+// A duplicate of the response to the first block is acknowledged again, and isn't accepted as the
+// response to the second.
 #[test]
 fn a_response_that_comes_again_answers_nothing(rt: HostRuntime) -> Result<(), Fail> {
     let first: (&[u8], &[u8]) = (b"\x40\x5f\x00\x01\xd1\x0e\x0e", b"");
@@ -66,7 +68,7 @@ fn a_response_that_comes_again_answers_nothing(rt: HostRuntime) -> Result<(), Fa
     Ok(())
 }
 
-// A response before its request was acknowledged may be that to another request.
+// A response before its request was acknowledged may belong to another request.
 #[test]
 fn a_response_before_the_acknowledgement_is_passed_over(rt: HostRuntime) -> Result<(), Fail> {
     let mut server = answers(

@@ -1,10 +1,13 @@
-// A server that names a smaller size of blocks: the client goes on in that size (RFC 7959, 2.3 to 2.5).
+//! A server that names a smaller block size: the client continues in that size.
+//!
+//! See RFC 7959, sections 2.3 to 2.5.
 use crate::scripted::{answers, check_sent, fetched};
 use coap_client::FetchFault;
 use coap_opts::Method;
 use std::test::Fail;
 
-// The body's first block has 1,024 bytes; the server wants 64, so that the next is number 16 of that size.
+// The body's first block has 1,024 bytes; the server requests 64, so that the next is number 16 of
+// that size.
 #[test]
 fn a_body_goes_on_in_smaller_blocks(rt: HostRuntime) -> Result<(), Fail> {
     let mut server = answers(
@@ -41,7 +44,7 @@ fn a_body_goes_on_in_smaller_blocks(rt: HostRuntime) -> Result<(), Fail> {
     Ok(())
 }
 
-// The size goes down again midway: blocks 0 of 1,024, 2 and 3 of 512, and 128 of 16 bytes.
+// The size decreases again midway: blocks 0 of 1,024, 2 and 3 of 512, and 128 of 16 bytes.
 #[test]
 fn a_body_goes_on_in_ever_smaller_blocks(rt: HostRuntime) -> Result<(), Fail> {
     let mut server = answers(
@@ -72,7 +75,7 @@ fn a_body_goes_on_in_ever_smaller_blocks(rt: HostRuntime) -> Result<(), Fail> {
     Ok(())
 }
 
-// An answer of 74 bytes in blocks of 64.
+// A response of 74 bytes in blocks of 64.
 #[test]
 fn an_answer_comes_in_smaller_blocks(rt: HostRuntime) -> Result<(), Fail> {
     let mut server = answers(
@@ -98,7 +101,8 @@ fn an_answer_comes_in_smaller_blocks(rt: HostRuntime) -> Result<(), Fail> {
     Ok(())
 }
 
-// Asked for block 1 of 1,024 bytes, the server answers by block 16 of 64 bytes, and the client asks for block 17.
+// The client requests block 1 of 1,024 bytes, the server responds with block 16 of 64 bytes, and
+// the client requests block 17.
 #[test]
 fn an_answer_goes_on_in_smaller_blocks(rt: HostRuntime) -> Result<(), Fail> {
     let mut server = answers(
@@ -121,7 +125,8 @@ fn an_answer_goes_on_in_smaller_blocks(rt: HostRuntime) -> Result<(), Fail> {
     Ok(())
 }
 
-// What comes where block 1 of 64 bytes was asked for: a larger block, one that begins elsewhere, a short one with others behind it, and a last one that is longer than its size.
+// Responses to a request of block 1 of 64 bytes: a larger block, one that begins elsewhere, a short
+// one that isn't the last, and a last one that is longer than its size.
 static NOT_THE_NEXT: [&[u8]; 4] = [
     b"\x60\x45\x00\x08\xd1\x0a\x03\xff\x01",
     b"\x60\x45\x00\x08\xd1\x0a\x22\xff\x01",

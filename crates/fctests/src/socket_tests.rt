@@ -1,4 +1,6 @@
-// A server and its clients in one process, over sockets of this host: the expected bytes are worked out by hand.
+//! A server and its clients in one process, over sockets of this host.
+//!
+//! The expected bytes are worked out by hand.
 ghost use Rattle.std.specs.Prelude.{◌≤◌, IfSome, length};
 
 use crate::tooling::assembled;
@@ -9,10 +11,11 @@ use fc_core::DEFAULT_POLICY;
 use fc_fetch::{FetchOptions, Shown, fetch};
 use fc_host::sensors::{NoSensors, Sensors};
 use fc_host::socket::{Buffer, Receiving, Sink, Source, open};
-use fc_service::serve::{Extent, Listening, serve, serve_at};
+use fc_record::NoChanges;
+use fc_service::serve::{Extent, Listening, Records, serve, serve_at};
 use fc_workers::CallLog;
 use log::sink::Memory;
-use log::{LevelFilter, Logged};
+use log::{LevelFilter, Log, Logged};
 use std::alloc::{AllocError, Global};
 use std::net::{Ipv4Addr, Net, SocketAddrV4, UdpSocket};
 use std::process::Abort;
@@ -25,7 +28,7 @@ use std::time::{Clock, Duration};
 use std::{io, thread};
 
 // A program that counts POSTs in eight bytes of variables: nine slots, budget nine.
-static COUNT: [u8; 88] = [
+pub(crate) static COUNT: [u8; 88] = [
     0x46, 0x43, 0x42, 0x31, 0x08, 0x00, 0x09, 0x00, 0x09, 0x00, 0x00, 0x00, 0x00, 0x00, 0x00, 0x00,
     0xb7, 0x01, 0x00, 0x00, 0x00, 0x00, 0x00, 0x00, 0x85, 0x00, 0x00, 0x00, 0x03, 0x00, 0x00, 0x00,
     0x07, 0x00, 0x00, 0x00, 0x01, 0x00, 0x00, 0x00, 0xbf, 0x02, 0x00, 0x00, 0x00, 0x00, 0x00, 0x00,
@@ -39,7 +42,7 @@ pub(crate) fn at_port(port: u16) -> SocketAddrV4 {
     SocketAddrV4::new(Ipv4Addr::LOCALHOST, port)
 }
 
-// A request of this path is answered so, and the client ends with this status.
+// A request to this path has this response, and the client ends with this status.
 pub(crate) fn check_asked<R: Abort + Net + Clock + RandomSource + AllocGlobal>(
     rt: &R,
     port: u16,
@@ -68,7 +71,7 @@ pub(crate) fn check_asked<R: Abort + Net + Clock + RandomSource + AllocGlobal>(
     );
 }
 
-// A counter is installed, asked to count, and asked.
+// Installs a counter, and sends it a POST and a GET.
 fn ask_counter<R: Abort + Net + Clock + RandomSource + AllocGlobal>(
     rt: &R,
     port: u16,
@@ -98,7 +101,15 @@ fn ask_counter<R: Abort + Net + Clock + RandomSource + AllocGlobal>(
     Ok(())
 }
 
-// Serves a socket: whether it did, and what was logged.
+// Records a server's end by a logger, and no change.
+pub(crate) fn unrecorded<L: Log>(log: &L) -> Records<'_, L, NoChanges> {
+    Records {
+        end: log,
+        changes: &NoChanges,
+    }
+}
+
+// Serves a socket. Returns whether it did, and the log.
 fn serve_logged<R: Threads + Wait + Clock + Sync, Z: Sensors + Sync>(
     rt: &R,
     alloc: Global,
@@ -110,11 +121,21 @@ fn serve_logged<R: Threads + Wait + Clock + Sync, Z: Sensors + Sync>(
     let log = Logged::new(rt, LevelFilter::Info, &memory);
     let mut err = Vec::new(alloc);
     let source = Receiving::new(socket);
-    let served = serve_at(rt, alloc, &log, &mut err, sensors, source, socket, extent);
+    let served = serve_at(
+        rt,
+        alloc,
+        &unrecorded(&log),
+        &mut err,
+        sensors,
+        source,
+        socket,
+        extent,
+    );
     (served.is_some(), memory)
 }
 
-// Serves a port of this host that is free, while a client in the same process asks it: what was logged.
+// Serves a free port of this host while a client in the same process sends it requests. Returns the
+// log.
 pub(crate) fn serve_while<
     R: Abort + AllocGlobal + Threads + Wait + Clock + Net + Sync,
     Z: Sensors + Sync,
@@ -137,7 +158,7 @@ pub(crate) fn serve_while<
     Ok(memory)
 }
 
-// Serves by so many workers: four datagrams, each answered.
+// Serves with this many workers: four datagrams, each answered.
 fn serve_counter<R: Abort + AllocGlobal + Threads + Wait + Clock + Net + RandomSource + Sync>(
     rt: &R,
     workers: u8,
@@ -168,7 +189,7 @@ fn a_server_answers_clients(rt: HostRuntime) -> Result<(), Fail> {
     serve_counter(&rt, 2)
 }
 
-// A port that another socket has can't be had.
+// A port that another socket has can't be opened.
 #[test]
 fn a_taken_port_is_status_3(rt: HostRuntime) -> Result<(), Fail> {
     let alloc = rt.alloc();
@@ -189,20 +210,27 @@ fn a_taken_port_is_status_3(rt: HostRuntime) -> Result<(), Fail> {
     };
     let timers = Vec::new(alloc);
     let status = serve(
-        &rt, alloc, &log, &mut err, &NoSensors, listening, timers, extent,
+        &rt,
+        alloc,
+        &unrecorded(&log),
+        &mut err,
+        &NoSensors,
+        listening,
+        timers,
+        extent,
     );
     let told = format!(in alloc; "UDP 127.0.0.1:{port}: Address already in use (os error 98)\n")?;
     assert!(rt; status == Status::Failed && err.as_slice() == told.as_bytes());
     Ok(())
 }
 
-// A port of this host where nobody listens.
+// Returns a port of this host at which no socket listens.
 pub(crate) fn free_port<R: Net>(rt: &R) -> io::Result<u16> {
     let socket = open(rt, at_port(0))?;
     Ok(socket.local_addr()?.port())
 }
 
-// A port where nobody listens is told at once.
+// A port without a listener is reported immediately.
 #[test]
 fn a_refused_port_is_status_3(rt: HostRuntime) -> Result<(), Fail> {
     let alloc = rt.alloc();
@@ -225,8 +253,9 @@ fn a_refused_port_is_status_3(rt: HostRuntime) -> Result<(), Fail> {
     Ok(())
 }
 
-// An image of 512 slots, 4,112 bytes: `mov64 r0, 0`, 511 times, and `exit`, with a budget of as many steps.
-fn largest_image(alloc: Global) -> Result<Vec<u8>, AllocError> {
+// An image of 512 slots, 4,112 bytes: `mov64 r0, 0`, 511 times, and `exit`, with a budget of as
+// many steps.
+pub(crate) fn largest_image(alloc: Global) -> Result<Vec<u8>, AllocError> {
     let mut image = Vec::new(alloc);
     image.extend_from_slice(b"FCB1\x00\x00\x00\x02\x00\x02\x00\x00\x00\x00\x00\x00")?;
     for _ in 0..511 {
@@ -236,11 +265,11 @@ fn largest_image(alloc: Global) -> Result<Vec<u8>, AllocError> {
     Ok(image)
 }
 
-// A program that replies the first 1,100 bytes of its request.
+// A program that replies with the first 1,100 bytes of its request.
 static LONG: &[u8] =
     b"FCB1\x00\x00\x04\x00\x04\x00\x00\x00\x00\x00\x00\x00\xb7\x02\x00\x00\x4c\x04\x00\x00\x85\x00\x00\x00\x05\x00\x00\x00\xb7\x00\x00\x00\x00\x00\x00\x00\x95\x00\x00\x00\x00\x00\x00\x00";
 
-// What is printed of its answer to a GET: the method 1, the slot 2, and zeros.
+// Returns the output for its response to a GET: the method 1, the slot 2, and zeros.
 fn long_answer(alloc: Global) -> Result<String, AllocError> {
     let mut text = format!(in alloc; "2.05\n0102")?;
     for _ in 2..1100 {
@@ -250,7 +279,7 @@ fn long_answer(alloc: Global) -> Result<String, AllocError> {
     Ok(text)
 }
 
-// The largest image goes up in five blocks, and an answer of 1,100 bytes comes in two.
+// The largest image is sent in five blocks, and a response of 1,100 bytes is received in two.
 fn ask_by_blocks<R: Abort + Net + Clock + RandomSource + AllocGlobal>(
     rt: &R,
     port: u16,
@@ -281,8 +310,9 @@ fn bodies_go_and_come_by_blocks(rt: HostRuntime) -> Result<(), Fail> {
     Ok(())
 }
 
-// A source that has a datagram at every second call, and nothing in time at the others: a path that is none, which needs no
-// job, and slot 0, which does and is empty. Then it has nothing.
+// A source that has a datagram at every second call, and none in time at the others. The first has
+// a path that doesn't exist, which needs no job; the second has slot 0, which needs one and is
+// empty. Then the source has nothing.
 #[derive(Drop)]
 struct Script {
     calls: usize,
@@ -292,7 +322,7 @@ static NO_PATH: [u8; 6] = [0x40, 0x01, 0x00, 0x01, 0xb1, 0x78];
 
 static NO_PROGRAM: [u8; 8] = [0x40, 0x01, 0x00, 0x02, 0xb1, 0x72, 0x01, 0x30];
 
-// Where a peer's datagrams come from.
+// The endpoint of a peer.
 const PEER: Endpoint = Endpoint {
     ip: [127, 0, 0, 1],
     port: 5683,
@@ -337,7 +367,7 @@ impl Sink for Lossy {
     }
 }
 
-// Serves the script: a receive that brings nothing is no datagram, and a lost reply is counted.
+// Serves the script: a receive without a result is no datagram, and a lost response is counted.
 fn serve_script<R: Abort + AllocGlobal + Threads + Wait + Clock + Sync>(
     rt: &R,
     level: LevelFilter,
@@ -358,7 +388,14 @@ fn serve_script<R: Abort + AllocGlobal + Threads + Wait + Clock + Sync>(
         policy: DEFAULT_POLICY,
     };
     let served = serve_at(
-        rt, alloc, &log, &mut err, &NoSensors, script, &lossy, extent,
+        rt,
+        alloc,
+        &unrecorded(&log),
+        &mut err,
+        &NoSensors,
+        script,
+        &lossy,
+        extent,
     );
     let calls = served.map(|script| script.calls);
     assert!(rt; calls == Some(4) && err.is_empty());
@@ -386,7 +423,8 @@ fn silence_is_no_datagram_and_a_loss_is_counted(rt: HostRuntime) -> Result<(), F
     Ok(())
 }
 
-// A program that counts POSTs in eight bytes of variables, and replies the count to a GET: a POST takes 12 instructions, a GET 8.
+// A program that counts POSTs in eight bytes of variables, and replies with the count to a GET: a
+// POST takes 12 instructions, a GET 8.
 static COUNTS: &[u8] = b"ldxb r6, r1, 0\n\
 mov64 r7, r2\n\
 jeq r6, 1, 7\n\
@@ -403,7 +441,8 @@ call 5\n\
 mov64 r0, 0\n\
 exit\n";
 
-// The program and the resource of a counter that is common to eight clients, and of one of each client's own.
+// The program and the resource of a counter that eight clients share, and of one of each client's
+// own.
 const COMMON: (&str, &str) = ("/p/0", "/r/0");
 
 static OWN: [(&str, &str); 8] = [
@@ -417,13 +456,13 @@ static OWN: [(&str, &str); 8] = [
     ("/p/8", "/r/8"),
 ];
 
-// A POST to the counter of this digit, under this message id.
+// Makes a POST to the counter with this digit, with this message ID.
 fn post_datagram(id: u16, digit: u8) -> [u8; 8] {
     let [high, low] = id.to_be_bytes();
     [0x40, 0x02, high, low, 0xb1, b'r', 0x01, digit]
 }
 
-// Whether a client's POST under this message id is answered 2.04.
+// Returns whether a client's POST with this message ID is answered 2.04.
 fn is_changed(client: &UdpSocket, id: u16) -> io::Result<bool> {
     let [high, low] = id.to_be_bytes();
     let mut answer = [0; 16];
@@ -431,7 +470,8 @@ fn is_changed(client: &UdpSocket, id: u16) -> io::Result<bool> {
     Ok(answer[..count] == [0x60, 0x44, high, low])
 }
 
-// Each client posts, under this message id, to the counter of the next digit, or all to that of digit 0; then they look for their answers.
+// Each client posts, with this message ID, to the counter of the next digit, or all of them to that
+// of digit 0; then they wait for their responses.
 fn post_at_once<R: Abort>(
     rt: &R,
     clients: &[UdpSocket],
@@ -450,7 +490,7 @@ fn post_at_once<R: Abort>(
     Ok(())
 }
 
-// Eight clients post 120 times each, to counters of their own and to the common one in turn.
+// Eight clients post 120 times each, alternately to their own counters and to the shared one.
 fn post_by_eight<R: Abort + AllocGlobal + Net>(rt: &R, port: u16) -> Result<(), Fail> {
     let server = at_port(port);
     let mut clients = Vec::new(rt.alloc());
@@ -464,7 +504,7 @@ fn post_by_eight<R: Abort + AllocGlobal + Net>(rt: &R, port: u16) -> Result<(), 
     Ok(())
 }
 
-// Eight clients post at once. Then each counter has as many as were posted to it.
+// Eight clients post concurrently. Then each counter has as many as were posted to it.
 fn ask_by_eight<R: Abort + AllocGlobal + Net + Clock + RandomSource>(
     rt: &R,
     port: u16,
@@ -505,7 +545,7 @@ fn ask_by_eight<R: Abort + AllocGlobal + Net + Clock + RandomSource>(
 
 #[test]
 fn eight_clients_count_right(rt: HostRuntime) -> Result<(), Fail> {
-    // nine PUTs, eight times 120 POSTs, nine GETs
+    // Nine PUTs, eight times 120 POSTs, nine GETs.
     let extent = Extent {
         workers: 2,
         limit: 978,
@@ -517,7 +557,8 @@ fn eight_clients_count_right(rt: HostRuntime) -> Result<(), Fail> {
     Ok(())
 }
 
-// An image of the second version that replies all of its readings: `mov64 r1, r4`, `mov64 r2, 64`, `call 5`, `mov64 r0, 0`, `exit`.
+// An image of the second version that replies with all of its readings: `mov64 r1, r4`, `mov64 r2,
+// 64`, `call 5`, `mov64 r0, 0`, `exit`.
 static READER: [u8; 56] = [
     0x46, 0x43, 0x42, 0x32, 0x00, 0x00, 0x05, 0x00, 0x05, 0x00, 0x00, 0x00, 0x00, 0x00, 0x00, 0x00,
     0xbf, 0x41, 0x00, 0x00, 0x00, 0x00, 0x00, 0x00, 0xb7, 0x02, 0x00, 0x00, 0x40, 0x00, 0x00, 0x00,
@@ -525,7 +566,8 @@ static READER: [u8; 56] = [
     0x95, 0x00, 0x00, 0x00, 0x00, 0x00, 0x00, 0x00,
 ];
 
-// The readings that `GET /r/0` is answered with: those 64 bytes behind the head, the token, the ETag and the payload marker.
+// Returns the readings in the response to `GET /r/0`: the 64 bytes after the header, the token, the
+// ETag and the payload marker.
 pub(crate) fn readings_of(
     client: &UdpSocket,
     server: SocketAddrV4,
@@ -543,7 +585,7 @@ pub(crate) fn readings_of(
     Ok(readings)
 }
 
-// Has the program that replies its readings installed in slot 0.
+// Installs the program that replies with its readings in slot 0.
 pub(crate) fn install_reader<R: Abort + Net + Clock + RandomSource + AllocGlobal>(
     rt: &R,
     port: u16,
@@ -561,14 +603,14 @@ pub(crate) fn install_reader<R: Abort + Net + Clock + RandomSource + AllocGlobal
     );
 }
 
-// A client of a server at this host, which waits for five seconds.
+// Opens a client of a server at this host, which waits for five seconds.
 pub(crate) fn client_of<R: Net>(rt: &R) -> io::Result<UdpSocket> {
     let client = open(rt, at_port(0))?;
     client.set_read_timeout(Some(Duration::from_secs(5)))?;
     Ok(client)
 }
 
-// Has the program installed, and asks it after 300 ms.
+// Installs the program, and sends it a request after 300 ms.
 fn ask_for_readings<R: Abort + Net + Clock + RandomSource + AllocGlobal>(
     rt: &R,
     port: u16,
@@ -583,7 +625,8 @@ fn ask_for_readings<R: Abort + Net + Clock + RandomSource + AllocGlobal>(
     Ok(())
 }
 
-// A device that has a clock alone reads the milliseconds since the server began, the least byte first, and zeros.
+// A device with a clock alone reads the milliseconds since the server began, the least byte first,
+// and zeros.
 fn check_clock<R: Abort + AllocGlobal + Threads + Wait + Clock + Net + RandomSource + Sync>(
     rt: &R,
     workers: u8,

@@ -1,4 +1,4 @@
-//! Timers: when they make their requests, for how long a datagram is waited for meanwhile, and where their responses go.
+//! Timers: the times of their requests and of receives, and their responses.
 ghost use Rattle.std.specs.Prelude.{◌≤◌, IfSome, length};
 
 use coap_msg::{Emission, Endpoint};
@@ -15,7 +15,7 @@ use std::sync::Wait;
 use std::sync::atomic::{AtomicUsize, Ordering};
 use std::test::Fail;
 
-// What the clock says, reading after reading.
+// The clock's values, reading after reading.
 static READINGS: [u64; 9] = [0, 1000, 1000, 1100, 4200, 4200, 4201, 4202, 5000];
 
 #[derive(Drop)]
@@ -42,7 +42,7 @@ const PEER: Endpoint = Endpoint {
     port: 40_000,
 };
 
-// How long the source is to wait, receive after receive, and who sends a byte then.
+// The waits of the source, receive after receive, and the sender of a byte then.
 static WAITS: [(Option<u64>, Option<Endpoint>); 4] = [
     (Some(1000), None),
     (Some(100), None),
@@ -50,7 +50,7 @@ static WAITS: [(Option<u64>, Option<Endpoint>); 4] = [
     (Some(100), Some(PEER)),
 ];
 
-// A source by that list, and how many receives waited as long as it says.
+// A source by that list, and the number of receives that waited as long as it says.
 #[derive(Drop)]
 struct Listed {
     calls: usize,
@@ -75,8 +75,9 @@ impl Source for Listed {
     }
 }
 
-// How long each receive of the server is to wait, and what it gives: a POST of /r/7 is due each 1,000 ms, one of /r/63 each 2,500 ms. At 4,200 ms two beats of
-// the first and one of the second are late, and each is asked once.
+// The waits of the server's receives, and their results: a POST of /r/7 each 1,000 ms, and one of
+// /r/63 each 2,500 ms. At 4,200 ms two beats of the first and one of the second are overdue, and
+// each makes one request.
 static RECEIVES: [(Option<u64>, Option<(&[u8], Endpoint)>); 7] = [
     (None, Some((b"\x50\x02\x00\x00\xb1r\x017", TIMERS))),
     (Some(100), None),
@@ -119,7 +120,7 @@ fn timers_ask_at_their_beats(rt: HostRuntime) -> Result<(), Fail> {
     Ok(())
 }
 
-// A sink that counts what goes to it.
+// A sink that counts its datagrams.
 #[derive(Drop)]
 struct Counting {
     sent: AtomicUsize,
@@ -134,7 +135,7 @@ impl Sink for Counting {
     }
 }
 
-// A response to a timer counts as sent, and reaches nobody.
+// A response to a timer counts as sent, and isn't sent to any endpoint.
 #[test]
 fn responses_to_timers_stay_here(rt: HostRuntime) {
     let counting = Counting {
@@ -151,7 +152,7 @@ fn responses_to_timers_stay_here(rt: HostRuntime) {
     assert_eq!(rt; counting.sent.load(Ordering::SeqCst), 1);
 }
 
-// The timers of a command line, or why it gives none.
+// Returns the timers of a command line, or why it has none.
 fn timers_of(alloc: Global, more: &[&str]) -> Result<Result<Vec<Timer>, BadTimer>, Fail> {
     let mut words = Vec::new(alloc);
     words.extend_from_slice(&["fcd", "serve", "--port", "5683"])?;
@@ -196,7 +197,8 @@ fn every_takes_a_period_and_a_slot(rt: HostRuntime) -> Result<(), Fail> {
     Ok(())
 }
 
-// A request holds an exchange for 247 s: 512 of 1,024 are those of one timer of 483 ms. A share is a limit as well.
+// A request needs an exchange for 247 s: 512 of 1,024 belong to one timer of 483 ms. A share is a
+// limit as well.
 #[test]
 fn timers_hold_half_of_the_exchanges(rt: HostRuntime) -> Result<(), Fail> {
     let alloc = rt.alloc();

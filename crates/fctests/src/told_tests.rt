@@ -1,5 +1,7 @@
-//! What a server behind locks is told: a moment, a signal, a turn that is given up, a random word. No clause says which state of its front or of a shard such a call met,
-//! nor what the word came to.
+//! Calls of a server with locks: a time, a signal, a release, and a random word.
+//!
+//! No clause says which state of its front or of a shard such a call met, nor the effect of the
+//! word.
 use crate::feeder::{PEER, Request, datagram};
 use crate::lock_tests::Open;
 use crate::overtaking_tests::{COUNTER, Held, Replies, Trial, hold};
@@ -15,29 +17,31 @@ use std::test::Fail;
 use std::thread::Threads;
 use std::time::Clock;
 
-// A GET of slot 0 that registers, with token 0x6f (RFC 7641, 2).
+// A GET of slot 0 that registers, with token 0x6f (RFC 7641, section 2).
 const REGISTRATION: &[u8] = &[0x41, 1, 0, 9, 0x6f, 0x60, 0x51, b'r', 0x01, b'0'];
 
-// What a server is told, once slot 0 has the counter, an observer and a new state.
+// The calls of a server whose slot 0 has the counter, an observer and a new state.
 #[derive(Clone, Copy)]
 pub(crate) enum Told {
-    // that its exchanges are over: then a repeat is a new request
+    // Its exchanges have expired: then a duplicate is a new request.
     Moment,
-    // an Acknowledgement of a notification, which keeps its observer, and a Reset message, which doesn't (RFC 7641, 3.6)
+    // An Acknowledgement of a notification, which keeps its observer, and a Reset message, which
+    // doesn't (RFC 7641, section 3.6).
     Signals,
-    // that a turn is given up: the observer gets the next one, at a later moment
+    // A lease is released: the observer gets the next one, at a later time.
     Turn,
-    // a random word, by which a confirmable notification is waited for (RFC 7252, 4.2)
+    // A random word, which determines the wait for a confirmable notification (RFC 7252, section
+    // 4.2).
     Word,
 }
 
-// 24 hours, after which a notification is confirmable (RFC 7641, 4.5).
+// 24 hours, after which a notification is confirmable (RFC 7641, section 4.5).
 const DAY: u64 = 86_400_000;
 
-// A random word that adds 500 ms to the 2,000 that a transmission is waited for.
+// A random word that adds 500 ms to the timeout of 2,000 ms.
 const WORD: u16 = 500;
 
-// The moment that is told, with this word.
+// The current time, with this word.
 #[derive(Drop)]
 struct Watch {
     now: AtomicU64,
@@ -65,7 +69,7 @@ impl Moments for Watch {
 }
 
 impl Told {
-    // Tells a new server: an error where what it is told doesn't show.
+    // Makes the calls on a new server; returns an error if they have no visible effect.
     pub(crate) fn hold<B: Bench, R: Wait>(
         &self,
         rt: &R,
@@ -106,10 +110,10 @@ impl Told {
     }
 }
 
-// Who has datagrams taken in, and works each job off itself.
+// The thread that delivers datagrams and runs each job itself.
 type Teller<'a, B> = Dispatcher<'a, B, Open, Replies, Watch>;
 
-// Has the counter installed in slot 0, an observer of it registered, and its state changed.
+// Installs the counter in slot 0, registers an observer of it, and changes its state.
 fn observe_counter<B: Bench, R: Wait>(
     rt: &R,
     alloc: Global,
@@ -121,7 +125,7 @@ fn observe_counter<B: Bench, R: Wait>(
     Ok(())
 }
 
-// Whether the exchange of the PUT is over 300,000 ms later (RFC 7252, 4.8.2).
+// Returns whether the exchange of the PUT has expired 300,000 ms later (RFC 7252, section 4.8.2).
 fn shows_moment<B: Bench, R: Wait>(
     rt: &R,
     alloc: Global,
@@ -132,7 +136,8 @@ fn shows_moment<B: Bench, R: Wait>(
     Ok(heard == Heard::Job)
 }
 
-// Whether the observer is notified after the Acknowledgement of its first notification, and no more after the Reset of its second.
+// Returns whether the observer is notified after the Acknowledgement of its first notification, and
+// not after the Reset of its second.
 fn shows_signals<B: Bench, R: Wait>(
     rt: &R,
     alloc: Global,
@@ -149,7 +154,7 @@ fn shows_signals<B: Bench, R: Wait>(
     Ok(is_first && is_second && !teller.notify(rt, 0, 50))
 }
 
-// Whether the observer gets a turn once more after its first one was given up, and no sooner.
+// Returns whether the observer gets one more lease after its first one was released, and no sooner.
 fn shows_turn<B: Bench, R: Wait>(rt: &R, bench: &B, own: &mut B::Tallies) -> bool {
     let mut log = CallLog::new();
     let mut job = blank_job();
@@ -164,7 +169,7 @@ fn shows_turn<B: Bench, R: Wait>(rt: &R, bench: &B, own: &mut B::Tallies) -> boo
     !is_early && bench.next_due(rt, 0, 21, &mut job, &mut log)
 }
 
-// Whether a confirmable notification is late 2,500 ms after it was sent, and no sooner.
+// Returns whether a confirmable notification times out 2,500 ms after it was sent, and no sooner.
 fn shows_word<B: Bench, R: Wait>(rt: &R, watch: &Watch, teller: &mut Teller<'_, B>) -> bool {
     watch.now.store(DAY, Ordering::SeqCst);
     let is_notified = teller.notify(rt, 0, DAY);
@@ -173,7 +178,7 @@ fn shows_word<B: Bench, R: Wait>(rt: &R, watch: &Watch, teller: &mut Teller<'_, 
     is_notified && !is_early && is_late
 }
 
-// Has a request for slot 0 taken in, at a moment in milliseconds.
+// Delivers a request for slot 0 at `now`, in milliseconds.
 fn ask<B: Bench, R: Wait>(
     rt: &R,
     alloc: Global,
@@ -186,7 +191,7 @@ fn ask<B: Bench, R: Wait>(
     Ok(hear(rt, teller, now, &bytes))
 }
 
-// Has a datagram taken in, at a moment in milliseconds.
+// Delivers a datagram at `now`, in milliseconds.
 fn hear<B: Bench, R: Wait>(rt: &R, teller: &mut Teller<'_, B>, now: u64, bytes: &[u8]) -> Heard {
     let mut reply = blank_emission();
     teller.hear(rt, now, PEER, bytes, &mut reply)

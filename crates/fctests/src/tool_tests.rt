@@ -1,10 +1,12 @@
-// The tools where reading or writing fails or has no end, and the words of their command lines; what they write and tell of texts and images is data of
-// fcvectors.
+//! The tools if reading or writing fails or doesn't end, and their command lines.
+//!
+//! The tools' output for sources and images is tested by the data of fcvectors.
 use crate::faulty::{Full, Unflushed};
 use crate::tooling::{Done, with_memory};
 use fc_cli::Status;
 use fc_isa::ImageVersion;
 use fc_tools::budget::Budget;
+use fc_tools::digest::digest;
 use fc_tools::tools::{check, image, list};
 use fc_tools::version::version_named;
 use std::alloc::Global;
@@ -44,7 +46,7 @@ fn a_budget_is_a_number_or_auto(rt: HostRuntime) {
     }
 }
 
-// As many bytes as are asked for: no count of slots fits their length.
+// As many bytes as are read: no number of slots fits their length.
 #[test]
 fn an_image_without_end_is_refused(rt: HostRuntime) -> Result<(), Fail> {
     let alloc = rt.alloc();
@@ -70,7 +72,7 @@ fn a_text_without_end_is_refused(rt: HostRuntime) -> Result<(), Fail> {
     Ok(())
 }
 
-// A reader that fails at once.
+// A reader that fails immediately.
 #[derive(Drop)]
 struct Torn;
 
@@ -143,4 +145,63 @@ fn words_name_versions(rt: HostRuntime) {
     assert!(rt; version_named(Some("2")) == Some(ImageVersion::Two));
     assert!(rt; version_named(Some("3")).is_none());
     assert!(rt; version_named(Some("")).is_none());
+}
+
+// Inputs and their SHA-256, from FIPS 180-2, appendix B, and NIST's examples. That of the image
+// above is from `sha256sum`.
+static DIGESTS: [(&[u8], &[u8]); 4] = [
+    (
+        b"abc",
+        b"ba7816bf8f01cfea414140de5dae2223b00361a396177a9cb410ff61f20015ad\n",
+    ),
+    (
+        b"abcdbcdecdefdefgefghfghighijhijkijkljklmklmnlmnomnopnopq",
+        b"248d6a61d20638b8e5c026930c3e6039a33ce45964ff2167f6ecedd419db06c1\n",
+    ),
+    (
+        b"",
+        b"e3b0c44298fc1c149afbf4c8996fb92427ae41e4649b934ca495991b7852b855\n",
+    ),
+    (
+        IMAGE,
+        b"9c6c17580b84033e4ab90a6cf407e2353a0d02a4f8170442a75c4293aeffd151\n",
+    ),
+];
+
+#[test]
+fn digests_are_those_of_the_standard(rt: HostRuntime) -> Result<(), Fail> {
+    let alloc = rt.alloc();
+    for (input, line) in DIGESTS.iter().copied() {
+        let mut input = input;
+        let mut out = Vec::new(alloc);
+        let mut err = Vec::new(alloc);
+        let status = digest(alloc, &mut input, &mut out, &mut err);
+        let done = with_memory(Done { status, out, err })?;
+        assert!(rt; done.status == Status::Done && done.err.is_empty());
+        assert!(rt; done.out.as_slice() == line);
+    }
+    Ok(())
+}
+
+// An endless input has no digest. It is a failure if an input can't be read, or if its digest can't
+// be written.
+#[test]
+fn a_digest_is_of_an_image(rt: HostRuntime) -> Result<(), Fail> {
+    let alloc = rt.alloc();
+    let mut out = Vec::new(alloc);
+    let mut err = Vec::new(alloc);
+    let status = digest(alloc, &mut io::repeat(b'F'), &mut out, &mut err);
+    let done = with_memory(Done { status, out, err })?;
+    assert!(rt; done.status == Status::Refused && done.out.is_empty());
+    assert!(rt;
+        done.err.as_slice()
+            == b"the input has more than 524296 bytes: no image is longer\n".as_slice()
+    );
+    let (mut out, mut err) = (Vec::new(alloc), Vec::new(alloc));
+    assert!(rt; digest(alloc, &mut Torn, &mut out, &mut err) == Status::Failed);
+    let mut input = IMAGE;
+    assert!(rt; digest(alloc, &mut input, &mut Full(3), &mut err) == Status::Failed);
+    let mut input = IMAGE;
+    assert!(rt; digest(alloc, &mut input, &mut Unflushed, &mut err) == Status::Failed);
+    Ok(())
 }

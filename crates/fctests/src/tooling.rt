@@ -1,11 +1,11 @@
-// The tools on bytes.
+//! The tools on bytes.
 use fc_cli::Status;
 use fc_isa::ImageVersion;
 use fc_tools::budget::Budget;
 use fc_tools::tools::image;
 use std::alloc::{AllocError, Global};
 
-// What a tool gave.
+// The result of a tool.
 #[derive(Drop)]
 pub(crate) struct Done {
     pub(crate) status: Status,
@@ -13,7 +13,7 @@ pub(crate) struct Done {
     pub(crate) err: Vec<u8>,
 }
 
-// Memory alone can fail where the reader and the writers are bytes.
+// Only an allocation can fail if the reader and the writers are bytes.
 pub(crate) fn with_memory(done: Done) -> Result<Done, AllocError> {
     match done.status {
         Status::Failed => Err(AllocError),

@@ -1,4 +1,4 @@
-//! Uploads and cuts, with the answers that RFC 7959 and the server's own bounds give.
+//! Uploads and cuts, with the answers by RFC 7959 and the server's own limits.
 use coap_block::{Added, PastEnd, Uploads, slice};
 use coap_msg::Endpoint;
 use coap_opts::Block;
@@ -7,7 +7,7 @@ use std::test::Fail;
 
 static BYTES: [u8; 1024] = [7; 1024];
 
-/// What is answered to a payload; of a whole body its length.
+/// The answer to a payload; for a complete body its length.
 #[derive(Clone, Copy, Debug, PartialEq, Eq)]
 enum Answer {
     Continue,
@@ -18,7 +18,9 @@ enum Answer {
     Full,
 }
 
-/// A payload: when it comes, its endpoint's port, its slot, the value of its Block1, its length, and what is answered.
+/// A payload, and the answer to it.
+///
+/// It has its time, its endpoint's port, its slot, the value of its Block1, and its length.
 type Step = (u64, u16, u8, Option<&'static [u8]>, usize, Answer);
 
 fn answer_of(added: &Added) -> Answer {
@@ -39,7 +41,7 @@ fn peer(port: u16) -> Endpoint {
     }
 }
 
-// The block that an option's value means.
+// Returns the block of an option's value.
 fn block(value: &[u8]) -> Option<Block> {
     if value.len() > 3 {
         return None;
@@ -67,7 +69,8 @@ fn check_step(rt: &impl Abort, uploads: &mut Uploads, step: Step) {
     );
 }
 
-// Eight blocks of 1,024 bytes and a last one of 16, which is the most; with 17 the transfer is gone.
+// Eight blocks of 1,024 bytes and a last one of 16, which is the maximum; with 17 the transfer is
+// removed.
 static BOUND: [Step; 20] = [
     (0, 1, 2, Some(b"\x0e"), 1024, Answer::Continue),
     (1, 1, 2, Some(b"\x1e"), 1024, Answer::Continue),
@@ -92,16 +95,17 @@ static BOUND: [Step; 20] = [
 ];
 
 static ORDER: [Step; 26] = [
-    // Blocks of 64 bytes: number 2 doesn't follow number 0, and the transfer is gone.
+    // Blocks of 64 bytes: number 2 doesn't follow number 0, and the transfer is removed.
     (0, 1, 2, Some(b"\x0a"), 64, Answer::Continue),
     (0, 1, 2, Some(b"\x2a"), 64, Answer::Incomplete),
     (0, 1, 2, Some(b"\x1a"), 64, Answer::Incomplete),
-    // Number 0 again begins anew.
+    // Number 0 again begins a new transfer.
     (0, 1, 2, Some(b"\x0a"), 64, Answer::Continue),
     (0, 1, 2, Some(b"\x1a"), 64, Answer::Continue),
     (0, 1, 2, Some(b"\x0a"), 64, Answer::Continue),
     (0, 1, 2, Some(b"\x12"), 5, Answer::Whole(69)),
-    // A payload of another length than the block's, with more to come, and a last one of more.
+    // A payload of another length than the block's, with more to follow, and a last one that is
+    // longer.
     (0, 1, 2, Some(b"\x0a"), 63, Answer::BadLength),
     (0, 1, 2, Some(b"\x0a"), 65, Answer::BadLength),
     (0, 1, 2, Some(b"\x02"), 65, Answer::BadLength),
@@ -115,7 +119,7 @@ static ORDER: [Step; 26] = [
     (0, 1, 2, Some(b"\x0a"), 64, Answer::Continue),
     (0, 1, 2, Some(b"\x0a"), 63, Answer::BadLength),
     (0, 1, 2, Some(b"\x12"), 64, Answer::Incomplete),
-    // Without Block1 the payload is the whole body, and a transfer stays.
+    // Without Block1 the payload is the complete body, and a transfer continues.
     (0, 1, 2, Some(b"\x0e"), 1024, Answer::Continue),
     (0, 1, 2, None, 10, Answer::Whole(10)),
     // Another endpoint and another slot have transfers of their own.
@@ -127,7 +131,7 @@ static ORDER: [Step; 26] = [
     (0, 1, 2, None, 0, Answer::Whole(0)),
 ];
 
-// A transfer is gone when it is idle for 247,000 ms.
+// A transfer is removed when it is idle for 247,000 ms.
 static IDLE: [Step; 4] = [
     (1000, 1, 2, Some(b"\x0a"), 64, Answer::Continue),
     (247_999, 1, 2, Some(b"\x1a"), 64, Answer::Continue),
@@ -144,7 +148,8 @@ fn payloads_are_answered(rt: HostRuntime) -> Result<(), Fail> {
     Ok(())
 }
 
-// Where 16 transfers are under way, another start is refused before anything else of it, and one of them may begin anew.
+// While 16 transfers are in progress, another start is refused before any other check, and one of
+// them may begin again.
 static CROWD: [Step; 9] = [
     (5, 1, 16, Some(b"\x0a"), 64, Answer::Full),
     (5, 1, 16, Some(b"\x0a"), 63, Answer::Full),
@@ -184,7 +189,8 @@ fn payloads_are_joined(rt: HostRuntime) -> Result<(), Fail> {
     Ok(())
 }
 
-// A body's length, the value of the asked Block2, and of the cut that is answered: where it begins, its length, and its value.
+// A body's length, the value of the requested Block2, and the cut in the answer: its start, its
+// length, and its value.
 type Case = (
     usize,
     Option<&'static [u8]>,
@@ -195,11 +201,11 @@ static CUTS: [Case; 14] = [
     (1100, None, Ok((0, 1024, Some(b"\x0e")))),
     (1100, Some(b"\x06"), Ok((0, 1024, Some(b"\x0e")))),
     (1100, Some(b"\x16"), Ok((1024, 76, Some(b"\x16")))),
-    // Whether more follow is the answer's own.
+    // Whether more follow is determined by the answer.
     (1100, Some(b"\x1e"), Ok((1024, 76, Some(b"\x16")))),
     (1100, Some(b"\x26"), Err(PastEnd)),
     (1100, Some(b"\x12"), Ok((64, 64, Some(b"\x1a")))),
-    // Up to 1,024 bytes go whole, unless a block is asked.
+    // Up to 1,024 bytes are sent complete, unless a block is requested.
     (1024, None, Ok((0, 1024, None))),
     (1024, Some(b"\x06"), Ok((0, 1024, Some(b"\x06")))),
     (1024, Some(b"\x16"), Err(PastEnd)),
@@ -211,7 +217,7 @@ static CUTS: [Case; 14] = [
     (0, Some(b"\x10"), Err(PastEnd)),
 ];
 
-// The bytes 0 to 250, again and again.
+// The bytes 0 to 250, repeated.
 fn body() -> [u8; 2048] {
     let mut bytes = [0; 2048];
     for i in 0..2048 {

@@ -1,8 +1,11 @@
-//! How long a server waits for each datagram: 100 ms, and, once none came in these, without end where it has nothing to do before one comes.
+//! The wait of a server for each datagram.
+//!
+//! It is 100 ms. If none arrived within these, it has no end as long as the server has nothing to
+//! do.
 ghost use Rattle.std.specs.Prelude.{◌≤◌, IfSome, length};
 
 use crate::failing_tests::{POST, PUT};
-use crate::socket_tests::put_datagram;
+use crate::socket_tests::{put_datagram, unrecorded};
 use coap_msg::{Emission, Endpoint};
 use fc_core::DEFAULT_POLICY;
 use fc_host::sensors::NoSensors;
@@ -23,7 +26,8 @@ const REGISTER: &[u8] = b"\x40\x01\x00\x03\x60\x51\x72\x01\x31";
 
 const DEREGISTER: &[u8] = b"\x40\x01\x00\x04\x61\x01\x51\x72\x01\x31";
 
-// How many milliseconds each receive waits, and what comes. An observer that was told of the last change has nothing to wait for.
+// The wait of each receive in milliseconds, and the datagram. An observer that was notified of the
+// last change has nothing to wait for.
 static RECEIVES: [(Option<u64>, Option<&[u8]>); 10] = [
     (Some(100), None),
     (None, Some(PUT)),
@@ -37,7 +41,7 @@ static RECEIVES: [(Option<u64>, Option<&[u8]>); 10] = [
     (None, Some(POST)),
 ];
 
-// A source by that list, and how many receives waited as long as it says.
+// A source by that list, and the number of receives that waited as long as it says.
 #[derive(Drop)]
 struct Listed {
     calls: usize,
@@ -61,7 +65,7 @@ impl Source for Listed {
     }
 }
 
-// A sink that all goes to.
+// A sink that accepts everything.
 #[derive(Drop)]
 struct Everywhere;
 
@@ -73,7 +77,7 @@ impl Sink for Everywhere {
     }
 }
 
-// Serves the list by so many workers.
+// Serves the list with this many workers.
 fn check_waits<R: Abort + AllocGlobal + Threads + Wait + Clock + Sync>(rt: &R, workers: u8) {
     let alloc = rt.alloc();
     let memory = Memory::new(alloc);
@@ -89,7 +93,7 @@ fn check_waits<R: Abort + AllocGlobal + Threads + Wait + Clock + Sync>(rt: &R, w
     let served = serve_at(
         rt,
         alloc,
-        &log,
+        &unrecorded(&log),
         &mut err,
         &NoSensors,
         listed,
@@ -105,11 +109,13 @@ fn a_server_that_has_nothing_to_do_waits_without_end(rt: HostRuntime) {
     check_waits(&rt, 2);
 }
 
-// A PUT of a program into slot 1 that takes 8,207 steps at most: four times 1,024 turns of two.
+// A PUT of a program into slot 1 that takes at most 8,207 steps: four times 1,024 iterations of
+// two.
 static PUT_DEAR: &[u8] =
     b"\x40\x03\x00\x01\xb1\x70\x01\x31\xff\x46\x43\x42\x32\x00\x00\x08\x00\x0f\x20\x00\x00\x00\x00\x00\x00\xb7\x06\x00\x00\x00\x00\x00\x00\xb7\x07\x00\x00\x00\x00\x00\x00\x07\x07\x00\x00\x01\x00\x00\x00\xa5\x07\xfe\xff\x00\x04\x00\x00\x07\x06\x00\x00\x01\x00\x00\x00\xa5\x06\xfb\xff\x04\x00\x00\x00\xb7\x00\x00\x00\x00\x00\x00\x00\x95\x00\x00\x00\x00\x00\x00\x00";
 
-// A source that gives a dear program and a POST to it, which a worker has been asking for by then, and then nothing: it keeps how long it is to wait while the job is at work.
+// A source that gives an expensive program and a POST to it, for which a worker is already waiting,
+// and then nothing: it stores its wait while the job runs.
 #[derive(Drop)]
 struct Busy<'a, C: Clock> {
     clock: &'a C,
@@ -117,7 +123,7 @@ struct Busy<'a, C: Clock> {
     seen: &'a AtomicUsize,
 }
 
-// The wait was 100 ms while the job was at work, or another.
+// Whether the wait was 100 ms while the job ran.
 const SHORT: usize = 1;
 
 const LONG: usize = 2;
@@ -147,7 +153,7 @@ impl<'a, C: Clock> Source for Busy<'a, C> {
     }
 }
 
-// A sink that holds the answer to a POST up until that wait is known, and for five seconds at most.
+// A sink that delays the response to a POST until that wait is known, and for at most five seconds.
 #[derive(Drop)]
 struct HeldUp<'a, C: Clock> {
     clock: &'a C,
@@ -169,7 +175,7 @@ impl<'a, C: Clock> Sink for HeldUp<'a, C> {
     }
 }
 
-// While a worker has a job, the next datagram is waited for 100 ms.
+// While a worker has a job, the server waits 100 ms for the next datagram.
 #[test]
 fn a_server_does_not_sleep_while_a_job_is_at_work(rt: HostRuntime) {
     let alloc = rt.alloc();
@@ -192,6 +198,15 @@ fn a_server_does_not_sleep_while_a_job_is_at_work(rt: HostRuntime) {
         first_id: 0,
         policy: DEFAULT_POLICY,
     };
-    let served = serve_at(&rt, alloc, &log, &mut err, &NoSensors, busy, &held, extent);
+    let served = serve_at(
+        &rt,
+        alloc,
+        &unrecorded(&log),
+        &mut err,
+        &NoSensors,
+        busy,
+        &held,
+        extent,
+    );
     assert!(rt; served.is_some() && seen.load(Ordering::SeqCst) == SHORT);
 }

@@ -1,4 +1,4 @@
--- What a vector says, by its lines, and which outputs it allows.
+-- Content of a vector, by its lines, and the outputs that it allows.
 use Rattle.std.specs.Prelude.{IsTrue, nat_eq, ◌≡◌, ◌≢◌, fold, ◌⊎◌, ◌↔◌, ℕ, List, [], ◌∷◌, ◌++◌, ◌==◌, ⊤}
 use Rattle.std.specs.List.{flat_map, slice_split, starts_with}
 use Rattle.fc_cli.specs.declared.status.Status.{Status}
@@ -11,7 +11,7 @@ use Rattle.fcvectors.specs.declared.case.Output.{Output}
 use Rattle.fcvectors.specs.declared.case.Vector.{Vector}
 use Rattle.fcvectors.specs.Lines.{IsCaseLine, copies_bytes}
 
--- the lines of a text, each as it is written
+-- lines of a text, each with its form.
 abbrev pub AreWritten : List (List ℕ) → List CaseLine → Type 0
 AreWritten [] [] = ⊤
 AreWritten (text ∷ texts) (line ∷ lines) = IsCaseLine text line × AreWritten texts lines
@@ -20,37 +20,37 @@ AreWritten texts lines = ⊥
 abbrev pub AreLines : List ℕ → List CaseLine → Type 0
 AreLines text lines = AreWritten (slice_split (λ byte. byte == 10) text) lines
 
--- what a line has of a stream
+-- a line's piece of a stream.
 abbrev pub piece_bytes : Stream → CaseLine → List ℕ
 piece_bytes Stdin (Piece Stdin copies) = copies_bytes copies
 piece_bytes Stdout (Piece Stdout copies) = copies_bytes copies
 piece_bytes Stderr (Piece Stderr copies) = copies_bytes copies
 piece_bytes stream line = []
 
--- the status behind a line
+-- status after a line.
 abbrev pub status_after : Status → CaseLine → Status
 status_after status (Ending said) = said
 status_after status Blank = status
 status_after status (Command command) = status
 status_after status (Piece stream copies) = status
 
--- the status that the last ending of the lines says, `Done` where none does
+-- status in the last ending of the lines, `Done` if there is none.
 abbrev pub last_status : List CaseLine → Status
 last_status lines = fold status_after Done lines
 
--- a vector's streams are those of its lines, in order, and its status is that of their last ending
+-- a vector's streams are those of its lines, in order, and its status is that of their last ending.
 pub record IsVectorOf (lines : List CaseLine) (vector : Vector) : Type 0 where
   pub stdin : vector.stdin.items ≡ flat_map (piece_bytes Stdin) lines
   pub stdout : vector.output.stdout.items ≡ flat_map (piece_bytes Stdout) lines
   pub stderr : vector.output.stderr.items ≡ flat_map (piece_bytes Stderr) lines
   pub status : vector.output.status ≡ last_status lines
 
--- `..` and a line feed
+-- `..` and a line feed.
 abbrev pub dots : List ℕ
 dots = 46 ∷ 46 ∷ 10 ∷ []
 
--- what is told is what the vector says, or begins with what is before its last line `..`; or the vector says nothing, and then something is told
--- just where the status isn't `Done`
+-- standard error is the vector's, or begins with the text before its last line `..`; or the vector
+-- has none, and then there is output exactly if the status isn't `Done`.
 abbrev pub AllowsTold : Status → List ℕ → List ℕ → Type 0
 AllowsTold status said told =
     ((said ≡ []) × ((told ≡ []) ↔ (status ≡ Done)))

@@ -1,4 +1,4 @@
--- The lines of a case, by how each is written, and the bytes that its pieces stand for.
+-- Forms of the lines of a case, and the bytes of its pieces.
 use Rattle.std.specs.Prelude.{◌≡◌, ◌⊎◌, ℕ, List, [], ◌∷◌, ◌++◌, true, false, if◌then◌else◌}
 use Rattle.std.specs.List.{repeat}
 use Rattle.fc_cli.specs.declared.status.Status.{Status}
@@ -10,7 +10,7 @@ use Rattle.fcvectors.specs.declared.line.Copies.{Copies}
 use Rattle.fcvectors.specs.declared.line.CaseLine.{CaseLine}
 use Rattle.fcvectors.specs.declared.line.CaseLine.TheVariants.{Blank, Command, Piece, Ending}
 
--- `#`, `$`, `=`, `>`, `!`, `*` and `\`
+-- `#`, `$`, `=`, `>`, `!`, `*` and `\`.
 abbrev pub hash : ℕ
 hash = 35
 
@@ -32,43 +32,43 @@ star = 42
 abbrev pub backslash : ℕ
 backslash = 92
 
--- a mark, a space and a text; or the mark alone, and no text
+-- a mark, a space and a text; or the mark alone, and no text.
 abbrev pub HasMark : ℕ → List ℕ → List ℕ → Type 0
 HasMark mark line text = (line ≡ mark ∷ (space ∷ text)) ⊎ ((line ≡ mark ∷ []) × (text ≡ []))
 
 abbrev pub HasNoMark : ℕ → List ℕ → Type 0
 HasNoMark mark line = (text : List ℕ) → HasMark mark line text → ⊥
 
--- nothing, or a comment
+-- nothing, or a comment.
 abbrev pub IsBlank : List ℕ → Type 0
 IsBlank line = (line ≡ []) ⊎ ((rest : List ℕ) × (line ≡ hash ∷ rest))
 
--- the line is a piece of this stream
+-- the line is a piece of this stream.
 abbrev pub IsPieceOf : List ℕ → Stream → List ℕ → Type 0
 IsPieceOf line Stdin piece = (piece ≡ line) × HasNoMark greater line × HasNoMark exclamation line
 IsPieceOf line Stdout piece = HasMark greater line piece
 IsPieceOf line Stderr piece = HasMark exclamation line piece
 
--- `*N*TEXT`: N copies of the text; or a text that begins with no star, once
+-- `*N*TEXT`: N copies of the text; or a text that begins with no star, once.
 abbrev pub IsCounted : List ℕ → ℕ → List ℕ → Type 0
 IsCounted counted count text =
     ((digits : List ℕ) × (counted ≡ star ∷ (digits ++ (star ∷ text))) × IsNumber digits count)
     ⊎ ((counted ≡ text) × (count ≡ 1) × ((rest : List ℕ) → text ≡ star ∷ rest → ⊥))
 
--- a piece that a backslash ends has no line feed behind each copy
+-- a piece that ends with a backslash has no line feed after each copy.
 abbrev pub IsPiece : List ℕ → Copies → Type 0
 IsPiece piece copies =
     ((counted : List ℕ) × (piece ≡ counted ++ (backslash ∷ [])) × IsCounted counted copies.count copies.text.now × (copies.ends_line ≡ false))
     ⊎ (IsCounted piece copies.count copies.text.now × ((front : List ℕ) → piece ≡ front ++ (backslash ∷ []) → ⊥) × (copies.ends_line ≡ true))
 
--- `refused`, `bad` and `failed`
+-- `refused`, `bad` and `failed`.
 abbrev pub IsWordOf : Status → List ℕ → Type 0
 IsWordOf Done word = ⊥
 IsWordOf Refused word = word ≡ 114 ∷ 101 ∷ 102 ∷ 117 ∷ 115 ∷ 101 ∷ 100 ∷ []
 IsWordOf Bad word = word ≡ 98 ∷ 97 ∷ 100 ∷ []
 IsWordOf Failed word = word ≡ 102 ∷ 97 ∷ 105 ∷ 108 ∷ 101 ∷ 100 ∷ []
 
--- the line of a case is written so
+-- the line of a case has this form.
 abbrev pub IsCaseLine : List ℕ → CaseLine → Type 0
 IsCaseLine line Blank = IsBlank line
 IsCaseLine line (Command command) = HasMark dollar line command.now
@@ -76,7 +76,7 @@ IsCaseLine line (Ending status) = (word : List ℕ) × HasMark equals_sign line 
 IsCaseLine line (Piece stream copies) = (piece : List ℕ) × IsPieceOf line stream piece × IsPiece piece copies
     × HasNoMark dollar line × HasNoMark equals_sign line × (IsBlank line → ⊥)
 
--- the bytes of one of the copies, and of all
+-- bytes of one of the copies, and of all.
 abbrev pub copy_bytes : Copies → List ℕ
 copy_bytes copies = copies.text.now ++ (if copies.ends_line then 10 ∷ [] else [])
 

@@ -8,21 +8,21 @@ use fc_cli::Status;
 use std::alloc::{AllocError, Global};
 use thiserror::Error;
 
-/// Why a case isn't carried out.
+/// The reason why a case isn't executed.
 #[derive(Debug, Drop, Error)]
 pub(crate) enum CaseError {
-    /// The line of this number, counted from 1, has no form that is read.
+    /// The line with this number, counted from 1, has no known form.
     #[error("line {0}: no line of a case")]
     BadLine(usize),
-    /// The vector of this line has no command, or one that isn't known.
+    /// The vector in this line has no command, or an unknown one.
     #[error("line {0}: no command of a vector")]
     BadCommand(usize),
-    /// There was no memory.
+    /// Memory couldn't be allocated.
     #[error("{0}")]
     Memory(#[from] AllocError),
 }
 
-/// How a program ends, with what it wrote.
+/// The exit status of a program, and its output.
 #[derive(Drop)]
 pub(crate) struct Output {
     pub(crate) status: Status,
@@ -30,7 +30,7 @@ pub(crate) struct Output {
     pub(crate) stderr: Vec<u8>,
 }
 
-/// A vector: what a command is given, and what has to come of it.
+/// A vector: the input of a command, and the output that it must have.
 #[derive(Drop)]
 pub(crate) struct Vector<'a> {
     pub(crate) command: &'a [u8],
@@ -41,7 +41,7 @@ pub(crate) struct Vector<'a> {
 /// Parses the lines of a case.
 ///
 /// # Errors
-/// The first line that is none of a case, or memory was refused.
+/// Returns the first line that has no form of a case, or that memory couldn't be allocated.
 pub(crate) fn lines_of(alloc: Global, text: &[u8]) -> Result<Vec<CaseLine<'_>>, CaseError>
     ensures { IfOk result (λ lines. AreLines text.now lines.items) }
 {
@@ -64,20 +64,22 @@ fn append_line<'a>(lines: &mut Vec<CaseLine<'a>>, line: CaseLine<'a>) -> Result<
     Ok(())
 }
 
-/// Whether a line begins a vector.
+/// Returns whether a line begins a vector.
 pub(crate) fn is_command(line: &CaseLine<'_>) -> bool {
     matches!(line, CaseLine::Command(_))
 }
 
-/// Whether lines are a vector: one of them isn't blank.
+/// Returns whether lines are a vector: one of them isn't blank.
 pub(crate) fn is_vector(lines: &[CaseLine<'_>]) -> bool {
     lines.iter().any(|line| !matches!(line, CaseLine::Blank))
 }
 
-/// The vector of these lines, with the command of their first, or this one where that is none.
+/// Returns the vector of these lines.
+///
+/// Its command is that of the first line, or `command` if that has none.
 ///
 /// # Errors
-/// Memory was refused.
+/// Returns `AllocError` if memory can't be allocated.
 pub(crate) fn vector_of<'a>(
     alloc: Global,
     lines: &[CaseLine<'a>],
@@ -96,7 +98,7 @@ pub(crate) fn vector_of<'a>(
     })
 }
 
-// The command of the first line.
+// Returns the command of the first line.
 fn command_of<'a>(lines: &[CaseLine<'a>]) -> Option<&'a [u8]> {
     match lines.first() {
         Some(CaseLine::Command(command)) => Some(command),
@@ -104,7 +106,7 @@ fn command_of<'a>(lines: &[CaseLine<'a>]) -> Option<&'a [u8]> {
     }
 }
 
-// The bytes of a stream, by its pieces in order.
+// Returns the bytes of a stream, from its pieces in order.
 fn bytes_of(alloc: Global, lines: &[CaseLine<'_>], stream: Stream) -> Result<Vec<u8>, AllocError>
     ensures { IfOk result (λ bytes. bytes.items ≡ flat_map (piece_bytes stream) lines.now) }
 {
@@ -115,7 +117,7 @@ fn bytes_of(alloc: Global, lines: &[CaseLine<'_>], stream: Stream) -> Result<Vec
     Ok(bytes)
 }
 
-// Appends what a line has of a stream.
+// Appends a line's piece of a stream.
 fn append_piece(line: &CaseLine<'_>, stream: Stream, bytes: &mut Vec<u8>) -> Result<(), AllocError>
     ensures { OnOk result (bytes.new.items ≡ bytes.old.items ++ piece_bytes stream line.now) }
 {
@@ -125,7 +127,7 @@ fn append_piece(line: &CaseLine<'_>, stream: Stream, bytes: &mut Vec<u8>) -> Res
     }
 }
 
-// The status that a line says, or that all is done.
+// Returns the status that a line gives, or `Done`.
 fn status_of(lines: &[CaseLine<'_>]) -> Status
     ensures { result ≡ last_status lines.now }
 {
@@ -134,7 +136,7 @@ fn status_of(lines: &[CaseLine<'_>]) -> Status
         .fold(Status::Done, |status, line| status_after(status, line))
 }
 
-// The status behind a line.
+// Returns the status after a line.
 fn status_after(status: Status, line: &CaseLine<'_>) -> Status
     ensures { result ≡ status_after status line.now }
 {
@@ -145,8 +147,11 @@ fn status_after(status: Status, line: &CaseLine<'_>) -> Status
 }
 
 impl Output {
-    /// Whether another output is as this one says: it has the same status, prints the same bytes, and tells the same; or at least what is before
-    /// `..`, where that is the last line; or, where this one tells nothing, something just where the status isn't `Done`.
+    /// Returns whether this expected output allows another one.
+    ///
+    /// The other output has the same status and the same bytes on standard output. On standard
+    /// error it has the same bytes; or it begins with those before `..`, if that is the last
+    /// expected line; or, if none is expected, it has output exactly if the status isn't `Done`.
     pub(crate) fn allows(&self, other: &Output) -> bool
         ensures { IsTrue result → Allows self.now other.now }
     {
@@ -168,7 +173,7 @@ impl Output {
     }
 }
 
-// What is before the last line, where that is `..`.
+// Returns the text before the last line, if that is `..`.
 fn before_dots(said: &[u8]) -> Option<&[u8]>
     ensures { IfSome result (λ start. said.now ≡ start.now ++ dots) }
 {

@@ -7,13 +7,15 @@ use std::{fs, io};
 #[derive(Clone, Copy)]
 pub(crate) struct Suite {
     pub(crate) folder: &'static str,
-    /// How the names of its files end.
+    /// The ending of its files' names.
     pub(crate) extension: &'static str,
-    /// The command of a vector that names none; no command where each has to.
+    /// The command of a vector without one; empty if each has to have one.
     pub(crate) command: &'static [u8],
 }
 
-/// Lines that are played, lists of events that are replayed, and texts and images through the assembler's tools.
+/// The suites: lines to play, events to replay, and sources and images.
+///
+/// The sources and images are for the assembler's tools.
 pub(crate) static SUITES: [Suite; 3] = [
     Suite {
         folder: "play",
@@ -32,17 +34,21 @@ pub(crate) static SUITES: [Suite; 3] = [
     },
 ];
 
-/// The suite that a file belongs to, and what it is called without its ending; none where its name ends otherwise.
+/// Returns the suite of a file, and the file's name without its ending.
+///
+/// Returns `None` if its name has another ending.
 pub(crate) fn suite_of(path: &str) -> Option<(&'static Suite, &str)> {
     SUITES
         .iter()
         .find_map(|suite| Some((suite, path.strip_suffix(suite.extension)?)))
 }
 
-/// The paths of the cases of all suites, in order, each suite's in that of their names.
+/// Returns the paths of the cases of all suites, in order.
+///
+/// The cases of a suite are in the order of their names.
 ///
 /// # Errors
-/// A folder can't be read, or memory was refused.
+/// Returns that a folder can't be read, or that memory couldn't be allocated.
 pub(crate) fn all_paths<R: Files + AllocGlobal + Clone + Drop>(rt: &R) -> io::Result<Vec<String>> {
     let mut paths = Vec::new(rt.alloc());
     for suite in &SUITES {

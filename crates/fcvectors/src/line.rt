@@ -6,7 +6,7 @@ use fc_cli::Status;
 use fc_lines::line::number;
 use std::alloc::AllocError;
 
-/// The streams of a program, by which a vector says what goes in and what comes out.
+/// The streams of a program, with a vector's input and expected output.
 #[derive(Clone, Copy, Debug, PartialEq, Eq)]
 pub(crate) enum Stream {
     Stdin,
@@ -14,7 +14,7 @@ pub(crate) enum Stream {
     Stderr,
 }
 
-/// So many copies of a text, each with a line feed behind it or without.
+/// Copies of a text, each with or without a line feed after it.
 #[derive(Clone, Copy)]
 pub(crate) struct Copies<'a> {
     pub(crate) count: u64,
@@ -27,11 +27,11 @@ pub(crate) struct Copies<'a> {
 pub(crate) enum CaseLine<'a> {
     /// Nothing, or a comment.
     Blank,
-    /// A vector begins, with this command.
+    /// The start of a vector, with its command.
     Command(&'a [u8]),
     /// A piece of a stream.
     Piece(Stream, Copies<'a>),
-    /// How the vector ends.
+    /// The status at the end of the vector.
     Ending(Status),
 }
 
@@ -39,7 +39,7 @@ impl Copies<'_> {
     /// Appends the copies to a stream's bytes.
     ///
     /// # Errors
-    /// Memory was refused.
+    /// Returns `AllocError` if memory can't be allocated.
     pub(crate) fn append_to(&self, bytes: &mut Vec<u8>) -> Result<(), AllocError>
         ensures { OnOk result (bytes.new.items ≡ bytes.old.items ++ copies_bytes self.now) }
     {
@@ -61,10 +61,17 @@ impl Copies<'_> {
     }
 }
 
-/// Parses a line of a case, without its line feed: nothing or `# ..`, a comment; `$ COMMAND`, which begins a vector; `> PIECE`, of what is printed;
-/// `! PIECE`, of what is told; `= refused`, `= bad` or `= failed`, how it ends; or else a piece of what is read. A piece is a text, or `*N*TEXT`,
-/// which is N copies of it; where `\` ends it no line feed stands behind each.
-/// `None` where it is none of them.
+/// Parses a line of a case, without its line feed.
+///
+/// - Nothing, or `# ..`: a comment.
+/// - `$ COMMAND`: the start of a vector.
+/// - `> PIECE`: a piece of standard output.
+/// - `! PIECE`: a piece of standard error.
+/// - `= refused`, `= bad` or `= failed`: the status at the end.
+/// - Any other line: a piece of standard input.
+///
+/// A piece is a text, or `*N*TEXT`, which is N copies of it. If it ends with `\`, no line feed
+/// follows each copy. Returns `None` if the line is malformed.
 pub(crate) fn parse(line: &[u8]) -> Option<CaseLine<'_>>
     ensures { IfSome result (IsCaseLine line.now) }
 {
@@ -81,7 +88,7 @@ pub(crate) fn parse(line: &[u8]) -> Option<CaseLine<'_>>
     Some(CaseLine::Piece(stream, copies_of(piece)?))
 }
 
-// The stream that a line without a command or an ending is a piece of, and the piece.
+// Returns the stream of a line without a command or an ending, and its piece.
 fn piece_of(line: &[u8]) -> (Stream, &[u8])
     ensures { IsPieceOf line.now result.0 result.1.now }
 {
@@ -94,7 +101,7 @@ fn piece_of(line: &[u8]) -> (Stream, &[u8])
     }
 }
 
-// What stands behind a mark and a space; nothing behind a mark alone.
+// Returns the text after a mark and a space; no text after a mark alone.
 fn after_mark(line: &[u8], mark: u8) -> Option<&[u8]>
     ensures { MatchOption result ((text : List ℕ) → HasMark mark line.now text → ⊥) (λ text. HasMark mark line.now text.now) }
 {
@@ -108,7 +115,7 @@ fn after_mark(line: &[u8], mark: u8) -> Option<&[u8]>
     }
 }
 
-// The copies that a piece stands for.
+// Returns the copies of a piece.
 fn copies_of(piece: &[u8]) -> Option<Copies<'_>>
     ensures { IfSome result (IsPiece piece.now) }
 {
@@ -118,7 +125,7 @@ fn copies_of(piece: &[u8]) -> Option<Copies<'_>>
     }
 }
 
-// So many copies of a text as `*N*` in front of it says, or one.
+// Returns the copies of a text, as many as `*N*` at its start says, or one.
 fn counted(text: &[u8], ends_line: bool) -> Option<Copies<'_>>
     ensures copies { IfSome result (λ copies. IsCounted text.now copies.count copies.text.now) }
     ensures ends_line { IfSome result (λ copies. copies.ends_line ≡ ends_line) }
@@ -139,7 +146,7 @@ fn counted(text: &[u8], ends_line: bool) -> Option<Copies<'_>>
     })
 }
 
-// The status by its word; what is done needs none.
+// Returns the status with this word; `Done` has none.
 fn status_named(word: &[u8]) -> Option<Status>
     ensures { IfSome result (λ status. IsWordOf status word.now) }
 {

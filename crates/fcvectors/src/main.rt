@@ -1,13 +1,16 @@
-//! Cases of lines, events, texts and images as data, and a `main` that carries each out by the library's function that a program calls, and
-//! compares what it prints.
+//! Cases of lines, events, sources and images as data, and a program to check them.
+//!
+//! It executes each case by the library's function that a program calls, and compares the output.
 //!
 //! # What is proved
 //!
-//! - Each line of a case says what is parsed of it. A vector's streams are those of its lines, in order, and its status that of their last
-//!   ending.
-//! - An output that is allowed has the status and prints the bytes that the vector says, and tells them, or begins with what is before
-//!   `..`.
-//! - That each vector is carried out is shown by the stored run, which has a case that differs.
+//! - Each line of a case has the form that it is parsed as. A vector's streams are those of its
+//!   lines, in order, and its status is that of their last ending.
+//! - An allowed output has the vector's status and standard output. Its standard error is the
+//!   vector's; or begins with the text before a last line `..`; or, if the vector has none, is
+//!   empty exactly if the status is `Done`.
+//! - It isn't proved that every vector is executed. The stored run shows it, and includes a case
+//!   that differs.
 //!
 //! By the contracts of `line::parse`, `case::lines_of`, `vector_of`, `Output::allows`.
 #![tactic(auto)]
@@ -55,7 +58,7 @@ fn run<R: Runtime + AllocGlobal + Threads + Wait + Sync, E: Write>(
     }
 }
 
-// Carries out the cases that the command line names, or all.
+// Executes the cases that the command line names, or all.
 fn obey<R: Runtime + AllocGlobal + Threads + Wait + Sync, E: Write>(
     rt: &R,
     err: &mut E,
@@ -78,7 +81,8 @@ fn obey<R: Runtime + AllocGlobal + Threads + Wait + Sync, E: Write>(
     Ok(status)
 }
 
-// Carries out the cases of these files. It ends `Refused` where something else comes of one than it says, and at once where one can't be carried out.
+// Executes the cases in these files. Returns `Refused` if one of them differs, and stops at the
+// first that can't be executed.
 fn check_files<R: Runtime + AllocGlobal + Threads + Wait + Sync, W: Write, E: Write>(
     rt: &R,
     out: &mut W,
@@ -96,7 +100,7 @@ fn check_files<R: Runtime + AllocGlobal + Threads + Wait + Sync, W: Write, E: Wr
     Ok(status)
 }
 
-// Carries out the case of this file, and prints whether that comes of it which it says.
+// Executes the case in this file, and prints whether it has the expected result.
 fn check_file<R: Runtime + AllocGlobal + Threads + Wait + Sync, W: Write, E: Write>(
     rt: &R,
     out: &mut W,
@@ -117,7 +121,7 @@ fn tell_misnamed<E: Write>(err: &mut E, path: &str) -> anyhow::Result<Status> {
     Ok(Status::Bad)
 }
 
-// Tells what was found of a case.
+// Prints the result of a case.
 fn tell_found<W: Write, E: Write>(
     out: &mut W,
     err: &mut E,
@@ -147,7 +151,7 @@ fn tell_difference<W: Write, E: Write>(
     Ok(Status::Refused)
 }
 
-// Carries out the case of this text.
+// Executes the case of this text.
 fn check_text<R: Runtime + AllocGlobal + Threads + Wait + Sync>(
     rt: &R,
     text: &[u8],
@@ -157,7 +161,7 @@ fn check_text<R: Runtime + AllocGlobal + Threads + Wait + Sync>(
     check_case(rt, &lines, command)
 }
 
-// Tells why a case isn't carried out.
+// Prints why a case isn't executed.
 fn explain<E: Write>(err: &mut E, name: &str, error: &CaseError) -> anyhow::Result<Status> {
     match error {
         CaseError::Memory(_) => {

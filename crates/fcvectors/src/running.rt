@@ -1,4 +1,4 @@
-//! Cases that are carried out.
+//! The execution of cases.
 use crate::case::{CaseError, Output, Vector, is_command, is_vector, vector_of};
 use crate::line::CaseLine;
 use crate::stage::{is_play, output_of};
@@ -9,10 +9,10 @@ use std::io::Write;
 use std::sync::Wait;
 use std::thread::Threads;
 
-/// Who works off what is played: nobody but this thread, one worker and two.
+/// The players of lines: this thread alone, one worker, and two workers.
 static PLAYERS: [Option<u8>; 3] = [None, Some(1), Some(2)];
 
-/// What came of a vector, where its case says something else.
+/// The output of a vector that differs from the expected one.
 #[derive(Drop)]
 pub(crate) struct Difference {
     /// The first line of the vector, counted from 1.
@@ -21,11 +21,12 @@ pub(crate) struct Difference {
     pub(crate) came: Output,
 }
 
-/// Carries out the vectors of a case, up to one of which something else comes than it says. Its lines before the first command are a vector with
-/// this command, where one of them isn't blank.
+/// Executes the vectors of a case, up to the first that differs.
+///
+/// If one of the lines before the first command isn't blank, they are a vector with this command.
 ///
 /// # Errors
-/// A vector has no command, or one that isn't known; or memory was refused.
+/// Returns that a vector has no command or an unknown one, or that memory couldn't be allocated.
 pub(crate) fn check_case<'a, R: AllocGlobal + Threads + Wait + Sync>(
     rt: &R,
     lines: &[CaseLine<'a>],
@@ -44,7 +45,7 @@ pub(crate) fn check_case<'a, R: AllocGlobal + Threads + Wait + Sync>(
     Ok(None)
 }
 
-// Carries out the vector of this line, one that plays by each of the players.
+// Executes the vector at this line; one that plays is executed by each of the players.
 fn check_vector<R: AllocGlobal + Threads + Wait + Sync>(
     rt: &R,
     vector: &Vector<'_>,
@@ -62,7 +63,7 @@ fn check_vector<R: AllocGlobal + Threads + Wait + Sync>(
     Ok(None)
 }
 
-// All players of a command whose last stage plays, the first of them of another.
+// Returns all players for a command whose last stage plays, and the first of them for any other.
 fn players_of(command: &[u8]) -> &'static [Option<u8>] {
     if is_play(command) {
         &PLAYERS
@@ -71,7 +72,7 @@ fn players_of(command: &[u8]) -> &'static [Option<u8>] {
     }
 }
 
-// A difference, unless there was no memory for the vector.
+// Makes a difference, unless there was no memory for the vector.
 fn found(line: usize, workers: Option<u8>, came: Output) -> Result<Difference, CaseError> {
     if came.status == Status::Failed {
         return Err(CaseError::Memory(AllocError));
@@ -84,10 +85,10 @@ fn found(line: usize, workers: Option<u8>, came: Output) -> Result<Difference, C
 }
 
 impl Difference {
-    /// Tells what came of the vector: by whom, how it ended, what it printed and what it told.
+    /// Prints the output of the vector: its player, its status, and its two streams.
     ///
     /// # Errors
-    /// The writer failed.
+    /// Returns the writer's error.
     pub(crate) fn tell<E: Write>(&self, err: &mut E, name: &str) -> io::Result<()> {
         let Output {
             status,

@@ -1,4 +1,4 @@
-//! The stages of a command: each is a function of the libraries, which a program calls.
+//! The stages of a command: each is a library function that a program calls.
 use crate::case::Output;
 use coap_dedup::{EXCHANGES, MOST_EXCHANGES};
 use fc_cli::Status;
@@ -23,14 +23,17 @@ use std::thread::Threads;
 /// The greatest serial.
 const LAST_SERIAL: u64 = 9_223_372_036_854_775_807;
 
-/// How many bytes a line of hex digits has: a slot's.
+/// The number of bytes in a line of hex digits: those of a slot.
 const LINE: usize = 8;
 
-/// Carries out a command on an input: its stages, parted by `|`, each on what the one before it printed, as long as they end `Done`. Lines are
-/// played by so many workers, or on this thread alone. `None` where a stage isn't known, or an option of it.
+/// Executes a command on an input.
+///
+/// Its stages are separated by `|`. Each reads the output of the one before it, as long as they end
+/// with `Done`. Lines are played by this many workers, or on this thread alone. Returns `None` if a
+/// stage or an option of it is unknown.
 ///
 /// # Errors
-/// Memory was refused, for what is handed on.
+/// Returns `AllocError` if memory for the data between stages can't be allocated.
 pub(crate) fn output_of<R: AllocGlobal + Threads + Wait + Sync>(
     rt: &R,
     workers: Option<u8>,
@@ -58,7 +61,7 @@ pub(crate) fn output_of<R: AllocGlobal + Threads + Wait + Sync>(
     Ok(Some(output))
 }
 
-/// Whether the last stage of a command plays.
+/// Returns whether the last stage of a command plays.
 pub(crate) fn is_play(command: &[u8]) -> bool {
     let start = command
         .iter()
@@ -100,7 +103,7 @@ fn run_plain(alloc: Global, name: &str, mut input: &[u8], output: &mut Output) -
     }
 }
 
-// How a stage ends that writes alone.
+// Returns the status of a stage that only writes.
 fn ending(writing: Result<(), AllocError>) -> Status {
     match writing {
         Ok(()) => Status::Done,
@@ -108,7 +111,7 @@ fn ending(writing: Result<(), AllocError>) -> Status {
     }
 }
 
-// Plays lines from the first serial and the first message id that the options say, 0 where they don't.
+// Plays lines from the first serial and the first message ID in the options, 0 if there are none.
 fn play_from<R: AllocGlobal + Threads + Wait + Sync>(
     rt: &R,
     workers: Option<u8>,
@@ -150,7 +153,8 @@ fn play_from<R: AllocGlobal + Threads + Wait + Sync>(
     })
 }
 
-// The policy that the options give: commas part its networks, and without an option it is the default's.
+// Returns the policy in the options: its networks are separated by commas, and without an option it
+// is the default.
 fn policy_in(alloc: Global, options: &str) -> Option<Policy> {
     let networks = option(options, "--managers").unwrap_or("0.0.0.0/0");
     let networks = networks.split(',').collect::<Vec<_>>(alloc).ok()?;
@@ -221,7 +225,7 @@ fn run_asked(
     }
 }
 
-// What the options ask a program, as those of `fcasm run` do.
+// Returns the request to a program in the options, which are those of `fcasm run`.
 fn asked_by(alloc: Global, options: &str) -> Option<Result<Asked, AskedError>> {
     let method = match option(options, "--method") {
         None | Some("get") => Method::Get,
@@ -238,20 +242,20 @@ fn asked_by(alloc: Global, options: &str) -> Option<Result<Asked, AskedError>> {
     })
 }
 
-// The word behind an option's name.
+// Returns the word after an option's name.
 fn option<'a>(options: &'a str, name: &str) -> Option<&'a str> {
     let mut words = options.split_whitespace();
     words.find(|word| *word == name)?;
     words.next()
 }
 
-// Whether each word with two dashes in front is one of these names.
+// Returns whether each word that begins with two dashes is one of these names.
 fn are_options(options: &str, names: &[&str]) -> bool {
     let mut words = options.split_whitespace();
     words.all(|word| !word.starts_with("--") || names.iter().any(|name| *name == word))
 }
 
-// Writes bytes by hex digits, the eight of a slot a line.
+// Writes bytes as hex digits, with the eight bytes of a slot in each line.
 fn write_digits(alloc: Global, bytes: &[u8], out: &mut Vec<u8>) -> Result<(), AllocError> {
     for slot in bytes.chunks(LINE) {
         let digits = hex::encode(alloc, slot)?;
@@ -261,7 +265,7 @@ fn write_digits(alloc: Global, bytes: &[u8], out: &mut Vec<u8>) -> Result<(), Al
     Ok(())
 }
 
-// Writes the bytes of lines of hex digits; `None` where they aren't.
+// Writes the bytes of lines of hex digits; returns `None` if they aren't hex digits.
 fn write_bytes(alloc: Global, lines: &[u8], out: &mut Vec<u8>) -> Option<Status> {
     let digits = lines.iter().copied().filter(|byte| *byte != b'\n');
     let Ok(digits) = digits.collect::<Vec<u8>>(alloc) else {

@@ -5,13 +5,13 @@ use Rattle.fcvectors.specs.Lines.{IsCounted, IsPiece, backslash}
 use Rattle.fcvectors.specs.declared.line.Copies.{Copies}
 use Rattle.fcvectors.proofs.line.copies_of.Goals as goal
 
--- a piece that a backslash ends
+-- a piece that ends with a backslash.
 cut_piece : (piece text end : List ℕ) (r : Option Copies) → piece ≡ text ++ end → end ≡ backslash ∷ []
     → IfSome r (λ copies. IsCounted text copies.count copies.text.now) → IfSome r (λ copies. copies.ends_line ≡ false) → IfSome r (IsPiece piece)
 cut_piece piece text end None is ends counted bare = tt
 cut_piece piece text end (Some copies) is ends counted bare = inl (text, is ∙ ap (λ xs. text ++ xs) ends, counted, bare)
 
--- one that none ends
+-- one that doesn't.
 whole_piece : (piece end : List ℕ) (r : Option Copies) → ((front : List ℕ) → piece ≡ front ++ end → ⊥) → end ≡ backslash ∷ []
     → IfSome r (λ copies. IsCounted piece copies.count copies.text.now) → IfSome r (λ copies. copies.ends_line ≡ true) → IfSome r (IsPiece piece)
 whole_piece piece end None unended ends counted feeds = tt

@@ -1,0 +1,222 @@
+//! Records of a server's changes of programs, over a socket.
+//!
+//! Each answered change has one record, at its last block. A duplicate datagram has none.
+//! The digests are those that `sha256sum` printed of the images.
+use crate::socket_tests::{COUNT, at_port, client_of, largest_image};
+use fc_core::DEFAULT_POLICY;
+use fc_host::sensors::NoSensors;
+use fc_host::socket::{Receiving, open};
+use fc_record::{LoggedChanges, Recorder};
+use fc_service::serve::{Extent, Records, serve_at};
+use log::sink::{Discard, Locked};
+use log::{LevelFilter, Log, Logged};
+use std::alloc::{AllocError, Global};
+use std::net::{Net, SocketAddrV4, UdpSocket};
+use std::process::Abort;
+use std::sync::Wait;
+use std::test::Fail;
+use std::thread;
+use std::thread::Threads;
+use std::time::Clock;
+
+// The digests of COUNT, and of COUNT with a budget of 8 steps, one below its cost.
+static COUNT_DIGEST: &str = "917718e9702d2d1155476671e2632bddc03155dab4a99f8fd2fccd0dfaa9f517";
+
+static SHORT_DIGEST: &str = "2ce74acc1cbc78650f9e5d9030d450b3f183aaacc165cab103e8be2897c37c10";
+
+// The digest of the largest image, of 4,112 bytes.
+static LARGEST_DIGEST: &str = "0dc80a6025d96e9a74cdddec3e98ae861853e4533da8871e4b96576846ab2b47";
+
+// Methods (RFC 7252, section 12.1.1), and the first byte of a confirmable message without a token.
+const GET: u8 = 1;
+
+const PUT: u8 = 3;
+
+const DELETE: u8 = 4;
+
+const CON: u8 = 0x40;
+
+// Returns a confirmable request of /p/N with this message ID, payload and, if given, Block1 value.
+fn request(
+    alloc: Global,
+    method: u8,
+    id: u8,
+    slot: u8,
+    block1: Option<u8>,
+    payload: &[u8],
+) -> Result<Vec<u8>, AllocError> {
+    let mut bytes = Vec::new(alloc);
+    bytes.extend_from_slice(&[CON, method, 0, id, 0xb1, b'p', 0x01, b'0' + slot % 10])?;
+    if let Some(value) = block1 {
+        // Block1 is option 27, after option 11.
+        bytes.extend_from_slice(&[0xd1, 3, value])?;
+    }
+    if !payload.is_empty() {
+        bytes.push(0xff)?;
+        bytes.extend_from_slice(payload)?;
+    }
+    Ok(bytes)
+}
+
+// Sends a datagram, and checks the code of its response.
+fn check_code<R: Abort>(
+    rt: &R,
+    client: &UdpSocket,
+    server: SocketAddrV4,
+    bytes: &[u8],
+    code: u8,
+) -> Result<(), Fail> {
+    client.send_to(bytes, server)?;
+    let mut answer = [0; 1280];
+    let (_count, _from) = client.recv_from(&mut answer)?;
+    assert_eq!(rt; answer[1], code);
+    Ok(())
+}
+
+// Sends a duplicate upload, a GET, an image whose cost is above its budget, two removals, and an
+// upload in five blocks. The second removal finds no program.
+fn change_programs<R: Abort + AllocGlobal>(
+    rt: &R,
+    client: &UdpSocket,
+    server: SocketAddrV4,
+) -> Result<(), Fail> {
+    let alloc = rt.alloc();
+    let upload = request(alloc, PUT, 1, 3, None, &COUNT)?;
+    check_code(rt, client, server, &upload, 0x41)?;
+    check_code(rt, client, server, &upload, 0x41)?;
+    check_code(
+        rt,
+        client,
+        server,
+        &request(alloc, GET, 2, 3, None, &[])?,
+        0x45,
+    )?;
+    let mut short = COUNT;
+    short[8] = 8;
+    let refused = request(alloc, PUT, 3, 4, None, &short)?;
+    check_code(rt, client, server, &refused, 0x80)?;
+    let removal = request(alloc, DELETE, 4, 3, None, &[])?;
+    check_code(rt, client, server, &removal, 0x42)?;
+    check_code(rt, client, server, &removal, 0x42)?;
+    check_code(
+        rt,
+        client,
+        server,
+        &request(alloc, DELETE, 5, 3, None, &[])?,
+        0x42,
+    )?;
+    upload_by_blocks(rt, client, server)
+}
+
+// Sends five blocks of 1,024 bytes. The response to the first four is 2.31, to the last 2.01.
+fn upload_by_blocks<R: Abort + AllocGlobal>(
+    rt: &R,
+    client: &UdpSocket,
+    server: SocketAddrV4,
+) -> Result<(), Fail> {
+    let alloc = rt.alloc();
+    let image = largest_image(alloc)?;
+    for (number, payload) in (0u8..5).zip(image.chunks(1024)) {
+        let more = number < 4;
+        // Block size exponent 6, and the bit for more blocks (RFC 7959, section 2.2).
+        let value = (number << 4) | if more { 8 } else { 0 } | 6;
+        let block = request(alloc, PUT, number.wrapping_add(10), 5, Some(value), payload)?;
+        check_code(rt, client, server, &block, if more { 0x5f } else { 0x41 })?;
+    }
+    Ok(())
+}
+
+// Returns the lines that a server with this many workers recorded while the client made changes.
+fn recorded_by<R: Abort + AllocGlobal + Threads + Wait + Clock + Net + Sync>(
+    rt: &R,
+    client: &UdpSocket,
+    workers: u8,
+) -> Result<Vec<u8>, Fail> {
+    let alloc = rt.alloc();
+    let socket = open(rt, at_port(0))?;
+    let server = at_port(socket.local_addr()?.port());
+    let extent = Extent {
+        workers,
+        limit: 12,
+        first_id: 0,
+        policy: DEFAULT_POLICY,
+    };
+    let ((served, lines), asked) = thread::join(
+        rt,
+        || serve_recorded(rt, alloc, &socket, extent),
+        || change_programs(rt, client, server),
+    );
+    asked?;
+    assert!(rt; served);
+    Ok(lines)
+}
+
+// Serves a socket. Returns whether it did, and the recorded lines.
+fn serve_recorded<R: Threads + Wait + Clock + Sync>(
+    rt: &R,
+    alloc: Global,
+    socket: &UdpSocket,
+    extent: Extent,
+) -> (bool, Vec<u8>) {
+    let lines = Locked::new(rt, Vec::new(alloc));
+    let logger = Logged::new(rt, LevelFilter::Info, &lines);
+    let served = serve_by(rt, alloc, &recorder_of(&logger), socket, extent);
+    (served, lines.into_inner())
+}
+
+fn recorder_of<L: Log>(logger: &L) -> LoggedChanges<'_, L> {
+    LoggedChanges { logger }
+}
+
+// Serves a socket with this recorder of changes, and logs nothing else. Returns whether it did.
+fn serve_by<R: Threads + Wait + Clock + Sync, C: Recorder + Sync>(
+    rt: &R,
+    alloc: Global,
+    recorder: &C,
+    socket: &UdpSocket,
+    extent: Extent,
+) -> bool {
+    let end = Logged::new(rt, LevelFilter::Off, Discard);
+    let mut err = Vec::new(alloc);
+    let source = Receiving::new(socket);
+    let served = serve_at(
+        rt,
+        alloc,
+        &records_of(&end, recorder),
+        &mut err,
+        &NoSensors,
+        source,
+        socket,
+        extent,
+    );
+    served.is_some()
+}
+
+fn records_of<'a, L: Log, C: Recorder>(end: &'a L, changes: &'a C) -> Records<'a, L, C> {
+    Records { end, changes }
+}
+
+// Returns the expected lines of these changes, for a client at this port.
+fn expected(alloc: Global, port: u16) -> Result<String, AllocError> {
+    format!(in alloc;
+        "\
+[INFO  fcd] change PUT /p/3 peer=127.0.0.1:{port} code=2.01 version=1 cost=9 budget=9 vars=8 sha256={COUNT_DIGEST}
+[INFO  fcd] change PUT /p/4 peer=127.0.0.1:{port} code=4.00 V16 slot 0 sha256={SHORT_DIGEST}
+[INFO  fcd] change DELETE /p/3 peer=127.0.0.1:{port} code=2.02
+[INFO  fcd] change DELETE /p/3 peer=127.0.0.1:{port} code=2.02
+[INFO  fcd] change PUT /p/5 peer=127.0.0.1:{port} code=2.01 version=1 cost=512 budget=512 vars=0 sha256={LARGEST_DIGEST}
+"
+    )
+}
+
+#[test]
+fn each_change_is_recorded_once(rt: HostRuntime) -> Result<(), Fail> {
+    for workers in [1, 2, 16] {
+        let client = client_of(&rt)?;
+        let port = client.local_addr()?.port();
+        let lines = recorded_by(&rt, &client, workers)?;
+        let expected = expected(rt.alloc(), port)?;
+        assert!(rt; lines.as_slice() == expected.as_bytes(), "{workers}");
+    }
+    Ok(())
+}
