@@ -1,4 +1,5 @@
-// Answers each datagram by itself, as a success: what a server's two calls of the system cost, and nothing else.
+// Answers each datagram with itself, as a success. So it measures the cost of a server's two system
+// calls alone.
 //
 //     echo PORT
 #include <arpa/inet.h>

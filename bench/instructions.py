@@ -1,14 +1,17 @@
 #!/usr/bin/env python3
-"""Counts the machine instructions that `fcd` takes, by callgrind, and what it moves, and prints the tables of docs/PERFORMANCE.md.
+"""Counts the machine instructions and the copied bytes of `fcd` by callgrind, and prints the tables
+of docs/PERFORMANCE.md.
 
-Run it at the top of the repository, behind `rt run` in crates/fcd and crates/fcasm, with Debian's valgrind and gcc:
+Run it at the top of the repository, after `rt run` in crates/fcd and crates/fcasm, with Debian's
+valgrind and gcc:
 
     python3 bench/instructions.py [TABLE..]
 
-TABLE is `requests`, `serving`, `moves`, `datagrams`, `options`, `ticks`, `runs`, `calls`, `comparing` or `verifying`; all are printed where
-none is named, in some minutes. A count is that of the last of some lines, divided by their number: `fcd play` is given all of them, and then
-all but these. It is the same at each run, whatever else the machine does, but for `serving`, where the server may wake between requests.
-"""
+TABLE is `requests`, `serving`, `moves`, `datagrams`, `options`, `ticks`, `runs`, `calls`,
+`comparing` or `verifying`; without one, all are printed, in some minutes. A count is the total of
+the last lines of an input, divided by their number: `fcd play` runs with all lines, and then
+without these. The count is the same in each run, whatever else the machine does. The exception is
+`serving`, where the server may wake between requests."""
 import os
 import re
 import socket
@@ -29,17 +32,21 @@ NOTIFIES = "call 7\nmov64 r0, 0\nexit\n"
 
 CALLGRIND = ["valgrind", "--tool=callgrind", "--callgrind-out-file=/dev/null"]
 
-# callgrind counts `rep movsb` and `rep stosb` once a byte, so the C library is told to copy by vectors
+# callgrind counts `rep movsb` and `rep stosb` once for each byte, so the C library is set to copy
+# by vectors
 BY_VECTORS = {**os.environ, "GLIBC_TUNABLES": "glibc.cpu.x86_rep_movsb_threshold=1000000000:glibc.cpu.x86_rep_stosb_threshold=1000000000"}
 
 
 def dear(body):
-    """A text of 62,005 steps, of which a POST gives a notice: a loop of 1,000 turns whose body is this line, 60 times."""
+    """Returns a source of 62,005 steps, of which a POST sets the notify flag.
+
+    It is a loop of 1,000 iterations whose body is this line, 60 times."""
     return "call 7\nmov64 r7, 5\nmov64 r6, 0\nnext:\n" + f"{body}\n" * 60 + "add64 r6, 1\njlt r6, 1000, next\nmov64 r0, 0\nexit\n"
 
 
 def counted(words, data=b"", within=None):
-    """The instructions that a command takes which is given these bytes, all of them or those within a function."""
+    """Returns the instructions of a command with this input, all of them or those within a
+    function."""
     toggles = [f"--toggle-collect={within}"] if within else []
     with tempfile.TemporaryFile() as given:
         given.write(data)
@@ -52,12 +59,13 @@ def counted(words, data=b"", within=None):
 
 
 def played(lines, within=None):
-    """The instructions that `fcd play` takes for these lines, all of them or those within a function."""
+    """Returns the instructions of `fcd play` for these lines, all of them or those within a
+    function."""
     return counted([FCD, "play"], "".join(lines).encode(), within)
 
 
 def each(before, lines, within=None):
-    """The instructions of one of these lines, behind those before."""
+    """Returns the instructions of one of these lines, after those before."""
     return (played(before + lines, within=within) - played(before, within=within)) / len(lines)
 
 
@@ -66,12 +74,13 @@ def line(now, peer, message):
 
 
 def lines_of(message, count, first=1, step=0, now=0, peer=1):
-    """So many lines of a message, with message ids from the first one on, a step after the other."""
+    """Returns lines of a message, with message IDs from the first one on, one step apart."""
     return [line(now + k * step, peer, numbered(message, (first + k) % 65_536)) for k in range(count)]
 
 
 def put(program, slot=0, number=60_000, now=0, peer=250):
-    """The lines of a PUT of an image in a slot, by blocks of 1,024 bytes where it needs them."""
+    """Returns the lines of a PUT of an image in a slot, by blocks of 1,024 bytes if it needs
+    them."""
     if len(program) <= 1024:
         return [line(now, peer, request(CONFIRMABLE, PUT, f"p/{slot}", number, body=program))]
     made = []
@@ -83,7 +92,7 @@ def put(program, slot=0, number=60_000, now=0, peer=250):
 
 
 def ignored(message):
-    """As many bytes that are ignored for their version."""
+    """Returns a datagram of this size that is ignored for its version."""
     return bytes([message[0] | 0x80]) + message[1:]
 
 
@@ -107,7 +116,8 @@ def with_variables(text):
 
 
 def registered(slots, now=0):
-    """Lines that install a cheap program in so many slots, and have 32 observers of each, some slots a window."""
+    """Returns lines that install a cheap program in some slots, each with 32 observers, some slots
+    in each lifetime."""
     made = [it for slot in range(slots) for it in put(image(NOTIFIES), slot, 60_000 + slot, now)]
     for slot in range(slots):
         now += WINDOW if slot % 16 == 0 else 0
@@ -121,7 +131,7 @@ def registered(slots, now=0):
 
 
 def requests():
-    """Lines of `fcd play`, reading and printing them among it."""
+    """Counts lines of `fcd play`, including reading and printing them."""
     head("A request, as a line of `fcd play`", "instructions")
     plain, commits = put(image(PLAIN)), put(with_variables(PLAIN))
     full = [it for slot in range(SLOTS) for it in put(image(PLAIN), slot, 60_000 + slot)]
@@ -142,7 +152,9 @@ def requests():
 
 
 def served(words, program, message, observers, count):
-    """The instructions of `fcd serve` that ends behind so many requests, each asked when all has come that the one before led to."""
+    """Returns the instructions of `fcd serve` for these requests.
+
+    Each is sent when everything that the one before led to has arrived."""
     with tempfile.NamedTemporaryFile() as told:
         limit = 1 + observers + count
         serve = [FCD, "serve", "--port", str(PORT), "--limit", str(limit), *words]
@@ -165,7 +177,7 @@ def served(words, program, message, observers, count):
 
 
 def first_answer(client, message):
-    """Asks until the server is there."""
+    """Sends requests until the server responds."""
     while True:
         try:
             client.send(message)
@@ -175,7 +187,7 @@ def first_answer(client, message):
 
 
 def serving():
-    """Requests on a socket, asked one behind the other."""
+    """Counts requests on a socket, one after the other."""
     head("A request on a socket", "`fcd serve`", "`fcd serve --workers 1`")
     get_r, post = get(), request(CONFIRMABLE, POST, "r/0")
     for what, program, message, observers, first, last in [
@@ -191,14 +203,15 @@ def serving():
 
 
 def moved(library, lines, workers=()):
-    """What `fcd play` copies, zeroes and moves, in bytes, and how many copies and zeroings of 8,000 bytes and more there are."""
+    """Returns the bytes that `fcd play` copies, zeroes and moves, and the number of copies and
+    zeroings of at least 8,000 bytes."""
     environment = {**os.environ, "LD_PRELOAD": library}
     done = subprocess.run([FCD, "play", *workers], input="".join(lines).encode(), capture_output=True, env=environment)
     return [int(it) for it in done.stderr.split()[-5:]]
 
 
 def moves():
-    """The lengths that are handed to `memcpy`, `memset` and `memmove`."""
+    """Counts the lengths that are passed to `memcpy`, `memset` and `memmove`."""
     with tempfile.TemporaryDirectory() as room:
         library = str(Path(room) / "moves.so")
         subprocess.run(["gcc", "-O2", "-fPIC", "-shared", "-fno-builtin", "-o", library, "bench/moves.c"], check=True)
@@ -215,7 +228,9 @@ def moves():
 
 
 def options():
-    """Confirmable GETs of many options: 100 of them, a window apart, less as many bytes that are ignored."""
+    """Counts confirmable GETs of many options.
+
+    There are 100 of them, a lifetime apart; ignored datagrams of the same size are subtracted."""
     head("A confirmable GET of 1,280 bytes", "instructions", "a byte")
     for what, tail in [
         ("1,276 options of no byte, number 0", b"\x00" * 1276),
@@ -235,12 +250,13 @@ def options():
 
 
 def one(before, now, message, peer=1):
-    """The instructions of one line, less that of as many bytes which are ignored."""
+    """Returns the instructions of one line, without those of an ignored datagram of the same
+    size."""
     return played(before + [line(now, peer, message)]) - played(before + [line(now, peer, ignored(message))])
 
 
 def datagrams():
-    """What one datagram leads to, before the next one is looked at."""
+    """Counts the work of one datagram, before the next one is read."""
     head("A datagram", "bytes", "instructions", "a byte")
 
     def tell(what, message, count):
@@ -278,7 +294,8 @@ def datagrams():
 
 
 def waited_for():
-    """Lines behind which 2,048 confirmable notifications are waited for, and the moment of the last."""
+    """Returns lines after which 2,048 confirmable notifications are outstanding, and the time of
+    the last."""
     made, now = registered(SLOTS)
     now += DAY
     for slot in range(SLOTS):
@@ -287,7 +304,7 @@ def waited_for():
 
 
 def ticks():
-    """Lines `now - -`, a millisecond after the other."""
+    """Counts lines `now - -`, one millisecond apart."""
     head("A moment that passes, as a line `now - -`", "instructions")
     waited, later = waited_for()
     observed, now = registered(SLOTS)
@@ -297,7 +314,8 @@ def ticks():
 
 
 def straight(lines, count):
-    """The instructions of a line, of so many in a program, and of what stands in front of them."""
+    """Returns the instructions of a line, of a number of them in a program, and of the text before
+    them."""
     def of(text):
         return each(put(image(text, 2)), lines_of(get(), 10), "*run_to_exit*")
 
@@ -306,14 +324,15 @@ def straight(lines, count):
 
 
 def runs():
-    """`run`, within a GET."""
+    """Counts `run`, within a GET."""
     head("A run", "instructions")
     for what, payload in [("of two instructions, without a payload", b""), ("the same, with a payload of 1,024 bytes", bytes(range(1, 129)) * 8)]:
         row(what, each(put(image(PLAIN)), lines_of(get(body=payload), 10), "fc_machine::interpreter::run"))
 
 
 def calls():
-    """41 calls in a program, less the same program with one, in the interpreter's own loop and what it calls."""
+    """Counts 41 calls in a program, without those of the same program with one call, in the
+    interpreter's loop and its callees."""
     head("A call", "instructions")
     frame = "mov64 r1, r10\nadd64 r1, -8\n"
     for what, begin, repeated, rest in [
@@ -330,7 +349,8 @@ def calls():
 
 
 def comparing():
-    """`Verified::is`, within a POST that wants to write: once with the ticket's program, once with the slot's."""
+    """Counts `Verified::is`, within a POST that wants to write: once with the ticket's program,
+    once with the slot's."""
     head("Slots of a program", "instructions of comparing it with another")
     for slots in (2, 126, 512):
         program = with_variables("mov64 r0, 0\n" * (slots - 1) + "exit\n")
@@ -339,7 +359,7 @@ def comparing():
 
 
 def dearest(slots):
-    """The image of loops in one another, nine deep, round as many of three slots as fit."""
+    """Returns the image of nested loops, nine deep, around as many of three slots as fit."""
     head_of = "".join(f"mov64 r{k}, 0\no{k}:\n" for k in (1, 2, 3, 4, 5, 6, 7, 8, 9))
     tail = "".join(f"add64 r{k}, 1\njlt r{k}, 1, o{k}\n" for k in (9, 8, 7, 6, 5, 4, 3, 2, 1))
     count = (slots - 29) // 3
@@ -351,7 +371,7 @@ VERIFIES = "*verifier*verify*"
 
 
 def verifying():
-    """`verify`, within a PUT."""
+    """Counts `verify`, within a PUT."""
     head("An image of version 2", "256 slots", "512", "1,024", "a slot, of 1,024")
     sizes = (256, 512, 1024)
     rising = ["".join(f"jgt r3, {k}, 0\n" for k in range(slots - 2)) + PLAIN for slots in sizes]

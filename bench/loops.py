@@ -1,14 +1,17 @@
 #!/usr/bin/env python3
-"""Measures what a step of a run takes, beside a loop in C that makes its checks at each step (bench/checked.c).
+"""Measures a step of a run, in comparison with a loop in C that makes its checks at each step
+(bench/checked.c).
 
-Run it at the top of the repository, behind `rt run` in crates/fcasm and crates/fcd; it wants valgrind, gcc and clang:
+Run it at the top of the repository, after `rt run` in crates/fcasm and crates/fcd; it needs
+valgrind, gcc and clang:
 
     python3 bench/loops.py
 
-Most programs are a loop of 1,024 turns, or of fewer where its body is long, in another as often as the budget allows. `fcd play` runs each
-once for each of 400 GETs, and the loop in C as often; what is told are a step's machine instructions, by callgrind over 20 GETs, and
-nanoseconds of user time, less what a program of two steps takes: the least of eleven rounds, in which all take turns on one processor.
-"""
+Most programs are a loop of 1,024 iterations, or fewer if its body is long, inside another as often
+as the budget allows. `fcd play` runs each once for each of 400 GETs, and the loop in C as often.
+The output has a step's machine instructions, by callgrind over 20 GETs, and its nanoseconds of user
+time, without those of a program of two steps. The time is the least of eleven rounds, in which all
+programs alternate on one processor."""
 import math
 import os
 import re
@@ -33,7 +36,7 @@ NONE_TAKEN = "\n".join(f"j{name}{width} r7, {imm}, 0" for width in ("", "32") fo
 ALL_TAKEN = "\n".join(f"j{name}{width} r7, {imm}, 0" for width in ("", "32") for name, imm in
                       (("eq", 5), ("gt", 3), ("ge", 5), ("set", 4), ("ne", 6), ("lt", 9), ("le", 5), ("slt", 9), ("sle", 5)))
 
-# what is told of a program, the body of its inner loop, and that loop's turns
+# the output for a program, the body of its inner loop, and that loop's iterations
 PROGRAMS = [
     ("a loop with nothing in it: `add64`, `jlt`", "", 1024),
     ("a loop of `payload_byte` and a sum", "mov64 r1, r6\ncall 2\nadd64 r7, r0", 1024),
@@ -46,19 +49,20 @@ PROGRAMS = [
     ("turns written out: `add64` of an immediate, and a `jlt` that is taken to the next slot", "\n".join(["add64 r1, 1\njlt r1, 1000000, 0"] * 54), 500),
 ]
 
-# Calls of a function, which stands behind the loop.
+# Calls of a function, which is after the loop.
 CALLING = "mov64 r6, 0\ninner:\n" + "callf leaf\n" * 20 + "add64 r6, 1\njlt r6, 1000, inner\nmov64 r0, 0\nexit\nleaf:\nmov64 r0, 0\nexit\n"
 
 
 def text_of(body, turns):
-    """The text of a program with a body in a loop of so many turns, in one of as many as the budget allows."""
+    """Returns the source of a program with a body in a loop of this many iterations, inside one of
+    as many as the budget allows."""
     steps = 3 + turns * (2 + len(body.splitlines()))
     return (f"mov64 r8, r1\nmov64 r1, 0\nmov64 r2, 0\nmov64 r4, 0\nmov64 r5, 0\nmov64 r7, 5\nmov64 r9, 0\nouter:\nmov64 r6, 0\ninner:\n{body}\nadd64 r6, 1\n"
             f"jlt r6, {turns}, inner\nadd64 r9, 1\njlt r9, {(BUDGET - 20) // steps}, outer\nmov64 r0, 0\nexit\n")
 
 
 def image_of(text):
-    """The image of a text, and the steps that a run takes."""
+    """Returns the image of a source, and the steps of a run."""
     lines = "\n".join(line for line in text.splitlines() if line)
     done = subprocess.run([FCASM, "image", "--format", "2", "--vars", "0", "--budget", str(BUDGET)], input=lines.encode(), capture_output=True)
     told = subprocess.run([FCASM, "run"], input=done.stdout, capture_output=True).stdout.decode()
@@ -68,7 +72,10 @@ def image_of(text):
 
 
 def played(image, runs=RUNS):
-    """The lines of `fcd play` that install an image in slot 0, by blocks of 1,024 bytes, and run it by GETs, each of which finds no exchange of another."""
+    """Returns the lines of `fcd play` that install an image in slot 0, by blocks of 1,024 bytes,
+    and run it by GETs.
+
+    No GET finds another's exchange."""
     lines = []
     for number in range((len(image) + 1023) // 1024):
         more = 8 if len(image) > 1024 * (number + 1) else 0
@@ -80,7 +87,7 @@ def played(image, runs=RUNS):
 
 
 def check(image, steps, loops):
-    """Looks whether each GET is answered 2.05, and whether the loops in C take as many steps."""
+    """Checks that each GET is answered 2.05, and that the loops in C take as many steps."""
     said = subprocess.run([FCD, "play"], input=played(image).encode(), capture_output=True).stdout.decode()
     counts = [int(subprocess.run([loop, "1"], input=image, capture_output=True).stdout) for loop in loops]
     if said.count("\n1 6045") != RUNS or set(counts) != {steps}:
@@ -88,7 +95,7 @@ def check(image, steps, loops):
 
 
 def user_time(words, data):
-    """Seconds of user time of a command that is given these bytes."""
+    """Returns the seconds of user time of a command with this input."""
     with tempfile.TemporaryFile() as given:
         given.write(data)
         given.seek(0)
@@ -101,19 +108,19 @@ def user_time(words, data):
 
 
 def counted(words, data):
-    """The machine instructions of a command that is given these bytes."""
+    """Returns the machine instructions of a command with this input."""
     words = ["valgrind", "--tool=callgrind", "--callgrind-out-file=/dev/null", *words]
     return int(re.search(rb"Collected : (\d+)", subprocess.run(words, input=data, capture_output=True).stderr)[1])
 
 
 def least(commands):
-    """The least user time of each of some commands, which take turns."""
+    """Returns the least user time of each of some commands, which alternate."""
     rounds = [[user_time(words, data) for words, data in commands] for _ in range(ROUNDS)]
     return [min(times) for times in zip(*rounds)]
 
 
 def commands_of(image, loops, runs):
-    """What runs an image so often: `fcd play`, and each loop in C."""
+    """Returns the commands that run an image this often: `fcd play`, and each loop in C."""
     return [([FCD, "play"], played(image, runs).encode())] + [([loop, str(runs)], image) for loop in loops]
 
 

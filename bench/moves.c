@@ -1,5 +1,6 @@
-// Counts what a program hands to memcpy, memset and memmove, where it is loaded before the C library, and tells it on standard error at its
-// end: the bytes of each, and how many of memcpy and memset are of 8,000 bytes and more.
+// Counts the bytes that a program passes to memcpy, memset and memmove, if it is loaded before the C
+// library. It prints them on standard error at the program's end: the bytes of each, and the number of
+// calls of memcpy and memset with at least 8,000 bytes.
 //
 //     gcc -O2 -fPIC -shared -fno-builtin -o moves.so bench/moves.c
 //     LD_PRELOAD=./moves.so crates/fcd/out/fcd play < lines

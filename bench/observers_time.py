@@ -1,14 +1,16 @@
 #!/usr/bin/env python3
-"""Measures the processor time of a change that 32 observers hear: `fcd serve` beside libcoap's `coap-server`.
+"""Measures the processor time of a change with 32 observers: `fcd serve` and libcoap's
+`coap-server`.
 
-Run it at the top of the repository, behind `rt run` in crates/fcd, with Debian's libcoap3-bin:
+Run it at the top of the repository, after `rt run` in crates/fcd, with Debian's libcoap3-bin:
 
     python3 bench/observers_time.py
 
-Each round has a fresh server, 32 observers on ports of their own, and 100 changes, each when all have heard the one before it. A
-confirmable notification is acknowledged at once. What is told is the server's user and system time of a change, by the scheduler: the least and the
-middle one of nine rounds, in which the servers take turns, pinned to two processors of their own.
-"""
+Each round has a fresh server, 32 observers on ports of their own, and 100 changes, each made when
+all observers were notified of the one before it. A confirmable notification is acknowledged
+immediately. The output has the server's user and system time of a change, by the scheduler: the
+least and the median of nine rounds. The servers alternate, pinned to two processors of their
+own."""
 import os
 import shutil
 import socket
@@ -27,7 +29,7 @@ ROUNDS = 9
 PORT = 5698
 SERVER = ("127.0.0.1", PORT)
 
-# A program that counts POSTs in eight bytes of variables, and gives a notice of each.
+# A program that counts POSTs in eight bytes of variables, and notifies of each.
 COUNT = bytes.fromhex(
     "46434231080009000900000000000000" "b701000000000000" "8500000003000000" "0700000001000000" "bf02000000000000"
     "b701000000000000" "8500000004000000" "8500000007000000" "b700000000000000" "9500000000000000"
@@ -40,14 +42,14 @@ def asked(client, request, number):
 
 
 def hear(observer):
-    """The next notification, which is acknowledged where it asks for that."""
+    """Returns the next notification, which is acknowledged if it is confirmable."""
     message = observer.recv(2048)
     if message[0] & 0x30 == 0:
         observer.sendto(b"\x60\x00" + message[2:4], SERVER)
 
 
 def round_of(words, setup, observe, change):
-    """Microseconds of the server's processor time for each change of one round."""
+    """Returns the microseconds of the server's processor time for each change of one round."""
     server = subprocess.Popen(["taskset", "-c", "2,3", *words], stdout=subprocess.DEVNULL, stderr=subprocess.DEVNULL)
     try:
         wait_for(server, SERVER)
@@ -78,7 +80,7 @@ def main():
         name = " ".join(["fcd serve", *words])
         kinds.append((f"`{name}`, POST of a program that calls `notify`", serve, put, bytes.fromhex("410100006f6051720130"), bytes.fromhex("40020000b1720130")))
     libcoap = shutil.which("coap-server") or "coap-server-notls"
-    # `example_data`, which a PUT changes; it is put first, since what it begins with takes two blocks
+    # `example_data`, which a PUT changes; it is PUT first, since its initial value needs two blocks
     path = b"example_data"
     observe = bytes.fromhex("410100006f60") + bytes([0x50 | len(path)]) + path
     change = bytes.fromhex("40030000") + bytes([0xb0 | len(path)]) + path + b"\xff"

@@ -1,13 +1,15 @@
 #!/usr/bin/env python3
-"""Measures what one endpoint can take from the others, and what a server sends to whom a forged source names.
+"""Measures the resources that one endpoint can take from the others, and the traffic to a forged
+source.
 
-Run it at the top of the repository, behind `rt run` in crates/fcd and crates/fcasm:
+Run it at the top of the repository, after `rt run` in crates/fcd and crates/fcasm:
 
     python3 bench/one_endpoint.py [--wait]
 
-Each row has a fresh server on a free port, one socket that takes, and another that asks as everybody else does. What a forger would send in another's name is
-sent here from that other's own socket. With --wait it tells too how long the others are answered 5.03, which takes 247 s twice.
-"""
+Each row has a fresh server on a free port, one socket that takes resources, and another that
+behaves like any other client. A forger's datagrams in another endpoint's name are sent here from
+that endpoint's own socket. With --wait it also prints how long the others are answered 5.03, which
+takes 247 s twice."""
 import socket
 import subprocess
 import sys
@@ -22,7 +24,7 @@ FULL = 0xA3  # 5.03
 
 PLAIN = "mov64 r0, 0\nexit\n"
 
-# A GET is answered by 4,096 bytes, of which the first block has 1,024; a POST gives a notice.
+# A GET is answered by 4,096 bytes, of which the first block has 1,024; a POST sets the notify flag.
 LONG = (
     "mov64 r6, r1\nldxb r7, r1, 0\njeq r7, 2, post\n"
     + "mov64 r1, r6\nmov64 r2, 1024\ncall 5\n" * 4
@@ -39,7 +41,10 @@ def image(text, version=1):
 
 
 def request(kind, code, path, number=0, token=b"", more=(), body=b""):
-    """A request's bytes; `more` are options beside the path, and all have numbers and lengths that fit a nibble or a byte more."""
+    """Returns a request's bytes.
+
+    `more` are options in addition to the path. All have numbers and lengths that fit a nibble or an
+    additional byte."""
     said, last = b"", 0
     for option, value in sorted([*((PATH, it.encode()) for it in path.split("/") if it), *more], key=lambda it: it[0]):
         delta = option - last
@@ -53,7 +58,7 @@ def numbered(message, number):
 
 
 class Server:
-    """A server of its own, and sockets that ask it."""
+    """A server of its own, and sockets that send it requests."""
 
     def __enter__(self):
         with socket.socket(socket.AF_INET, socket.SOCK_DGRAM) as free:
@@ -78,7 +83,7 @@ class Server:
         assert ask(self.endpoint(), put)[1] in (0x41, 0x44)
 
     def processor_time(self):
-        """User and system time so far, in seconds."""
+        """Returns the user and system time so far, in seconds."""
         with open(f"/proc/{self.child.pid}/stat", encoding="ascii") as file:
             fields = file.read().rsplit(")", 1)[1].split()
         return (int(fields[11]) + int(fields[12])) / 100
@@ -98,7 +103,7 @@ def row(sent, size, came):
 
 
 def until_room(server, message, wait):
-    """How long the others are answered 5.03, where that is asked."""
+    """Returns how long the others are answered 5.03, if that is to be measured."""
     began, number = time.monotonic(), 100
     while wait:
         number += 1
@@ -150,7 +155,7 @@ def observers(_):
 
 
 def is_observed(answer):
-    """Whether the answer has Observe behind its ETag, which has 8 bytes."""
+    """Returns whether the response has Observe after its ETag, which has 8 bytes."""
     rest = answer[4 + (answer[0] & 15) :]
     return rest[:1] == b"\x48" and rest[9:10] != b"" and rest[9] >> 4 == OBSERVE - 4
 
@@ -165,7 +170,9 @@ def removal(_):
 
 
 def processor(_):
-    """The dearest program in a slot with 32 observers: each POST runs it 33 times, the next one behind all that the one before led to."""
+    """Measures the most expensive program in a slot with 32 observers.
+
+    Each POST runs it 33 times; the next one is sent after everything that the one before led to."""
     with Server() as server:
         server.install(image(DEAR, 2))
         server.install(image(PLAIN), 2)
@@ -184,7 +191,7 @@ def processor(_):
         took, spent = time.monotonic() - began, server.processor_time() - before
         row(f"{POSTS} POSTs of a program of 62,003 steps, with {OBSERVERS} observers", POSTS * len(message), f"{spent:.1f} s of processor time, "
             f"{spent / POSTS * 1000:.0f} ms each; of {POSTS // 10} GETs of a cheap program beside them one waited {longest * 1000:.0f} ms, the others less")
-        assert took < 200  # less than the time in which places come free
+        assert took < 200  # less than the time after which exchanges expire
 
 
 def copies(_):

@@ -1,4 +1,4 @@
-"""What the scripts that measure times wait for: a server that answers."""
+"""Waits for a server that responds, for the scripts that measure times."""
 import socket
 import sys
 import time

@@ -1,15 +1,17 @@
 #!/usr/bin/env python3
-"""Measures the processor time of a request: `fcd serve` beside libcoap's `coap-server`, and a server in C that only receives and sends (bench/echo.c).
+"""Measures the processor time of a request: `fcd serve`, libcoap's `coap-server`, and a bare echo
+(bench/echo.c).
 
-Run it at the top of the repository, behind `rt run` in crates/fcd, with gcc and Debian's libcoap3-bin:
+The last is a server in C that only receives and sends. Run it at the top of the repository, after
+`rt run` in crates/fcd, with gcc and Debian's libcoap3-bin:
 
     python3 bench/processor_time.py
 
-Each measurement has a fresh server, pinned to two processors of its own, and 1,000 confirmable requests from one client or from eight, pinned to
-two others, of which at most 64 wait for their answer. What is told is the user and the system time of the server's process over these, divided
-by their number: the least and the middle one of fifteen rounds, in which the servers take turns. A fresh server holds 1,024 exchanges for 247 s,
-so that no round can be longer.
-"""
+Each measurement has a fresh server, pinned to two processors of its own, and 1,000 confirmable
+requests from one client or from eight, pinned to two others; at most 64 wait for their response.
+The output has the user and the system time of the server's process over these, divided by their
+number: the least and the median of fifteen rounds, in which the servers alternate. A fresh server
+stores 1,024 exchanges for 247 s, so no round can be longer."""
 import os
 import shutil
 import socket
@@ -35,7 +37,8 @@ EIGHT = bytes.fromhex("46434231080002000200000000000000" "b700000000000000" "950
 
 
 def looped(turns):
-    """An image of a loop of so many turns of six steps each, and four steps beside it."""
+    """Returns an image of a loop of this many iterations of six steps each, and four other
+    steps."""
     code = [(0xB7, 0, 0, 0), (0xB7, 6, 0, 0), *[(0x07, 0, 0, 1)] * 4, (0x07, 6, 0, 1), (0xA5, 6, -6, turns), (0xB7, 0, 0, 0), (0x95, 0, 0, 0)]
     head = struct.pack("<4sHHII", b"FCB2", 0, len(code), 4 + 6 * turns, 0)
     return head + b"".join(struct.pack("<BBhi", *it) for it in code)
@@ -50,7 +53,8 @@ EXAMPLE = bytes.fromhex("40030000bc") + b"example_data\xff1"
 
 
 def processor_time(pid):
-    """User and system time of a process so far, in nanoseconds by the scheduler, of all its threads."""
+    """Returns the user and system time of a process so far, in nanoseconds by the scheduler, of all
+    its threads."""
     total = 0
     for thread in os.listdir(f"/proc/{pid}/task"):
         with open(f"/proc/{pid}/task/{thread}/schedstat", encoding="ascii") as file:
@@ -59,7 +63,7 @@ def processor_time(pid):
 
 
 def ask(clients, request, code):
-    """Has the clients send the requests, some at a time, and take their answers."""
+    """Has the clients send the requests, some at a time, and receive their responses."""
     waiting = WAITING // len(clients)
     each = REQUESTS // len(clients)
     for begin in range(0, each, waiting):
@@ -82,7 +86,7 @@ def client_of():
 
 
 def round_of(words, setup, request, code, count):
-    """Microseconds of the server's processor time for each request of one round."""
+    """Returns the microseconds of the server's processor time for each request of one round."""
     server = subprocess.Popen(["taskset", "-c", "2,3", *words], stdout=subprocess.DEVNULL, stderr=subprocess.DEVNULL)
     try:
         wait_for(server, ADDRESS)

@@ -1,14 +1,14 @@
 #!/usr/bin/env python3
-"""Measures how many POSTs a second `fcd serve` answers by one, two and four workers.
+"""Measures the POSTs per second that `fcd serve` answers with one, two and four workers.
 
-Run it at the top of the repository, behind `rt run` in crates/fcd:
+Run it at the top of the repository, after `rt run` in crates/fcd:
 
     python3 bench/rate.py
 
-Each measurement has a fresh server whose 64 slots have the same program, and one client that sends 900 POSTs to the slots in turn,
-of which at most 32 wait for their answer. A fresh server holds 1,024 exchanges for 247 s, so that no measurement can be longer. What is told is
-the best of fifty, by the clock of the wall; one, two and four workers take turns.
-"""
+Each measurement has a fresh server whose 64 slots have the same program, and one client that sends
+900 POSTs to the slots one after the other; at most 32 wait for their response. A fresh server
+stores 1,024 exchanges for 247 s, so no measurement can be longer. The output is the best of fifty,
+by wall-clock time; one, two and four workers alternate."""
 import socket
 import struct
 import subprocess
@@ -27,7 +27,9 @@ EXIT = bytes.fromhex("b700000000000000" "9500000000000000")
 
 
 def image(calls, additions):
-    """A program without loops: each function calls the next one so many times, and the last one adds so many times."""
+    """Returns a program without loops.
+
+    Each function calls the next one this many times, and the last one adds this many times."""
     code = b""
     for count in calls:
         code += b"".join(struct.pack("<BBhi", 0x85, 0x10, 0, count - place + 1) for place in range(count)) + EXIT
@@ -46,7 +48,7 @@ def request(code, resource, slot, number, payload=b""):
 
 
 def round_of(workers, program):
-    """POSTs a second of one round."""
+    """Returns the POSTs per second of one round."""
     server = subprocess.Popen([FCD, "serve", "--port", str(PORT), "--workers", str(workers)], stderr=subprocess.DEVNULL)
     try:
         wait_for(server, ("127.0.0.1", PORT))

@@ -1,13 +1,14 @@
 #!/usr/bin/env python3
-"""Measures a server's resident memory as its tables fill, and how many datagrams the kernel keeps for it while it does something else.
+"""Measures a server's resident memory as its tables fill, and the datagrams that the kernel queues
+for it.
 
-Run it at the top of the repository, behind `rt run` in crates/fcd and crates/fcasm:
+Run it at the top of the repository, after `rt run` in crates/fcd and crates/fcasm:
 
     python3 bench/room.py
 
-Memory is that of `fcd play`, which has the tables of `fcd serve` and where moments pass as its lines say. For the datagrams a `fcd serve` is stopped by
-SIGSTOP and sent pings; /proc/net/udp tells how many the kernel dropped.
-"""
+Memory is that of `fcd play`, which has the tables of `fcd serve`, and whose time passes as its
+lines say. For the datagrams a `fcd serve` is stopped by SIGSTOP and sent pings; /proc/net/udp has
+the number that the kernel dropped."""
 import os
 import signal
 import subprocess
@@ -21,7 +22,7 @@ SENT = 5000
 
 
 class Played:
-    """`fcd play`, which is given a datagram after the other."""
+    """A `fcd play`, which gets one datagram after the other."""
 
     def __init__(self):
         self.child = subprocess.Popen([FCD, "play"], stdin=subprocess.PIPE, stdout=subprocess.PIPE, text=True)
@@ -29,13 +30,13 @@ class Played:
         self.ask(request(CONFIRMABLE, GET, "p/0"))
 
     def ask(self, message):
-        """Returns the code of what is answered."""
+        """Returns the code of the response."""
         self.number = self.number % 65535 + 1
         print(self.now, 1, numbered(message, self.number).hex(), file=self.child.stdin, flush=True)
         return int(self.child.stdout.readline().split()[1][2:4], 16)
 
     def wait(self):
-        """Lets each exchange go."""
+        """Expires each exchange."""
         self.now += WINDOW
 
 
@@ -45,7 +46,7 @@ def resident(child):
 
 
 def largest():
-    """The image of a program of 1,024 slots, whose GET is answered by 4,096 bytes."""
+    """Returns the image of a program of 1,024 slots, whose GET is answered by 4,096 bytes."""
     count = len([it for it in LONG.splitlines() if not it.endswith(":")])
     text = "mov64 r0, 0\n" * (MOST - count) + LONG
     words = [FCASM, "image", "--format", "2", "--vars", "256", "--budget", "auto"]
@@ -84,7 +85,7 @@ def memory():
 
 
 def kept(size):
-    """How many datagrams of this size wait for a server that does something else."""
+    """Returns how many datagrams of this size are queued for a server that is busy."""
     with Server() as server:
         os.kill(server.child.pid, signal.SIGSTOP)
         client = server.endpoint()

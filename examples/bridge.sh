@@ -1,15 +1,21 @@
 #!/bin/bash
-# A bridge between a server and a device such as a relay. Once a second it POSTs to a resource, so that the program looks at its sensors, and runs a command with
-# the state in the response, unless that is the state of the last successful run.
+# A bridge between a server and a device such as a relay. Once a second it POSTs to a resource, so
+# that the program reads its sensors. It runs a command with the state in the response, unless that is
+# the state of the last successful run.
 #
-# Use: examples/bridge.sh [-s STATE] [-t SECONDS] PORT PATH COMMAND..      at the top of the repository, whose fcreq is built, or with FCREQ=PROGRAM
-#      examples/bridge.sh -l [-s STATE] [-t SECONDS] URI COMMAND..         by libcoap's client, of Debian's package libcoap3-bin
+# Use: examples/bridge.sh [-s STATE] [-t SECONDS] PORT PATH COMMAND..
+#      examples/bridge.sh -l [-s STATE] [-t SECONDS] URI COMMAND..
 #
-# -s STATE    the safe state. The command runs with it if no successful response has come for SECONDS, and when the bridge ends by SIGTERM or SIGINT
+# The first form runs at the top of the repository, whose fcreq is built, or with FCREQ=PROGRAM. The
+# second uses libcoap's client, of Debian's package libcoap3-bin.
+#
+# -s STATE    the safe state. The command runs with it if there is no successful response for SECONDS,
+#             and when the bridge ends by SIGTERM or SIGINT
 # -t SECONDS  10 if not given. A command that takes longer is ended, and counts as failed
 #
-# A response is successful if its code is 2.04; by libcoap's client, if it has a payload. A command that fails runs again a second later. Standard error says when
-# responses cease and come again, each code other than 2.04, and that a command failed.
+# A response is successful if its code is 2.04; with libcoap's client, if it has a payload. A command
+# that fails runs again a second later. Standard error reports when responses stop and start again,
+# each code other than 2.04, and that a command failed.
 set -m # the loop is a job with a group of its own, which ends as one
 safe='' has_safe='' limit=10 client=fcreq
 while getopts ls:t: word; do
@@ -33,7 +39,7 @@ say() {
     echo "bridge: $target: $*" >&2
 }
 
-# Sets `now`, in seconds: by a clock that nobody sets.
+# Sets `now`, in seconds, by a clock that isn't adjusted.
 look_at_clock() {
     read -r now _ </proc/uptime
     now=${now%.*}
@@ -67,7 +73,7 @@ follow() {
     heard=$now
     while sleep 1; do
         read -r _ _ _ parent _ <"/proc/$BASHPID/stat"
-        if [ "$parent" != $$ ]; then # the script was killed, and this loop is what is left of it
+        if [ "$parent" != $$ ]; then # the script was killed, and this loop remains
             say "the bridge was killed"
             [ -z "$has_safe" ] || act "$safe"
             exit 1
@@ -90,7 +96,7 @@ follow() {
     done
 }
 
-# Ends the loop, and what it has started, and sets the safe state.
+# Ends the loop and the processes that it has started, and sets the safe state.
 end() {
     trap '' INT TERM
     kill %1 2>/dev/null

@@ -1,6 +1,7 @@
-"""The definitions of the crates' specs/ and the types of their src/, and what each of them names.
+"""The definitions of the crates' specs/ and the types of their src/, and the names that each uses.
 
-What a name means is looked up by the imports of its file. A name that is bound where it stands, as a parameter or a field is, means no definition."""
+The meaning of a name is determined by the imports of its file. A name that is bound locally, such
+as a parameter or a field, means no definition."""
 import re
 from collections import defaultdict
 from dataclasses import dataclass, field
@@ -20,7 +21,7 @@ IMPL = re.compile(r"^impl(?:<[^>]*>)? (Model for )?(\w+)(?:<[^>]*>)? \{\n(.*?)^\
 
 
 class Unknown(Exception):
-    """A name that can't be looked up, or a form that can't be read."""
+    """A name without a known meaning, or a form that can't be parsed."""
 
 
 @dataclass
@@ -32,10 +33,10 @@ class Item:
     name: str
     text: str  # with the comment above it
     section: str = ""  # the last heading before it
-    block: str = ""  # the `module _ .. where` that it stands in, if it does
-    names: set = field(default_factory=set)  # the keys of what it names
-    fault: str = ""  # why that isn't known, if so
-    law: str = ""  # the law that says what it is, where that stands in place of its cases
+    block: str = ""  # the `module _ .. where` that contains it, if there is one
+    names: set = field(default_factory=set)  # the keys of the names that it uses
+    fault: str = ""  # why these aren't known, if so
+    law: str = ""  # the law that defines it, if that is shown instead of its cases
 
     @property
     def key(self):
@@ -46,7 +47,7 @@ class Item:
         return self.module.startswith("specs/")
 
 
-# ---- what a term names
+# ---- the names that a term uses
 
 
 def tokens(text):
@@ -54,16 +55,17 @@ def tokens(text):
 
 
 def uses_of(text):
-    """Returns the imports of definitions: each module, the names of it in one text, and what it is called here."""
+    """Returns the imports of definitions: each module, its names in one text, and its local
+    name."""
     return [it.groups() for it in USE.finditer(text)]
 
 
 class Scope:
-    """What the names of a file mean."""
+    """The meanings of the names in a file."""
 
     def __init__(self, house, crate, module, uses):
         self.house, self.crate, self.module = house, crate, module
-        self.means, self.modules = defaultdict(list), {}  # a case may be brought in of two types
+        self.means, self.modules = defaultdict(list), {}  # a case may be imported from two types
         for path, names, alias in uses:
             if names is None:
                 self.modules[alias or path.rpartition(".")[2]] = path
@@ -75,7 +77,7 @@ class Scope:
         self.words = {*self.means, *self.modules, *(word for it in named if "◌" in it for word in it.split("◌"))}
 
     def keys(self, name):
-        """Returns the keys of what a name means; none where that is the library's, or nothing."""
+        """Returns the keys of a name's meaning; none if it is the library's, or has none."""
         name = self.operators.get(name, name)
         first, _, rest = name.partition(".")
         if first in self.modules and rest:
@@ -87,11 +89,11 @@ class Scope:
         return found - {None}
 
     def has(self, name):
-        """Returns whether a name is brought in, or the file's own, or says a number or a text."""
+        """Returns whether a name is imported or the file's own, or is a number or a text."""
         return name in self.words or name[0] in '"0123456789' or bool(self.house.own(self.crate, self.module, name))
 
     def is_case(self, name):
-        """Returns whether a name of a pattern is a case of a type, and no parameter."""
+        """Returns whether a name in a pattern is a case of a type, and no parameter."""
         first = name.partition(".")[0]
         paths, reals = zip(*self.means.get(first, [("", first)]))
         if first in self.modules or any("TheVariants" in it for it in paths):
@@ -100,7 +102,7 @@ class Scope:
 
 
 class Reader:
-    """Finds what a term names."""
+    """Finds the names that a term uses."""
 
     def __init__(self, scope):
         self.scope, self.found = scope, set()
@@ -129,7 +131,7 @@ class Reader:
         return made
 
     def term(self, these, at=0, bound=frozenset(), end=None):
-        """Reads from a place up to this token, and returns where that stands."""
+        """Reads from a position up to this token, and returns the token's position."""
         outer, bound = bound, {*bound}
         while at < len(these) and these[at] != end:
             it = these[at]
@@ -143,13 +145,13 @@ class Reader:
                 at = self.let(these, at, bound)
             elif it in ",;":
                 bound = {*outer}
-            elif end != "}" or these[at + 1] != "=":  # else it is the name of a field or of an argument
+            elif end != "}" or these[at + 1] != "=":  # otherwise it is the name of a field or of an argument
                 self.name(it, bound)
             at += 1
         return at
 
     def bracket(self, these, at, bound):
-        """Reads what stands in brackets; names in front of a colon are bound by them."""
+        """Reads the content of brackets; names before a colon are bound by them."""
         names = telescope(these, at)
         end = self.term(these, at + 1 + (len(names) + 1 if names else 0), bound, CLOSER[these[at]])
         bound |= {*names}
@@ -165,7 +167,8 @@ class Reader:
         return end
 
     def head(self, these, at, bound=frozenset()):
-        """Reads the parameters and the type of a record or a data type, and returns what is bound behind them."""
+        """Reads the parameters and the type of a record or a data type, and returns the names bound
+        after them."""
         bound = {*bound}
         while these[at] in CLOSER:
             at = self.bracket(these, at, bound) + 1
@@ -184,7 +187,7 @@ class Reader:
 
 
 def telescope(these, at):
-    """Returns the names in front of a colon, where a bracket begins so."""
+    """Returns the names before a colon, if a bracket begins with them."""
     end = at + 1
     while these[at] in ("(", "{") and end < len(these) and re.fullmatch(NAME, these[end]) and these[end] not in ":=λ→":
         end += 1
@@ -215,7 +218,8 @@ class Definitions:
                 self.owners |= dict.fromkeys([name, *cases], name)
 
     def parts(self):
-        """Yields the texts outside of `module _ .. where`, and that of each such block without its indent, behind its head."""
+        """Yields the text outside of `module _ .. where`, and that of each such block after its
+        head, without indent."""
         end = 0
         for it in MODULE.finditer(self.text):
             yield "", self.text[end : it.start()]
@@ -224,7 +228,8 @@ class Definitions:
         yield "", self.text[end:]
 
     def blocks(self):
-        """Yields the lines of each definition, with the comment above it, and headings, behind the head of the block that they stand in."""
+        """Yields the lines of each definition, with the comment above it, and headings, with the
+        head of their block."""
         for head, text in self.parts():
             block = []
             for line in [*text.splitlines(), ""]:
@@ -240,7 +245,7 @@ class Definitions:
         return self.owners.get(name)
 
     def read(self, house):
-        """Looks up what each definition names."""
+        """Finds the names that each definition uses."""
         scope = Scope(house, self.crate, self.module, uses_of(self.text))
         for name, item in self.items.items():
             reader = Reader(scope)
@@ -296,7 +301,7 @@ class Code:
                 self.add(f"{block[2]}.{it[1]}", block.start(3) + it.start())
 
     def add(self, name, start):
-        """Takes an item in, with the comment above it and without its attributes."""
+        """Adds an item, with the comment above it and without its attributes."""
         rest = self.text[start:]
         line = rest.partition("\n")[0]
         indent = re.match(" *", line)[0]
@@ -309,7 +314,8 @@ class Code:
         return name if name in self.items else None
 
     def read(self, house):
-        """Looks up what each type names: in its fields, or where it has a model in its `Value`."""
+        """Finds the names that each type uses: in its fields, or if it has a model in its
+        `Value`."""
         uses = code_uses(self.text)
         for name, item in self.items.items():
             if name in self.values:
@@ -332,12 +338,12 @@ class Code:
         reader = Reader(scope)
         reader.term(tokens(value))
         item.names = reader.found
-        value = re.sub(r"\w+", lambda it: scope.means.get(it[0], [("", it[0])])[0][1], value)  # by the name that it has where it is defined
+        value = re.sub(r"\w+", lambda it: scope.means.get(it[0], [("", it[0])])[0][1], value)  # by the name at its definition
         item.text = re.sub(r"\{.*", "{ .. }", item.text, flags=re.S) + f"\n// in clauses: {value}"
 
 
 def code_uses(text):
-    """Returns the path and the name of each name that a file of code brings in."""
+    """Returns the path and the name of each name that a file of code imports."""
     found = {}
     for it in re.finditer(r"^(?:pub )?use ([\w:]+?)(?:::\{([^}]*)\})?;", text, re.M | re.S):
         path = it[1].split("::")
@@ -362,7 +368,7 @@ def clauses_of(contract):
 
 
 def names_in(house, file, contract):
-    """Returns the keys of what the clauses of a contract name."""
+    """Returns the keys of the names in the clauses of a contract."""
     reader = Reader(Scope(house, file.crate, file.module, uses_of(file.text)))
     for _, clause in clauses_of(contract):
         reader.term(tokens(clause), bound={"result", *re.findall(r"(\w+): ", contract.partition("\n    ensures")[0])})
@@ -390,17 +396,18 @@ class House:
         return self.files[key[:2]].items[key[2]]
 
     def own(self, crate, module, name):
-        """Returns the key of a file's own name, or of the type whose case it is; None where there is none."""
+        """Returns the key of a file's own name, or of the type whose case it is; None if there is
+        none."""
         file = self.files.get((crate, module))
         found = file and file.own(name)
         return (crate, module, found) if found else None
 
     def key(self, path, name):
-        """Returns the key of what is imported from a module by this name; None where that is the library's."""
+        """Returns the key of a name imported from a module; None if that is the library's."""
         root, crate, *parts = path.split(".")
         if root != "Rattle" or crate not in self.crates:
             return None
-        parts = parts[1:]  # behind `specs`
+        parts = parts[1:]  # after `specs`
         if parts[0] != "declared":
             found = self.own(crate, f"specs/{parts[0]}", name)
         else:
@@ -416,7 +423,8 @@ class House:
         return found
 
     def of_code(self, crate, module, name, uses):
-        """Returns the key of a type by its name in a file of code; None where that is the library's."""
+        """Returns the key of a type by its name in a file of code; None if that is the
+        library's."""
         path, name = uses.get(name, (["crate", *module.split("/")[1:]], name))
         while path and path[0] in ("crate", *self.crates):
             crate = crate if path[0] == "crate" else path[0]

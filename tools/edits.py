@@ -1,11 +1,13 @@
 """The edits of a crate: changes of its code or definitions that its proofs have to refuse.
 
-A file NAME.edit has one edit, in the kit's form: lines `file: PATH`, `old: TEXT` and `new: TEXT`. The old text occurs once in that file of the crate, and
-the new text takes its place. Further pairs apply to the result of the earlier ones.
+A file NAME.edit has one edit, in the kit's form: lines `file: PATH`, `old: TEXT` and `new: TEXT`.
+The old text occurs once in that file of the crate, and is replaced by the new text. Further pairs
+apply to the result of the earlier ones.
 
-A file FILE.edits is a table: the edits of one source file. Its first line `file: PATH` holds for every edit. Each edit is a heading `# WORDS`, the wrong
-behaviour, and then its lines as above; a line `file: PATH` there holds for the further pairs of that edit. The name of an edit is its heading, in small
-letters, with `_` between the words."""
+A file FILE.edits is a table: the edits of one source file. Its first line `file: PATH` holds for
+every edit. Each edit is a heading `# WORDS`, the wrong behaviour, and then its lines as above; a
+line `file: PATH` there holds for the further pairs of that edit. The name of an edit is its
+heading, in small letters, with `_` between the words."""
 import re
 from dataclasses import dataclass
 from pathlib import Path
@@ -28,7 +30,9 @@ class Place:
     function: str
 
     def among(self, paths):
-        """Returns its path, if it is one of these paths of a crate's functions. A method is named by the module of its type, and a trait by its arguments too."""
+        """Returns its path, if it is one of these paths of a crate's functions.
+
+        A method is named by the module of its type, and a trait by its arguments too."""
         start = rf"(?:\w+::)*{self.owner}\w*::" if self.owner else f"{self.module}::" * bool(self.module)
         found = [it for it in paths if re.fullmatch(start + self.function, it)]
         exact = [it for it in found if it.split("::")[-2:-1] == [self.owner]]
@@ -47,7 +51,7 @@ class Edit:
         return f"{self.path}: {self.heading}"
 
     def text(self, given=""):
-        """Returns its lines; those of a table leave out the file that is given for all."""
+        """Returns its lines; those of a table leave out the file that holds for all."""
         lines = []
         for file, old, new in self.pairs:
             lines += [f"file: {file}"] * (file != given) + [f"old: {old}", f"new: {new}" if new else "new:"]
@@ -55,7 +59,8 @@ class Edit:
         return "".join(f"{it}\n" for it in lines)
 
     def applied(self, crate, texts):
-        """Returns the texts by their files after this edit; a file that isn't among them yet is the crate's."""
+        """Returns the texts by their files after this edit; a file that isn't among them yet has
+        the crate's text."""
         texts = dict(texts)
         for file, old, new in self.pairs:
             text = texts.get(file) or (crate / file).read_text(encoding="utf-8")
@@ -95,12 +100,17 @@ def place_of(crate, file, old):
 
 
 def is_in_body(indent, before):
-    """Returns whether a body has begun in this text after a function's name, and hasn't ended: the sources are laid out by rt fmt."""
+    """Returns whether this text after a function's name contains the start of a body and not its
+    end.
+
+    The sources have the layout of rt fmt."""
     return bool(re.search(r"^ *{$| {$", before, re.M)) and not re.search(rf"^{indent}}}$", before, re.M)
 
 
 def owner(text, at):
-    """Returns the name of the type, or of the type and the trait, whose method stands there; "" if it is no method."""
+    """Returns the name of the type, or of the type and the trait, of the method at this position.
+
+    It is "" if there is no method."""
     if text[text.rfind("\n", 0, at) + 1] != " ":
         return ""
     head = [it for it in BLOCK.finditer(text) if it.start() < at][-1:]
@@ -150,13 +160,16 @@ def edits_for(crate):
 
 
 def position(crate, edit):
-    """Returns where in its first file an edit begins, for the order of a table."""
+    """Returns the position in its first file at which an edit begins, for the order of a table."""
     file, old, _ = edit.pairs[0]
     return (crate / file).read_text(encoding="utf-8").find(old), edit.name
 
 
 def gather(crate, folder):
-    """Moves the loose edits of a crate's folder into the tables of the files that they change first, and returns how many."""
+    """Moves the loose edits of a crate's folder into the tables of the files that they change
+    first.
+
+    Returns the number of these edits."""
     loose = [it for it in edits_in(crate / folder) if it.path.suffix == ".edit"]
     tables = {}
     for edit in loose:

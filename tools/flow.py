@@ -1,15 +1,17 @@
-"""The flow of a function: its instructions, its blocks, what is needed behind each, and what is known of its registers.
+"""The flow of a function: instructions, blocks, registers needed later, and facts about registers.
 
-Numbers and names are those of the instruction set (RFC 9669). What is known stands in a dictionary: a register, by its number, or a home, a
-place of eight bytes in the frame that no pointer leads to, by its offset from R10, is known to be a number, given as its least and its
-greatest value, or POINTER, or a Request, a pointer into the request; of what isn't there nothing is known."""
+Numbers and names are those of the instruction set (RFC 9669). The facts are in a dictionary. Its
+keys are registers, by their numbers, and homes: places of eight bytes in the frame to which no
+pointer leads, by their offsets from R10. A value is a number, given as its least and its greatest
+value, or POINTER, or a Request, a pointer into the request. A register or home without an entry is
+unknown."""
 
 LDX, ST, STX, ALU32, JMP, JMP32, ALU64 = 1, 2, 3, 4, 5, 6, 7  # classes
 JA, JA32, CALL, CALLX, EXIT, LDDW = 0x05, 0x06, 0x85, 0x8D, 0x95, 0x18
 ADD, ADD_REGISTER, SUBTRACT, MOVE, MOVE_REGISTER = 0x07, 0x0F, 0x17, 0xB7, 0xBF  # of 64 bits
 LESS, NOT_0, EQUAL_TO = 0xA5, 0x55, 0x15  # jumps on a comparison with an immediate
 STORE, STORE_REGISTER, LOAD = 0x7A, 0x7B, 0x79  # of eight bytes
-EQUAL, INVERSE = 1, {1: 5, 5: 1, 2: 11, 11: 2, 3: 10, 10: 3, 6: 13, 13: 6, 7: 12, 12: 7}  # the codes of jumps, and what doesn't jump then
+EQUAL, INVERSE = 1, {1: 5, 5: 1, 2: 11, 11: 2, 3: 10, 10: 3, 6: 13, 13: 6, 7: 12, 12: 7}  # the codes of jumps, and the codes of their negations
 ARGUMENTS = {1: 0, 2: 1, 3: 1, 4: 2, 5: 2, 6: 1, 7: 0}  # of the helpers
 FRAME = 10
 POINTER = "pointer"
@@ -17,7 +19,7 @@ ANY = (0, (1 << 64) - 1)
 
 
 class Request:
-    """A pointer into the request, at this place."""
+    """A pointer into the request, to this place."""
 
     def __init__(self, at):
         self.at = at
@@ -29,7 +31,7 @@ class Request:
 
 
 class Instruction:
-    """One instruction, with its place in clang's code, and the function that it calls."""
+    """An instruction, with its place in clang's code, and the function that it calls."""
 
     def __init__(self, opcode, to=0, by=0, offset=0, imm=0, high=None, where="", line=None, calls=None):
         self.opcode, self.to, self.by, self.offset, self.imm, self.high = opcode, to, by, offset, imm, high
@@ -39,7 +41,7 @@ class Instruction:
         return Instruction(self.opcode, self.to, self.by, self.offset, self.imm, self.high, self.where, self.line, self.calls)
 
     def like(self, opcode, **fields):
-        """One at the same place, with the same registers, or others."""
+        """Returns an instruction at the same place, with the same registers or others."""
         made = Instruction(opcode, self.to, self.by if opcode & 8 else 0, where=self.where, line=self.line)
         for name, value in fields.items():
             setattr(made, name, value)
@@ -51,7 +53,7 @@ class Instruction:
 
     @property
     def lines(self):
-        """The line of C that it was made of, if that is known."""
+        """Returns the line of C that it comes from, if that is known."""
         return [self.line] if self.line else []
 
     @property
@@ -60,7 +62,7 @@ class Instruction:
 
     @property
     def is_jump(self):
-        """Is it a jump on a condition?"""
+        """Returns whether it is a jump on a condition."""
         return self.kind in (JMP, JMP32) and self.opcode not in (JA, JA32, CALL, CALLX, EXIT)
 
     @property
@@ -68,7 +70,7 @@ class Instruction:
         return bool(self.opcode & 8)
 
     def reads(self, needs):
-        """The registers that it reads; `needs` tells those of a function that is called."""
+        """Returns the registers that it reads; `needs` has those of a called function."""
         if self.opcode == CALL:
             return needs(self.calls) if self.calls else set(range(1, 1 + ARGUMENTS.get(self.imm, 5)))
         if self.opcode == EXIT:
@@ -88,14 +90,16 @@ class Instruction:
         return (set() if moves else {self.to}) | ({self.by} if self.takes_register else set())
 
     def writes(self):
-        """The registers that aren't as they were behind it."""
+        """Returns the registers that it changes."""
         if self.opcode == CALL:
             return set(range(6))
         return {self.to} if self.kind in (0, LDX, ALU32, ALU64) else set()
 
 
 class Block:
-    """Instructions of which each is followed by the next; the last may jump. Then the run goes on at `jumps` or `falls`, other blocks' names."""
+    """A sequence of instructions without jumps, except for the last one.
+
+    After it the run continues at `jumps` or `falls`, the names of other blocks."""
 
     def __init__(self, code, falls=None, jumps=None):
         self.code, self.falls, self.jumps = code, falls, jumps
@@ -109,30 +113,31 @@ class Block:
         return sum(it.slots for it in self.code)
 
     def redirect(self, names):
-        """Has what leads to a block of these lead to the one that it names."""
+        """Redirects jumps to one of these blocks to the block that the table names."""
         self.jumps, self.falls = names.get(self.jumps, self.jumps), names.get(self.falls, self.falls)
 
     def settle(self, to):
-        """Has the block always go on at this block: its condition goes."""
+        """Removes the block's condition: the run always continues at this block."""
         if self.jumps is not None:
             self.code.pop()
         self.falls, self.jumps = to, None
 
 
 class Loop:
-    """A head, and the blocks from which a jump leads back to it without leaving them."""
+    """A loop header, and the blocks from which a jump leads back to it without leaving them."""
 
     def __init__(self, head, blocks, backs):
         self.head, self.blocks, self.backs = head, blocks, backs
 
 
 class Flow:
-    """A function's blocks by their names, the first one's name, and what is computed of them."""
+    """A function's blocks by their names, the name of the first, and the results computed from
+    them."""
 
     def __init__(self, name, blocks, first, homes):
         self.name, self.blocks, self.first, self.homes = name, blocks, first, homes
-        self.ranges = {}  # by a loop's head and a register or home: between which ends its number is there, whatever the turn
-        self.spare = max(blocks) + 1  # the name of the next block that is made
+        self.ranges = {}  # by a loop header and a register or home: the ends of its number there, in each iteration
+        self.spare = max(blocks) + 1  # the name of the next new block
 
     def add(self, block):
         self.spare += 1
@@ -140,12 +145,14 @@ class Flow:
         return self.spare
 
     def return_number(self):
-        """Has R0, which is unset where a function begins, be 0 there: a function that returns nothing on some way returns a number then."""
+        """Sets R0, which is unset at a function's start, to 0 there.
+
+        Then a function that returns nothing on some path returns a number."""
         first = next(it for it in self.blocks[self.first].code)
         self.first = self.add(Block([first.like(MOVE, to=0)], falls=self.first))
 
     def before(self):
-        """The blocks that lead to each."""
+        """Returns the predecessors of each block."""
         found = {it: [] for it in self.blocks}
         for name, block in self.blocks.items():
             for to in set(block.after):
@@ -153,7 +160,7 @@ class Flow:
         return found
 
     def reached(self):
-        """The blocks that a run may come to, each before those that it leads to, but for jumps back."""
+        """Returns the reachable blocks, each before its successors, apart from jumps back."""
         return forward(self.first, {name: block.after for name, block in self.blocks.items()})[0]
 
     def drop_unreached(self):
@@ -161,7 +168,9 @@ class Flow:
         self.blocks = {name: block for name, block in self.blocks.items() if name in alive}
 
     def thread(self):
-        """Has what leads to a block without instructions lead to what follows it; and drops conditions that lead to one block either way."""
+        """Replaces jumps to a block without instructions by jumps to its successor.
+
+        Also removes conditions that lead to one block either way."""
         for block in self.blocks.values():
             passed = {}
             for to in block.after:
@@ -176,15 +185,18 @@ class Flow:
         self.drop_unreached()
 
     def order(self):
-        """The blocks in the order in which they stand: each before those that it leads to, and a loop's together, its head before them and
-        its end behind. As they are named, where that is so already."""
+        """Returns the layout of the blocks: each before its successors, and a loop's blocks
+        together.
+
+        A loop's header is first and its end last. The order of their names is kept if it is such a
+        layout already."""
         named, loops = sorted(self.blocks), self.loops()
         if not loops and named[0] == self.first and all(to > name for name in named for to in self.blocks[name].after):
             return named
         return self.laid(self.reached(), self.first, loops)
 
     def laid(self, names, first, loops):
-        """These blocks so, of which what leads back to the first isn't followed."""
+        """Returns the layout of these blocks, without jumps back to the first."""
         inside = [it for it in loops.values() if it.blocks < set(names)]
         outer = [it for it in inside if not any(it.blocks < other.blocks for other in inside)]
         stands_for = {name: name for name in names} | {name: it.head for it in outer for name in it.blocks}
@@ -199,7 +211,7 @@ class Flow:
         return found
 
     def dominators(self):
-        """The blocks through which each way to a block leads."""
+        """Returns the dominators of each block."""
         order, before = self.reached(), self.before()
         found = {it: set(order) for it in order}
         found[self.first] = {self.first}
@@ -214,7 +226,8 @@ class Flow:
         return found
 
     def loops(self):
-        """The loops by their heads, an inner one before that around it; None where a jump leads into the middle of one."""
+        """Returns the loops by their headers, inner ones first; None if a jump leads into the
+        middle of one."""
         order, dominators, before = self.reached(), self.dominators(), self.before()
         place = {it: at for at, it in enumerate(order)}
         found = {}
@@ -236,7 +249,8 @@ class Flow:
         return Loop(head, inside, backs)
 
     def needed(self, needs):
-        """The registers that are read in or behind each block before they are written."""
+        """Returns the live registers at each block's start: those read in or after it before they
+        are written."""
         found = {it: set() for it in self.blocks}
         order, changes = self.reached()[::-1], True
         while changes:
@@ -251,7 +265,7 @@ class Flow:
         return found
 
     def behind(self, block, needed, needs):
-        """The registers that are needed behind each instruction of a block."""
+        """Returns the live registers after each instruction of a block."""
         found, now = [], set().union(*(needed[to] for to in block.after))
         for one in reversed(block.code):
             found.append(now)
@@ -259,8 +273,10 @@ class Flow:
         return found[::-1]
 
     def say_what_is_known(self, start, needs):
-        """Says some things in the other way, of which more is known: a number that a constant is taken from, not the constant's negative
-        added to; and a pointer that a number is added to, not the reverse, which is refused."""
+        """Rewrites some instructions into forms about which more is known.
+
+        A number minus a constant replaces the addition of the constant's negative. The addition of
+        a number to a pointer replaces the reverse, which is refused."""
         (at, _), needed = self.known(start), self.needed(needs)
         for name, block in self.blocks.items():
             now, code = dict(at[name]), []
@@ -276,11 +292,13 @@ class Flow:
             block.code = code
 
     def known(self, start, by_homes=True):
-        """What is known at each block's start, and on each way from one block to the next; without homes, as the verifier does, which knows
-        nothing of what is loaded.
+        """Returns the facts at each block's start, and on each edge from one block to the next.
 
-        The blocks are gone through once, a loop's head before its ways back: there nothing is left of what the loop computes but whether it
-        is a number. Where a way back then tells otherwise, nothing is left at all, and they are gone through again."""
+        Without homes, they are those of the verifier, which knows nothing of loaded values. The
+        blocks are analysed once, a loop's header before its jumps back. At the header only the sort
+        of a value that the loop computes is known, number or pointer; and with homes its range, if
+        `ranges` has one. If a jump back contradicts that, nothing is known of the value, and the
+        analysis is repeated."""
         loops, order, lost = self.loops(), self.reached(), {}
         while True:
             at, ways = {self.first: dict(start)}, {}
@@ -307,16 +325,16 @@ class Flow:
                 lost.setdefault(head, set()).add(it)
 
     def changed(self, names):
-        """The registers and homes that these blocks write."""
+        """Returns the registers and homes that these blocks write."""
         return set().union(*(one.writes() | {self.home(one, ST, STX)} for name in names for one in self.blocks[name].code)) - {None}
 
     def home(self, one, *kinds):
-        """The home that an instruction of these kinds loads or stores, or None."""
+        """Returns the home that an instruction of these kinds loads or stores, or None."""
         base = one.by if one.kind == LDX else one.to
         return one.offset if one.kind in kinds and base == FRAME and one.offset in self.homes else None
 
     def step(self, one, now, by_homes=True):
-        """What is known behind an instruction."""
+        """Updates the facts by an instruction."""
         home = self.home(one, LDX, ST, STX) if by_homes else None
         if one.opcode == CALL:
             now[0] = (0, 1024) if not one.calls and one.imm == 1 else ANY
@@ -334,7 +352,9 @@ class Flow:
 
 
 def moved(one, after):
-    """A pointer is added to a number: what adds the number to the pointer, where a register is left for that."""
+    """Returns code that adds the number to the pointer, for a pointer that is added to a number.
+
+    Without a free register, the instruction is unchanged."""
     if one.by not in after and one.by != FRAME:
         return [one.like(ADD_REGISTER, to=one.by, by=one.to), one.like(MOVE_REGISTER)]
     spare = next((it for it in range(10) if it not in after and it not in (one.to, one.by)), None)
@@ -344,7 +364,7 @@ def moved(one, after):
 
 
 def put(now, place, known):
-    """Has it that this is known of a register or home."""
+    """Sets the fact about a register or home."""
     if known is not None and place is not None:
         now[place] = known
     else:
@@ -352,8 +372,10 @@ def put(now, place, known):
 
 
 def forward(first, after):
-    """What is reached from the first, each before those that come after it, but where one comes back; where it can be, the last of these
-    stands next to it. And the one that the first way back leads to, or None."""
+    """Returns the nodes reachable from the first in topological order, apart from jumps back.
+
+    If possible, a node's last successor is next to it. Also returns the target of the first jump
+    back, or None."""
     done, path, order, back = set(), {}, [], None
     path[first] = iter(after[first])
     while path:
@@ -371,7 +393,8 @@ def forward(first, after):
 
 
 def shifted(known, by):
-    """What is known of a number and a constant; None where it might go past 2^64 or below 0."""
+    """Returns the facts about a number plus a constant; None if it might exceed 2^64 or be below
+    0."""
     return (known[0] + by, known[1] + by) if is_number(known) and 0 <= known[0] + by and known[1] + by <= ANY[1] else None
 
 
@@ -384,12 +407,12 @@ def is_pointer(known):
 
 
 def in_any_turn(known, ends):
-    """What is known of what a loop changes: a number's ends, if they are known."""
+    """Returns the facts about a value that a loop changes: a number's ends, if they are known."""
     return ends if is_number(known) and ends else any_such(known)
 
 
 def any_such(known):
-    """Any number for a number, any pointer for a pointer."""
+    """Returns any number for a number, and any pointer for a pointer."""
     return ANY if is_number(known) else POINTER if is_pointer(known) else None
 
 
@@ -398,7 +421,7 @@ def sort(known):
 
 
 def join(one, other):
-    """What holds on either way."""
+    """Returns the facts that hold on both paths."""
     found = {}
     for it in one.keys() & other.keys():
         mine, yours = one[it], other[it]
@@ -416,7 +439,8 @@ def single(number):
 
 
 def computed(one, now):
-    """What is known of what arithmetic computes. Of 32 bits it is a number, whatever it was made of."""
+    """Returns the facts about the result of arithmetic. A 32-bit result is a number, whatever its
+    operands."""
     code, left = one.opcode >> 4, now.get(one.to)
     right = now.get(one.by) if one.takes_register and code not in (8, 13) else single(one.imm)
     if one.opcode == MOVE_REGISTER and not one.offset:
@@ -457,7 +481,9 @@ def within(least, most):
 
 
 def narrowed(one, now, holds):
-    """What is known where a condition holds, or doesn't: a comparison of whole registers, without sign, with a number that is known."""
+    """Returns the facts if a condition holds, or doesn't.
+
+    The condition is an unsigned comparison of a 64-bit register with a known number."""
     code = one.opcode >> 4
     code = code if holds else INVERSE.get(code)
     right = now.get(one.by) if one.takes_register else single(one.imm)
@@ -477,7 +503,7 @@ def narrowed(one, now, holds):
 
 
 def cut(known, least, most):
-    """A number between these ends too; as it was where there is none."""
+    """Returns a number restricted to these ends; unchanged if that leaves none."""
     low, high = max(known[0], least or 0), min(known[1], ANY[1] if most is None else most)
     return (low, high) if low <= high else known
 

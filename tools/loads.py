@@ -1,9 +1,12 @@
-"""Bytes of the payload that a loop loads through pointers which its turns make: they are asked from the helper payload_byte instead.
+"""Loads of payload bytes through pointers that a loop computes: the helper payload_byte replaces
+them.
 
-A turn may make no pointer. So each pointer into the request that a turn makes or moves becomes a number, the byte's place in the payload: it
-is computed as the pointer was, from a number that is as far from the payload's start. Past the payload's end the helper answers 2^64 - 1
-where there are zeros in the request, so that becomes 0. A call leaves nothing in R0 to R5: what is needed there behind it is in R6 to R9 while
-the loop runs, or on the stack during the call. This is done where it can be, in a loop that has none inside."""
+A loop may compute no pointer. So each pointer into the request that an iteration computes or moves
+becomes a number, the byte's place in the payload. It is computed as the pointer was, from a number
+with the same distance from the payload's start. Past the payload's end the helper returns 2^64 - 1
+where the request has zeros, so that becomes 0. A call clears R0 to R5: values needed after it are
+in R6 to R9 while the loop runs, or on the stack during the call. This is done if possible, in loops
+without inner loops."""
 from flow import ADD, ADD_REGISTER, CALL, FRAME, LDX, LOAD, MOVE, MOVE_REGISTER, ST, STORE_REGISTER, STX, SUBTRACT
 from flow import Block, Request, is_number, is_pointer
 
@@ -14,7 +17,8 @@ MOST = 1 << 31
 
 
 def ask_for_bytes(rewriting):
-    """Does so for a loop, and tells whether it could be done; else all is as it was."""
+    """Replaces the loads of a loop. Returns whether this was possible; otherwise nothing is
+    changed."""
     flow, head = rewriting.flow, rewriting.loop.head
     if rewriting.inner:
         return False
@@ -47,8 +51,11 @@ def ask_for_bytes(rewriting):
 
 
 def in_numbers(rewriting):
-    """The loop's code by blocks, with numbers in place of the pointers that its turns make, and what these are before the loop; None where
-    one is made of another pointer, or used for something else than to load a byte."""
+    """Returns the loop's code by blocks, with numbers in place of its pointers, and the numbers
+    before the loop.
+
+    Returns None if a pointer is computed from another one, or is used for anything but loading a
+    byte."""
     flow, codes, made = rewriting.flow, {}, set()
     for name, block in rewriting.blocks.items():
         now = dict(rewriting.at[name])
@@ -73,7 +80,8 @@ def in_numbers(rewriting):
 
 
 def in_number(one, now, made):
-    """The same on numbers, where an instruction makes or uses such a pointer; None where that isn't known how."""
+    """Returns an instruction on numbers, in place of one that makes or uses such a pointer; None if
+    unknown."""
     to, by = now.get(one.to), now.get(one.by) if one.kind == LDX or one.takes_register else None
     is_made_to, is_made_by = one.to in made and is_pointer(to), one.by in made and is_pointer(by)
     if one.kind in (ST, STX):
@@ -91,7 +99,7 @@ def in_number(one, now, made):
 
 
 def enter(rewriting, begins):
-    """A block before the loop, in which these registers get these numbers."""
+    """Makes a block before the loop, in which these registers get these numbers."""
     flow, head = rewriting.flow, rewriting.loop.head
     before = flow.add(Block([rewriting.made(MOVE, to=it, imm=number) for it, number in begins.items()]))
     rewriting.redirect_entering(before)
@@ -100,8 +108,10 @@ def enter(rewriting, begins):
 
 
 def loads(rewriting):
-    """The loads of bytes through a number: the instruction, what is known before it, the number's Shift, and the registers of R0 to R5 that are
-    needed behind it."""
+    """Returns the loads of bytes through a number.
+
+    Each has the instruction, the facts before it, the number's Shift, and the live registers of R0
+    to R5 after it."""
     rewriting.shifts()
     for name, block in rewriting.blocks.items():
         now, shifts = dict(rewriting.at[name]), dict(rewriting.starts[name])
@@ -113,7 +123,9 @@ def loads(rewriting):
 
 
 def is_inside(rewriting, one, now, shift, _):
-    """Is the byte's place never before the payload's start? What is known of the number tells, or that it goes on from there."""
+    """Returns whether the byte's place is never before the payload's start.
+
+    This follows from the facts about the number, or from its increase from there."""
     known = now[one.by]
     if 0 <= known[0] + one.offset and known[1] < MOST:
         return True
@@ -125,9 +137,11 @@ def is_inside(rewriting, one, now, shift, _):
 
 
 def renamed(rewriting, found):
-    """Registers of R6 to R9 for those below that are needed behind such a load, but for one that is left for the loop's counter: first for
-    those that hold pointers. A loop with calls has them in the right ones already, but for their arguments. None where a pointer gets none,
-    since only numbers lie on the stack."""
+    """Returns registers of R6 to R9 for those below that are live after such a load.
+
+    One is left for the loop's counter. Pointers come first. A loop with calls has its values in the
+    right ones already, except for their arguments. Returns None if a pointer gets none, since the
+    stack holds only numbers."""
     needed = set().union(*(it for *_, it in found))
     pointers = {it for _, now, _, behind in found for it in behind if not is_number(now.get(it))}
     free = [it for it in rewriting.free() if it in range(6, 10) and not rewriting.calls]
@@ -137,7 +151,9 @@ def renamed(rewriting, found):
 
 
 def asked(one, names, needed, homes):
-    """An instruction with the other registers; a load, behind which these registers are needed, as a call whose answer becomes a byte."""
+    """Returns an instruction with the other registers.
+
+    A load, after which these registers are live, becomes a call whose result becomes a byte."""
     takes = one.takes_register or one.kind in (LDX, STX)
     made = one.copy()
     made.to, made.by = names.get(one.to, one.to), names.get(one.by, one.by) if takes else one.by

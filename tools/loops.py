@@ -1,10 +1,13 @@
-"""Loops in the form in which they are accepted: a head, a body, and at its end `add64 r, c` and `jlt r, n, head`, by which alone it is left.
+"""Loops in the accepted form: a head, a body, and at its end `add64 r, c` and `jlt r, n, head`.
 
-A compiler's loops have other forms. Here a loop is bounded first: a register goes on by the same number in each turn, and is compared with
-a number that is known. Then it is counted, or its turns are written out: where a turn makes a pointer, which a body may not, or in version
-1. Each rewriting tells why it keeps the meaning. What can't be rewritten is told.
+The loop is left only by that jump. A compiler's loops have other forms. Here a loop is bounded
+first: a register is changed by the same number in each iteration, and is compared with a known
+number. Then the loop is counted, or its iterations are written out: if an iteration makes a
+pointer, which a body may not, or in version 1. Each rewriting states why it keeps the meaning. A
+loop that can't be rewritten is reported.
 
-A turn is what a run does from one time at the head to the next. A way back leads to the head from inside the loop, a way out leaves it."""
+An iteration is a run from the head to the next time at the head. A back edge leads to the head from
+inside the loop, an exit leaves it."""
 from typing import NamedTuple
 
 from flow import ADD, ADD_REGISTER, CALL, EQUAL_TO, FRAME, INVERSE, JA, JMP, LDX, LESS, LOAD, MOVE, MOVE_REGISTER, NOT_0, ST, STORE, STORE_REGISTER
@@ -12,14 +15,15 @@ from flow import STX, SUBTRACT, Block, Instruction, is_number, is_pointer, join,
 from loads import ask_for_bytes
 
 MOST_TURNS, MOST_BOUND, MOST_REWRITINGS = 1024, 1024, 1000
-MIRROR = {1: 1, 5: 5, 2: 10, 10: 2, 3: 11, 11: 3, 6: 12, 12: 6, 7: 13, 13: 7}  # of a jump's code, where its sides change places
+MIRROR = {1: 1, 5: 5, 2: 10, 10: 2, 3: 11, 11: 3, 6: 12, 12: 6, 7: 13, 13: 7}  # of a jump's code, if its sides change places
 SIGNED = (6, 7, 12, 13)
 SHIFT_UP, SHIFT_DOWN, DIVIDE, AND, AND_REGISTER, MODULO = 0x67, 0x77, 0x37, 0x57, 0x5F, 0x97  # of 64 bits
-CUTS = {0x67: "up", 0x77: "low", 0xC7: "signed"}  # shifts by 32: up and down again they cut a number to its low half, without sign or with it
+CUTS = {0x67: "up", 0x77: "low", 0xC7: "signed"}  # shifts by 32: up and down again they reduce a number to its low half, without sign or with it
 
 
 class Unfit(Exception):
-    """A loop that can't be rewritten: why, what to write in C instead, and the instructions that show it."""
+    """A loop that can't be rewritten: the reason, what to write in C instead, and the instructions
+    that show it."""
 
     def __init__(self, why, instead, *places):
         super().__init__(why)
@@ -27,20 +31,25 @@ class Unfit(Exception):
 
 
 class Unbounded(Unfit):
-    """Loops of which nothing tells how many turns they have; its places are one for each loop."""
+    """Loops with an unknown number of iterations; it has one place for each loop."""
 
 
 class Test:
-    """A way out that bounds a loop: the block that ends with it, where it leads, and the most turns; is_exact if it is never fewer. `others` are further ways out, if
-    each turn comes to one of them; `asks` is the comparison if another one in its place might go on for ever."""
+    """An exit that bounds a loop: the block that ends with it, its target, and the most iterations.
+
+    is_exact if there are never fewer. `others` are further exits, if each iteration comes to one of
+    them; `asks` is the comparison if another one in its place might continue for ever."""
 
     def __init__(self, block, out, turns, is_exact, asks=None, others=()):
         self.block, self.out, self.turns, self.is_exact, self.asks, self.others = block, out, turns, is_exact, asks, others
 
 
 class Shift(NamedTuple):
-    """A register's value at the turn's start and a number, or a number alone; or the low half of that, or "mixed", of which only the low half
-    is so, and all for small numbers; "up" is halfway to the low half."""
+    """A register's value at the iteration's start plus a number, or a number alone; or the low half
+    of that.
+
+    "mixed" is a value of which only the low half is so, or all of it for small numbers; "up" is
+    halfway to the low half."""
 
     base: object
     number: int
@@ -48,7 +57,9 @@ class Shift(NamedTuple):
 
 
 class Most(NamedTuple):
-    """A number that is at most a register's value at the turn's start, divided by a constant; or that, shifted up by 32."""
+    """A number that is at most a register's value at the iteration's start, divided by a constant.
+
+    Or that, shifted up by 32."""
 
     base: object
     by: int
@@ -56,15 +67,18 @@ class Most(NamedTuple):
 
 
 class Counter:
-    """What counts a loop's turns: a register, its step and bound, and the addition that the loop has already, or None."""
+    """The counter of a loop: a register, its step and bound, and the loop's existing addition, or
+    None."""
 
     def __init__(self, register, by, bound, addition=None):
         self.register, self.by, self.bound, self.addition = register, by, bound, addition
 
 
 def mend_loops(flow, needs, start, frame, may_count, room):
-    """Gives each loop of a function the accepted form. `needs` tells what a called function reads, `start` what is known at first, `room`
-    how many slots the function may have."""
+    """Gives each loop of a function the accepted form.
+
+    `needs` has the registers that a called function reads, `start` the facts at the start, and
+    `room` the number of slots that the function may have."""
     for _ in range(MOST_REWRITINGS):
         flow.thread()
         loops = flow.loops()
@@ -80,8 +94,10 @@ def mend_loops(flow, needs, start, frame, may_count, room):
 
 
 def mend_one(flow, loops, needs, start, frame, may_count, room):
-    """Gives the first of these loops the accepted form whose turns are bounded: that may bound another's. If none is bounded, each is told. A loop with an
-    unbounded one inside waits, since its turns might be written out."""
+    """Gives the accepted form to the first of these loops whose iterations are bounded.
+
+    That may bound another's. If none is bounded, each is reported. A loop with an unbounded one
+    inside waits, since its iterations might be written out."""
     unbounded = []
     for loop in loops:
         one = Rewriting(flow, loop.head, needs, start, frame)
@@ -94,7 +110,7 @@ def mend_one(flow, loops, needs, start, frame, may_count, room):
 
 
 def begins(flow, loop, known, start):
-    """What is known before a loop's first turn."""
+    """Returns the facts before a loop's first iteration."""
     _, ways = known
     entering = [way for (name, to), way in ways.items() if to == loop.head and name not in loop.blocks]
     entering += [start] if loop.head == flow.first else []
@@ -105,7 +121,9 @@ def begins(flow, loop, known, start):
 
 
 def is_counted(flow, loop, before):
-    """Has it the form already, with its end as a block of its own? `before` is what the verifier knows before its first turn."""
+    """Returns whether the loop has the form already, with its end as a block of its own.
+
+    `before` has the verifier's facts before its first iteration."""
     end = flow.blocks[loop.backs[0]].code
     if len(loop.backs) != 1 or len(end) != 2 or not (end[0].opcode == ADD and end[1].opcode == LESS and end[0].to == end[1].to):
         return False
@@ -118,28 +136,30 @@ def is_counted(flow, loop, before):
 
 
 def jumps_to(flow, loop):
-    """Might a jump lead to a loop from outside? Only one block that always goes on there is put right before it."""
+    """Returns whether a jump might lead to a loop from outside.
+
+    Only one block that always continues there is put directly before it."""
     entering = [it for name, it in flow.blocks.items() if name not in loop.blocks and loop.head in it.after]
     return bool(entering) and not (len(entering) == 1 and len(entering[0].after) == 1 and entering[0].code)
 
 
 class Rewriting:
-    """A loop that is to be rewritten, and what is known of it."""
+    """A loop that is to be rewritten, and the facts about it."""
 
     def __init__(self, flow, head, needs, start, frame):
         loops, known = flow.loops(), flow.known(start)
         self.flow, self.loop, self.needs, self.start, self.frame = flow, loops[head], needs, start, frame
         loop, (self.at, _) = self.loop, known
-        self.begins = begins(flow, loop, known, start)  # what is known before the first turn
-        self.verified = begins(flow, loop, flow.known(start, by_homes=False), start)  # and what the verifier knows
-        self.blocks = {it: flow.blocks[it] for it in flow.reached() if it in loop.blocks}  # each before those that it leads to
+        self.begins = begins(flow, loop, known, start)  # the facts before the first iteration
+        self.verified = begins(flow, loop, flow.known(start, by_homes=False), start)  # and the verifier's
+        self.blocks = {it: flow.blocks[it] for it in flow.reached() if it in loop.blocks}  # each before its successors
         self.inner = {it.head: it for it in loops.values() if it.blocks < loop.blocks}
         self.written = flow.changed(loop.blocks)
         self.calls = any(one.opcode == CALL for one in self.code())
         self.needed = flow.needed(needs)
         dominators = flow.dominators()
         always = set.intersection(*(dominators[it] for it in loop.backs)) & loop.blocks
-        self.once = always.difference(*(it.blocks for it in self.inner.values()))  # each turn but the last comes there once
+        self.once = always.difference(*(it.blocks for it in self.inner.values()))  # each iteration but the last comes there once
         self.shown = (flow.blocks[loop.backs[0]].code or list(self.code()) or [Instruction(JA, where=flow.name)])[-1]
 
     def code(self):
@@ -166,19 +186,24 @@ class Rewriting:
             raise Unfit(f"a loop that can't be counted, since a turn makes a pointer ({pointer.where}); {size}", instead, self.shown, pointer)
         return self.write_out(test)
 
-    # How many turns it has
+    # The number of its iterations
 
     def test(self):
-        """The way out that bounds the loop most narrowly: a comparison of what goes on by the same number in each turn. If none is passed in each turn, several of
-        which one is."""
+        """Returns the exit that bounds the loop most narrowly.
+
+        It compares a value that is changed by the same number in each iteration. If none is passed
+        in each iteration, the result has several exits, one of which is."""
         ends = self.shifts()
         steps = self.steps(ends)
         found = [it for name in self.once for it in self.tests(name, ends, steps)]
         return min(found, key=lambda it: (it.turns, not it.is_exact), default=None) or self.joint_test(ends, steps)
 
     def joint_test(self, ends, steps):
-        """For each way back a test that is passed before it. What each compares goes on by the same number in each turn, so in a turn past all their bounds none
-        goes on; of tests of equality that holds only if all are the same one."""
+        """Returns the tests that the back edges pass, as one Test with `others`.
+
+        Returns None if a back edge has none. Each test compares a value that is changed by the same
+        number in each iteration, so none continues in an iteration past all their bounds. Tests of
+        equality, and of a value that is divided, are returned only if all are the same one."""
         dominators, nested = self.flow.dominators(), set().union(*(it.blocks for it in self.inner.values()))
         found = [it for name in self.blocks if name not in nested for it in self.tests(name, ends, steps)]
         chosen = [min((it for it in found if it.block in dominators[back]), key=lambda it: it.turns, default=None) for back in self.loop.backs]
@@ -188,14 +213,14 @@ class Rewriting:
         return Test(chosen[0].block, chosen[0].out, max(it.turns for it in chosen), False, others=chosen[1:])
 
     def tests(self, name, ends, steps):
-        """The test at a block's end, if it bounds the turns in which it goes on."""
+        """Returns the test at a block's end, if it bounds the iterations that continue there."""
         block = self.blocks[name]
         outs = [it for it in block.after if it not in self.loop.blocks]
         if block.jumps is None or len(outs) != 1 or block.code[-1].kind != JMP:
             return
         jump = block.code[-1]
         code = jump.opcode >> 4
-        code = INVERSE.get(code) if block.jumps == outs[0] else code  # by which it goes on
+        code = INVERSE.get(code) if block.jumps == outs[0] else code  # by which it continues
         divided = self.divided(ends[name], jump, code)
         if divided is not None and divided < MOST_TURNS:
             yield Test(name, outs[0], 1 + divided, False, ("divided", name))
@@ -212,8 +237,11 @@ class Rewriting:
             yield Test(name, outs[0], 1 + goes_on[0], goes_on[1], (code, left, right) if code in (1, 5) else None)
 
     def divided(self, now, jump, code):
-        """How often at most a comparison goes on of what each turn divides: a register that is at most its value at the turn's start, divided
-        by a constant above 1, and is zero or small in the end. None if it isn't such."""
+        """Returns in how many iterations at most a comparison of a divided value continues.
+
+        The comparison continues while a register is above a constant, or isn't zero. In each
+        iteration the register becomes at most its value, or another register's, divided by a
+        constant above 1. Returns None for any other comparison."""
         left, right = jump.to, now.get(jump.by) if jump.takes_register else Shift(None, jump.imm)
         if jump.takes_register and right is not None and right.base is not None:
             left, right, code = jump.by, now.get(jump.to), MIRROR.get(code)
@@ -225,7 +253,7 @@ class Rewriting:
             return None
         base, by, count = most.base, most.by, 0
         last = self.divided_by(base)
-        if last and last.base != base and by == 1:  # in the next turn it is what another register becomes
+        if last and last.base != base and by == 1:  # in the next iteration it is what another register becomes
             base, by, count = last.base, last.by, 1
             last = self.divided_by(base)
         if not last or last.base != base:
@@ -237,25 +265,30 @@ class Rewriting:
         return count
 
     def divided_by(self, register):
-        """What a register is at most in the next turn: another one's value, or its own, divided by a constant above 1; None if it isn't such."""
+        """Returns an upper bound of a register in the next iteration.
+
+        It is another register's value, or its own, divided by a constant above 1; None if there is
+        no such bound."""
         turns = [self.ends[it].get(("most", register)) for it in self.loop.backs]
         if not all(it and it.base == turns[0].base and not it.is_up and it.by > 1 for it in turns):
             return None
         return Most(turns[0].base, min(it.by for it in turns))
 
     def bound(self, right):
-        """What is known of a comparison's right side, if it is the same in each turn."""
+        """Returns the facts about a comparison's right side, if it is the same in each
+        iteration."""
         if right.base is None:
             return single(right.number)
         known = shifted(self.begins.get(right.base), right.number) if self.is_same(right.base) else None
         return known if known is None or right.cut is None or known[1] < 1 << 30 else None
 
     def is_same(self, register):
-        """Is it in each turn as it was before, though it may be loaded again?"""
+        """Returns whether the value is the same in each iteration as before, though it may be
+        loaded again."""
         return register not in self.written or all(self.ends[it].get(register) == Shift(register, 0) for it in self.loop.backs)
 
     def shifts(self):
-        """What each register is at each block's end: a Shift, or None."""
+        """Returns the value of each register at each block's end: a Shift, or None."""
         order, self.starts, self.ends = list(self.blocks), {}, {}
         places = (*range(11), *self.flow.homes)
         at, ends = {self.loop.head: {it: Shift(it, 0) for it in places} | {("most", it): Most(it, 1) for it in places}}, self.ends
@@ -270,7 +303,7 @@ class Rewriting:
         return ends
 
     def most(self, one, now):
-        """What each register and home is at most behind an instruction."""
+        """Returns the upper bound of each register and home after an instruction."""
         of, home = now.get(("most", one.to)), self.flow.home(one, LDX, ST, STX)
         if one.kind in (ST, STX):
             if home is not None:
@@ -291,7 +324,7 @@ class Rewriting:
                 now.pop(("most", it), None)
 
     def shift(self, one, now):
-        """What each register and home is behind an instruction."""
+        """Returns the value of each register and home after an instruction."""
         self.most(one, now)
         of = now.get(one.to)
         if one.kind in (ST, STX):
@@ -307,7 +340,7 @@ class Rewriting:
             other = now.get(one.by)
             of, other = (other, of) if of and of.base is None else (of, other)
             put(now, one.to, more(of, other.number) if other and other.base is None else None)
-        elif one.opcode == ADD_REGISTER:  # a number that goes into the high half, as it is there
+        elif one.opcode == ADD_REGISTER:  # a number that is moved into the high half, unchanged
             of_by = now.get(one.by)
             by = of_by and of_by.base not in self.written and self.bound(of_by) or (0, 1)
             high = (by[0] >> 32) - (by[0] >> 63 << 32)
@@ -322,8 +355,11 @@ class Rewriting:
                 now.pop(it, None)
 
     def steps(self, ends):
-        """The registers and homes that go on by the same number in each turn, and their Shift by a turn; also those that are set to what such a
-        one is, and begin as far from it as they are then."""
+        """Returns the registers and homes that are changed by the same number in each iteration,
+        with their Shift.
+
+        Also those that are set to the value of such a one, and begin as far from it as they are
+        then."""
         last = {it: one for it, one in ends[self.loop.backs[0]].items() if isinstance(one, Shift) and all(ends[back].get(it) == one for back in self.loop.backs)}
         found = {it: one for it, one in last.items() if one.base == it and one.number and one.cut != "up"}
         for it, one in last.items():
@@ -334,7 +370,8 @@ class Rewriting:
         return found
 
     def pointer(self):
-        """An instruction of the loop that gives a register a pointer; None where there is none."""
+        """Returns an instruction of the loop that gives a register a pointer; None if there is
+        none."""
         for name, block in self.blocks.items():
             now = dict(self.at[name])
             for one in block.code:
@@ -343,7 +380,7 @@ class Rewriting:
                     return one
         return None
 
-    # Its turns written out
+    # Its iterations written out
 
     def size(self, test):
         return test.turns * (sum(it.slots for it in self.blocks.values()) - test.is_exact)
@@ -352,8 +389,10 @@ class Rewriting:
         return self.size(test) + sum(it.slots for name, it in self.flow.blocks.items() if name not in self.loop.blocks) <= room
 
     def write_out(self, test):
-        """Writes its turns out: the ways back of one lead to the next. In the last turn the test leads out, as it does at the latest then;
-        so no way back is left there. Where the test is exact, it leads out in none before."""
+        """Writes its iterations out: the back edges of one lead to the next.
+
+        In the last iteration the test leaves the loop, as it does then at the latest; so no back
+        edge is left there. If the test is exact, it leaves the loop in no earlier one."""
         flow, copies = self.flow, []
         for _ in range(test.turns):
             copies.append({name: flow.add(Block(list(block.code), block.falls, block.jumps)) for name, block in self.blocks.items()})
@@ -380,9 +419,10 @@ class Rewriting:
     def count(self, test):
         """Makes it a counted loop.
 
-        Where the test is exact and the last thing of each turn, the counter's jump takes its place: it goes on as often. Else the test stays,
-        and the counter's jump only never ends the loop before. What leaves the loop elsewhere sets a flag; the turns that are left begin with
-        a look at it and do nothing more, and behind the loop it tells where the run goes on."""
+        If the test is exact and the last part of each iteration, the counter's jump replaces it: it
+        continues as often. Otherwise the test remains, and the counter's jump only never ends the
+        loop earlier. Any other exit sets a flag. The remaining iterations begin with a test of it
+        and do nothing more, and after the loop it determines where the run continues."""
         flow, loop = self.flow, self.loop
         is_last = test.is_exact and loop.backs == [test.block]
         jump = flow.blocks[test.block].code[-1] if is_last else None
@@ -405,11 +445,14 @@ class Rewriting:
             flow.blocks[end].falls, head = test.out, loop.head
         flow.ranges.update({(head, it): ends for it, ends in ranges.items()})
         if is_jumped_to and not flow.blocks[before].code:
-            keeps = self.made(MOVE_REGISTER, to=counter.register, by=counter.register)  # for what jumps to the loop, which leads here
+            keeps = self.made(MOVE_REGISTER, to=counter.register, by=counter.register)  # for jumps to the loop, which lead here
             flow.blocks[before].code.append(keeps)
 
     def ranges(self, test):
-        """Between which ends a number is at each turn's start that goes on by a constant in each turn, also in the turns that are left."""
+        """Returns the ends of each number at an iteration's start that is changed by a constant in
+        each iteration.
+
+        The remaining iterations are included."""
         found = {}
         for it, one in self.steps(self.ends).items():
             begins = self.begins.get(it)
@@ -423,16 +466,19 @@ class Rewriting:
         return Instruction(opcode, where=self.shown.where, line=self.shown.line, **fields)
 
     def own_counter(self, test, outs, jump):
-        """A register of the loop that can count. Its addition may stand at the turn's end as well: each turn comes to it once, nothing else
-        changes the register, and what follows in the turn doesn't read it, but for the jump that goes. Where the run leaves the loop
-        elsewhere the register goes on, so nothing behind that may need it."""
+        """Returns a register of the loop that can count.
+
+        Its addition may be at the iteration's end as well: each iteration comes to it once, nothing
+        else changes the register, and nothing after it in the iteration reads it, except for the
+        jump that is removed. After another exit the register increases further, so nothing after
+        that may need it."""
         for register, by in ((it, one.number) for it, one in self.steps(self.shifts()).items()):
             writers = [(name, one) for name, block in self.blocks.items() for one in block.code if register in one.writes()]
             begins = self.verified.get(register)
             if len(writers) != 1 or by < 1 or not is_number(begins) or self.calls and register < 6:
                 continue
             if jump and begins[0] != begins[1]:
-                continue  # it might go on more often
+                continue  # it might continue more often
             if any(register in self.needed[to] for _, to in outs):
                 continue
             (name, one), = writers
@@ -443,7 +489,7 @@ class Rewriting:
         return None
 
     def following(self, name, one):
-        """What may follow an instruction in its turn."""
+        """Returns the instructions that may follow one in its iteration."""
         code = self.blocks[name].code
         found, done, todo = code[code.index(one) + 1 :], {self.loop.head}, list(self.blocks[name].after)
         while todo:
@@ -455,13 +501,17 @@ class Rewriting:
         return found
 
     def free(self):
-        """Registers that the loop doesn't touch and nothing behind it needs; where it calls, only those that a call keeps."""
+        """Returns the registers that the loop doesn't touch and that aren't live after it.
+
+        If it calls, only those that a call keeps."""
         touched = self.written.union(self.needed[self.loop.head], *(one.reads(self.needs) for one in self.code()))
         return [it for it in (9, 8, 7, 6, *(() if self.calls else (5, 4, 3, 2, 1, 0))) if it not in touched]
 
     def spare(self):
-        """Frees a register, where one can be: while the loop runs its value lies on the stack. What reads it loads it first, into a register
-        that nothing needs there; what writes it stores it then. Only numbers may lie there."""
+        """Frees a register, if possible: while the loop runs its value is on the stack.
+
+        An instruction that reads it first loads it into a register that isn't live there; one that
+        writes it stores it then. Only numbers may be there."""
         counters = {self.flow.blocks[it.backs[0]].code[0].to for it in self.inner.values()}
         flow, head, home = self.flow, self.loop.head, self.frame.take()
         registers = [it for it in ((6, 7, 8, 9) if self.calls else range(10)) if it not in counters]
@@ -483,7 +533,9 @@ class Rewriting:
         return True
 
     def without(self, register, home):
-        """The loop's code by blocks, with a home in place of this register; None where that can't be, or it isn't there."""
+        """Returns the loop's code by blocks, with a home in place of this register.
+
+        None if that isn't possible, or the register isn't used."""
         codes = {}
         is_touched = register in self.needed[self.loop.head]
         if is_touched and not is_number(self.begins.get(register)):
@@ -504,7 +556,7 @@ class Rewriting:
         return codes if is_touched else None
 
     def instead(self, one, register, home, reads, writes, needed):
-        """What does the same as an instruction, with a home in place of the register."""
+        """Returns the equivalent of an instruction, with a home in place of the register."""
         if one.opcode == MOVE_REGISTER and not one.offset and one.to != one.by:
             return [self.made(STORE_REGISTER, to=FRAME, by=one.by, offset=home) if writes else self.made(LOAD, to=one.to, by=FRAME, offset=home)]
         if one.opcode == MOVE:
@@ -515,13 +567,15 @@ class Rewriting:
         changed = one.copy()
         has_by = one.kind in (LDX, STX) or one.kind >= 4 and one.takes_register and one.opcode >> 4 != 13  # 13: a change of the order of bytes
         changed.to, changed.by = (other if it == register else it for it in (one.to, one.by if has_by else None))
-        changed.by = changed.by if has_by else one.by  # a field that isn't used stays
+        changed.by = changed.by if has_by else one.by  # an unused field is unchanged
         loads = [self.made(LOAD, to=other, by=FRAME, offset=home)] if reads else []
         return [*loads, changed, *([self.made(STORE_REGISTER, to=FRAME, by=other, offset=home)] if writes else [])]
 
     def begin_and_end(self, counter):
-        """Gives it a block before it, which leads to it alone, and one at its end, to which the ways back lead: the counter's addition and
-        jump. Where the loop calls, nothing is known at the head of R1 to R5: those that a turn needs from that before lie on the stack."""
+        """Gives it a block before it, its only predecessor, and one at its end for the back edges.
+
+        The last one has the counter's addition and jump. If the loop calls, nothing is known at the
+        head of R1 to R5: those that an iteration needs from before are on the stack."""
         flow, loop = self.flow, self.loop
         before = flow.add(Block([], falls=loop.head))
         self.redirect_entering(before)
@@ -542,7 +596,9 @@ class Rewriting:
         return end, before
 
     def flag(self, free, ends, counter):
-        """The register that tells whether the loop was left, and whether it is kept on the stack, and is only read at the turn's start."""
+        """Returns the register of the flag that the loop was left.
+
+        Also returns whether it is kept on the stack, and is only read at the iteration's start."""
         if free:
             return free[0], False
         needed = self.needed[self.loop.head].union(*(self.needed[it] for it in ends))
@@ -552,11 +608,12 @@ class Rewriting:
         return flag, True
 
     def gather(self, outs, ends, flag, home, end, before, last):
-        """Has the ways out lead to the loop's end instead, with a flag that tells which it was.
+        """Redirects the exits to the loop's end, with a flag that says which one was taken.
 
-        Behind the loop the registers are as they were on the way out, since the turns that are left change nothing but the counter and the
-        flag. That is known too: a register that nothing at the head needs is given a number before the loop, and where the loop calls, R1 to
-        R5 are kept on the stack."""
+        After the loop the registers are as they were at the exit, since the remaining iterations
+        change nothing but the counter and the flag. The verifier has to know this too: a register
+        that isn't live at the head gets a number before the loop, and if the loop calls, R1 to R5
+        are kept on the stack."""
         flow, head = self.flow, self.loop.head
         look = [self.made(LOAD, to=flag, by=FRAME, offset=home)] if home else []
         kept = {to: self.needed[to] & self.written & set(range(1, 6)) if self.calls else set() for to in ends}
@@ -566,7 +623,7 @@ class Rewriting:
             flow.blocks[before].code.append(self.made(MOVE, to=it))
         saves = {to: [self.made(STORE_REGISTER, to=FRAME, by=it, offset=homes[to, it]) for it in sorted(kept[to])] for to in ends}
         if last is not None:
-            last.code += saves[ends[-1]]  # the last turn leads there by the loop's end
+            last.code += saves[ends[-1]]  # the last iteration leads there by the loop's end
         for name, to in outs:
             code = list(saves[to])
             number = 1 + ends.index(to)
@@ -591,13 +648,15 @@ class Rewriting:
 
 
 def more(of, number):
-    """A Shift and a number; None where that is none."""
+    """Returns a Shift plus a number; None without a Shift."""
     return of._replace(number=of.number + number, cut="mixed" if of.cut else None) if of and of.cut != "up" else None
 
 
 def turns_below(code, left, by, bound):
-    """The same of a number that is below a bound, wherever it begins: it goes through what is below it once, up or down, and then the loop is
-    left. None if it isn't such."""
+    """Returns the same for a number that is below a bound, wherever it begins.
+
+    It takes each value below the bound once, upwards or downwards, and then the loop is left.
+    Returns None for any other."""
     if code not in (10, 11) or bound is None or left.cut not in (None, "low") or by.cut or not 0 < abs(by.number) < 1 << 20:
         return None
     end = bound[1] + (code == 11)
@@ -605,8 +664,11 @@ def turns_below(code, left, by, bound):
 
 
 def turns_on(code, begins, left, by, bound):
-    """How often at most a comparison goes on, and whether exactly so often. Its left side is a Shift of what begins as `begins` and goes on by
-    the Shift `by`, its right side is in `bound`. None where that isn't known, or numbers are so large that the left side might wrap."""
+    """Returns how often at most a comparison continues, and whether it does exactly so.
+
+    Its left side is a Shift of a value that begins as `begins` and is changed by the Shift `by`;
+    its right side is in `bound`. Returns None if that isn't known, or if numbers are so large that
+    the left side might wrap."""
     if not is_number(begins) or bound is None:
         return None
     is_equal, is_cut = code == 5, left.cut or by.cut
@@ -616,7 +678,7 @@ def turns_on(code, begins, left, by, bound):
     if first is None or bound is None or abs(by.number) >= 1 << 20:
         return None
     (low, high), (least, most), step = first, bound, by.number
-    if not is_equal or is_cut and left.cut not in ("low", "signed"):  # else what is compared is the same though it wraps
+    if not is_equal or is_cut and left.cut not in ("low", "signed"):  # otherwise the comparison is the same though it wraps
         if max(abs(it) for it in (low, high, least, most, step)) >= 1 << bits - 2 or is_cut and left.cut != "signed" and min(low, least) < 0:
             return None
     is_exact = low == high and least == most
@@ -633,14 +695,15 @@ def turns_on(code, begins, left, by, bound):
 
 
 def within_cut(known, cut):
-    """The same, where each of the numbers may be what was cut so."""
+    """Returns the same, if each of the numbers may be the result of such a cut."""
     low, high = known
     is_negative = cut == "signed" and low >= (1 << 64) - (1 << 31)
     return known if is_negative or high < 1 << (31 if cut == "signed" else 32) else None
 
 
 def numbers(known, by, bits, is_signed):
-    """What is known of a number and a constant, as a number of so many bits; None where some of that wraps."""
+    """Returns the facts about a number plus a constant, as a number of this many bits; None if it
+    might wrap."""
     if known is None:
         return None
     least, end = (known[0] + by) % (1 << bits), 1 << (bits - 1 if is_signed else bits)

@@ -1,5 +1,6 @@
-/* An access code by query: a GET of /r/N?code=4711 replies `open` where 4711 is the code, else 4.03. A POST of four bytes sets a new code
-   where its query has the old one; the first code is set by anyone, and until then a GET is answered 4.04. */
+/* An access code by query: a GET of /r/N?code=4711 replies `open` if 4711 is the code, and is
+   otherwise answered 4.03. A POST of four bytes sets a new code if its query has the old one. Any
+   client can set the first code; until then a GET is answered 4.04. */
 #include <fc.h>
 
 struct state {

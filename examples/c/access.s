@@ -1,4 +1,4 @@
-; access.c by hand. Variables: the code's four characters, and a word that is 1 where a code is set.
+; access.c by hand. Variables: the code's four characters, and a word that is 1 if a code is set.
 ; --vars 8 --budget 21
 ldxb r4, r1, 0              ; the method: 1 GET, 2 POST
 ldxw r5, r2, 4

@@ -3,7 +3,7 @@
 mov64 r6, r2
 ldxb r4, r1, 0              ; the method: 1 GET, 2 POST
 jne r4, 2, show
-ldxb r7, r6, 4              ; what it was
+ldxb r7, r6, 4              ; the previous state
 mov64 r8, r7
 ldxdw r4, r1, 16            ; the query
 lddw r5, .text "ack"
@@ -29,7 +29,7 @@ jne r8, 2, settle
 mov64 r8, 0
 above:
 jne r8, 0, settle
-jle r5, r4, settle          ; come from above, a value within the limit
+jle r5, r4, settle          ; from above, with a value within the limit
 mov64 r8, 1
 settle:
 stxb r6, 4, r8

@@ -1,5 +1,6 @@
-/* The average of the last four readings. A POST has a reading as decimal text, `0` to `9999`, else it is answered 4.00; a GET replies the
-   average of the readings so far, four at most, as decimal text, rounded down; 4.04 where there is none. Observers are told of each
+/* The average of the last four readings. A POST has a reading as decimal text, `0` to `9999`; any
+   other is answered 4.00. A GET replies with the average of the last readings, at most four, as
+   decimal text, rounded down, and is answered 4.04 if there is none. Observers are notified of each
    reading. */
 #include <fc.h>
 

@@ -7,7 +7,7 @@ jeq r3, 0, 34
 jgt r3, 4, 33
 mov64 r4, 0                 ; the reading
 ldxb r5, r1, 80
-sub64 r5, 48                ; a character below `0` becomes a great number
+sub64 r5, 48                ; a character below `0` becomes a large number
 jgt r5, 9, 29
 add64 r4, r5
 jeq r3, 1, 17
@@ -28,7 +28,7 @@ sub64 r5, 48
 jgt r5, 9, 12
 mul64 r4, 10
 add64 r4, r5
-ldxdw r5, r2, 0             ; each reading goes two bytes further, and the last one out
+ldxdw r5, r2, 0             ; each reading moves two bytes further, and the last one out
 lsh64 r5, 16
 or64 r5, r4
 stxdw r2, 0, r5
@@ -66,7 +66,7 @@ mov64 r1, r6
 call 6                      ; the last digit, also of 0
 mov64 r0, 0
 exit
-; digit(value, unit): adds the digit of that unit to the reply, and nothing where the value is below it
+; digit(value, unit): adds the digit of that unit to the reply, and nothing if the value is below it
 mov64 r0, 0
 jlt r1, r2, 4
 div64 r1, r2

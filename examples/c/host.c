@@ -1,8 +1,7 @@
-/* Runs a program on this computer, compiled by its C compiler: what try.py compares `fcasm run` with. The helpers are those that
-   docs/PROGRAMS.md tells of. Each line of standard input is a run: method (1 GET, 2 POST), payload, query, variables and readings in hex,
-   `-` where there are none. Each line of output is its answer: code, reply, variables, and whether there is a notice.
-
-       cc -O2 -I include -DPROGRAM='"average.c"' examples/c/host.c */
+/* Runs a program on this computer, compiled by its C compiler: try.py compares it with `fcasm run`.
+   The helpers are those of docs/PROGRAMS.md. Each line of standard input is a run: method (1 GET, 2
+   POST), payload, query, variables and readings in hex, `-` if there are none. Each line of output
+   has the results: code, reply, variables, and the notify flag. */
 #include <fc.h>
 #include <stdio.h>
 #include <string.h>

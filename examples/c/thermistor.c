@@ -1,6 +1,7 @@
-/* A thermistor at a converter of 12 bits. A POST tells what was measured, 0 to 4095, in two bytes, the lowest first, and is answered 4.00 for
-   more. Both reply the temperature in tenths of a degree, two bytes with a sign: on the line between two of the table's points, which
-   stand for each 256. Observers are told of each measurement. */
+/* A thermistor at a converter of 12 bits. A POST has the measured value, 0 to 4095, in two bytes,
+   the lowest first, and is answered 4.00 for a greater one. Both reply with the temperature in
+   tenths of a degree, two bytes with a sign: on the line between two points of the table, which are
+   256 apart. Observers are notified of each measurement. */
 #include <fc.h>
 
 struct state {

@@ -1,6 +1,7 @@
-/* A thermostat. A POST tells the temperature, a byte in whole degrees: below the target the heating goes on, above it off. A POST with
-   the query `target` sets the target instead; it is 20 while none is set. Both reply `on` or `off`, as a GET does. Observers are told
-   when it changes. */
+/* A thermostat. A POST has the temperature, a byte in whole degrees: below the target the heating
+   is switched on, above it off. A POST with the query `target` sets the target instead; it is 20
+   while none is set. Both reply `on` or `off`, and so does a GET. Observers are notified when it
+   changes. */
 #include <fc.h>
 
 struct state {

@@ -1,6 +1,6 @@
-; thermostat.c by hand. Variables: byte 0 whether the heating is on, byte 1 the target, 0 while none is set.
+; thermostat.c by hand. Variables: byte 0 is 1 if the heating is on, byte 1 is the target, or 0.
 ; --vars 8 --budget 34
-mov64 r7, r2                ; R2 is unset behind a call
+mov64 r7, r2                ; R2 is unset after a call
 ldxb r6, r7, 0              ; whether it was on
 ldxb r4, r1, 0              ; the method: 1 GET, 2 POST
 jne r4, 2, 22

@@ -1,9 +1,13 @@
 #!/usr/bin/env python3
-"""Makes the programs of this folder from C and from their assembler texts, uploads both to a server, and asks them; runs those of loops/ beside
-the same C compiled for this computer, by `cc`; then shows what is refused.
+"""Makes the programs of this folder from C and from assembly, uploads both to a server, and sends
+them requests.
 
-Use: examples/c/try.py [CLANG], at the top of the repository, whose fcasm and fcd are built, or on the path. CLANG is `clang` if not given.
-The status is 0 where no answer was wrong, and no mended form was refused. tried.txt is what it printed with clang 14.0.6."""
+It also compares runs of those of loops/ with the same C compiled for this computer, by `cc`; then
+it shows the refused programs.
+
+Use: examples/c/try.py [CLANG], at the top of the repository, whose fcasm and fcd are built, or on
+the path. CLANG is `clang` if not given. The status is 0 if no response was wrong, and no corrected
+form was refused. tried.txt is its output with clang 14.0.6."""
 import random
 import re
 import shutil
@@ -18,16 +22,16 @@ from pathlib import Path
 TOP = Path(__file__).resolve().parent.parent.parent
 FLAGS = ["-target", "bpf", "-mcpu=v2", "-O2", "-g", "-mllvm", "-enable-tail-merge=0", "-I", str(TOP / "include")]
 PROGRAMS = ["thermostat", "average", "access", "alarm", "thermistor"]
-RUNS, WORDS = 300, 8  # of a program of loops/: with so many requests, on so many words of variables
+RUNS, WORDS = 300, 8  # for a program of loops/: the number of requests, and of words of variables
 
-# method, query, payload, and the answer: code and payload
+# method, query, payload, and the response: code and payload
 ASKED = {
     "thermostat": [
         ("GET", "", b"", "2.05", b"off"),
         ("POST", "", b"\x13", "2.04", b"on"),  # 19 degrees, below 20
         ("POST", "", b"\x14", "2.04", b"on"),  # 20: as it was
         ("POST", "", b"\x15", "2.04", b"off"),  # 21
-        ("POST", "target", b"\x17", "2.04", b"off"),  # 23 is wanted
+        ("POST", "target", b"\x17", "2.04", b"off"),  # 23 is the target
         ("POST", "", b"\x16", "2.04", b"on"),  # 22
         ("GET", "", b"", "2.05", b"on"),
         ("POST", "target", b"", "4.00", b""),
@@ -70,7 +74,7 @@ ASKED = {
         ("GET", "", b"", "2.05", b"normal"),
         ("POST", "limit", b"\x64\0", "2.04", b"normal"),  # 100
         ("POST", "", b"\x65\0", "2.04", b"raised"),  # 101
-        ("POST", "", b"\x63\0", "2.04", b"raised"),  # 99, and nobody said ack
+        ("POST", "", b"\x63\0", "2.04", b"raised"),  # 99, and no client sent ack
         ("POST", "ack", b"", "2.04", b"normal"),
         ("POST", "", b"\xff\0", "2.04", b"raised"),
         ("POST", "ack", b"", "2.04", b"acked"),  # it is still above
@@ -100,13 +104,15 @@ def built(name):
 
 
 def run(*words, **more):
-    """Runs a command, and returns its status and what it printed."""
+    """Runs a command, and returns its status and its output."""
     done = subprocess.run([str(it) for it in words], stdout=subprocess.PIPE, stderr=subprocess.STDOUT, **more)
     return done.returncode, done.stdout
 
 
 def image_of(clang, source, image, *more, size=None, flags=FLAGS):
-    """Compiles a source, makes an image of it, with so many bytes of variables or as it says, and returns the status and what was printed."""
+    """Compiles a source and makes an image of it, and returns the status and the output.
+
+    The image has this many bytes of variables, or as many as the source says."""
     status, said = run(clang, *flags, *more, "-c", source, "-o", image.with_suffix(".o"))
     lines = said.decode(errors="replace").replace(str(source), source.name).splitlines()
     if status:
@@ -124,7 +130,7 @@ class Client:
         self.socket.settimeout(0.2)
 
     def ask(self, method, path, query, payload):
-        """Returns the answer's code and payload."""
+        """Returns the response's code and payload."""
         self.id += 1
         message = bytes([0x40, {"GET": 1, "POST": 2, "PUT": 3}[method], self.id >> 8, self.id & 255])
         last = 0
@@ -147,14 +153,15 @@ class Client:
 
 
 def payload_of(rest):
-    """What stands behind the options, all of which are short."""
+    """Returns the bytes after the options, all of which are short."""
     while rest and rest[0] != 0xFF:
         rest = rest[1 + (rest[0] & 15) :]
     return rest[1:]
 
 
 def requests():
-    """Runs to ask for: a method, 1 or 2, a payload, a query, variables and readings, in hex; the same ones each time."""
+    """Returns the requests of the runs: a method, 1 or 2, a payload, a query, variables and
+    readings, in hex; always the same."""
     some = random.Random(1)
     bytes_of = [lambda: some.randrange(256), lambda: some.choice(b"0123456789"), lambda: some.choice(b"\0\1\2\3\4\7\xff")]
     for _ in range(RUNS):
@@ -165,7 +172,7 @@ def requests():
 
 
 def by_fcasm(image, method, payload, query, variables, readings):
-    """What a run answers: code, reply, variables, notice, in a line."""
+    """Returns the results of a run in a line: code, reply, variables, notify flag."""
     given = zip(("--payload", "--query", "--vars", "--readings"), (payload, query, variables, readings))
     more = [word for name, hexes in given if hexes != "-" for word in (name, hexes)]
     status, said = run(built("fcasm"), "run", "--method", ["get", "post"][method - 1], *more, image)
@@ -174,7 +181,8 @@ def by_fcasm(image, method, payload, query, variables, readings):
 
 
 def compare(source, image):
-    """Runs an image, and its source compiled for this computer, and returns how often the answers differ."""
+    """Runs an image, and its source compiled for this computer, and returns how often the results
+    differ."""
     program, asked = image.with_suffix(""), list(requests())
     flags = ["-O1", "-w", "-fno-strict-aliasing", "-I", TOP / "include", f'-DPROGRAM="{source}"']
     status, said = run("cc", *flags, TOP / "examples/c/host.c", "-o", program)
@@ -185,7 +193,7 @@ def compare(source, image):
 
 
 def shown(payload):
-    """A payload as text, or in hex where it is none."""
+    """Returns a payload as text, or in hex if it isn't text."""
     return payload.decode() if all(32 <= it < 127 for it in payload) else payload.hex()
 
 

@@ -1,12 +1,12 @@
 /* A greenhouse: three sensors, a heater, a vent and an alarm. docs/GREENHOUSE.md walks through it.
 
    A POST without a payload looks at the sensors; the bridge sends one each second. It replies "heater=on vent=off alarm=off", as a GET does, and observers
-   are notified of each change. POST "ack" ends the alarm. POST "save" replies the program's state, which POSTed to another program becomes its state. A POST
-   to a program without a state is answered 4.04, so that no relay moves; POST "start" gives it one. */
+   are notified of each change. POST "ack" ends the alarm. A POST to a program without a state is answered 4.04, so that no relay moves; POST "start" gives it
+   one. An update by PUT with `?keep` has the state of the program before. */
 #include <fc.h>
 
 #ifndef DAY
-#define DAY 180 /* the temperature that the heater keeps by day, in tenths of a degree */
+#define DAY 180 /* the heater's target temperature by day, in tenths of a degree */
 #endif
 enum { NIGHT = 120, BAND = 5, HOT = 280, COOL = 260, FROST = 50, HUMID = 850, DRY = 750 }; /* tenths of a degree, and of a percent */
 enum { EVENING = 22 * 60, MORNING = 6 * 60, MINIMUM = 5000, STALE = 4000 };                   /* minutes of the day, and milliseconds */
@@ -21,14 +21,14 @@ struct relay {
 };
 struct state {
     struct relay heater, vent;
-    fc_u64 seen; /* the clock when the counter was last a new one */
+    fc_u64 seen; /* the clock when the counter last changed */
     fc_u8 counter, has_begun, is_cause, is_alarm;
 };
 FC_VARS(struct state);
 
 #define is(word) (length == sizeof(word) - 1 && !__builtin_memcmp(request->payload, word, sizeof(word) - 1))
 
-/* Switches a relay, but not before its minimum time has passed, on or off. */
+/* Switches a relay on or off, but not before its minimum time has passed. */
 static void want(struct relay *relay, fc_u64 is_on, fc_u64 now)
 {
     if (is_on == relay->is_on || now - relay->since < MINIMUM)
@@ -70,26 +70,19 @@ static void put(fc_u64 is_on)
 fc_u64 run(const struct fc_request *request, struct state *s, fc_u64 length, const struct fc_readings *readings)
 {
     int is_post = request->method == FC_POST;
-    if (is_post && length == sizeof *s) {
-        *s = *(const struct state *)request->payload;
-        notify();
-    } else if (is_post && is("start")) {
+    if (is_post && is("start")) {
         s->heater.since = s->vent.since = s->seen = readings->clock;
         s->has_begun = 1;
         notify();
     } else if (is_post && s->has_begun && is("ack")) {
         s->is_alarm = 0;
         notify();
-    } else if (is_post && s->has_begun && !is("save")) {
+    } else if (is_post && s->has_begun) {
         look(s, (const struct sensors *)readings->sensors, readings->clock);
     }
     if (!s->has_begun) {
         reply_put("no state", 8);
         return is_post ? FC_NOT_FOUND : FC_OK;
-    }
-    if (is_post && is("save")) {
-        reply_put(s, sizeof *s);
-        return FC_OK;
     }
     reply_put("heater=", 7);
     put(s->heater.is_on);

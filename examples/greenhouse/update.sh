@@ -1,11 +1,12 @@
 #!/bin/bash
-# Puts another program into a slot and gives it the state of the one before, so that no relay moves. It is the way back too.
+# Puts another program into a slot and keeps the variables of the earlier one, so that no relay moves.
+# The same command restores the earlier program. An image with another size of variables is refused,
+# since it would lose them.
 #
 # Use: update.sh PORT N IMAGE      FCREQ names the client, if it isn't the built one
-port=$1 slot=$2 image=$3
 ask() {
-    "${FCREQ:-crates/fcreq/out/fcreq}" --port "$port" "$@"
+    "${FCREQ:-crates/fcreq/out/fcreq}" --port "$1" --text "${@:2}"
 }
-state=$(printf save | ask post "/r/$slot" | sed -n 2p)
-[ "$state" ] || { echo "update.sh: the program in slot $slot has no state" >&2; exit 1; }
-ask --text put "/p/$slot" -f "$image" && printf "$(sed 's/../\\x&/g' <<<"$state")" | ask --text post "/r/$slot"
+has=$(ask "$1" -n get "/p/$2" | sed -n 's/.* vars=//p') wants=$(($(od -An -tu2 -j4 -N2 "$3")))
+[ "$has" = "$wants" ] || { echo "update.sh: slot $2 has ${has:-no} bytes of variables, and $3 wants $wants" >&2; exit 1; }
+ask "$1" put "/p/$2?keep" -f "$3"

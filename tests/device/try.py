@@ -1,11 +1,16 @@
 #!/usr/bin/env python3
-"""Runs the commands of docs/DEVICE.md and compares what they print with the page; then tries `fcd serve --readings` on files of each kind, and `fcreq observe` on
-libcoap's server (Debian's libcoap3-bin).
+"""Runs the commands of docs/DEVICE.md and compares their output with the page; then tries sensor
+files and libcoap.
 
-Use: tests/device/try.py, at the top of the repository, whose fcd, fcreq and fcasm are built. Port 5683 has to be free.
+The sensor files are of each kind, for `fcd serve --readings`; `fcreq observe` observes libcoap's
+server (Debian's libcoap3-bin).
 
-A command is a line `$ COMMAND` in a ```console block, and the lines behind it are what it has to print; all are run by one bash, in their order. A block marked
-`console libcoap` is left out where this machine has no coap-client-notls. `rt ci` doesn't run this. The status is 0 where all is right."""
+Use: tests/device/try.py, at the top of the repository, whose fcd, fcreq and fcasm are built. Port
+5683 has to be free.
+
+A command is a line `$ COMMAND` in a ```console block, and the lines after it are its expected
+output; all are run by one bash, in their order. A block marked `console libcoap` is omitted if this
+machine has no coap-client-notls. `rt ci` doesn't run this. The status is 0 if all is right."""
 import os
 import re
 import shutil
@@ -71,7 +76,8 @@ def commands_of(page):
 
 
 def run_page():
-    """Runs the page's commands in a copy of what they need; returns how many are wrong."""
+    """Runs the page's commands in a copy of the files that they need; returns how many are
+    wrong."""
     wrong = 0
     text = PAGE.read_text(encoding="utf-8")
     whole = re.search(r"^```text\n(.*?)^```$", text, re.M | re.S)[1]
@@ -102,7 +108,7 @@ def run_page():
 
 
 def kinds_of_files(path):
-    """Puts a file of each kind at the path, and yields its name, and what has to be read of it."""
+    """Writes a file of each kind to the path, and yields its name and its expected reading."""
     yield "gone", bytes(56)
     path.write_bytes(b"abc")
     yield "short", b"abc" + bytes(53)
@@ -129,7 +135,9 @@ def kinds_of_files(path):
 
 
 def told_of(path):
-    """The lines on standard error for the files of each kind: one at each change between whole, unread, a FIFO and short."""
+    """Returns the lines on standard error for the files of each kind.
+
+    There is one at each change between complete, unread, a FIFO and short."""
     missing = "zeros stand for what is missing"
     return [
         f"readings {path}: No such file or directory (os error 2): {missing}",
@@ -144,7 +152,7 @@ def told_of(path):
 
 
 def read_files(workers):
-    """Asks a server for its readings while its file changes; returns how many answers are wrong."""
+    """Requests a server's readings while its file changes; returns how many responses are wrong."""
     wrong, port = 0, free_port()
     with tempfile.TemporaryDirectory(prefix="device-") as room:
         path = Path(room) / "sensors"
@@ -153,7 +161,7 @@ def read_files(workers):
             until_it_answers(port)
             fcreq("--port", port, "put", "/p/0", body=READER)
             for name, right in kinds_of_files(path):
-                time.sleep(0.01)  # another moment
+                time.sleep(0.01)  # another time
                 began = time.monotonic()
                 said = fcreq("--port", port, "-f", "/dev/null", "get", "/r/0")[1]
                 read = bytes.fromhex(said[1])[8:] if len(said) == 2 else None

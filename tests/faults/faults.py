@@ -1,14 +1,17 @@
 #!/usr/bin/env python3
-"""Runs the programs with closed streams, full disks, no descriptors, no threads, no file, nobody to ask, endless input and signals, and tells how each ends.
+"""Runs the programs with faults of their surroundings, and reports how each ends.
 
-Run it at the top of the repository, behind `rt run` in crates/fcd, crates/fcasm, crates/fcreplay and crates/fcreq, which build what it runs:
+The faults are closed streams, full disks, no descriptors, no threads, no file, no server, endless
+input, and signals. Run it at the top of the repository, after `rt run` in crates/fcd, crates/fcasm,
+crates/fcreplay and crates/fcreq, which build the programs:
 
     python3 tests/faults/faults.py [WORD..]
 
-It needs a C compiler and UDP port 5696 at 127.0.0.1. Each fault in whose name one of these words stands (all, where none is given) is tried once. It prints
-a line for each: the command, what it told on standard error, its status, or the signal that ended it, and its time. What is told, printed and answered, and the
-status, have to be just what is written here, within 5 s. What isn't is marked, and then it ends with 1.
-"""
+It needs a C compiler and UDP port 5696 at 127.0.0.1. Each fault whose name contains one of these
+words (all, if none is given) is tried once. It prints a line for each: the command, its message on
+standard error, its status, or the signal that ended it, and its time. The message, the output, the
+responses and the status have to be exactly those in this file, within 5 s. A difference is marked,
+and then the script ends with 1."""
 import dataclasses
 import os
 import signal
@@ -24,7 +27,7 @@ PROGRAMS = {name: f"crates/{name}/out/{name}" for name in ("fcd", "fcasm", "fcre
 PORT = 5696
 LIMIT = 5
 
-# A ping, and its reset; as a line, and as an event, and what is printed of these.
+# A ping, and its reset; as a line, and as an event, and the output for these.
 PING, RESET = bytes.fromhex("40000001"), bytes.fromhex("70000001")
 LINE = b"0 1 40000001\n"
 EVENT = b"Deliver now=0 ep=1 data=40000001\n"
@@ -33,7 +36,7 @@ REPLY = b"1 70000001\n"
 TEXT = b"mov64 r0, 69\nexit\n"
 IMAGE = bytes.fromhex("46434231000002000200000000000000" "b700000045000000" "9500000000000000")
 
-# What is told.
+# The messages on standard error.
 NO_INPUT = "standard input: Bad file descriptor (os error 9)"
 A_DIRECTORY = "standard input: Is a directory (os error 21)"
 NO_OUTPUT = "standard output: Bad file descriptor (os error 9)"
@@ -49,18 +52,18 @@ NO_FILE = "missing.img: No such file or directory (os error 2)"
 LONG_TEXT = "the text has more than 1048576 bytes"
 LISTENING = f"listening on 127.0.0.1:{PORT}"
 
-# An address that no host has (RFC 5737), and what is told of a server that is to listen there.
+# An address that no host has (RFC 5737), and the message of a server that is to listen there.
 NOWHERE = "192.0.2.1"
 NOT_OURS = f"UDP {NOWHERE}:{PORT}: Cannot assign requested address (os error 99)"
 
-# A rule that is broken, and what is told of it beside.
+# A rule that is broken, and the message about it.
 V01, V02 = "V01 slot 0", "V02 slot 0"
 WHY_V01 = """rule: under 16 bytes, no `FCB1` or `FCB2` in front, or a length that isn't 16 + 8 times the count of slots
 change: write the image by `fcasm image`, and hand it on whole"""
 WHY_V02 = """rule: the count of slots isn't 1 to 512, or in the second version 1 to 1024
 change: write 1 to 512 slots, in the second version 1024 at most; a wide load takes two"""
 
-# Who writes something, and what it reads for that.
+# The programs that write something, and their input for that.
 WRITERS = [
     ("fcd play", LINE),
     ("fcd play --workers 2", LINE),
@@ -73,14 +76,16 @@ WRITERS = [
 ]
 READERS = [command for command, _ in WRITERS] + [f"fcreq --port {PORT} get /r/1"]
 
-# How much of a long input may be read before it is refused, and how much memory there is for an endless one, in KiB.
+# How much of a long input may be read before it is refused, and how much memory there is for an
+# endless one, in KiB.
 READ = 256 * 1024
 MEMORY = 512 * 1024
 
 
 @dataclasses.dataclass
 class Fault:
-    """A command of the shell, what it reads, and what has to come of it: the text told, the status, and what is printed."""
+    """A shell command, its input, and its expected result: the message, the status, and the
+    output."""
 
     command: str
     given: bytes
@@ -93,7 +98,7 @@ class Fault:
 
 @dataclasses.dataclass
 class Ran:
-    """What came of a command: its status is none where it was stopped."""
+    """The result of a command: its status is None if it was stopped."""
 
     told: str
     status: int | None
@@ -103,7 +108,8 @@ class Ran:
 
 
 def start(command, preload="", output=subprocess.PIPE):
-    """Starts a command of the shell, its program with these variables. Where its input has no end, its memory has one."""
+    """Starts a shell command, its program with these variables. If its input is endless, its memory
+    is limited."""
     name, _, rest = command.partition(" ")
     memory = f"ulimit -v {MEMORY}; " if rest.endswith("/dev/zero") else ""
     words = ["sh", "-c", f"{memory}exec env {preload} {PROGRAMS[name]} {rest}"]
@@ -111,7 +117,9 @@ def start(command, preload="", output=subprocess.PIPE):
 
 
 def feed(process, given, read):
-    """Writes what a process reads, piece by piece, up to its end or that of the process. How much was taken is put into the list."""
+    """Writes a process's input, piece by piece, up to its end or that of the process.
+
+    The number of bytes that were accepted is added to the list."""
     try:
         for place in range(0, len(given), 4096):
             process.stdin.write(given[place:place + 4096])
@@ -123,7 +131,7 @@ def feed(process, given, read):
 
 
 def ended(process, given=b""):
-    """What comes of a process that reads this. It is stopped where it doesn't end in time."""
+    """Returns the result of a process with this input. It is stopped if it doesn't end in time."""
     started, read = time.monotonic(), [0]
     limit = threading.Timer(LIMIT, process.kill)
     writer = threading.Thread(target=feed, args=(process, given, read))
@@ -139,7 +147,7 @@ def ended(process, given=b""):
 
 
 def tell(name, ran, told, status, is_well=True):
-    """Prints a line of the table. Returns whether all is as it should be."""
+    """Prints a line of the table. Returns whether all is as expected."""
     is_well = is_well and ran.status == status and ran.told == (told and told + "\n")
     how = f"no end in {LIMIT} s" if ran.status is None else f"signal {-ran.status}" if ran.status < 0 else ran.status
     first, _, more = ran.told.rstrip().partition("\n")
@@ -149,14 +157,14 @@ def tell(name, ran, told, status, is_well=True):
 
 
 def tried(fault):
-    """Tries a fault. Returns whether what came of it is right."""
+    """Tries a fault. Returns whether its result is right."""
     ran = ended(start(fault.command, fault.preload), fault.given)
     is_well = ran.printed == fault.printed and (fault.most is None or ran.read <= fault.most)
     return tell(named(fault), ran, fault.told, fault.status, is_well)
 
 
 def named(fault):
-    """How the table names a fault."""
+    """Returns the name of a fault in the table."""
     words = [word for key, word in (("FILES", "no descriptors"), ("THREADS", "no threads")) if key in fault.preload]
     given = [f"{len(fault.given)} bytes"] if len(fault.given) > 4096 else []
     return ", ".join([f"`{fault.command}`", *given, *words])
@@ -219,14 +227,14 @@ def files():
 
 
 def unheard():
-    """A client asks at a port where nobody listens."""
+    """A client sends a request to a port without a listener."""
     asked = f"fcreq --port {PORT} get /r/1"
     faults = [Fault(command, b"", NOBODY, 3) for command in (asked, f"{asked} -N")]
     return faults + [Fault(f"{asked} 2>{stream}", b"", "", 3) for stream in ("&-", "/dev/full")]
 
 
 def unread():
-    """Nobody reads standard output any more."""
+    """Standard output isn't read any more."""
     reading, writing = os.pipe()
     os.close(reading)
     process = start("fcd play", output=writing)
@@ -235,14 +243,14 @@ def unread():
 
 
 def taken():
-    """The port of a server is taken."""
+    """The port of a server is in use."""
     with socket.socket(socket.AF_INET, socket.SOCK_DGRAM) as other:
         other.bind(("127.0.0.1", PORT))
         return tell(f"`fcd serve --port {PORT}`, and the port is taken", ended(start(f"fcd serve --port {PORT}")), TAKEN, 3)
 
 
 def serving(words, preload=""):
-    """A server that is at its port, or has ended."""
+    """Runs a server that listens at its port, or has ended."""
     server = start(f"fcd serve --port {PORT} {words}", preload)
     until = time.monotonic() + LIMIT
     while f" 0100007F:{PORT:04X} " not in ports() and server.poll() is None and time.monotonic() < until:
@@ -256,7 +264,7 @@ def ports():
 
 
 def answer():
-    """What a ping is answered."""
+    """Returns the response to a ping."""
     with socket.socket(socket.AF_INET, socket.SOCK_DGRAM) as client:
         client.settimeout(LIMIT)
         client.sendto(PING, ("127.0.0.1", PORT))
@@ -267,14 +275,14 @@ def answer():
 
 
 def without_threads(shim):
-    """A server for which no thread can be started answers all the same."""
+    """A server for which no thread can be started still responds."""
     server = serving("--limit 1", f"LD_PRELOAD={shim} THREADS=1")
     is_answered = answer() == RESET
     return tell(f"`fcd serve --port {PORT} --limit 1`, no threads, a ping", ended(server), NO_THREADS, 0, is_answered)
 
 
 def asking(stream, told):
-    """A client, which is answered, can't print."""
+    """A client that got a response can't print."""
     server = serving("--limit 1")
     ran = ended(start(f"fcreq --port {PORT} get /r/1 {stream}"))
     is_well = ended(server).status == 0
@@ -282,14 +290,14 @@ def asking(stream, told):
 
 
 def untold():
-    """A server that can't say where it listens, or at its end how much it sent, answers all the same."""
+    """A server that can't print its address, or at its end its statistics, still responds."""
     server = serving("--log info --limit 1 2>/dev/full")
     is_answered = answer() == RESET
     return tell(f"`fcd serve --port {PORT} --log info --limit 1 2>/dev/full`, a ping", ended(server), "", 0, is_answered)
 
 
 def signalled(number):
-    """A server is sent a signal."""
+    """A server gets a signal."""
     server = serving("--log info")
     is_answered = answer() == RESET
     server.send_signal(number)

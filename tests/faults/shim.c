@@ -1,4 +1,5 @@
-// Preloaded into a program, this leaves it no descriptor but its three, where FILES is set, and starts no thread of it, where THREADS is.
+// Preloaded into a program, this allows it its three descriptors alone if FILES is set, and no new thread
+// if THREADS is set.
 #define _GNU_SOURCE
 #include <dlfcn.h>
 #include <errno.h>

@@ -1,11 +1,13 @@
 #!/usr/bin/env python3
-"""Compares what each part of tools/fcc_ir makes of LLVM's IR with the cases in tests/fcc/cases.
+"""Compares the output of each part of tools/fcc_ir for LLVM's IR with the cases in tests/fcc/cases.
 
 Use: tests/fcc/cases.py [--write] [NAME..]
 
-A case is a file. Its first line is `; PART WORD..`, then the IR that goes in follows, a line `; ----`, and the IR that comes out. `; left alone` in its place says that
-nothing changes. PART and its words are: division; library; recursion; mark; unmark; inlining KEEPS; accesses WHERE BYTES, where BYTES is the size of the variables; turns N; bounds,
-whose output is the heads of loops and how often each is reached at most. With --write the outputs are written anew: read them before you commit them."""
+A case is a file. Its first line is `; PART WORD..`; the IR of the input follows, a line `; ----`,
+and the IR of the output. `; left alone` in its place means that nothing changes. PART and its words
+are: division; library; recursion; mark; unmark; inlining KEEPS; accesses WHERE BYTES, where BYTES
+is the size of the variables; turns N; bounds, whose output is the heads of loops and how often each
+is reached at most. With --write the outputs are written again: read them before you commit them."""
 import sys
 from pathlib import Path
 
@@ -21,7 +23,7 @@ from fcc_ir.turns import guarded  # noqa: E402
 
 
 def accesses(module, where, size):
-    """The module with its accesses done by offsets, and the functions for that by their names alone."""
+    """Returns the module with its accesses by offsets, and the names of the functions for that."""
     layout, helpers, found = Layout(module), Helpers(text.is_opaque(module)), []
     for it in text.functions_of(module):
         if isinstance(it, text.Function):

@@ -1,10 +1,12 @@
 #!/usr/bin/env python3
-"""Compares the messages of tools/fcc with those that the programs in tests/fcc/messages want.
+"""Compares the messages of tools/fcc with those that the programs in tests/fcc/messages require.
 
-Use: tests/fcc/messages.py [--clang CLANG] [NAME..], at the top of the repository, whose fcasm is built
+Use: tests/fcc/messages.py [--clang CLANG] [NAME..], at the top of the repository, whose fcasm is
+built
 
-A program's first comment has lines that its message has, in their order, each whole; there `..` stands for any text. A refusal has one line `in C: ..` at most, and
-its first line names the program. The status is 0 if no message is wrong."""
+A program's first comment has lines that its message contains, in their order, each complete; there
+`..` stands for any text. A refusal has at most one line `in C: ..`, and its first line names the
+program. The status is 0 if no message is wrong."""
 import argparse
 import re
 import sys
@@ -17,7 +19,7 @@ PROGRAMS = Path(__file__).resolve().parent / "messages"
 
 
 def is_said(wanted, lines):
-    """Whether the lines have those that are wanted, in their order."""
+    """Returns whether the lines contain the required ones, in their order."""
     rest = iter(lines)
     return all(any(re.fullmatch(".*".join(map(re.escape, it.split(".."))), one) for one in rest) for it in wanted)
 

@@ -1,4 +1,7 @@
-"""Random programs in C for tests/fcc/fuzz: each is defined by C but that signed numbers wrap (-fwrapv), and has the constructs of the parts that it is asked for."""
+"""Random programs in C for tests/fcc/fuzz.
+
+Each is defined by C except that signed numbers wrap (-fwrapv), and has the constructs of the
+requested parts."""
 import random
 
 PARTS = ("division", "computed", "library", "replies", "objects", "functions", "nulls", "levels")
@@ -31,7 +34,7 @@ class Program:
     # Expressions
 
     def index(self, count, depth):
-        """An index below a count."""
+        """Returns an index below a count."""
         if self.counters and self.is_true(0.6):
             counter, most = self.one(*self.counters)
             if most <= count:
@@ -43,7 +46,7 @@ class Program:
         return f"((fc_u64)({inner}) & {count - 1})" if count & (count - 1) == 0 else f"((fc_u64)({inner}) % {count})"
 
     def load(self, depth):
-        """A load of one of the objects."""
+        """Returns a load of one of the objects."""
         kinds = ["payload", "query", "field", "number", "readings", "wide"]
         kinds += ["table"] * 2 * bool(self.tables) + ["array"] * 2 * bool(self.arrays)
         kind = self.one(*kinds)
@@ -64,7 +67,7 @@ class Program:
         return self.place(depth)
 
     def place(self, depth):
-        """What may be stored to, of the variables."""
+        """Returns a place in the variables that may be stored to."""
         name, count, inner = self.one(*self.fields)
         if not count:
             return f"s->{name}"
@@ -169,7 +172,7 @@ class Program:
         return [f"{pad}fc_u64 {name} = 0;", f"{pad}do {{", *inside, f"{pad}    {name} += {self.one(1, 1, 2)};", f"{pad}}} while ({name} < {most});"]
 
     def text(self, depth, indent, pad):
-        """A loop that only an object's end bounds."""
+        """Returns a loop that only an object's end bounds."""
         self.loops += 1
         at, word = self.name("t"), self.one(*WORDS)
         kind = self.some.randrange(3)
@@ -182,14 +185,14 @@ class Program:
                 f"{pad}}} while ({left});", f"{pad}while ({at}{self.one('', ' > 0')})", f"{pad}    reply_byte({room}[--{at}]);"]
 
     def null(self, depth, indent, pad):
-        """A pointer to an item, or null."""
+        """Returns a pointer to an item, or null."""
         self.loops += 1
         best, at = self.name("best"), self.name("i")
         return [f"{pad}struct item *{best} = 0;", f"{pad}for (int {at} = 0; {at} < 4; {at}++)", f"{pad}    if (s->items[{at}].a {self.one('>', '<', '!=')} {self.value(0)} && (!{best} || s->items[{at}].b {self.one('<', '>')} {best}->b))",
                 f"{pad}        {best} = &s->items[{at}];", f"{pad}if ({best}) {{", f"{pad}    {best}->c += {self.value(1)};", f"{pad}    reply_byte({best}->b);", f"{pad}}}"]
 
     def to_zero(self, depth, indent, pad):
-        """Loops that go on until a number is large enough, or zero."""
+        """Returns loops that continue until a number is large enough, or zero."""
         self.loops += 1
         unit, most, kind = self.name("u"), self.name("n"), self.one("fc_u32", "fc_u64")
         by, less = self.one(2, 4, 6, 10, 10, 12), self.one("/= 10", "/= 3", "/= 2", ">>= 1", ">>= 4")
@@ -206,7 +209,7 @@ class Program:
         return [f"{pad}reply_byte({call});" if gives else f"{pad}{call};"]
 
     def recursive(self):
-        """A function that calls itself with its parameter divided."""
+        """Returns a function that calls itself with its parameter divided."""
         name, kind, gives = self.name("r"), self.one("fc_u8", "fc_u16", "fc_u32", "int", "fc_u64"), self.is_true(0.5)
         by = self.one("/ 10", "/ 10", "/ 7", "/ 16", ">> 4")
         asks = self.one("n >= 10", "n > 9", "n > 0", "n >= 2", "n > 100")

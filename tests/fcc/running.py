@@ -11,17 +11,17 @@ def run(*words, **more):
 
 
 def native(source, program):
-    """Compiles the program for this computer; returns whether that was done."""
+    """Compiles the program for this computer; returns whether that succeeded."""
     return run("cc", "-O1", "-w", "-fwrapv", "-fno-strict-aliasing", "-I", TOP / "include", f'-DPROGRAM="{source}"', TOP / "examples/c/host.c", "-o", program).returncode == 0
 
 
 def line(method, *more):
-    """A request as a line of host.c."""
+    """Returns a request as a line of host.c."""
     return f"{method} " + " ".join(it.hex() or "-" for it in more) + "\n"
 
 
 def by_image(image, method, payload, query, variables, readings):
-    """An image's answer, as a line of host.c."""
+    """Returns an image's result, as a line of host.c."""
     words = [word for name, it in (("payload", payload), ("query", query), ("vars", variables), ("readings", readings)) if it for word in (f"--{name}", it.hex())]
     said = run(FCASM, "run", "--method", ["get", "post"][method - 1], *words, image).stdout
     lines = dict(it.split(" ", 1) for it in said.splitlines() if " " in it)

@@ -1,5 +1,6 @@
-// Preloaded into a program, this refuses the Nth request for memory of its thread K, where REFUSE is N and THREAD is K, and says so on descriptor 9.
-// Threads are numbered from 0 in the order of their first requests: so which request is the Nth doesn't hang on which thread is faster.
+// Preloaded into a program, this refuses the Nth request for memory of its thread K, if REFUSE is N and
+// THREAD is K, and reports it on descriptor 9. Threads are numbered from 0 in the order of their first
+// requests, so the Nth request doesn't depend on the speed of threads.
 #include <stdlib.h>
 #include <unistd.h>
 

@@ -1,20 +1,26 @@
 #!/usr/bin/env python3
-"""Runs the tests of the assembler, the instructions, the tools and of each call that asks for memory, and the programs, once with ample memory and once with
-each request for memory refused.
+"""Runs tests and programs with ample memory, and again with each memory request refused.
 
-Run it at the top of the repository, behind `rt test` in crates/fctests and `rt run` in crates/fcd, crates/fcasm, crates/fcreplay and crates/fcvectors, which
-build what it runs:
+The tests are those of the assembler, the instructions, the tools and of each call that requests
+memory. Run it at the top of the repository, after `rt test` in crates/fctests and `rt run` in
+crates/fcd, crates/fcasm, crates/fcreplay and crates/fcvectors, which build the executables:
 
     python3 tests/refused-memory/run.py [NAME..]
 
-It needs a C compiler and UDP port 5697 at 127.0.0.1. It prints a line for each test and each program in whose name one of these stands (all,
-where none is given), and ends with 1 where an outcome is not one that refused memory may have. A test passes, or ends with the error that memory
-was refused. `fcasm`, `fcreplay` and `fcvectors` do as with ample memory, or end with status 3. `fcd` answers a few datagrams: all of them right, or 5.03 to an
-installation or a run that found no memory, after which the slot is as before; or it ends with status 3. Whoever ends with status 3 says why, and has
-printed a beginning of what may be printed; a server on a socket has answered nothing by then, or all. Whatever hasn't ended after 20 s is stopped, and
-that may not be. The tests of plays and of replies, and the cases of plays and of events, are left out: they judge replies, which refused memory
-changes.
-"""
+It needs a C compiler and UDP port 5697 at 127.0.0.1. It prints a line for each test and each
+program whose name contains one of these words (all, if none is given), and ends with 1 if an
+outcome is not one that refused memory may have:
+
+- A test passes, or ends with the error that memory was refused.
+- `fcasm`, `fcreplay` and `fcvectors` behave as with ample memory, or end with status 3.
+- `fcd` answers a few datagrams: all of them right, or with 5.03 to an installation or a run without
+  memory, after which the slot is unchanged; or it ends with status 3.
+- A program that ends with status 3 reports why, and has printed a beginning of the permitted
+  output. A server on a socket has then answered no datagram, or all.
+- A program that hasn't ended after 20 s is stopped, and that isn't permitted.
+
+The tests of plays and of replies, and the cases of plays and of events, are omitted: they judge
+replies, which refused memory changes."""
 import collections
 import dataclasses
 import os
@@ -37,25 +43,28 @@ PORT = 5697
 # The modules whose tests are run.
 TRIED = ("asm_tests::", "isa_tests::", "memory_tests::", "tool_tests::")
 
-# The cases that are carried out: programs, and how they are judged.
+# The cases that are executed: programs, and how they are judged.
 CASES = ("programs", "calls")
 
-# Two of them read what a failed read or write tells: where memory is refused first, that is told.
+# Two of them read the message of a failed read or write: if memory is refused first, that is
+# reported instead.
 LEFT_OUT = ("tool_tests::a_failed_reader_is_status_3", "tool_tests::a_failed_writer_is_status_3")
 
-# How long a run may take, in seconds.
+# The greatest duration of a run, in seconds.
 LIMIT = 20
 
-# How often each request is refused of a program with more than one thread: which worker gets a job differs from run to run.
+# How often each request of a program with more than one thread is refused: which worker gets a job
+# differs from run to run.
 TIMES = 10
 
-# What a program says that ends with status 3: no memory was there for its command line, for reading, or for anything else.
+# The message of a program that ends with status 3: there was no memory for its command line, for
+# reading, or for anything else.
 REFUSED = ("out of memory", "error: out of memory", "standard input: out of memory", "memory allocation failed")
 
-# What it says where no thread could be started, and goes on.
+# Its message if no thread could be started, after which it continues.
 NO_WORKER = "no worker could be started: the receiving thread works all jobs off"
 
-# What is played: a program is installed in slot 0 and asked, twice.
+# The played lines: a program is installed in slot 0 and gets two requests.
 PLAYED = b"""0 1 4103123370b1700130ff46434231000002000200000000000000b7000000450000009500000000000000
 1 1 4101123471b1720130
 2 1 4103123570b1700130ff46434231000002000200000000000000b7000000450000009500000000000000
@@ -66,14 +75,15 @@ PLAYED = b"""0 1 4103123370b1700130ff46434231000002000200000000000000b7000000450
 FIRST = "76657273696f6e3d3120636f73743d32206275646765743d3220766172733d30"
 SECOND = "76657273696f6e3d3220636f73743d32206275646765743d3220766172733d30"
 
-# What may be printed then, by what was refused.
+# The permitted output then, by the refused request.
 PRINTED = {
     "nothing changed": f"1 6141123370ff{FIRST}\n1 6145123471480000000000000001\n1 6144123570ff{SECOND}\n1 6145123671480000000000000002\n",
     "5.03 and the same ETag": f"1 6141123370ff{FIRST}\n1 6145123471480000000000000001\n1 61a3123570\n1 6145123671480000000000000001\n",
     "5.03 and no program": f"1 61a3123370\n1 6184123471\n1 6141123570ff{FIRST}\n1 6145123671480000000000000001\n",
 }
 
-# On a socket: a program that takes 60,764 steps, 38 (1 + 38 (1 + 41) + 2) + 2, is installed in slot 0 and asked. A worker runs it, where there is one.
+# On a socket: a program that takes 60,764 steps, 38 (1 + 38 (1 + 41) + 2) + 2, is installed in slot
+# 0 and gets a request. A worker runs it, if there is one.
 EXIT = bytes.fromhex("b700000000000000" "9500000000000000")
 CALLS = b"".join(struct.pack("<BBhi", 0x85, 0x10, 0, 38 - place + 1) for place in range(38)) + EXIT
 ADDS = EXIT[:8] + struct.pack("<BBhi", 0x07, 0, 0, 1) * 39 + EXIT[8:]
@@ -82,7 +92,7 @@ ASKED = [bytes.fromhex("4103123370b1700130ff") + DEAR, bytes.fromhex("4101123471
 
 INSTALLED = "6141123370ff" + b"version=1 cost=60764 budget=65536 vars=0".hex() + "\n"
 
-# What may be answered then.
+# The permitted responses then.
 ANSWERED = {
     "nothing changed": f"{INSTALLED}6145123471480000000000000001\n",
     "5.03 and no program": "61a3123370\n6184123471\n",
@@ -92,7 +102,7 @@ ANSWERED_ONCE = {"nothing changed": INSTALLED, "5.03 and no program": "61a312337
 
 @dataclasses.dataclass
 class Ran:
-    """A run's status, none where it was stopped; what it printed, or answered; and what it told."""
+    """A run's status, None if it was stopped; its output, or its responses; and its messages."""
 
     status: int | None
     printed: str
@@ -105,7 +115,7 @@ def contents(path):
 
 
 def outcome_of(server, given=None):
-    """What came of a process, which is stopped where it doesn't end."""
+    """Returns the outcome of a process, which is stopped if it doesn't end."""
     try:
         printed, told = server.communicate(given, timeout=LIMIT)
         return Ran(server.returncode, printed.decode("latin-1"), told.decode(errors="replace").strip())
@@ -120,17 +130,20 @@ def start(words, environment):
 
 
 def command(words, given):
-    """A run of a command on this input."""
+    """Returns a run of a command with this input."""
     return lambda environment: outcome_of(start(words, environment), given)
 
 
 def is_bound():
-    """Whether a socket is at the port."""
+    """Returns whether a socket is at the port."""
     return f" 0100007F:{PORT:04X} ".encode() in contents("/proc/net/udp")
 
 
 def answers(server, datagrams):
-    """What these datagrams are answered, each sent once the one before it was answered, the first as soon as the server is at its port."""
+    """Returns the responses to these datagrams.
+
+    Each is sent when the one before it was answered, the first as soon as the server is at its
+    port."""
     told = []
     with socket.socket(socket.AF_INET, socket.SOCK_DGRAM) as client:
         while not is_bound() and server.poll() is None:
@@ -142,7 +155,8 @@ def answers(server, datagrams):
 
 
 def answered(server, client):
-    """The next answer; nothing where the server ends without one, or it is late."""
+    """Returns the next response; None if the server ends without one, or if none arrives in
+    time."""
     until, is_over = time.monotonic() + LIMIT, False
     while not is_over:
         is_over = server.poll() is not None or time.monotonic() > until
@@ -153,7 +167,7 @@ def answered(server, client):
 
 
 def served(workers, datagrams):
-    """A run of a server that ends after these datagrams: what they are answered is what it printed."""
+    """Returns a run of a server that ends after these datagrams: its responses are its output."""
     words = [FCD, "serve", "--port", str(PORT), "--limit", str(len(datagrams)), "--workers", str(workers)]
 
     def run(environment):
@@ -166,7 +180,8 @@ def served(workers, datagrams):
 
 
 def tried(run, shim, thread, refused):
-    """A run with that request of that thread refused, none for 0, and whether it came to that request."""
+    """Returns a run with that request of that thread refused, none for 0, and whether it reached
+    that request."""
     with tempfile.TemporaryFile() as told:
         os.dup2(told.fileno(), 9, inheritable=True)
         ran = run({"LD_PRELOAD": shim, "THREAD": str(thread), "REFUSE": str(refused)} if refused else {})
@@ -174,7 +189,7 @@ def tried(run, shim, thread, refused):
 
 
 def of_test(ran, _ample):
-    """What came of a test, and whether that may be."""
+    """Returns the outcome of a test, and whether it is permitted."""
     if ran.status == 0:
         return "passed", True
     said = (ran.told.splitlines() or [""])[0]
@@ -182,29 +197,29 @@ def of_test(ran, _ample):
 
 
 def of_command(ran, ample):
-    """What came of a command, which may do as with ample memory alone."""
+    """Returns the outcome of a command, which may only behave as with ample memory."""
     if (ran.status, ran.printed, ran.told) == (ample.status, ample.printed, ample.told):
         return "as with ample memory", True
     return of_failed(ran, ample.printed.startswith(ran.printed))
 
 
 def of_play(ran, _ample):
-    """What came of `fcd play`."""
+    """Returns the outcome of `fcd play`."""
     return of_replies(ran, PRINTED) or of_failed(ran, any(it.startswith(ran.printed) for it in PRINTED.values()))
 
 
 def of_one_answer(ran, _ample):
-    """What came of a server that is asked once."""
+    """Returns the outcome of a server that gets one request."""
     return of_replies(ran, ANSWERED_ONCE) or of_failed(ran, ran.printed in ("", *ANSWERED_ONCE.values()))
 
 
 def of_two_answers(ran, _ample):
-    """What came of a server that is asked twice."""
+    """Returns the outcome of a server that gets two requests."""
     return of_replies(ran, ANSWERED) or of_failed(ran, ran.printed in ("", *ANSWERED.values()))
 
 
 def of_replies(ran, wanted):
-    """Which of these replies a run gave that ended well; none where it didn't, or gave others."""
+    """Returns which of these replies a successful run gave; None if it failed, or gave others."""
     names = [name for name, printed in wanted.items() if (ran.status, ran.printed) == (0, printed)]
     if names and ran.told in ("", NO_WORKER):
         return names[0] + (ran.told and ", no worker"), True
@@ -212,14 +227,16 @@ def of_replies(ran, wanted):
 
 
 def of_failed(ran, may_be_printed):
-    """What came of a run that may end with status 3 alone."""
+    """Returns the outcome of a run that may end with status 3 alone."""
     if ran.status == 3 and ran.told in REFUSED and may_be_printed:
         return "status 3", True
     return f"no end in {LIMIT} s" if ran.status is None else f"status {ran.status}, {ran.printed!r}, {ran.told!r}", False
 
 
 def each_of_thread(run, judge, shim, times, thread, outcomes, wrong):
-    """Refuses each request of a thread in turn, so many times, and counts the outcomes. Returns how many requests it makes."""
+    """Refuses each request of a thread in order, this many times, and counts the outcomes.
+
+    Returns the number of its requests."""
     ample, _ = tried(run, shim, 0, 0)
     requests = 0
     while True:
@@ -233,7 +250,8 @@ def each_of_thread(run, judge, shim, times, thread, outcomes, wrong):
 
 
 def each_refused(name, run, judge, shim, times):
-    """Refuses each request of each thread of a run in turn, so many times. Returns whether each outcome may be."""
+    """Refuses each request of each thread of a run in order, this many times. Returns whether each
+    outcome is permitted."""
     outcomes, wrong, requests = collections.Counter(), collections.Counter(), []
     while not requests or requests[-1]:
         requests.append(each_of_thread(run, judge, shim, times, len(requests), outcomes, wrong))
@@ -245,14 +263,15 @@ def each_refused(name, run, judge, shim, times):
 
 
 def tests():
-    """The tests that are run, by name."""
+    """Returns the names of the tests that are run."""
     listed = subprocess.run([TESTS, "--list"], capture_output=True, text=True, check=True)
     names = [line.removesuffix(": test") for line in (listed.stdout + listed.stderr).splitlines() if line.endswith(": test")]
     return [it for it in names if it.startswith(TRIED) and it not in LEFT_OUT]
 
 
 def programs():
-    """The programs: the name of each, how it is run, who judges, and how often."""
+    """Returns the programs: the name of each, how it is run, which function judges it, and how
+    often."""
     text = contents("crates/fcasm/stdin")
     image = subprocess.run([FCASM, *contents("crates/fcasm/args").decode().split()], input=text, capture_output=True, check=True).stdout
     assembled = [FCASM, "image", "--vars", "0", "--budget", "2"]

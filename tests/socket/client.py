@@ -1,8 +1,13 @@
 #!/usr/bin/env python3
-"""Asks others' servers by `fcreq`: libcoap's (Debian's libcoap3-bin), also where it loses datagrams, and one of this script's own that names small blocks, carries each
-block out by itself, answers in messages of its own, and changes its answer midway. Each row has to come to the right bytes, or to an error.
+"""Sends requests to other servers by `fcreq`: libcoap's, also with lost datagrams, and one of this
+script's own.
 
-Run it at the top of the repository, behind `rt run` in crates/fcreq. `rt ci` doesn't run it. The status is 0 where all rows are right."""
+libcoap's server is that of Debian's libcoap3-bin. The script's own server names small blocks,
+executes each block by itself, sends separate responses, and changes its response midway. Each row
+has to have the right bytes, or an error.
+
+Run it at the top of the repository, after `rt run` in crates/fcreq. `rt ci` doesn't run it. The
+status is 0 if all rows are right."""
 import os
 import shutil
 import socket
@@ -23,7 +28,7 @@ def fcreq(method, target, body=b"", *words):
 
 
 def row(name, ran, status, code=None, body=None, told=None):
-    """One row of the table: what came, and whether it is right."""
+    """Returns one row of the table: the result, and whether it is right."""
     lines = ran[1].split("\n")
     right = ran[0] == status and (code is None or lines[0] == code)
     if body is not None:
@@ -66,7 +71,8 @@ def against_libcoap():
         server.wait()
     server, at = libcoap()
     try:
-        # It takes a last block that is sent again, since its answer was lost, for a body of its own. So only requests of the PUT are lost.
+        # It executes a last block that is sent again, because its response was lost, as a separate
+        # body. So only requests of the PUT are lost.
         lossy = Lossy(at, 3, 0)
         row("libcoap, every third request lost: PUT of 5,000 bytes", fcreq("put", lossy.at + "/kept", body), 0)
         lossy = Lossy(at, 3, 4)
@@ -77,7 +83,8 @@ def against_libcoap():
 
 
 class Lossy(threading.Thread):
-    """Between a client and a server: every so-many-th request is lost, and every so-many-th answer; 0 is none."""
+    """A relay between a client and a server that loses every n-th request, and every n-th response;
+    0 loses none."""
 
     def __init__(self, at, requests, answers):
         super().__init__(daemon=True)
@@ -100,7 +107,7 @@ class Lossy(threading.Thread):
 
 
 def options_of(data):
-    """The options and the payload of a message without a token."""
+    """Returns the options and the payload of a message without a token."""
     at, number, options = 4 + (data[0] & 15), 0, {}
     while at < len(data) and data[at] != 0xFF:
         delta, length = data[at] >> 4, data[at] & 15

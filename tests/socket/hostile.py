@@ -1,21 +1,24 @@
 #!/usr/bin/env python3
-"""Sends a server mutated datagrams, and tells whether it still lives.
+"""Sends a server mutated datagrams, and reports whether it still works.
 
-Run it at the top of the repository, behind `rt run` in crates/fcd, which builds what it runs:
+Run it at the top of the repository, after `rt run` in crates/fcd, which builds the server:
 
     python3 tests/socket/hostile.py [--count N] [--seconds S] [--no-wait]
 
-It starts `fcd serve`, installs a program in slot 1, and sends N datagrams (1,000,000 where it isn't given), each a request of the
-server's, registrations of observers and their Acknowledgements and Resets among them, with bytes changed, cut, repeated or put in, or
-random bytes, for S seconds at most (600). The same seed gives the same datagrams. Before them an honest client installs a program in a
-slot of its own and posts to it, and every 1,000 datagrams it repeats that POST, whose answer has to be the same bytes each time.
+It starts `fcd serve`, installs a program in slot 1, and sends N datagrams (1,000,000 by default)
+for at most S seconds (600). Each is a request, a registration of an observer, or one of its
+Acknowledgements and Resets, with bytes changed, removed, repeated or inserted, or it consists of
+random bytes. The same seed gives the same datagrams. Before them an honest client installs a
+program in a slot of its own and sends it a POST. After every 1,000 datagrams it repeats that POST,
+whose response has to have the same bytes each time.
 
-It tells how many datagrams the kernel dropped, and the server's resident memory before and behind them, waits 247 s, after which each
-exchange is gone, and asks once more: a PUT has to be answered 2.01 or 2.04, a GET 2.05, and the honest client's GET as after its one
-POST, and 32 observers of one slot have to hear of a change (`--no-wait` leaves this out). Then it sends pings until the server has had as
-many datagrams as it was started for: it has to end with status 0 and tell its replies. It ends with 1 where any of that isn't so, or
-where the pings that were needed say that more or fewer datagrams were dropped than the kernel counted.
-"""
+It prints how many datagrams the kernel dropped, and the server's resident memory before and after.
+Then it waits 247 s, after which each exchange has expired, and sends requests once more: a PUT has
+to be answered 2.01 or 2.04, a GET 2.05, the honest client's GET as after its one POST, and 32
+observers of one slot have to be notified of a change (`--no-wait` omits this). Then it sends pings
+until the server has received the number of datagrams that it was started for: it has to end with
+status 0 and print its replies. The script ends with 1 if any of that fails, or if the number of
+pings differs from the number of datagrams that the kernel dropped."""
 import argparse
 import random
 import re
@@ -28,15 +31,16 @@ import time
 FCD = "crates/fcd/out/fcd"
 PORT = 5699
 
-# How long an exchange is kept, in seconds, and a little more.
+# The lifetime of an exchange in seconds, and a little more.
 LIFETIME = 247.5
 
-# The honest client repeats its POST every so many datagrams, sends it so many times where no answer comes, and no more behind so many seconds.
+# The honest client repeats its POST after this many datagrams, sends it this many times if there is
+# no response, and never after this many seconds.
 EVERY = 1_000
 TRIES = 5
 REPEATED = 240
 
-# How many datagrams there may be beside the mutated ones and the repeats.
+# The number of datagrams apart from the mutated ones and the duplicates.
 BESIDE = 100
 
 # A program that counts POSTs in eight bytes of variables.
@@ -45,7 +49,8 @@ COUNT = bytes.fromhex(
     "b701000000000000" "8500000004000000" "8500000007000000" "b700000000000000" "9500000000000000"
 )
 
-# The worked program counter.s: a POST adds one to the count in eight bytes of variables, and gives a notice; both methods reply the count.
+# The worked program counter.s: a POST adds one to the count in eight bytes of variables, and sets
+# the notify flag; both methods reply with the count.
 COUNTER = bytes.fromhex(
     "4643423108000f000f00000000000000" "7116000000000000" "bf27000000000000" "5506070002000000" "b701000000000000" "8500000003000000"
     "bf02000000000000" "0702000001000000" "b701000000000000" "8500000004000000" "8500000007000000" "bf71000000000000" "b702000008000000"
@@ -55,7 +60,7 @@ COUNTER = bytes.fromhex(
 PUT = bytes.fromhex("40030000b1700131ff") + COUNT
 GET = bytes.fromhex("40010000b1720131")
 
-# Requests that the server carries out or refuses, the message id in bytes 2 and 3.
+# Requests that the server serves or refuses, with the message ID in bytes 2 and 3.
 SEEDS = [
     bytes.fromhex("40010000b1720131"),
     bytes.fromhex("40020000b1720131"),
@@ -68,12 +73,14 @@ SEEDS = [
     bytes.fromhex("40040000b1700132"),
     bytes.fromhex("70000000"),
     bytes.fromhex("60000000"),
-    # Registrations of observers and their end; the last byte but six is the token, which is drawn too.
+    # Registrations of observers and their end; the last byte but six is the token, which is random
+    # too.
     bytes.fromhex("41010000006051720131"),
     bytes.fromhex("4101000000610151720131"),
 ]
 
-# The honest client's slot: no other datagram has these two bytes, so that nobody else names it. Its requests, and what they are answered.
+# The honest client's slot: no other datagram has these two bytes, so that no other client names it.
+# Its requests, and the responses.
 SLOT = b"47"
 HONEST_PUT = bytes.fromhex("40030001b17002") + SLOT + b"\xff" + COUNTER
 HONEST_POST = bytes.fromhex("40020002b17202") + SLOT
@@ -84,13 +91,13 @@ GOT = bytes.fromhex("60450003480000000000000002ff0100000000000000")
 
 PING = bytes.fromhex("40000000")
 
-# The observers of one slot, and the slot that they observe in the end.
+# The observers of one slot, and the slot that they observe at the end.
 OBSERVERS = 32
 WATCHED = bytes.fromhex("b1720133")
 
 
 def mutated(rng):
-    """A datagram: one of the seeds with a few changes, or random bytes."""
+    """Returns a datagram: one of the seeds with a few changes, or random bytes."""
     if rng.random() < 0.05:
         return rng.randbytes(rng.randrange(0, 1400))
     bytes_ = bytearray(rng.choice(SEEDS))
@@ -116,7 +123,7 @@ def mutated(rng):
 
 
 def stranger(rng):
-    """A mutated datagram that doesn't name the honest client's slot."""
+    """Returns a mutated datagram that doesn't name the honest client's slot."""
     while True:
         datagram = mutated(rng)
         if SLOT not in datagram:
@@ -124,7 +131,7 @@ def stranger(rng):
 
 
 def resident(pid):
-    """The resident memory of a process, in KiB."""
+    """Returns the resident memory of a process, in KiB."""
     with open(f"/proc/{pid}/status", encoding="ascii") as file:
         for line in file:
             if line.startswith("VmRSS:"):
@@ -133,7 +140,7 @@ def resident(pid):
 
 
 def dropped():
-    """How many datagrams the kernel dropped because the server's socket was full."""
+    """Returns how many datagrams the kernel dropped because the server's socket was full."""
     with open("/proc/net/udp", encoding="ascii") as file:
         for line in file:
             fields = line.split()
@@ -143,7 +150,7 @@ def dropped():
 
 
 class Client:
-    """A client on a port of its own. How many datagrams all of them sent is counted."""
+    """A client on a port of its own. The datagrams of all clients are counted."""
 
     sent = 0
 
@@ -155,7 +162,7 @@ class Client:
         Client.sent += 1
 
     def received(self, seconds):
-        """What comes next, in time; else nothing."""
+        """Returns the next datagram, if it arrives in time, or None."""
         self.socket.settimeout(seconds)
         try:
             return self.socket.recv(2048)
@@ -163,7 +170,7 @@ class Client:
             return b""
 
     def asked(self, request, tries=1, seconds=5):
-        """What a request is answered, after so many tries; else nothing."""
+        """Returns the response to a request, after this many tries, or None."""
         drain([self.socket])
         for _ in range(tries):
             self.send(request)
@@ -174,7 +181,7 @@ class Client:
 
 
 def drain(sockets):
-    """Takes the replies that have come, and counts them."""
+    """Receives the replies that have arrived, and counts them."""
     count = 0
     while True:
         ready, _, _ = select.select(sockets, [], [], 0)
@@ -186,13 +193,15 @@ def drain(sockets):
 
 
 def ask(request, number):
-    """The code of the answer to a confirmable request of this message id."""
+    """Returns the code of the response to a confirmable request with this message ID."""
     answer = Client().asked(request[:2] + number.to_bytes(2, "big") + request[4:])
     return f"{answer[1] >> 5}.{answer[1] & 31:02}" if answer else "no answer"
 
 
 class Honest:
-    """A client that installs a program and posts to it, and then repeats its POST: how often, and how often it was answered as the first time."""
+    """A client that installs a program and sends it a POST, and then repeats its POST.
+
+    It counts its POSTs, and the responses that equal the first one."""
 
     def __init__(self):
         self.client = Client()
@@ -206,13 +215,14 @@ class Honest:
             self.alike += self.client.asked(HONEST_POST, TRIES, 1) == POSTED
 
     def told(self):
-        """Whether all was answered right."""
+        """Prints the counts, and returns whether each response was right."""
         print(f"of the honest client's {self.repeats} repeats {self.alike} were answered as the first time", flush=True)
         return self.is_well and self.alike == self.repeats
 
 
 def send(count, seconds, honest):
-    """Sends so many datagrams, from 64 ports in turn. Returns how many were sent and how many replies came."""
+    """Sends datagrams from 64 ports in rotation. Returns how many were sent and how many replies
+    arrived."""
     rng = random.Random(1)
     clients = [Client() for _ in range(64)]
     sockets = [it.socket for it in clients]
@@ -230,7 +240,7 @@ def send(count, seconds, honest):
 
 
 def observed():
-    """How many of 32 observers of slot 3 hear of a POST."""
+    """Returns how many of 32 observers of slot 3 are notified of a POST."""
     print("PUT of the observed program:", ask(PUT.replace(b"p\x011", b"p\x013"), 4))
     observers = [Client() for _ in range(OBSERVERS)]
     for it in observers:
@@ -240,7 +250,8 @@ def observed():
 
 
 def asked_again(honest):
-    """Waits until each exchange is gone, and asks: whether all is answered as it should be."""
+    """Waits until each exchange has expired, and sends requests: returns whether all are answered
+    as expected."""
     time.sleep(LIFETIME)
     put, get, own = ask(PUT, 2), ask(GET, 3), honest.client.asked(HONEST_GET)
     print(f"PUT: {put}\nGET: {get}\nthe honest client's GET: {own.hex()}")
@@ -250,7 +261,9 @@ def asked_again(honest):
 
 
 def ended(server, limit):
-    """Sends pings until the server has had as many datagrams as it was started for: whether it ends well, and told what was dropped."""
+    """Sends pings until the server has received the number of datagrams that it was started for.
+
+    Returns whether it ends with success, and the number of dropped datagrams agrees."""
     sent, lost, client = Client.sent, dropped(), Client()
     pings = 0
     while server.poll() is None and client.asked(PING, seconds=2):
@@ -266,7 +279,8 @@ def ended(server, limit):
 
 
 def tried(server, options, limit):
-    """Sends the datagrams, asks again, and ends the server: whether all went well."""
+    """Sends the datagrams, sends requests again, and ends the server: returns whether all went
+    well."""
     print("PUT:", ask(PUT, 1), flush=True)
     honest, before = Honest(), resident(server.pid)
     started = time.monotonic()

@@ -1,15 +1,16 @@
 #!/usr/bin/env python3
-"""Observes a server with libcoap's client, and tells what that hears.
+"""Observes a server with libcoap's client, and reports its notifications.
 
-Run it at the top of the repository, behind `rt run` in crates/fcd, which builds what it runs; libcoap's client is that of Debian's
-package libcoap3-bin:
+Run it at the top of the repository, after `rt run` in crates/fcd, which builds the server;
+libcoap's client is that of Debian's package libcoap3-bin:
 
     python3 tests/socket/observe.py [--workers W]
 
-It starts `fcd serve`, and installs two counters: both answer how many POSTs there were, and only that of slot 1 calls `notify` in a POST.
-What has to be heard of slot 1 is each POST, of slot 2 nothing but the first answer, nothing after a cancellation, and of a DELETE that
-the resource is gone. It ends with 1 where something else is heard.
-"""
+It starts `fcd serve`, and installs two counters: both reply with the number of POSTs, and only that
+of slot 1 calls `notify` in a POST. The client has to be notified of each POST of slot 1, and of
+nothing of slot 2 after the first response. After a cancellation there may be no notification, and a
+DELETE has to be notified as the end of the resource. The script ends with 1 if there is any other
+notification."""
 import argparse
 import os
 import subprocess
@@ -21,7 +22,8 @@ FCD = "crates/fcd/out/fcd"
 CLIENT = "coap-client-notls"
 PORT = 5698
 
-# r6 = var_get(0) + 1; var_put(0, r6); reply_byte(48 + r6); and, in slot 1 alone, notify(). A GET doesn't keep what it puts.
+# r6 = var_get(0) + 1; var_put(0, r6); reply_byte(48 + r6); and, in slot 1 alone, notify(). A GET
+# discards its variables.
 COUNT = ("b701000000000000" "8500000003000000" "0700000001000000" "bf06000000000000" "bf62000000000000" "b701000000000000"
          "8500000004000000" "bf61000000000000" "0701000030000000" "8500000006000000")
 NOTIFY = "8500000007000000"
@@ -29,14 +31,14 @@ END = "b700000000000000" "9500000000000000"
 
 
 def image(code):
-    """An image of these instructions, with eight bytes of variables."""
+    """Returns an image of these instructions, with eight bytes of variables."""
     slots = bytes.fromhex(code)
     count = len(slots) // 8
     return b"FCB1" + (8).to_bytes(2, "little") + count.to_bytes(2, "little") + count.to_bytes(4, "little") + bytes(4) + slots
 
 
 def ask(method, path, body=None):
-    """What the client prints of one request."""
+    """Returns the client's output for one request."""
     words = [CLIENT, "-m", method]
     with tempfile.NamedTemporaryFile() as file:
         if body is not None:
@@ -48,7 +50,7 @@ def ask(method, path, body=None):
 
 
 def observe(path, seconds):
-    """The client observes for so long, and cancels then."""
+    """Observes for this long, and then cancels."""
     words = [CLIENT, "-w", "-s", str(seconds), f"coap://127.0.0.1:{PORT}{path}"]
     return subprocess.Popen(words, stdout=subprocess.PIPE, stderr=subprocess.STDOUT, text=True)
 
@@ -63,7 +65,7 @@ def told(what, got, wanted):
 
 
 def rounds():
-    """What is heard, and whether it is right."""
+    """Returns the notifications, and whether they are right."""
     print("PUT /p/1:", ask("put", "/p/1", image(COUNT + NOTIFY + END)))
     print("PUT /p/2:", ask("put", "/p/2", image(COUNT + END)), flush=True)
     observer = observe("/r/1", 4)

@@ -1,25 +1,32 @@
 #!/usr/bin/env python3
-"""Plays mutated datagrams to a server while its time passes, and tells whether it lives and answers right.
+"""Plays mutated datagrams to a server while its time passes, and checks its responses.
 
-Run it at the top of the repository, behind `rt run` in crates/fcd, which builds what it runs; hostile.py, beside it, mutates the datagrams:
+Run it at the top of the repository, after `rt run` in crates/fcd, which builds the server;
+hostile.py, next to it, mutates the datagrams:
 
     python3 tests/socket/played.py [--count N] [--seed K] [--workers W] [--seconds S] [--program FILE]
 
-It feeds N lines (1,000,000 where it isn't given) to `fcd play` by a pipe: mutated datagrams from 64 peers, datagrams of one byte
-repeated, and moments alone. Moments advance by steps of several sizes, and by leaps of the time for which an exchange is kept and of a
-day, so that the table of exchanges fills and empties, and notifications become confirmable and are sent again. The same K (1 where it
-isn't given) gives the same lines.
+It sends N lines (1,000,000 by default) to `fcd play` through a pipe: mutated datagrams from 64
+peers, datagrams of one byte repeated, and times alone. Time advances by steps of several sizes, and
+by leaps of an exchange's lifetime and of a day. So the table of exchanges fills and empties, and
+notifications become confirmable and are retransmitted. The same K (1 by default) gives the same
+lines.
 
-Among them is an honest client, at a peer and a slot of its own: it installs a program that counts POSTs, posts, gets, asks whether its
-ETag is valid still and what the program is, removes it at times, and repeats its last request. Each of its answers is worked out
-beforehand, byte by byte, 5.03 where the table is full among them: it asks most while one or two places are left. Of the others it is
-worked out how many acknowledgements and resets they are sent. In the end 32 observers of the honest client's slot have to hear of a POST.
+Among them is an honest client, at a peer and a slot of its own. It installs a program that counts
+POSTs, sends POSTs and GETs, checks that its ETag is still valid, reads the receipt, removes the
+program at times, and repeats its last request. Each of its responses is computed beforehand, byte
+by byte, including 5.03 if the table is full: it sends most requests while one or two places are
+left. Of the responses to others, the number of acknowledgements and resets is computed. At the end
+32 observers of the honest client's slot have to be notified of a POST.
 
-It tells how many answers were right, how many datagrams went to others, and the server's resident memory. It ends with 1 where the
-server doesn't end with status 0 (it is killed after S seconds, 1,800 where it isn't given), an answer is wrong or missing, a datagram is
-no message, an acknowledgement or a reset is one too many or too few, an observer doesn't hear, or memory grows by more than 1 MiB behind
-the first tenth of the lines.
-"""
+It prints how many responses were right, how many datagrams were sent to others, and the server's
+resident memory. It ends with 1 in these cases:
+
+- The server doesn't end with status 0 (it is killed after S seconds, 1,800 by default).
+- A response is wrong or missing, or a datagram is no message.
+- There is one acknowledgement or reset too many or too few.
+- An observer isn't notified.
+- Memory grows by more than 1 MiB after the first tenth of the lines."""
 import argparse
 import collections
 import contextlib
@@ -31,24 +38,26 @@ import time
 
 from hostile import COUNT, COUNTER, FCD, OBSERVERS, SLOT, resident, stranger
 
-# How long an exchange is kept, in milliseconds, and how many are.
+# The lifetime of an exchange in milliseconds, and the number of exchanges.
 WINDOW = 247_000
 EXCHANGES = 1024
 
 DAY = 86_400_000
 
-# Lines go in blocks. Each begins with one of these leaps, and has one of these as its longest step, in milliseconds.
+# Lines are in blocks. Each begins with one of these leaps, and has one of these as its longest
+# step, in milliseconds.
 BLOCK = 2_000
 LEAPS = (0, 0, 1_000, WINDOW, DAY)
 STEPS = (0, 300, 600, 600, 3_000)
 
-# The peers: of mutated datagrams 1 to 64; who keeps a program in slot 1, which those observe; the honest client; and 32 observers from this one on.
+# The peers: of mutated datagrams 1 to 64; one that maintains a program in slot 1, which those
+# observe; the honest client; and 32 observers from this one on.
 PEERS = 64
 KEEPER = 199
 HONEST = 200
 FIRST_OBSERVER = 101
 
-# The honest client's requests of its slot, behind the token.
+# The honest client's requests to its slot, after the token.
 RUN = b"\xb1r\x02" + SLOT
 RUN_BEHIND_AN_ETAG = b"\x71r\x02" + SLOT
 PROGRAM = b"\xb1p\x02" + SLOT
@@ -60,21 +69,22 @@ CREATED, DELETED, VALID, CHANGED, CONTENT = 0x41, 0x42, 0x43, 0x44, 0x45
 NOT_FOUND, UNAVAILABLE = 0x84, 0xA3
 CODES = bytes.fromhex("41424344455f8082838485888da0a3a5")
 
-# What the honest client asks, and how often of a hundred times.
+# The honest client's requests, and how often of a hundred times each is sent.
 KINDS = {"put": 3, "post": 32, "get": 25, "valid": 12, "stale": 6, "describe": 8, "delete": 2, "repeat": 12}
 
-# What a request is to the table of exchanges.
+# The classification of a request by the table of exchanges.
 NEW, REPEAT, FULL = "new", "repeat", "full"
 
-# No delta and no length of an option is as much.
+# No delta and no length of an option is this large.
 TOO_MUCH = 1 << 20
 
-# How many KiB resident memory may grow behind the first tenth of the lines.
+# By how many KiB resident memory may grow after the first tenth of the lines.
 GROWTH = 1024
 
 
 def extended(nibble, rest, place):
-    """A delta or a length of an option by its nibble, 13 to 15, and the place behind its bytes (RFC 7252, 3.1)."""
+    """Returns a delta or a length of an option from its nibble, 13 to 15, and the place after its
+    bytes (RFC 7252, section 3.1)."""
     if nibble == 13 and place < len(rest):
         return rest[place] + 13, place + 1
     if nibble == 14 and place + 1 < len(rest):
@@ -83,7 +93,7 @@ def extended(nibble, rest, place):
 
 
 def is_spelled(rest):
-    """Whether bytes behind a token are options and a payload."""
+    """Returns whether the bytes after a token are options and a payload."""
     number = place = 0
     while place < len(rest):
         if rest[place] == 0xFF:
@@ -102,12 +112,14 @@ def is_spelled(rest):
 
 
 def is_confirmable(datagram):
-    """Whether a datagram has the version and the type of a confirmable message, and a size that is read."""
+    """Returns whether a datagram has the version and the type of a confirmable message, and a size
+    that is read."""
     return 4 <= len(datagram) <= 1280 and datagram[0] >> 4 == 4
 
 
 def is_request(datagram):
-    """Whether a datagram is a request, whatever it asks: a confirmable or non-confirmable message of class 0 that isn't empty."""
+    """Returns whether a datagram is a request: a confirmable or non-confirmable message of class 0
+    that isn't empty."""
     if not 4 <= len(datagram) <= 1280 or datagram[0] >> 4 not in (4, 5) or not 0 < datagram[1] < 32:
         return False
     behind = 4 + (datagram[0] & 15)
@@ -115,7 +127,8 @@ def is_request(datagram):
 
 
 def is_message(datagram):
-    """Whether a datagram is what a server sends: a reset, or a reply or notification by one of its codes."""
+    """Returns whether a server sends such a datagram: a reset, or a reply or notification with one
+    of its codes."""
     if datagram[:2] == b"\x70\x00":
         return len(datagram) == 4
     behind = 4 + (datagram[0] & 15) if datagram else 0
@@ -124,22 +137,23 @@ def is_message(datagram):
 
 
 class Table:
-    """The exchanges that the server holds."""
+    """The exchanges that the server stores."""
 
     def __init__(self):
         self.opened = collections.deque()
-        # Whether the request that opened it was confirmable, by the peer and the message id.
+        # Whether the request that opened it was confirmable, by the peer and the message ID.
         self.confirmable = {}
         self.most = 0
 
     def places(self, now):
-        """How many places are left at a moment."""
+        """Returns how many places are free at a time."""
         while self.opened and now - self.opened[0][0] >= WINDOW:
             del self.confirmable[self.opened.popleft()[1]]
         return EXCHANGES - len(self.opened)
 
     def hear(self, now, peer, datagram):
-        """What a peer's datagram is to the table, which keeps it where it is new. None where it is no request."""
+        """Returns the classification of a peer's datagram by the table, which stores a new request.
+        None if it is no request."""
         if not is_request(datagram):
             return None
         left = self.places(now)
@@ -154,14 +168,16 @@ class Table:
         return NEW
 
     def acknowledges(self, peer, datagram, heard):
-        """Whether a request is answered by an acknowledgement: a repeat by that of the first, if it got one."""
+        """Returns whether a request is answered by an acknowledgement: a duplicate by that of the
+        first, if it got one."""
         if heard == FULL:
             return is_confirmable(datagram)
         return self.confirmable[peer, datagram[2:4]]
 
 
 class Honest:
-    """The honest client, and what its slot holds: a serial, and where it has a program, of a version, the count of POSTs."""
+    """The honest client, and the state of its slot: a serial, and if it has a program, the version
+    and the count of POSTs."""
 
     def __init__(self, rng):
         self.rng = rng
@@ -178,7 +194,7 @@ class Honest:
         return self.rng.choices(list(KINDS), list(KINDS.values()))[0]
 
     def ask(self, kind, now, table):
-        """A request of this kind, and what it is answered."""
+        """Returns a request of this kind, and the response to it."""
         if kind != "repeat":
             self.number += 1
             tag = {"valid": self.serial, "stale": max(self.serial - 1, 0)}.get(kind)
@@ -202,7 +218,8 @@ class Honest:
         return bytes([0x41, POST if kind == "post" else GET]) + head + RUN
 
     def carry_out(self, kind, tag):
-        """Changes the slot as a request does. Gives the answer's code, and what stands behind its token."""
+        """Changes the slot as a request does. Returns the response's code, and the bytes after its
+        token."""
         if kind == "put":
             return self.install()
         if kind == "delete":
@@ -239,7 +256,7 @@ class Honest:
 
 
 class Script:
-    """The lines that are played, and what of the output is known beforehand."""
+    """The lines that are played, and the expectations for the output."""
 
     def __init__(self, count, seed):
         self.count = count
@@ -276,11 +293,11 @@ class Script:
         return self.told(self.rng.randrange(1, PEERS + 1), self.repeated() if chance < 0.065 else stranger(self.rng))
 
     def repeated(self):
-        """A confirmable GET whose options, or payload, are one byte repeated."""
+        """Returns a confirmable GET whose options, or payload, are one byte repeated."""
         return bytes([0x40, GET]) + self.rng.randbytes(2) + self.rng.randbytes(1) * 1276
 
     def told(self, peer, datagram):
-        """A line of another. Whether it is acknowledged, or reset, is counted."""
+        """Adds a line of another peer. Counts whether it is acknowledged, or reset."""
         heard = self.table.hear(self.now, peer, datagram)
         if heard is None:
             self.resets += is_confirmable(datagram)
@@ -289,7 +306,7 @@ class Script:
         return self.spelled(peer, datagram)
 
     def asked(self, kind):
-        """A line of the honest client. What it is answered is expected."""
+        """Adds a line of the honest client, with the expected response."""
         datagram, answer = self.honest.ask(kind, self.now, self.table)
         self.expected.append(f"{HONEST} {answer.hex()}\n".encode())
         return self.spelled(HONEST, datagram)
@@ -301,7 +318,8 @@ class Script:
         return f"{self.now} - -\n".encode()
 
     def ending(self):
-        """When each exchange is gone, observers of the honest client's slot register, and hear of a POST."""
+        """After each exchange has expired, observers of the honest client's slot register, and are
+        notified of a POST."""
         self.now += WINDOW
         yield self.passed()
         yield self.asked("put")
@@ -312,14 +330,14 @@ class Script:
         self.notification = self.notified()
 
     def notified(self):
-        """What an observer is told of the last POST, but for its message id."""
+        """Returns an observer's notification of the last POST, without its message ID."""
         sequence = (self.honest.serial % (1 << 24)).to_bytes(3, "big").lstrip(b"\x00")
         etag = b"\x48" + self.honest.serial.to_bytes(8, "big")
         return b"\x51\x45" + TOKEN + etag + bytes([0x20 + len(sequence)]) + sequence + self.honest.counted()
 
 
 class Reader:
-    """Reads what the server prints, and compares it with what is known of it."""
+    """Reads the server's output, and compares it with the expectations."""
 
     def __init__(self, script):
         self.script = script
@@ -360,11 +378,11 @@ class Reader:
             self.told[peer, datagram[:2] + datagram[4:]] += 1
 
     def counts(self):
-        """Whether as many acknowledgements and resets were sent as there should be."""
+        """Returns whether as many acknowledgements and resets were sent as expected."""
         return (self.acknowledgements, self.resets) == (self.script.acknowledgements, self.script.resets)
 
     def heard(self):
-        """How many observers heard of the last POST, each once."""
+        """Returns how many observers were notified of the last POST, each once."""
         told = (self.told[FIRST_OBSERVER + number, self.script.notification] for number in range(OBSERVERS))
         return sum(count == 1 for count in told)
 
@@ -380,7 +398,8 @@ def feed(server, script, samples):
 
 
 def play(words, script, seconds):
-    """Plays the script: the reader, the samples, the status, and what was told on standard error."""
+    """Plays the script; returns the reader, the samples, the status, and the messages on standard
+    error."""
     reader, samples = Reader(script), []
     server = subprocess.Popen(words, stdin=subprocess.PIPE, stdout=subprocess.PIPE, stderr=subprocess.PIPE)
     limit = threading.Timer(seconds, server.kill)
@@ -400,7 +419,7 @@ def play(words, script, seconds):
 
 
 def growth(samples):
-    """By how much resident memory grew behind the first tenth of the lines, at most."""
+    """Returns by how much resident memory grew at most after the first tenth of the lines."""
     later = [it for it in samples[len(samples) // 10:] if it]
     return max(later) - later[0] if later else 0
 

@@ -1,15 +1,18 @@
 #!/usr/bin/env python3
-"""Tries what strangers may do to a server that has a policy: uploads, floods, full tables, and observers that were killed.
+"""Tries attacks of other hosts on a server with a policy: uploads, floods, full tables.
 
-Run it at the top of the repository, after `rt run` in crates/fcd, which builds what it runs:
+It also tries observers that were killed.
+
+Run it at the top of the repository, after `rt run` in crates/fcd, which builds the server:
 
     python3 tests/strangers/try.py [WORD..] [--flood SECONDS]
 
-It starts `fcd serve` with one worker and with two, at ports of 127.0.0.1 to which it sends from 127.0.0.1 and 127.0.0.2, and `fcd play` without a socket.
-The tries are `managers`, `places`, `share`, `mistakes`, `flood`, `killed` and `play`; those that are named are made, or all. Each row that isn't as it has
-to be is printed with what came and what had to come, and then the status is 1. The flood takes 60 s unless `--flood` says otherwise, and the killed
-observers up to two minutes, for which the server waits by RFC 7252.
-"""
+It starts `fcd serve` with one worker and with two, at ports of 127.0.0.1 to which it sends from
+127.0.0.1 and 127.0.0.2, and `fcd play` without a socket. The tries are `managers`, `places`,
+`share`, `mistakes`, `flood`, `killed` and `play`; the named ones are made, or all. Each wrong row
+is printed with its result and the expected one, and then the status is 1. The flood takes 60 s
+unless `--flood` says otherwise, and the killed observers up to two minutes, which is the server's
+timeout by RFC 7252."""
 import argparse
 import collections
 import multiprocessing
@@ -28,24 +31,27 @@ CON, NON, ACK = 0, 1, 2
 GET, POST, PUT, DELETE = 1, 2, 3, 4
 OBSERVE, PATH, BLOCK1 = 6, 11, 27
 
-# The worked program counter.s: a POST adds one to the count in eight bytes of variables, and gives a notice; both methods reply the count.
+# The worked program counter.s: a POST adds one to the count in eight bytes of variables, and sets
+# the notify flag; both methods reply with the count.
 COUNTER = bytes.fromhex(
     "4643423108000f000f00000000000000" "7116000000000000" "bf27000000000000" "5506070002000000" "b701000000000000" "8500000003000000"
     "bf02000000000000" "0702000001000000" "b701000000000000" "8500000004000000" "8500000007000000" "bf71000000000000" "b702000008000000"
     "8500000005000000" "b700000000000000" "9500000000000000"
 )
 
-# A request of an honest client in a flood is sent again after so many seconds, as often as RFC 7252, section 4.8 has it, and counts as unanswered after the last.
+# A request of an honest client in a flood is sent again after this many seconds, as often as RFC
+# 7252, section 4.8 says, and counts as unanswered after the last.
 WAITS = [2, 4, 8, 16, 32]
 EACH_SECOND = 20
 
-# How many observers a slot has, and how long an unacknowledged notification is sent again at most: 31 times 3 s.
+# The number of observers of a slot, and how long an unacknowledged notification is retransmitted at
+# most: 31 times 3 s.
 OBSERVERS = 32
 GIVEN_UP = 93
 
 
 def nibble(number):
-    """An option's delta or length: its nibble, and the bytes after it."""
+    """Returns an option's delta or length: its nibble, and the bytes after it."""
     if number < 13:
         return number, b""
     if number < 269:
@@ -54,7 +60,7 @@ def nibble(number):
 
 
 def option_bytes(options):
-    """Options, in order of their numbers, as a message has them."""
+    """Returns options, in order of their numbers, as bytes of a message."""
     last, written = 0, b""
     for number, value in options:
         delta, more_delta = nibble(number - last)
@@ -65,19 +71,19 @@ def option_bytes(options):
 
 
 def message(kind, code, number, path="", payload=b"", token=b"", options=()):
-    """A request of this type, method and message ID."""
+    """Returns a request of this type, method and message ID."""
     every = sorted([*options, *((PATH, part.encode()) for part in path.split("/") if part)], key=lambda it: it[0])
     head = bytes([0x40 | kind << 4 | len(token), code]) + number.to_bytes(2, "big")
     return head + token + option_bytes(every) + (b"\xff" + payload if payload else b"")
 
 
 def code(answer):
-    """The code of a response, as 4.03; `nothing` without one."""
+    """Returns the code of a response, such as 4.03; `nothing` without one."""
     return f"{answer[1] >> 5}.{answer[1] & 31:02}" if answer else "nothing"
 
 
 def payload(answer):
-    """The payload of a response."""
+    """Returns the payload of a response."""
     return answer.partition(b"\xff")[2]
 
 
@@ -94,27 +100,27 @@ class Client:
         self.socket.sendto(datagram, self.server)
 
     def received(self, seconds):
-        """What comes next, in time; else no bytes."""
+        """Returns the next datagram, if it arrives in time, or no bytes."""
         ready, _, _ = select.select([self.socket], [], [], seconds)
         return self.socket.recv(2048) if ready else b""
 
     def new(self, kind, method, path, body=b"", **more):
-        """A request with the next message ID."""
+        """Returns a request with the next message ID."""
         self.number += 1
         return message(kind, method, self.number, path, body, **more)
 
     def asked(self, datagram, seconds=5):
-        """What a datagram is answered, in time."""
+        """Returns the response to a datagram, if it arrives in time."""
         self.send(datagram)
         return self.received(seconds)
 
     def ask(self, method, path, body=b"", kind=CON, seconds=5, **more):
-        """What a new request is answered, in time."""
+        """Returns the response to a new request, if it arrives in time."""
         return self.asked(self.new(kind, method, path, body, **more), seconds)
 
 
 class Server:
-    """A server with this policy and so many workers, until the end of the block."""
+    """A server with this policy and this many workers, until the end of the block."""
 
     def __init__(self, workers, *policy):
         self.port = PORTS[workers]
@@ -133,18 +139,18 @@ class Server:
         return Client(ip, self.port)
 
     def resident(self):
-        """The resident memory, in KiB."""
+        """Returns the resident memory, in KiB."""
         with open(f"/proc/{self.process.pid}/status", encoding="ascii") as file:
             return next(int(line.split()[1]) for line in file if line.startswith("VmRSS:"))
 
     def dropped(self):
-        """How many datagrams the kernel dropped because the server's socket was full."""
+        """Returns how many datagrams the kernel dropped because the server's socket was full."""
         with open("/proc/net/udp", encoding="ascii") as file:
             return next((int(line.split()[-1]) for line in file if line.split()[1] == f"0100007F:{self.port:04X}"), 0)
 
 
 class Rows:
-    """The rows of a try: how many there were, and whether each was as it has to be."""
+    """The rows of a try: their number, and whether each was as expected."""
 
     def __init__(self, name):
         self.name, self.count, self.wrong = name, 0, 0
@@ -162,12 +168,12 @@ class Rows:
 
 
 def beginning(client, slot, size_exponent=6):
-    """What the first of several blocks of an upload is answered."""
+    """Returns the response to the first of several blocks of an upload."""
     return code(client.ask(PUT, f"p/{slot}", bytes(1024), options=[(BLOCK1, bytes([8 | size_exponent]))]))
 
 
 def refused(rows, stranger):
-    """A stranger's uploads and removals, and their duplicates."""
+    """Tries another host's uploads and removals, and their duplicates."""
     put, put_non = stranger.new(CON, PUT, "p/1", COUNTER), stranger.new(NON, PUT, "p/1", COUNTER)
     first = stranger.asked(put)
     rows.row("a stranger's PUT", code(first), "4.03")
@@ -183,7 +189,7 @@ def refused(rows, stranger):
 
 
 def allowed(rows, stranger):
-    """What a stranger may do: it changes no program."""
+    """Tries the requests that another host is allowed: it changes no program."""
     rows.row("a stranger's GET of the program", payload(stranger.ask(GET, "p/1"))[:10], b"version=1 ")
     rows.row("its GET of the resource", payload(stranger.ask(GET, "r/1")), bytes(8))
     rows.row("its POST", payload(stranger.ask(POST, "r/1")), b"\x01" + bytes(7))
@@ -191,7 +197,7 @@ def allowed(rows, stranger):
 
 
 def try_managers(workers):
-    """A server whose manager is 127.0.0.1 alone."""
+    """Tries a server whose manager is 127.0.0.1 alone."""
     rows = Rows(f"managers, --workers {workers}")
     with Server(workers, "--managers", "127.0.0.1/32") as server:
         manager, stranger = server.client(OWN), server.client(OTHER)
@@ -205,7 +211,7 @@ def try_managers(workers):
 
 
 def drained(client, seconds):
-    """How many responses of each code come in time."""
+    """Returns how many responses of each code arrive in time."""
     codes, until = collections.Counter(), time.monotonic() + seconds
     while time.monotonic() < until:
         answer = client.received(until - time.monotonic())
@@ -215,7 +221,10 @@ def drained(client, seconds):
 
 
 def counted(client, kind, count):
-    """How many of so many new GETs were answered by each code, in 2 s after the last. The socket's buffer holds 256 responses."""
+    """Returns how many of a number of new GETs were answered by each code, within 2 s after the
+    last.
+
+    The socket's buffer has space for 256 responses."""
     codes = collections.Counter()
     for n in range(count):
         client.send(client.new(kind, GET, "r/1"))
@@ -226,7 +235,7 @@ def counted(client, kind, count):
 
 
 def try_places(workers):
-    """A server of 200 places: one address takes all of them."""
+    """Tries a server of 200 places: one address takes all of them."""
     rows = Rows(f"places, --workers {workers}")
     with Server(workers, "--exchanges", "200") as server:
         first, other = server.client(OWN), server.client(OTHER)
@@ -238,7 +247,7 @@ def try_places(workers):
 
 
 def try_share(workers):
-    """A server that leaves an address no more than 100 places."""
+    """Tries a server that allows an address at most 100 places."""
     rows = Rows(f"share, --workers {workers}")
     with Server(workers, "--share", "100") as server:
         own, other, port = server.client(OWN), server.client(OTHER), server.client(OTHER)
@@ -251,7 +260,7 @@ def try_share(workers):
 
 
 def try_mistakes():
-    """Values of the options that the command line refuses."""
+    """Tries values of the options that the command line refuses."""
     rows = Rows("mistakes")
     network = ["192.0.2.0", "192.0.2.0/33", "192.0.2/24", "192.0.2.0/", "/24", "192.0.2.0/2 4", "::/0"]
     mistakes = [["--managers", it] for it in network]
@@ -267,7 +276,7 @@ def try_mistakes():
 
 
 def flood(port, seconds, sent):
-    """Sends new GETs of 127.0.0.2 from 64 ports in turn, as many as go out."""
+    """Sends new GETs of 127.0.0.2 from 64 ports in rotation, as many as possible."""
     sockets = []
     for _ in range(64):
         it = socket.socket(socket.AF_INET, socket.SOCK_DGRAM)
@@ -287,7 +296,7 @@ def flood(port, seconds, sent):
 
 
 class Honest:
-    """A client that sends a new GET 20 times a second, and each again where no answer comes."""
+    """A client that sends a new GET 20 times a second, and each again if there is no response."""
 
     def __init__(self, client):
         self.client = client
@@ -300,7 +309,7 @@ class Honest:
         self.open[datagram[2:4]] = [datagram, now, now + WAITS[0], 1]
 
     def repeat(self, now):
-        """Sends again what wasn't answered in time."""
+        """Sends again the requests that weren't answered in time."""
         for it in self.open.values():
             if it[2] <= now and it[3] < len(WAITS):
                 self.client.send(it[0])
@@ -308,7 +317,7 @@ class Honest:
                 it[3] += 1
 
     def listen(self, until):
-        """Takes the responses that come before a moment."""
+        """Receives the responses that arrive before a time."""
         while (left := until - time.monotonic()) > 0:
             answer = self.client.received(left)
             request = self.open.pop(answer[2:4], None) if answer else None
@@ -318,7 +327,8 @@ class Honest:
                 self.longest = max(self.longest, time.monotonic() - request[1])
 
     def ask(self, seconds):
-        """Asks for so many seconds, and waits until each request is answered, or was sent for the last time long enough ago."""
+        """Sends requests for this many seconds, and waits until each is answered, or its last
+        transmission is long enough ago."""
         started = time.monotonic()
         for n in range(round(seconds * EACH_SECOND)):
             self.begin(time.monotonic())
@@ -331,7 +341,7 @@ class Honest:
 
 
 def try_flood(workers, seconds):
-    """An honest client at one address, while another sends as fast as it can."""
+    """Tries an honest client at one address, while another sends as fast as possible."""
     rows = Rows(f"flood, --workers {workers}")
     with Server(workers, "--exchanges", "65536", "--share", "16384") as server:
         own = server.client(OWN)
@@ -353,7 +363,7 @@ def try_flood(workers, seconds):
 
 
 def option_numbers(answer):
-    """The numbers of a response's options, in order."""
+    """Returns the numbers of a response's options, in order."""
     place, number, numbers = 4 + (answer[0] & 15), 0, []
     while place < len(answer) and answer[place] != 0xFF:
         delta, length = answer[place] >> 4, answer[place] & 15
@@ -367,13 +377,14 @@ def option_numbers(answer):
 
 
 def observe(client, token):
-    """What a registration of a token is answered, and whether it is entered: its response has Observe."""
+    """Returns the response to a registration with a token, and whether it is accepted: its response
+    has Observe."""
     answer = client.ask(GET, "r/1", token=bytes([token]), options=[(OBSERVE, b"")])
     return code(answer), len(answer) > 4 and OBSERVE in option_numbers(answer)
 
 
 def places_freed(server, seconds):
-    """Whether a registration is entered within so many seconds, asked every two."""
+    """Returns whether a registration is accepted within this many seconds, tried every two."""
     client, until = server.client(OWN), time.monotonic() + seconds
     while time.monotonic() < until:
         time.sleep(2)
@@ -383,7 +394,7 @@ def places_freed(server, seconds):
 
 
 def try_killed(workers):
-    """32 observers that acknowledge nothing, on a server that confirms after 2 s."""
+    """Tries 32 observers that acknowledge nothing, on a server that confirms after 2 s."""
     rows = Rows(f"killed, --workers {workers}")
     with Server(workers, "--confirm-after", "2") as server:
         own, killed, other = server.client(OWN), server.client(OTHER), server.client(OWN)
@@ -403,26 +414,28 @@ def try_killed(workers):
 
 
 def played(lines, *options):
-    """The datagrams that `fcd play` sends for these lines."""
+    """Returns the datagrams that `fcd play` sends for these lines."""
     text = "".join(f"{now} {peer} {datagram.hex()}\n" for now, peer, datagram in lines)
     ended = subprocess.run([FCD, "play", *options], input=text, capture_output=True, text=True, timeout=120, check=False)
     return [bytes.fromhex(it.split()[1]) for it in ended.stdout.splitlines()], ended.returncode
 
 
 def codes_of(lines, *options):
-    """How many responses of each code these lines have."""
+    """Returns how many responses of each code are in these lines."""
     sent, status = played(lines, *options)
     return dict(collections.Counter(code(it) for it in sent)), status
 
 
 def notified(lines, *options):
-    """The first bytes of the notifications under the token `a`: 51 isn't confirmable, 41 is."""
+    """Returns the first bytes of the notifications with the token `a`: 51 isn't confirmable, 41
+    is."""
     sent, _ = played(lines, *options)
     return " ".join(it[:1].hex() for it in sent if it[4:5] == b"a" and (it[0] >> 4 & 3) != ACK)
 
 
 def try_play():
-    """250 new requests a second for 360 s of moments, and a notification's moment, without a socket."""
+    """Tries 250 new requests a second for 360 s of played time, and a notification's time, without
+    a socket."""
     rows = Rows("play")
     lines = [(n * 4, n % 200, message(CON, GET, n // 200, "r/1")) for n in range(90_000)]
     started = time.monotonic()

@@ -1,14 +1,16 @@
 #!/usr/bin/env python3
-"""Tries the timers of `fcd serve --every`: their beats, their observers, late ones, and how often an idle server wakes.
+"""Tries the timers of `fcd serve --every`: their beats, their observers, late ones, and an idle
+server's wakes.
 
-Run it at the top of the repository, after `rt run` in crates/fcd and crates/fcreq, which builds what it runs:
+Run it at the top of the repository, after `rt run` in crates/fcd and crates/fcreq, which builds the
+programs:
 
     python3 tests/timers/try.py [WORD..] [--seconds SECONDS]
 
-The tries are `mistakes`, `beats`, `late`, `many` and `idle`; those that are named are made, or all. `many` has ten timers of 100 ms beside a client with four
-requests a second, by one worker and by two, for 60 s unless `--seconds` says otherwise. Each row that isn't as it has to be is printed with what came, and
-then the status is 1.
-"""
+The tries are `mistakes`, `beats`, `late`, `many` and `idle`; the named ones are made, or all.
+`many` has ten timers of 100 ms and a client with four requests a second, with one worker and with
+two, for 60 s unless `--seconds` says otherwise. Each wrong row is printed with its result, and then
+the status is 1."""
 import argparse
 import signal
 import socket
@@ -21,7 +23,8 @@ from pathlib import Path
 TOP = Path(__file__).resolve().parent.parent.parent
 FCD, FCREQ = (TOP / f"crates/{it}/out/{it}" for it in ("fcd", "fcreq"))
 
-# The worked program counter.s: a POST adds one to the count in eight bytes of variables, and gives a notice; both methods reply the count.
+# The worked program counter.s: a POST adds one to the count in eight bytes of variables, and sets
+# the notify flag; both methods reply with the count.
 COUNTER = bytes.fromhex(
     "4643423108000f000f00000000000000" "7116000000000000" "bf27000000000000" "5506070002000000" "b701000000000000" "8500000003000000"
     "bf02000000000000" "0702000001000000" "b701000000000000" "8500000004000000" "8500000007000000" "bf71000000000000" "b702000008000000"
@@ -36,7 +39,7 @@ def row(name, right, told=""):
 
 
 def free_port():
-    """A port of this host where nobody listens."""
+    """Returns a port of this host without a listener."""
     with socket.socket(socket.AF_INET, socket.SOCK_DGRAM) as it:
         it.bind(("127.0.0.1", 0))
         return it.getsockname()[1]
@@ -69,12 +72,12 @@ class Server:
         self.it.wait()
 
     def count(self, slot):
-        """The count of a slot, by a GET."""
+        """Returns the count of a slot, by a GET."""
         lines = fcreq("--port", self.port, "get", f"/r/{slot}")[1]
         return int.from_bytes(bytes.fromhex(lines[1]), "little") if len(lines) == 2 else None
 
     def wakes(self):
-        """How often the threads of the server gave up the processor since the start."""
+        """Returns how often the threads of the server gave up the processor since the start."""
         total = 0
         for status in Path(f"/proc/{self.it.pid}/task").glob("*/status"):
             total += sum(int(line.split()[1]) for line in status.read_text().splitlines() if line.startswith("voluntary_ctxt"))
@@ -85,7 +88,7 @@ class Server:
 
 
 def mistakes(_seconds):
-    """Values of `--every` that end the start with status 2, and what is said of them."""
+    """Tries values of `--every` that end the start with status 2, and the messages about them."""
     wrong = 0
     for words, said in [
         (["--every", "0:7"], "a period of 1 to 86400000 ms"),
@@ -101,7 +104,8 @@ def mistakes(_seconds):
 
 
 def beats(_seconds):
-    """A counter that a timer asks each 500 ms, by one worker and by two; its observer is told of each state."""
+    """Tries a counter with a timer of 500 ms, with one worker and with two; its observer is
+    notified of each state."""
     wrong = 0
     for workers in (1, 2):
         with Server("--workers", workers, "--every", "500:7", slots=[7]) as server:
@@ -115,7 +119,8 @@ def beats(_seconds):
 
 
 def late(_seconds):
-    """A server that is stopped for 3 s makes one late request, and goes on at its own beat."""
+    """Tries a server that is stopped for 3 s: it makes one late request, and continues at its own
+    beat."""
     with Server("--every", "500:0", slots=[0]) as server:
         time.sleep(1)
         server.it.send_signal(signal.SIGSTOP)
@@ -130,14 +135,14 @@ def late(_seconds):
 
 
 def ask_at_rate(server, until, codes):
-    """Asks four times a second until a moment, and keeps the codes that come."""
+    """Sends requests four times a second until a time, and stores the codes of the responses."""
     while time.monotonic() < until:
         codes.append(fcreq("--port", server.port, "get", "/r/0")[1][:1])
         time.sleep(0.25)
 
 
 def many(seconds):
-    """Ten timers of 100 ms beside a client with four requests a second."""
+    """Tries ten timers of 100 ms and a client with four requests a second."""
     wrong = 0
     every = [it for slot in range(10) for it in ("--every", f"100:{slot}")]
     for workers in (1, 2):
@@ -155,7 +160,7 @@ def many(seconds):
 
 
 def idle(_seconds):
-    """How often a server with one timer of 2 s wakes in 10 s."""
+    """Returns how often a server with one timer of 2 s wakes in 10 s."""
     with Server("--workers", 1, "--every", "2000:0", slots=[0]) as server:
         time.sleep(1)
         before = server.wakes()

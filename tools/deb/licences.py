@@ -1,6 +1,6 @@
 """Makes the copyright file, in Debian's machine-readable form, version 1.0.
 
-The programs contain libraries of the kit. Each library's licence is in its folder of the kit; one
+The binaries contain libraries of the kit. Each library's licence is in its folder of the kit; one
 that has no file there is named in a comment."""
 import re
 import textwrap
@@ -31,13 +31,13 @@ def libraries_of(programs, crates, kit):
 
 
 def below(kit, library):
-    """Returns the libraries that a library of the kit stands on."""
+    """Returns the libraries that a library of the kit uses."""
     with open(kit / f"rlibs/{library}.rlib/format", encoding="utf-8") as lines:
         return [it.split()[1] for it in lines if it.startswith("dep ")]
 
 
 def kind_of(text):
-    """Returns a licence's short name and its words, from those that tell it apart."""
+    """Returns a licence's short name and its words, from those that distinguish it."""
     for words, kind in KINDS.items():
         at = re.search(r"\s+".join(map(re.escape, words.split())), text)
         if at:
@@ -46,12 +46,12 @@ def kind_of(text):
 
 
 def indented(text):
-    """Returns the lines of a field of several lines: one that is empty has a full stop."""
+    """Returns the lines of a field of several lines; an empty one becomes a full stop."""
     return "".join(f" {it.rstrip()}\n" if it.strip() else " .\n" for it in text.strip().splitlines())
 
 
 def stanza(files, texts, name):
-    """Returns what holds of some files: the holders that their licences name, and the licences."""
+    """Returns the stanza for some files: the holders that their licences name, and the licences."""
     holders = list(dict.fromkeys(it for text in texts for it in HOLDER.findall(text)))
     kinds = sorted({kind_of(it)[0] for it in texts}, key=["Expat", "Apache-2.0", "BSD-3-Clause", "Unicode-3.0"].index)
     words = " or ".join(it for it in kinds if it != "Unicode-3.0")
@@ -66,7 +66,7 @@ def copyright_of(top, programs, kit):
     files = {it: sorted((kit / f"rattle/{it}").glob("LICENSE*")) for it in libraries}
     texts = {it: [path.read_text(encoding="utf-8") for path in paths] for it, paths in files.items() if paths}
     bare = ", ".join(it for it in libraries if it not in texts)
-    comment = f"The programs contain libraries of the kit that built them. These have no licence file of their own: {bare}."
+    comment = f"The binaries contain libraries of the kit that built them. These have no licence file of their own: {bare}."
     comment = "\n ".join(textwrap.wrap(comment, 76))
     licences = {kind: words for text in (*own, *(it for them in texts.values() for it in them)) for kind, words in [kind_of(text)]}
     licences |= {"Apache-2.0": BY_REFERENCE, "Expat": kind_of(own[0])[1]}

@@ -1,8 +1,8 @@
-"""Makes manual pages for section 1, of what `--help` prints and of docs/COMMANDS.md.
+"""Makes manual pages for section 1 from the output of `--help` and from docs/COMMANDS.md.
 
-A page has the summary, the usage, the options and the notes of `--help`, of each subcommand's too.
-Its DESCRIPTION is the sections of docs/COMMANDS.md whose heading begins with the program's name; of a
-program without one, the notes."""
+A page has the summary, the usage, the options and the notes of `--help`, also those of each
+subcommand. Its DESCRIPTION consists of the sections of docs/COMMANDS.md whose heading begins with
+the program's name; for a program without one, of the notes."""
 import re
 from typing import NamedTuple
 
@@ -13,7 +13,8 @@ STATUS = "Exit status: "
 
 
 class Help(NamedTuple):
-    """What `--help` prints: the summary, the usage, items by heading, and the other paragraphs."""
+    """The content of `--help`: the summary, the usage, items by heading, and the other
+    paragraphs."""
 
     summary: str
     usage: str
@@ -22,7 +23,8 @@ class Help(NamedTuple):
 
 
 def escaped(text):
-    """Returns plain text for roff: no backslash, hyphen or control line of it is an instruction."""
+    """Returns plain text for roff, in which no backslash, hyphen or control line is an
+    instruction."""
     return re.sub(r"^([.'])", r"\\&\1", text.replace("\\", r"\e").replace("-", r"\-"), flags=re.M)
 
 
@@ -34,12 +36,13 @@ def inline(text):
 
 
 def example(lines):
-    """Returns lines that stay as they are."""
+    """Returns lines that roff leaves unchanged."""
     return [".PP", ".RS 4", ".EX", *map(escaped, lines), ".EE", ".RE"]
 
 
 def table(lines):
-    """Returns a table as a list of terms: the first cell is the term; of several more, each has its heading."""
+    """Returns a table as a list of terms: the first cell is the term; each of several others has
+    its heading."""
     rows = [[it.strip().replace(r"\|", "|") for it in re.split(r"(?<!\\)\|", line)[1:-1]] for line in lines]
     made = []
     for term, *cells in rows[2:]:
@@ -50,7 +53,8 @@ def table(lines):
 
 
 def blocks_of(text):
-    """Returns the blocks of a text of Markdown, each a list of lines: what blank lines or fences part."""
+    """Returns the blocks of a text of Markdown, separated by blank lines or fences, each a list of
+    lines."""
     found, is_open, is_fenced = [], False, False
     for line in text.splitlines():
         is_fence = line.startswith("```")
@@ -101,7 +105,7 @@ def items_of(lines):
 
 
 def help_of(text):
-    """Returns what a text of `--help` says, as clap or Python's argparse lays it out."""
+    """Returns the content of a text of `--help`, in the layout of clap or Python's argparse."""
     parts = ["\n".join(it) for it in blocks_of(text)]
     usage = next(it for it in parts if re.match("usage: ", it, re.I))
     lists = {it.splitlines()[0].rstrip(":").lower(): items_of(it.splitlines()[1:]) for it in parts if LISTS.match(it)}
@@ -131,7 +135,7 @@ def notes(said, seen):
 
 
 def statuses(helps):
-    """Returns what is said of exit statuses, by a program or its subcommands."""
+    """Returns the text on exit statuses, for a program or its subcommands."""
     said = {}
     for name, it in helps.items():
         for note in it.notes:
@@ -141,13 +145,14 @@ def statuses(helps):
 
 
 def as_phrase(summary):
-    """Returns a summary without its first capital letter and its full stop, as NAME has it."""
+    """Returns a summary without its first capital letter and its full stop, for the section
+    NAME."""
     first, _, rest = summary.rstrip(".").partition(" ")
     return f"{first.lower() if first[1:] == first[1:].lower() else first} {rest}"
 
 
 def used(name, usage):
-    """Returns a usage line, its program in bold."""
+    """Returns a usage line, with its program in bold."""
     return rf"\fB{escaped(name)}\fR{escaped(usage.removeprefix(name))}"
 
 
@@ -159,8 +164,8 @@ def parts(named):
 def manual(program, helps, page, version, day, others):
     """Returns a program's manual page.
 
-    `helps` has what `--help` says, of each subcommand by `program subcommand` and then of the program;
-    `page` is the text of docs/COMMANDS.md, and `others` are the programs to see also."""
+    `helps` has the content of `--help`, of each subcommand under `program subcommand` and then of
+    the program; `page` is the text of docs/COMMANDS.md, and `others` are the related programs."""
     described, seen = sections_of(program, page), set()
     usages = [(name, it.usage) for name, it in helps.items() if name != program or len(helps) == 1]
     lines = [

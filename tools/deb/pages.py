@@ -1,6 +1,7 @@
-"""Changes pages and examples to what they are on a computer that has the package."""
+"""Changes pages and examples for a computer that has the package."""
 import posixpath
 import re
+import textwrap
 
 LINK = re.compile(r"(!?)\[((?:[^\[\]]|\[[^\]]*\])*)\]\((?!\w+:)([^)#\s]*)(#[^)\s]*)?\)")
 BUILT = re.compile(r"(?:\./)?crates/(\w+)/out/\1\b")
@@ -12,17 +13,18 @@ PLACES = {  # of the programs and scripts that the units name
 
 
 def scripts(text):
-    """Returns a text with the scripts for C as they are on the path."""
+    """Returns a text with the commands of the installed scripts for C."""
     return SCRIPT.sub(r"\1", text)
 
 
 def commands(text):
-    """Returns a text with the programs and the scripts for C as they are on the path."""
+    """Returns a text with the commands of the installed programs and scripts for C."""
     return scripts(BUILT.sub(r"\1", text))
 
 
 def page(text, name, present):
-    """Returns the page `name` with the links to the files in `present`, and the text of all others."""
+    """Returns the page `name` with the links to the files in `present`, and with the text alone of
+    all others."""
     def kept(link):
         target = posixpath.normpath(posixpath.join(posixpath.dirname(name), link[3])) if link[3] else name
         is_there = target in present or any(it.startswith(target + "/") for it in present)
@@ -32,7 +34,8 @@ def page(text, name, present):
 
 
 def unit(text):
-    """Returns a unit for systemd that names the package's programs, without the comment where to put them."""
+    """Returns a unit for systemd that names the package's programs, without the comment on their
+    place."""
     text = re.sub(r"^#\n# Put .*\n(?:# .*\n)*", "", text, flags=re.M)
     for old, new in PLACES.items():
         text = re.sub(old, new, text)
@@ -45,10 +48,16 @@ def installed_unit(text):
 
 
 def changelog(text, name, version, maintainer, date):
-    """Returns a changelog in Debian's form: an entry for the version, an item for each landing.
+    """Returns a changelog in Debian's form: an entry for the version, an item for each of its groups.
 
-    The landings are those below the version's heading, or all if it has none yet."""
-    own = re.search(rf"^## {re.escape(version)}\b.*\n((?:(?!## ).*\n)*)", text, re.M)
-    landings = re.findall(r"^#+ \d{4}-\d\d-\d\d, (.*)$", own[1] if own else text, re.M)
-    items = "".join(f"  * {it[0].upper()}{it[1:]}.\n" for it in landings)
+    A group is a heading such as `### Added` in the version's section. Its item has the subjects of
+    the group's entries: the text in bold at their start."""
+    own = re.search(rf"^## \[{re.escape(version)}\].*\n((?:(?!## ).*\n)*)", text, re.M)
+    if not own:
+        raise ValueError(f"CHANGELOG.md has no section {version}")
+    items = ""
+    for heading, entries in re.findall(r"^### (.*)\n((?:(?!### ).*\n?)*)", own[1], re.M):
+        subjects = [it.replace("`", "").rstrip(".") for it in re.findall(r"^- \*\*(.*?)\*\*", entries, re.M)]
+        item = f"* {heading}: {', '.join(subjects)}."
+        items += textwrap.fill(item, 78, initial_indent="  ", subsequent_indent="    ") + "\n"
     return f"{name} ({version}) unstable; urgency=medium\n\n{items}\n -- {maintainer}  {date}\n"

@@ -3,21 +3,22 @@
 | Module      | Subject |
 |-------------|---------|
 | text.py     | types, operands, functions, blocks, loops; typed pointers of clang 14 and opaque ones of clang 16 and later |
-| layout.py   | sizes of types, and how far an index leads |
+| layout.py   | sizes of types, and the offsets of indexes |
 | regions.py  | names for the query and the payload while clang optimizes |
 | library.py  | memcmp, memcpy, memset and strlen as loops |
-| recursion.py | functions that call themselves, a function for each level |
+| recursion.py | functions that call themselves, as a function for each level |
 | division.py | signed division as the machine's instruction |
-| offsets.py  | which object a pointer leads into, and how far |
+| offsets.py  | the object that a pointer leads into, and the offset |
 | helpers.py  | functions that load, store and reply by an offset |
 | accesses.py | loads, stores, comparisons and replies by offsets |
 | state.py    | whether the variables are as large as their type |
-| bounds.py   | how many turns of a loop C itself allows |
+| bounds.py   | the number of iterations of a loop that C itself allows |
 | turns.py    | counters for loops |
-| codes.py    | which codes a run returns |
-| inlining.py | which static functions clang inlines |
+| codes.py    | the codes that a run returns |
+| inlining.py | the static functions that clang inlines |
 
-Each leaves alone what it doesn't know. tests/fcc has cases for each, and runs random programs by each alone."""
+Each leaves unknown forms unchanged. tests/fcc has cases for each, and runs random programs with
+each alone."""
 import re
 
 from fcc_ir import division, library, regions
@@ -33,21 +34,26 @@ __all__ = ["ALL", "COMPUTED", "LOOPS", "library", "regions", "division", "entry_
 
 
 def entry_of(module, name):
-    """The name of the function at which a run starts."""
+    """Returns the name of the function at which a run starts."""
     found = re.findall(rf"^define (?!internal )[^@]*@({NAME})\(", module, re.M)
     return name or (found[0] if len(found) == 1 else "run")
 
 
 def bounds_of(function, offsets, turns):
-    """By a loop's head, how often it is reached at most: by C, or by a number of turns if that is less."""
+    """Returns, by a loop's head, how often it is reached at most: by C, or by a number of
+    iterations if that is less."""
     found = Bounds(function, offsets).found()
     return found if turns == "by objects" else {head: min(turns + 1, found.get(head, turns + 1)) for head in function.loops()}
 
 
 def rewrite(module, entry, where, variables, turns, divides=False):
-    """The module without signed divisions, with the accesses of `where`, if any, done by offsets, and with its loops counted: each of the entry's if `turns`
-    is a number, to that number or to the bound by C, if that is less; those that C bounds if it is "by objects"; none if it is None. The variables have so many bytes, or 0 if they are left alone. Signed divisions
-    stay if clang's code generator `divides`."""
+    """Returns the module without signed divisions, with the accesses of `where` by offsets, and
+    with its loops counted.
+
+    If `turns` is a number, each loop of the entry is counted, to that number or to the bound by C,
+    if that is less. If it is "by objects", those that C bounds are counted; if it is None, none.
+    The variables have this many bytes, or 0 if they are unchanged. Signed divisions remain if
+    clang's code generator `divides`."""
     layout, helpers = Layout(module), Helpers(is_opaque(module))
     constants, found = constants_of(module, layout), []
     for it in functions_of(module):

@@ -1,14 +1,15 @@
-"""Loads, stores, comparisons and replies by offsets, in the place of pointers.
+"""Loads, stores, comparisons and replies by offsets instead of pointers.
 
-An image's loop may not compute a pointer, and an index must have a bound that the verifier sees. So an access at a computed address of a known object
-(offsets.py) asks a helper for its offset (helpers.py). The results are the same inside the object, which is all that C defines."""
+An image's loop may not compute a pointer, and an index needs a bound that the verifier sees. So an
+access at a computed address of a known object (offsets.py) calls a helper with its offset
+(helpers.py). The results are the same inside the object, which is all that C defines."""
 import re
 
 from fcc_ir.helpers import HEAD_WORDS, READING_WORDS, REPLY_PUT
 from fcc_ir.offsets import FIELDS, MOST_WORDS, PAYLOAD, QUERY, READINGS, REQUEST, ROOM, TABLE, VARIABLES, Offsets
 from fcc_ir.text import DEFINES, LABEL, VALUE, parts, quoted, typed, without_types
 
-LOOPS, COMPUTED, ALL = "loops", "computed", "all"  # which accesses: at computed addresses in loops, at computed addresses, also at constant ones
+LOOPS, COMPUTED, ALL = "loops", "computed", "all"  # the accesses: at computed addresses in loops, at computed addresses, also at constant ones
 MOST_PLACES, MOST_COPIED = 40, 64  # bytes of an object of which a reply begins anywhere, and of a reply that is copied first
 ACCESS = re.compile(r"  (?:(\S+) = )?(load|store) (.*)")
 COMPARISON = re.compile(rf"  ({VALUE}) = icmp (?:samesign )?(\w+) (ptr|[^,]*\*) ([^,]*), ([^,]*)((?:, !.*)?)$")
@@ -16,23 +17,23 @@ REPLY = re.compile(r"  (\S+) = (?:tail )?call i64 inttoptr \(i64 5 to [^@]*?\)\(
 LIFETIME = re.compile(rf"  (?:tail )?call void @llvm\.lifetime[^(]*\(i64 [^,]*, [^%]*({VALUE})\)")
 CAPTURES = re.compile(r"\b(?:nocapture|readonly|readnone|writeonly|captures\([^()]*\)) ")
 READ_ONLY = (REQUEST, QUERY, PAYLOAD, READINGS, TABLE)
-GIVEN = (REQUEST, QUERY, PAYLOAD, VARIABLES, READINGS)  # what a run is given: by helpers also at constant places
+GIVEN = (REQUEST, QUERY, PAYLOAD, VARIABLES, READINGS)  # objects that a run gets: accessed by helpers also at constant places
 
 
 class Rewriting:
-    """A function whose accesses are done by offsets."""
+    """A function whose accesses are by offsets."""
 
     def __init__(self, function, layout, constants, entry, where, helpers, variables):
         self.function, self.layout, self.where, self.helpers, self.variables = function, layout, where, helpers, variables
         self.offsets = Offsets(function, layout, constants, entry, variables)
         self.in_loops = {name for name in function.after if name in function.reached(name)}
-        self.copied, self.rooms, self.changed = {}, [], set()  # objects that are copied to the stack, with their words; more of the stack; rooms that change
+        self.copied, self.rooms, self.changed = {}, [], set()  # objects that are copied to the stack, with their words; further stack memory; stack memory that changes
 
     def pointer(self, kind):
         return "ptr" if self.helpers.is_opaque else f"{kind}*"
 
     def rewritten(self):
-        """The function's lines."""
+        """Returns the function's lines."""
         instead = {}
         for at, line in enumerate(self.function.lines):
             access, reply, comparison = ACCESS.match(line), REPLY.match(line), COMPARISON.match(line)
@@ -52,7 +53,7 @@ class Rewriting:
                 found, first = [*found, *first], []
             ended = LIFETIME.match(line)
             if ended and self.offsets.root(ended[1]) in self.changed:
-                continue  # what was stored before would be undefined
+                continue  # an earlier store would be undefined
             value = DEFINES.match(line)
             if value and value[2] == "alloca" and self.offsets.regions.get(value[1]) in self.changed:
                 found += self.room(value[1])
@@ -61,28 +62,29 @@ class Rewriting:
         return found
 
     def room(self, name):
-        """A local variable as words, which are zero at first."""
+        """Makes a local variable of words, which are zero at first."""
         region, new = self.offsets.regions[name], quoted(name, "a")
         words = f"[{-(-region.size // 8)} x i64]"
         made = [f"  {new} = alloca {words}, align 8", f"  {name} = bitcast {self.pointer(words)} {new} to {self.pointer(region.pointer)}"]
         return [*made, f"  store {words} zeroinitializer, {self.pointer(words)} {new}, align 8"]
 
     def is_wanted(self, at, region, pointer):
-        """Is an access of this object done by an offset?"""
+        """Returns whether an access of this object becomes one by an offset."""
         is_computed = self.offsets.is_computed(pointer)
         if self.where == LOOPS:
             return is_computed and self.function.block_of[at] in self.in_loops
         return is_computed or self.where == ALL and region.kind in GIVEN
 
     def is_within(self, region, pointer, size):
-        """Does an access at a constant place of the variables lie inside? Else fcasm refuses it, as it should."""
+        """Returns whether an access at a constant place of the variables is inside them. If not,
+        fcasm refuses it, as it should."""
         if region.kind != VARIABLES or self.offsets.is_computed(pointer):
             return True
         place = self.offsets.place(pointer)
         return place is not None and 0 <= place <= self.variables - size
 
     def access(self, at, name, operation, words):
-        """The lines in the place of a load or a store; None if it stays."""
+        """Returns the lines that replace a load or a store; None if it is unchanged."""
         plain = words.partition(", !")[0]
         given = parts(plain)
         kind, value = (given[0], None) if operation == "load" else typed(given[0])
@@ -125,7 +127,8 @@ class Rewriting:
         return made
 
     def names_of(self, region, size):
-        """The functions that load and store so many bytes of an object; None if it has too many words."""
+        """Returns the functions that load and store this many bytes of an object; None if it has
+        too many words."""
         make, kind = self.helpers, region.kind
         if kind == PAYLOAD:
             return make.payload(size), None
@@ -143,7 +146,8 @@ class Rewriting:
         return (make.table(region, size), None) if kind == TABLE else (make.words(count, size), make.words(count, size, writes=True))
 
     def memory(self, region, base):
-        """The lines that make the address that a function is given beside an offset, that address, and what is added to the offset."""
+        """Returns the lines that compute a function's address argument, that address, and the
+        number added to the offset."""
         if region.kind in (PAYLOAD, VARIABLES, TABLE):
             return [], "", 0
         shift = FIELDS["7"][1] if region.kind == QUERY else 0
@@ -156,7 +160,8 @@ class Rewriting:
         return [f'  {base}.p" = bitcast {kind} {whole.name} to {words}'], f'{words} {base}.p", ', shift
 
     def copies(self, region, count):
-        """The lines that copy an object's words to the stack, from where they are numbers."""
+        """Returns the lines that copy an object's words to the stack, from where they are
+        numbers."""
         new, words = quoted(region.name, "c")[:-1], self.pointer("i64")
         room = f"[{count} x i64]"
         made = [f'  {new}" = alloca {room}, align 8', f'  {new}.s" = bitcast {region.pointer} {region.name} to {words}']
@@ -168,7 +173,8 @@ class Rewriting:
         return made
 
     def comparison(self, at, found):
-        """A comparison of pointers into one object, or of one with null, as one of offsets; None if it stays."""
+        """Returns a comparison of offsets for one of pointers into one object, or with null; None
+        if it is unchanged."""
         name, code, _, left, right, notes = found.groups()
         regions = {self.offsets.root(it) for it in (left, right)} - {None}
         is_computed = self.offsets.is_computed(left) or self.offsets.is_computed(right)
@@ -178,7 +184,8 @@ class Rewriting:
         return [f"  {name} = icmp {code} i64 {self.offsets.offset(left)}, {self.offsets.offset(right)}{notes}"]
 
     def reply(self, at, found):
-        """A reply_put of a computed address, or of the payload or the variables; None if it stays."""
+        """Returns the lines for a reply_put of a computed address, or of the payload or the
+        variables; None if it is unchanged."""
         name, given, note = found[1], [typed(it) for it in parts(found[2])], self.function.note_at(at)
         (_, pointer), (_, count) = given
         region = self.offsets.root(pointer)
@@ -198,7 +205,7 @@ class Rewriting:
         return self.copied_reply(base, name, region, pointer, size, note)
 
     def copied_reply(self, base, name, region, pointer, size, note):
-        """A reply of bytes that are copied to the stack first."""
+        """Returns the lines for a reply of bytes that are copied to the stack first."""
         part = 8 if region.kind == VARIABLES and self.offsets.place(pointer) % 8 == 0 else 1
         helper, words, bytes_of = self.names_of(region, part)[0], f"[{-(-size // 8)} x i64]", self.pointer("i8")
         self.rooms.append(f'  {base}.a" = alloca {words}, align 8')

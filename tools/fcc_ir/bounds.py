@@ -1,13 +1,19 @@
-"""Bounds of loops that C itself gives: an access of an object in each complete turn, at a place that goes up or down by a number of bytes each turn, can't be
-done more often than the object has such places.
+"""Bounds of loops that C itself gives, by the accesses of objects or by a number that becomes zero.
 
-A loop is bounded here if a load or store in a block that each complete turn goes through leads into an object of known size (offsets.py), and its offset is a
-multiple of a number at the loop's head plus what the loop doesn't change. That number goes on by at least one each turn, or down by at least one each turn, and by
-less than 2^20. A run with more turns would leave the object, which C doesn't define; it is ended by 5.00 (turns.py).
+Suppose that each complete iteration accesses an object, at a place that increases or decreases by a
+number of bytes in each iteration. The access can't be made more often than the object has such
+places.
 
-A loop is bounded too if each of its exits is tested in each turn, by what is computed of one number at its head alone, and each turn multiplies that number by an even
-constant, or divides it by a constant of 2 at least: it is 0 in the end, and from then on each test has the same result. A run with more turns would never end; it is
-ended by 5.00 as well."""
+A loop is bounded here if a load or store in a block that each complete iteration passes leads into
+an object of known size (offsets.py). Its offset has to be a multiple of a number at the loop's head
+plus a value that the loop doesn't change. That number increases by at least one in each iteration,
+or decreases by at least one, and by less than 2^20. A run with more iterations would leave the
+object, which C doesn't define; it is ended by 5.00 (turns.py).
+
+A loop is bounded too if each of its exits is tested in each iteration, by a computation on one
+number at its head alone. Each iteration has to multiply that number by an even constant, or divide
+it by a constant of at least 2: it is 0 in the end, and from then on each test has the same result.
+A run with more iterations would never end; it is ended by 5.00 as well."""
 import re
 from typing import NamedTuple
 
@@ -21,8 +27,10 @@ PURE = ("add", "sub", "mul", "shl", "lshr", "ashr", "and", "or", "xor", "udiv", 
 
 
 class Line(NamedTuple):
-    """A number at the loop's head times a factor, plus what the loop doesn't change: exactly, but for multiples of 2 ^ width. Without a number at the head, what the
-    loop doesn't change alone. That is `more`, or None if it is no constant; of a pointer it is an offset."""
+    """A number at the loop's head times a factor, plus a value that the loop doesn't change.
+
+    It is exact modulo 2 ^ width. Without a number at the head, it is the unchanged value alone.
+    That value is `more`, or None if it isn't a constant; for a pointer it is an offset."""
 
     phi: object
     factor: int
@@ -31,7 +39,7 @@ class Line(NamedTuple):
 
 
 def bits(kind):
-    """The bits of a number of this type; 64 of a pointer."""
+    """Returns the bits of a number of this type; 64 for a pointer."""
     return int(kind[1:]) if re.fullmatch(r"i\d+", kind) else 64
 
 
@@ -56,7 +64,7 @@ class Bounds:
         self.above, self.loops = function.dominators(), function.loops()
 
     def found(self):
-        """By a loop's head, how often it is reached at most."""
+        """Returns, by a loop's head, how often it is reached at most."""
         found = {}
         for head, (backs, within) in self.loops.items():
             always = set.intersection(*(self.above[it] for it in backs)) & within
@@ -67,7 +75,10 @@ class Bounds:
         return found
 
     def until_zero(self, head, backs, within, always):
-        """How often the loop's head is reached at most if a number there goes to 0, and nothing else decides whether the loop ends; None if that isn't known."""
+        """Returns how often the loop's head is reached at most if a number there becomes 0; None if
+        that isn't known.
+
+        Nothing else may decide whether the loop ends."""
         exits = [name for name in within if not set(self.function.after[name]) <= within]
         tests = [it[1] for name in exits for at in self.function.lines_of[name] for it in [BRANCH.match(self.function.lines[at])] if it]
         if not exits or not set(exits) <= always or len(tests) != len(exits):
@@ -84,7 +95,10 @@ class Bounds:
         return None if None in turns or not re.fullmatch(r"i\d+", kind) else max(turns) + 1
 
     def turns_to_zero(self, value, phi, width):
-        """After how many turns a number of so many bits is 0, if each makes this value of it; None if that isn't known."""
+        """Returns after how many iterations a number of this many bits is 0, if each makes this
+        value of it.
+
+        Returns None if that isn't known."""
         operation, words, _ = self.function.values.get(value, (None, "", 0))
         found = re.match(r" (?:(?:nuw|nsw|exact) )*i\d+ ([^ ,]+), (\d+)", words)
         if not found or found[1] != phi:
@@ -98,7 +112,10 @@ class Bounds:
         return next(it for it in range(1, width + 1) if number**it >> width) if operation == "udiv" and number > 1 else None
 
     def asked(self, operand, head, within, depth=8):
-        """The numbers at the loop's head that an operand is computed of, besides what the loop doesn't change; None if it is computed otherwise."""
+        """Returns the numbers at the loop's head from which an operand is computed, apart from
+        values that the loop doesn't change.
+
+        Returns None if it is computed otherwise."""
         if self.is_outside(operand, within):
             return set()
         operation, words, at = self.function.values[operand]
@@ -110,7 +127,8 @@ class Bounds:
         return None if None in found else set().union(*found)
 
     def count(self, at, head, backs, within):
-        """How often the loop's head is reached at most, by the access at a line; None if that isn't known."""
+        """Returns how often the loop's head is reached at most, by the access at a line; None if
+        that isn't known."""
         access = ACCESS.match(self.function.lines[at])
         if not access:
             return None
@@ -122,16 +140,18 @@ class Bounds:
             return None
         step, late = self.step(line.phi, backs, within), 0
         if step is None:
-            leader = self.leader(line.phi, head, backs)  # a turn later it is what another number at the head is
+            leader = self.leader(line.phi, head, backs)  # an iteration later it has the value of another number at the head
             step, late = (self.step(leader, backs, within), 1) if leader else (None, 0)
         if step is None or whole + abs(step * line.factor) >= 1 << line.width:
-            return None  # a number of few bits may begin anew
+            return None  # a number of few bits may wrap
         first = self.first(line, backs) if step * line.factor > 0 and not late else 0
-        is_at_head = self.function.block_of[at] == head  # else the last time at the head may be without the access
+        is_at_head = self.function.block_of[at] == head  # otherwise the last time at the head may be without the access
         return (whole - size - first) // abs(step * line.factor) + 2 - is_at_head + late
 
     def first(self, line, backs):
-        """The offset of the first access, if that is a constant and small, else 0: none lies before it where the offset goes up."""
+        """Returns the offset of the first access, if that is a small constant, and otherwise 0.
+
+        No access is before it if the offset increases."""
         _, words, _ = self.function.values[line.phi]
         plain = words.partition(", !")[0].strip()
         entering = {value for value, way in (parts(it.strip()[1:-1]) for it in parts(plain[len(first_type(plain)) :])) if way.strip('%"') not in backs}
@@ -141,7 +161,10 @@ class Bounds:
         return max(0, min(int(one) * line.factor + line.more, MOST_STEP))
 
     def size(self, pointer, seen):
-        """The bytes of the largest object that a pointer may lead into; None if one isn't known. `seen` has the pointers that are looked at already."""
+        """Returns the bytes of the largest object that a pointer may lead into; None if one isn't
+        known.
+
+        `seen` has the pointers that were examined already."""
         region = self.offsets.root(pointer)
         if region is not False:
             return region.size if region else 0
@@ -153,7 +176,8 @@ class Bounds:
         return None if None in found else max(found, default=0)
 
     def leader(self, phi, head, backs):
-        """The number at the same head whose value this one has a turn later, or None."""
+        """Returns the number at the same head that has this one's value an iteration later, or
+        None."""
         _, words, _ = self.function.values[phi]
         plain = words.partition(", !")[0].strip()
         found = {value for value, way in (parts(it.strip()[1:-1]) for it in parts(plain[len(first_type(plain)) :])) if way.strip('%"') in backs}
@@ -166,7 +190,7 @@ class Bounds:
         return not found or self.function.block_of[found[2]] not in within
 
     def line(self, operand, head, within):
-        """An operand as a Line; None if it is none."""
+        """Returns an operand as a Line; None if it isn't one."""
         if self.is_outside(operand, within):
             number = int(operand) if re.fullmatch(r"-?\d+", operand) else None
             return Line(None, 0, 64, self.offsets.place(operand) if number is None and self.offsets.root(operand) else number)
@@ -204,7 +228,10 @@ class Bounds:
         return None
 
     def step(self, phi, backs, within):
-        """By how much a value at the loop's head goes up each turn at least, or down, as a negative number; None if that isn't known, or if it may stay."""
+        """Returns by how much a value at the loop's head increases at least in each iteration;
+        negative if it decreases.
+
+        Returns None if that isn't known, or if the value may stay."""
         _, words, _ = self.function.values[phi]
         plain = words.partition(", !")[0].strip()
         kind = first_type(plain)
@@ -222,7 +249,8 @@ class Bounds:
         return min(least) if min(least) > 0 else max(most) if max(most) < 0 else None
 
     def away(self, operand, phi, within, seen):
-        """Between which numbers the difference of an operand and a value at the loop's head lies; None if that isn't known."""
+        """Returns the ends of the difference of an operand and a value at the loop's head; None if
+        they aren't known."""
         if operand == phi:
             return 0, 0
         if operand in seen or self.is_outside(operand, within):
@@ -249,7 +277,8 @@ class Bounds:
         return None
 
     def range(self, operand, within, times):
-        """Between which numbers an operand lies, times a number: constants, and what was made of 16 bits at most."""
+        """Returns the ends of an operand times a number: for constants, and for values computed
+        from at most 16 bits."""
         if re.fullmatch(r"-?\d+", operand):
             return int(operand) * times, int(operand) * times
         operation, words, _ = self.function.values.get(operand, (None, "", 0))

@@ -1,4 +1,4 @@
-"""Which codes a run returns: the constants that lead to a function's `ret`."""
+"""The codes that a run returns: the constants that lead to a function's `ret`."""
 import re
 
 from fcc_ir.text import first_type, parts, typed
@@ -7,7 +7,7 @@ KNOWN = {0, 0x44, 0x45, 0x80, 0x83, 0x84}  # FC_OK, FC_CHANGED, FC_CONTENT, FC_B
 
 
 def unknown(function):
-    """The constants that a function returns and that are no code, in their order."""
+    """Returns the constants that a function returns and that are no code, in their order."""
     todo = [it[1] for line in function.lines for it in [re.match(r"  ret i\d+ ([^ ,]+)", line)] if it]
     found, seen = set(), set()
     while todo:

@@ -1,7 +1,11 @@
-"""Signed division. clang's code generator for BPF has none before -mcpu=v4, but the machine does (RFC 9669, section 4.1: BPF_DIV and BPF_MOD with the
-offset 1): each `sdiv` and `srem` of 8, 16, 32 or 64 bits becomes that instruction of 64 bits, written as bytes.
+"""Signed division, by the machine's instruction.
 
-It is the same where C defines the result. By zero the quotient is 0, and the remainder is the dividend."""
+clang's code generator for BPF has none before -mcpu=v4, but the machine does (RFC 9669, section
+4.1: BPF_DIV and BPF_MOD with the offset 1). Each `sdiv` and `srem` of 8, 16, 32 or 64 bits becomes
+that instruction of 64 bits, written as bytes.
+
+The result is the same if C defines it. Divided by zero, the quotient is 0, and the remainder is the
+dividend."""
 import re
 
 from fcc_ir.text import VALUE
@@ -11,7 +15,7 @@ OPCODES = {"sdiv": "0x3f", "srem": "0x9f"}
 
 
 def without_division(line):
-    """A line, or the lines in its place."""
+    """Returns a line, or the lines that replace it."""
     found = DIVISION.match(line)
     if not found:
         return [line]

@@ -1,5 +1,8 @@
-"""Functions that load, store and reply by offsets, as LLVM's IR: they ask the helpers of a run, or choose among words at constant places. All but tables and
-replies are inlined. An offset outside of the object, which C doesn't define, gives some value, and reaches nothing outside of the variables or the object."""
+"""Functions that load, store and reply by offsets, as LLVM's IR.
+
+They call the helpers of a run, or choose among words at constant places. All but tables and replies
+are inlined. An offset outside of the object, which C doesn't define, gives some value, and reaches
+nothing outside of the variables or the object."""
 from fcc_ir.text import without_types
 
 HEAD_WORDS, READING_WORDS, PAYLOAD_START = 10, 8, 80
@@ -37,13 +40,13 @@ class Helpers:
         return self.inlined(f"fc.request.get.{size}", "i64* %p, i64 %o", lines)
 
     def piece(self, size, word):
-        """The lines that return bytes of a word, at the offset %o."""
+        """Returns the lines that return bytes of a word, at the offset %o."""
         if size == 8:
             return [f"  ret i64 {word}"]
         return ["  %i = and i64 %o, 7", "  %s = shl i64 %i, 3", f"  %l = lshr i64 {word}, %s", f"  %r = and i64 %l, {(1 << 8 * size) - 1}", "  ret i64 %r"]
 
     def put(self, size, word, result):
-        """The lines that put bytes of %x into a word, at the offset %o."""
+        """Returns the lines that store bytes of %x into a word, at the offset %o."""
         if size == 8:
             return [f"  {result} = add i64 %x, 0"]
         mask = (1 << 8 * size) - 1
@@ -60,7 +63,8 @@ class Helpers:
         return self.inlined(f"fc.vars.put.{size}", "i64 %o, i64 %x", lines, "void")
 
     def chosen(self, count, load):
-        """The lines that choose among words: `load` gives the lines of a word, the last of which defines %l and its number."""
+        """Returns the lines that choose among words: `load` gives the lines of a word, the last of
+        which defines %l and its number."""
         cases = " ".join(f"i64 {it}, label %w{it}" for it in range(1, count))
         lines = ["  %w = lshr i64 %o, 3", f"  switch i64 %w, label %w0 [ {cases} ]"]
         for it in range(count):
@@ -68,7 +72,7 @@ class Helpers:
         return [*lines, "have:", "  %v = phi i64 " + ", ".join(f"[ %v{it}, %w{it} ]" for it in range(count))]
 
     def words(self, count, size, writes=False):
-        """Bytes of an object of so many words, by a choice among them."""
+        """Returns bytes of an object of this many words, by a choice among them."""
         lines = self.chosen(count, lambda it: [f"  %p{it} = getelementptr i64, i64* %p, i64 {it}", f"  %l{it} = load i64, i64* %p{it}, align 8"])
         if not writes:
             return self.inlined(f"fc.words.get.{count}.{size}", "i64* %p, i64 %o", [*lines, *self.piece(size, "%v")])
@@ -80,7 +84,8 @@ class Helpers:
         return self.inlined(f"fc.words.put.{count}.{size}", "i64* %p, i64 %o, i64 %x", lines, "void")
 
     def table(self, region, size):
-        """Bytes of a constant, by a choice among its words, in a function that is called."""
+        """Returns bytes of a constant, by a choice among its words, in a function that is
+        called."""
         name = '"fc.table.' + f'{size}.{region.name.strip("@").strip(chr(34))}"'
         last, pointer = -(-region.size // 8) - 1, region.name if self.is_opaque else f"bitcast ({region.pointer}* {region.name} to i8*)"
 
@@ -103,7 +108,8 @@ class Helpers:
         return [f"  %c{it} = bitcast i8* %p{it} to {kind}*"]
 
     def reply(self, size):
-        """A function that adds n bytes of an object from an offset on to the reply: a call at each place, where n is known to lie inside."""
+        """A function that adds n bytes of an object from an offset to the reply: a call at each
+        place, where n is known to be inside."""
         cases = " ".join(f"i64 {it}, label %w{it}" for it in range(1, size))
         lines = [f"define internal i64 @fc.reply.{size}(i8* %p, i64 %o, i64 %n) noinline nounwind {{", f"  switch i64 %o, label %w0 [ {cases} ]"]
         for it in range(size):
@@ -114,7 +120,10 @@ class Helpers:
 
 
 def with_lines(functions, module):
-    """The functions, each that isn't inlined with the debug information that clang's printer wants of it; it is of no line."""
+    """Returns the functions, with the debug information that clang's printer needs for those that
+    aren't inlined.
+
+    That information names no line."""
     import re
 
     file, unit, kind = (re.search(rf"^(!\d+) = (?:distinct )?!{it}", module, re.M) for it in ("DIFile", "DICompileUnit", "DISubroutineType"))

@@ -1,12 +1,16 @@
-"""Which static functions clang inlines: those that are given pointers always, since a function doesn't know where its pointers lead; the others as clang likes, or
-never."""
+"""The static functions that clang inlines.
+
+Functions with pointer parameters are always inlined, since a function doesn't know where its
+pointers lead; the others by clang's choice, or never."""
 import re
 
 from fcc_ir.text import NAME, closing, first_type, is_pointer, parts
 
 
 def rewrite(module, keeps):
-    """The module before any optimization. If `keeps`, static functions of numbers that are called twice or more stay functions."""
+    """Returns the module before any optimization.
+
+    If `keeps`, static functions of numbers that are called at least twice remain functions."""
     groups = dict(re.findall(r"^attributes (#\d+) = { (.*) }$", module, re.M))
     lines = module.splitlines()
     for at, line in enumerate(lines):

@@ -1,4 +1,6 @@
-"""Sizes of LLVM's types for BPF, and how far an index leads into one. A type that isn't known here has the size 0, and is left alone."""
+"""Sizes of LLVM's types for BPF, and the offset of an index in one.
+
+A type that isn't known here has the size 0, and is left unchanged."""
 import re
 
 from fcc_ir.text import VALUE, first_type, is_pointer, parts, typed
@@ -30,7 +32,8 @@ class Layout:
         return 0, 1
 
     def places(self, kind):
-        """Where a struct's fields begin, and at last where the last one ends; None if a field's size isn't known."""
+        """Returns the offsets of a struct's fields, and at last the end of the last one; None if a
+        field's size isn't known."""
         at, found = 0, []
         for it in parts(kind[1:-1]):
             size, alignment = self.size_and_alignment(it)
@@ -42,8 +45,10 @@ class Layout:
         return [*found, at]
 
     def steps(self, words):
-        """Of a getelementptr's operands: the pointer, the constant number of bytes that it adds, and the indexes that aren't constants, each with its
-        type and the bytes of a step. None if a size isn't known."""
+        """Returns the parts of a getelementptr: the pointer, the constant number of bytes, and the
+        indexes that aren't constants.
+
+        Each index has its type and the bytes of a step. Returns None if a size isn't known."""
         given = parts(re.sub(r"^(?: inbounds| nuw| nusw)+", "", words.partition(", !")[0]).strip())
         kind, (pointer_kind, pointer) = given[0], typed(given[1])
         if not is_pointer(pointer_kind):

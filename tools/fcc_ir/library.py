@@ -1,6 +1,7 @@
-"""memcmp, bcmp, memcpy, memset and strlen: an image has no library, so a call becomes a function of the module, a loop over bytes that is inlined.
+"""memcmp, bcmp, memcpy, memset and strlen as functions of the module.
 
-Blocks of a constant size are left to clang, which writes them out."""
+An image has no library, so a call becomes a function, a loop over bytes that is inlined. Blocks of
+a constant size are left to clang, which writes them out."""
 import re
 
 from fcc_ir.text import is_opaque, parts, typed, without_types
@@ -82,7 +83,8 @@ BLOCK = re.compile(r"  (?:tail )?call void @llvm\.(memcpy|memset)\.[\w.]*\((.*),
 
 
 def rewrite(module):
-    """The module with functions in the place of those of the library; None if it calls none."""
+    """Returns the module with its own functions instead of those of the library; None if it calls
+    none."""
     used, found = {}, []
     for line in module.splitlines():
         call, block = CALL.search(line), BLOCK.match(line)
@@ -103,5 +105,5 @@ def rewrite(module):
 
 
 def given(words):
-    """A call's operands without their attributes."""
+    """Returns a call's operands without their attributes."""
     return ", ".join(" ".join(typed(it)) for it in parts(words))

@@ -1,8 +1,12 @@
-"""Offsets of pointers. Each pointer that leads into one known object has an offset, a number of bytes from the object's start, which is computed beside the
-pointer by the same steps: additions for a getelementptr, and a phi or a select of offsets for a phi or a select of pointers. A null pointer's offset is NULL.
+"""Offsets of pointers.
 
-Known objects are the parameters of the function at which a run starts, the query and the payload by their names (regions.py), local variables, and constants. A
-pointer that may lead into two objects, or that comes from elsewhere, has no offset, and is left alone."""
+Each pointer that leads into one known object has an offset, a number of bytes from the object's
+start. It is computed together with the pointer by the same steps: additions for a getelementptr,
+and a phi or a select of offsets for a phi or a select of pointers. A null pointer's offset is NULL.
+
+Known objects are the parameters of the function at which a run starts, the query and the payload by
+their names (regions.py), local variables, and constants. A pointer that may lead into two objects,
+or that comes from elsewhere, has no offset, and is left unchanged."""
 import re
 
 from fcc_ir.regions import FIELDS, MARK
@@ -17,14 +21,14 @@ STEPS = ("getelementptr", "bitcast", "select", "phi", "freeze")
 
 
 class Region:
-    """An object: its kind, its name, the type of its address as LLVM has it, its size in bytes."""
+    """An object: its kind, its name, the type of its address in LLVM, and its size in bytes."""
 
     def __init__(self, kind, name, pointer, size):
         self.kind, self.name, self.pointer, self.size = kind, name, pointer, size
 
 
 def constants_of(module, layout):
-    """The constants that have a size."""
+    """Returns the constants that have a size."""
     found = {}
     for it in re.finditer(rf"^(@{NAME}) = (?:\w+(?:\(\d+\))? )*?constant (.*)$", module, re.M):
         kind = first_type(it[2])
@@ -35,7 +39,9 @@ def constants_of(module, layout):
 
 
 class Offsets:
-    """The pointers of a function, the objects that they lead into, and their offsets. `variables` is the size of the variables, 0 if they are left alone."""
+    """The pointers of a function, the objects that they lead into, and their offsets.
+
+    `variables` is the size of the variables, 0 if they are left unchanged."""
 
     def __init__(self, function, layout, constants, entry, variables):
         self.function, self.layout, self.constants = function, layout, constants
@@ -61,7 +67,8 @@ class Offsets:
         self.find()
 
     def operands(self, value):
-        """The pointers that one is made of, each with its type; None if it is made otherwise."""
+        """Returns the pointers from which one is computed, each with its type; None if it is
+        computed otherwise."""
         operation, words, _ = self.function.values[value]
         words = words.partition(", !")[0]
         if operation == "getelementptr":
@@ -79,7 +86,8 @@ class Offsets:
         return None
 
     def constant(self, operand):
-        """The constant that an address without a value leads into, and how far; None if that isn't known."""
+        """Returns the constant that an address without a value leads into, and the offset; None if
+        that isn't known."""
         if operand in self.constants:
             return self.constants[operand], 0
         inside = re.match(r"(bitcast|getelementptr(?: inbounds| nuw)*) \((.*)\)$", operand)
@@ -92,7 +100,8 @@ class Offsets:
         return (within[0], within[1] + steps[1]) if within else None
 
     def root(self, operand):
-        """The object that a pointer leads into; False if that isn't known, None if nothing speaks against any."""
+        """Returns the object that a pointer leads into; False if that isn't known, None if any is
+        possible."""
         if operand in self.regions:
             return self.regions[operand]
         if operand in ("undef", "poison", "null"):
@@ -103,7 +112,7 @@ class Offsets:
         return found[0] if found else False
 
     def find(self):
-        """Finds the object of each pointer: by rounds, until none changes."""
+        """Finds the object of each pointer, in rounds until none changes."""
         pointers, self.roots = {}, {}
         for name, (operation, _, _) in self.function.values.items():
             if name in self.regions:
@@ -123,7 +132,7 @@ class Offsets:
                 self.roots[name] = now
 
     def is_computed(self, value, seen=()):
-        """Does a pointer depend on more than its object?"""
+        """Returns whether a pointer depends on more than its object."""
         if value in self.regions or value not in self.function.values or value in seen:
             return False
         operation, words, _ = self.function.values[value]
@@ -134,7 +143,7 @@ class Offsets:
         return any(self.is_computed(it, (*seen, value)) for _, it in self.operands(value) or [])
 
     def place(self, pointer):
-        """A pointer's offset if that is a constant, else None."""
+        """Returns a pointer's offset if that is a constant, and otherwise None."""
         if pointer in self.regions:
             return 0
         if pointer not in self.function.values:
@@ -148,7 +157,7 @@ class Offsets:
         return self.place(self.operands(pointer)[0][1]) if operation in ("bitcast", "freeze") else None
 
     def offset(self, operand):
-        """An operand that is the offset of a pointer whose object is known."""
+        """Returns an operand that is the offset of a pointer whose object is known."""
         if operand in self.regions or operand in ("undef", "poison"):
             return "0"
         if operand == "null":
@@ -161,7 +170,7 @@ class Offsets:
         return self.offsets[operand]
 
     def beside(self):
-        """By a line's place, the lines behind it that compute the offsets that were asked for."""
+        """Returns, by a line's place, the lines after it that compute the requested offsets."""
         found = {}
         while self.todo:
             name = self.todo.pop()
@@ -169,7 +178,7 @@ class Offsets:
         return found
 
     def computed(self, name):
-        """The lines that compute a pointer's offset."""
+        """Returns the lines that compute a pointer's offset."""
         operation, words, _ = self.function.values[name]
         new, plain = self.offsets[name], words.partition(", !")[0]
         if operation in ("bitcast", "freeze"):
@@ -184,7 +193,7 @@ class Offsets:
         return [f"  {new} = phi i64 " + ", ".join(f"[ {self.offset(it)}, {way} ]" for it, way in ways)]
 
     def added(self, new, steps):
-        """The lines that add a getelementptr's bytes to its pointer's offset."""
+        """Returns the lines that add a getelementptr's bytes to its pointer's offset."""
         (_, base), total, computed = steps
         inner, made, now = new[:-1], [], self.offset(base)
         for number, (kind, index, size) in enumerate(computed):

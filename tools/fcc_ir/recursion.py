@@ -1,9 +1,11 @@
-"""Functions that call themselves. An image has no recursion, so a static function that divides its parameter before each call is written out as one function for
-each level.
+"""Functions that call themselves, written out as one function for each level.
 
-It is written out if it has one call of itself, and no loop; the call is given one of its parameters, divided by a constant of 2 at least; and the call is made only if
-that parameter, a number without sign or one that isn't negative, is above a constant. So `if (n >= 10) put(n / 10);` of 32 bits has ten levels. The parameter is small
-at the last level, and its call, which isn't reached, is left out."""
+An image has no recursion. A static function that divides its parameter before each call is written
+out. It has to have one call of itself, and no loop; the call's argument is one of its parameters,
+divided by a constant of at least 2. The call has to be made only if that parameter, an unsigned
+number or one that isn't negative, is above a constant. So `if (n >= 10) put(n / 10);` of 32 bits
+has ten levels. The parameter is small at the last level, and its call, which isn't reached, is
+omitted."""
 import re
 from typing import NamedTuple
 
@@ -12,12 +14,13 @@ from fcc_ir.text import NAME, VALUE, Function, closing, functions_of, joined, pa
 MOST_LEVELS = 40
 SELF = re.compile(rf"  (?:({VALUE}) = )?(?:tail )?call ([^@]*)@({NAME})\((.*)")
 BRANCH = re.compile(rf"  br i1 ({VALUE}), label %({NAME}), label %({NAME})")
-HOLDS = {"ugt": (0, False), "uge": (-1, False), "sgt": (0, True), "sge": (-1, True)}  # if it holds: what to add to the constant that is exceeded; by sign?
+HOLDS = {"ugt": (0, False), "uge": (-1, False), "sgt": (0, True), "sge": (-1, True)}  # if it holds: the number to add to the constant that is exceeded; whether it is signed
 FAILS = {"ult": (-1, False), "ule": (0, False), "slt": (-1, True), "sle": (0, True)}
 
 
 class Above(NamedTuple):
-    """A parameter is above a constant: as a number without sign, or as one with a sign, which isn't negative then."""
+    """A parameter is above a constant: as an unsigned number, or as a signed one, which isn't
+    negative then."""
 
     name: str
     number: int
@@ -25,7 +28,7 @@ class Above(NamedTuple):
 
 
 def rewrite(module):
-    """The module with its recursive functions written out; None if there is none."""
+    """Returns the module with its recursive functions written out; None if there is none."""
     groups, found, is_changed = dict(re.findall(r"^attributes (#\d+) = { (.*) }$", module, re.M)), [], False
     for it in functions_of(module):
         levels = written_out(it, groups) if isinstance(it, Function) else None
@@ -35,7 +38,7 @@ def rewrite(module):
 
 
 def written_out(function, groups):
-    """The functions of all levels; None if this one is left alone."""
+    """Returns the functions of all levels; None if this one is left unchanged."""
     head = re.match(r"define internal .*\)[^()]* (#\d+)", function.lines[0])
     calls = [at for at, line in enumerate(function.lines) if re.search(rf"@{re.escape(function.name)}(?![\w.$-])", line) and at]
     if not head or len(calls) != 1 or {"noinline", "alwaysinline", "optnone"} & set(groups.get(head[1], "").split()) or function.loops():
@@ -48,7 +51,7 @@ def written_out(function, groups):
 
 
 def levels(function, at, call):
-    """How many levels there are at most; None if that isn't known."""
+    """Returns the greatest number of levels; None if that isn't known."""
     given = parts(call[4][: closing("(" + call[4], 0) - 1])
     for (kind, name), operand in zip(function.parameters, given):
         by = divisor(function, typed(operand)[1], name)
@@ -62,7 +65,8 @@ def levels(function, at, call):
 
 
 def divisor(function, operand, parameter):
-    """The constant by which an operand is the parameter divided, and whether by sign; None if it isn't such."""
+    """Returns the constant by which an operand is the parameter divided, and whether it is signed;
+    None for any other operand."""
     operation, words, _ = function.values.get(operand, (None, "", 0))
     found = re.match(r" (?:exact )?i\d+ (\S+), (\d+)", words)
     if not found or found[1] != parameter:
@@ -72,7 +76,8 @@ def divisor(function, operand, parameter):
 
 
 def conditions(function, block):
-    """Yields what is known of parameters wherever a block begins, by the branches that lead there."""
+    """Yields the conditions on parameters at each block's start, by the branches that lead
+    there."""
     before = {it: [way for way in function.after if it in function.after[way]] for it in function.after}
     for name in function.dominators().get(block, ()):
         for way in before[name] if len(before[name]) == 1 else ():
@@ -93,7 +98,8 @@ def exceeded(compared, holds):
 
 
 def level(function, at, call, number, count, group):
-    """The lines of a level: the first has the function's own name and its notes for a debugger."""
+    """Returns the lines of a level: the first has the function's own name and its debug
+    information."""
     lines, next_name = list(function.lines), f'"fc.level.{number + 1}.{function.name}"'
     if number + 1 < count:
         lines[at] = lines[at].replace(f"@{function.name}(", f"@{next_name}(", 1)
@@ -109,5 +115,5 @@ def level(function, at, call, number, count, group):
 
 
 def returned(words):
-    """The type in front of a call's function."""
+    """Returns the type before a call's function."""
     return re.search(r"(i\d+) $", words)[1]

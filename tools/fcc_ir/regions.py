@@ -1,18 +1,23 @@
-"""Names for the parts of a request. `request->payload` and `request->query` become calls of functions that don't exist, before clang optimizes, so that its
-optimizer can't mix their addresses with others of the request; afterwards they are numbers or addresses again.
+"""Names for the parts of a request.
 
-Only a getelementptr of `struct fc_request` with a constant field is renamed. What a program computes from the request's address otherwise stays so."""
+Before clang optimizes, `request->payload` and `request->query` become calls of functions that don't
+exist, so that its optimizer can't mix their addresses with others of the request. Afterwards they
+are numbers or addresses again.
+
+Only a getelementptr of `struct fc_request` with a constant field is renamed. Other computations on
+the request's address are unchanged."""
 import re
 
 from fcc_ir.text import VALUE, is_opaque
 
-FIELDS = {"7": ("query", 16, 64), "8": ("payload", 80, 1024)}  # by the field's number: its name, where it begins, and its size
+FIELDS = {"7": ("query", 16, 64), "8": ("payload", 80, 1024)}  # by the field's number: its name, its offset, and its size
 FIELD = re.compile(rf"^  ({VALUE}) = getelementptr inbounds (?:nuw )?%struct\.fc_request, (ptr|%struct\.fc_request\*) ({VALUE}), i32 0, i32 ([78])((?:, !.*)?)$", re.M)
 MARK = re.compile(rf"  ({VALUE}) = (?:tail )?call [^@]*@fc\.(query|payload)\((ptr|%struct\.fc_request\*)(?: [\w()]+)* ({VALUE})\)([^,]*)(.*)$")
 
 
 def mark(module):
-    """The module in which the query and the payload have names; the module itself if it uses neither."""
+    """Returns the module with names for the query and the payload; the module itself if it uses
+    neither."""
     is_plain, used = is_opaque(module), set()
 
     def call(found):
@@ -30,7 +35,7 @@ def mark(module):
 
 
 def unmark_line(line):
-    """A line with an address in the place of a name."""
+    """Returns a line with addresses instead of names."""
     found = MARK.match(line)
     if not found:
         return line
@@ -42,5 +47,5 @@ def unmark_line(line):
 
 
 def unmark(module):
-    """The module with addresses in the place of names."""
+    """Returns the module with addresses instead of names."""
     return "\n".join(unmark_line(it) for it in module.split("\n") if not re.match(r"declare .*@fc\.(query|payload)\(", it))

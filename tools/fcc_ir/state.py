@@ -1,17 +1,22 @@
-"""The type of the variables: by the debug information, since a pointer may not have its type in the IR."""
+"""The type of the variables, from the debug information, since a pointer may not have its type in
+the IR."""
 import re
 
 MOST_DEPTH = 20
 
 
 def fits(module, entry, size):
-    """Does the type that the entry's second parameter points to have at most so many bytes? An unknown type doesn't fit; void does, if there are variables."""
+    """Returns whether the type of the entry's second parameter's target has at most this many
+    bytes.
+
+    An unknown type doesn't fit; void does, if there are variables."""
     found = size_of_pointed(module, entry)
     return found is not None and max(found, 1) <= size
 
 
 def size_of_pointed(module, entry):
-    """The bytes of the type that the entry's second parameter points to, 0 of void, None if that isn't known."""
+    """Returns the bytes of the type that the entry's second parameter points to, 0 for void, None
+    if that isn't known."""
     notes = dict(re.findall(r"^(!\d+) = (.*)$", module, re.M))
     function = re.search(rf"^define [^@]*@\"?{re.escape(entry)}\"?\(.*!dbg (!\d+) ", module, re.M)
     if not function:
@@ -33,7 +38,7 @@ def field(note, name):
 
 
 def strip(notes, name):
-    """A type without its names and qualifiers; None for void."""
+    """Returns a type without its names and qualifiers; None for void."""
     for _ in range(MOST_DEPTH):
         note = notes.get(name)
         if note is None or not re.search(r"DW_TAG_(typedef|const_type|volatile_type|restrict_type|atomic_type)", note):
@@ -43,7 +48,7 @@ def strip(notes, name):
 
 
 def bytes_of(notes, name):
-    """The bytes of a type; 0 of void, None if that isn't known."""
+    """Returns the bytes of a type; 0 for void, None if that isn't known."""
     note = strip(notes, name)
     if note is None:
         return 0

@@ -1,6 +1,8 @@
-"""LLVM's IR as text: types, operands, functions and their blocks. It reads both forms of pointers, `i8*` (clang 14) and `ptr` (clang 16 and later).
+"""LLVM's IR as text: types, operands, functions and their blocks.
 
-Nothing is removed that defines a numbered value, since LLVM counts them; what is added has a quoted name that begins with `fc.`."""
+It reads both forms of pointers, `i8*` (clang 14) and `ptr` (clang 16 and later). No definition of a
+numbered value is removed, since LLVM counts them; added values have a quoted name that begins with
+`fc.`."""
 import re
 
 NAME = r'(?:"[^"]*"|[\w.$-]+)'
@@ -16,7 +18,7 @@ TYPED_POINTER = re.compile(r"(?:i\d+|%struct\.[\w.]+|%union\.[\w.]+|\[[^\[\]*]*(
 
 
 def parts(words):
-    """A list's items: what commas part outside of brackets."""
+    """Returns a list's items, which are separated by commas outside of brackets."""
     found, depth, is_quoted = [""], 0, False
     for it in words:
         is_quoted ^= it == '"'
@@ -30,7 +32,7 @@ def parts(words):
 
 
 def first_type(words):
-    """The type at the start of a text."""
+    """Returns the type at the start of a text."""
     depth, at = 0, 0
     while at < len(words):
         if words[at] in "[{(<":
@@ -45,13 +47,13 @@ def first_type(words):
 
 
 def typed(words):
-    """A type and a value, without the value's attributes."""
+    """Returns a type and a value, without the value's attributes."""
     kind = first_type(words)
     return kind, ATTRIBUTES.sub("", words[len(kind) :].strip())
 
 
 def closing(words, at):
-    """The place of the bracket that closes the one at `at`."""
+    """Returns the position of the bracket that closes the one at `at`."""
     depth = 0
     for it in range(at, len(words)):
         depth += (words[it] == "(") - (words[it] == ")")
@@ -76,7 +78,7 @@ def is_opaque(module):
 
 
 def without_types(text):
-    """Text of ours, which is written with typed pointers, for a module with opaque ones."""
+    """Returns text of ours, which is written with typed pointers, for a module with opaque ones."""
     before = None
     while before != text:
         before, text = text, TYPED_POINTER.sub("ptr", text)
@@ -84,7 +86,7 @@ def without_types(text):
 
 
 def quoted(value, prefix):
-    """A name of ours for what belongs to a value: `%"fc.o.7"` of `%7` and `o`."""
+    """Returns a name of ours that belongs to a value: `%"fc.o.7"` for `%7` and `o`."""
     return f'%"fc.{prefix}.' + value.strip('%"') + '"'
 
 
@@ -97,7 +99,7 @@ class Function:
         head = lines[0][lines[0].index(f"@") :]
         inside = head[head.index("(") + 1 : closing(head, head.index("("))]
         self.parameters = [(first_type(it), it.split()[-1]) for it in parts(inside) if it and it != "..."]
-        self.values, self.block_of, self.lines_of = {}, {}, {}  # a value: its operation, the rest of its line, and the line's place
+        self.values, self.block_of, self.lines_of = {}, {}, {}  # by a value: its operation, the rest of its line, and the line's place
         block = None
         for at, line in enumerate(lines[1:-1], 1):
             label = LABEL.match(line)
@@ -114,7 +116,7 @@ class Function:
         self.note = next((it[0] for it in map(NOTE.search, lines[1:]) if it), "")
 
     def leads(self, name):
-        """The blocks that one leads to, in the order of its last instruction."""
+        """Returns the successors of a block, in the order of its last instruction."""
         found = []
         for at in self.lines_of[name]:
             if not DEFINES.match(self.lines[at]):
@@ -122,7 +124,7 @@ class Function:
         return [it for it in found if it in self.lines_of]
 
     def reached(self, name):
-        """The blocks that can be reached from one, by one jump or more."""
+        """Returns the blocks that can be reached from one, by one jump or more."""
         found, todo = set(), list(self.after[name])
         while todo:
             one = todo.pop()
@@ -132,7 +134,7 @@ class Function:
         return found
 
     def dominators(self):
-        """The blocks that each way from the start to a block goes through, the block among them; only of blocks that are reached."""
+        """Returns the dominators of a block, including itself, for reachable blocks only."""
         order = [self.first, *(it for it in self.lines_of if it in self.reached(self.first) and it != self.first)]
         before = {it: [way for way in order if it in self.after[way]] for it in order}
         above, changes = {it: set(order) for it in order}, True
@@ -146,7 +148,10 @@ class Function:
         return above
 
     def loops(self):
-        """The natural loops: of each head the blocks that lead back to it, and all blocks within. None if a loop has two entries."""
+        """Returns the natural loops: for each head the blocks that lead back to it, and all blocks
+        inside.
+
+        Returns None if a loop has two entries."""
         above, found = self.dominators(), {}
         for name in above:
             for to in self.after[name]:
@@ -162,7 +167,8 @@ class Function:
         return found
 
     def note_at(self, at):
-        """The line in C of an instruction, as a note for the instructions in its place."""
+        """Returns the line in C of an instruction, as debug information for the instructions that
+        replace it."""
         found = NOTE.search(self.lines[at])
         return found[0] if found else self.note
 
@@ -181,5 +187,5 @@ def functions_of(module):
 
 
 def joined(found):
-    """A module of lines and functions."""
+    """Returns a module from lines and functions."""
     return "\n".join([*(line for it in found for line in (it.lines if isinstance(it, Function) else [it])), ""])

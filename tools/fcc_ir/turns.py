@@ -1,5 +1,7 @@
-"""Counters for loops. At each head that is given a bound, a counter is compared with it, and a run that comes there once more is answered 5.00: it returns 160,
-and changes nothing."""
+"""Counters for loops.
+
+At each head with a bound, a counter is compared with it. A run that reaches the head once more is
+answered 5.00: it returns 160, and changes nothing."""
 import re
 
 from fcc_ir.text import LABEL, NOTE
@@ -8,7 +10,10 @@ OVER = "fc.over"
 
 
 def guarded(function, bounds):
-    """The lines of a function in which each of these loops' heads is reached at most so many times, from when the loop is entered."""
+    """Returns the lines of a function in which each of these loops' heads is reached a limited
+    number of times.
+
+    They are counted from the entry of the loop."""
     lines, names, blocks = function.lines, {}, {}
     for name, places in function.lines_of.items():
         blocks[name] = [lines[at] for at in places]

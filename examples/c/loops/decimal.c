@@ -1,4 +1,4 @@
-/* The payload, decimal text of any length, as a number; 4.00 where a character is no digit. */
+/* The payload, decimal text of any length, as a number; 4.00 if a character isn't a digit. */
 #include <fc.h>
 fc_u64 run(const struct fc_request *request, fc_u64 *vars, fc_u64 length)
 {

@@ -1,4 +1,4 @@
-/* The payload backwards: a counter that goes down, from a number that isn't constant. */
+/* The payload backwards: a decreasing counter, from a number that isn't constant. */
 #include <fc.h>
 fc_u64 run(const struct fc_request *request, fc_u64 *vars, fc_u64 length)
 {

@@ -1,4 +1,5 @@
-/* How often two neighbours of the payload are alike, by an index, and the variables' first word counts all such: two bytes a turn. */
+/* The number of equal neighbours in the payload, by an index; the variables' first word counts them
+   all: two bytes in each iteration. */
 #include <fc.h>
 fc_u64 run(const struct fc_request *request, fc_u64 *vars, fc_u64 length)
 {

@@ -1,5 +1,5 @@
-/* The payload's first 500 bytes by an index, behind its end zeros: so many turns can't be written out, and the bytes are asked from
-   payload_byte. */
+/* The payload's first 500 bytes by an index, with zeros after its end. So many iterations can't be
+   written out, and the bytes are read by payload_byte. */
 #include <fc.h>
 fc_u64 run(const struct fc_request *request, fc_u64 *vars, fc_u64 length)
 {

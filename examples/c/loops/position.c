@@ -1,4 +1,4 @@
-/* Where the payload's first byte 4 stands, or 100: the count is needed behind the loop. */
+/* The position of the payload's first byte 4, or 100: the count is needed after the loop. */
 #include <fc.h>
 fc_u64 run(const struct fc_request *request, fc_u64 *vars, fc_u64 length)
 {

@@ -1,4 +1,5 @@
-/* In which of twelve ranges is the payload's length? The loop is left with what it found, or comes to its end. */
+/* The range of the payload's length, one of twelve. The loop is left with the result, or comes to
+   its end. */
 #include <fc.h>
 static const fc_u16 ends[12] = {1, 3, 5, 9, 20, 21, 22, 40, 80, 100, 120, 200};
 fc_u64 run(const struct fc_request *request, fc_u64 *vars, fc_u64 length)

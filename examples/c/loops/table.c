@@ -1,5 +1,5 @@
-/* The CRC of the payload's first 64 bytes (reflected, polynomial 0x1021), four bits at a time. The table stands in a function that is given
-   the index: so no turn makes a pointer. */
+/* The CRC of the payload's first 64 bytes (reflected, polynomial 0x1021), four bits at a time. The
+   table is in a function that gets the index, so no iteration makes a pointer. */
 #include <fc.h>
 static const fc_u16 table[16] = {
     0x0000, 0x1081, 0x2102, 0x3183, 0x4204, 0x5285, 0x6306, 0x7387, 0x8408, 0x9489, 0xa50a, 0xb58b, 0xc60c, 0xd68d, 0xe70e, 0xf78f

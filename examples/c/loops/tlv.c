@@ -1,5 +1,6 @@
-/* The payload is a list of type, length and value: a byte, a byte, and at most four bytes, the highest first. Each sets the word of the
-   variables that its type says, 0 to 7; 4.00 where the list is none. */
+/* The payload is a list of type, length and value: a byte, a byte, and at most four bytes, the
+   highest first. Each sets the word of the variables with the number of its type, 0 to 7; 4.00 if
+   the payload isn't a list. */
 #include <fc.h>
 fc_u64 run(const struct fc_request *request, fc_u64 *vars, fc_u64 length)
 {

@@ -1,4 +1,4 @@
-/* The payload's first 400 bytes by a pointer that goes along. */
+/* The payload's first 400 bytes by a moving pointer. */
 #include <fc.h>
 fc_u64 run(const struct fc_request *request, fc_u64 *vars, fc_u64 length)
 {

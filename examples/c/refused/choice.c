@@ -1,4 +1,4 @@
-/* The pointer comes from both ways, and so does the length: nothing is known that holds of both. */
+/* The pointer and the length come from both paths: no fact holds for both. */
 #include <fc.h>
 fc_u64 run(const struct fc_request *request, fc_u64 *vars, fc_u64 length)
 {

@@ -1,4 +1,4 @@
-/* The function gets a pointer into its caller's frame, and one into a frame further up: of two frames nothing is known. */
+/* The function gets a pointer into its caller's frame, and one into a frame further up: the frame is unknown. */
 #include <fc.h>
 #ifndef MENDED
 FC_FUNCTION fc_u64 mark(fc_u8 *at) { return at[0] = 1; }

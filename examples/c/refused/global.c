@@ -1,4 +1,4 @@
-/* A global stands in .bss or .data. What lasts stands in the variables. */
+/* A global is in .bss or .data. Lasting data belong into the variables. */
 #include <fc.h>
 #ifndef MENDED
 static fc_u64 count;

@@ -1,4 +1,4 @@
-/* An int is compared by its sign, which tells nothing, or in a copy of the register. */
+/* An int is compared as a signed number, which proves nothing, or in a copy of the register. */
 #include <fc.h>
 fc_u64 run(const struct fc_request *request, fc_u64 *vars, fc_u64 length)
 {

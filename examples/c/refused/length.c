@@ -1,4 +1,4 @@
-/* A number of two bytes from the memory may be up to 65,535, whatever it stands for; of R3 it is known that it is 1,024 at most. */
+/* A number of two bytes from memory may be up to 65,535, whatever its meaning; R3 is known to be at most 1,024. */
 #include <fc.h>
 fc_u64 run(const struct fc_request *request, fc_u64 *vars, fc_u64 length)
 {

@@ -1,4 +1,4 @@
-/* A pointer is no number, and isn't compared. The request and the variables are always there. */
+/* A pointer isn't a number, and can't be compared. The request and the variables always exist. */
 #include <fc.h>
 fc_u64 run(const struct fc_request *request, fc_u64 *vars, fc_u64 length)
 {

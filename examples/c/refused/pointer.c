@@ -1,4 +1,4 @@
-/* A function's answer is a number, so no pointer; FC_INLINE is none that is called. */
+/* A function returns a number, so it can't return a pointer; FC_INLINE makes a function that isn't called. */
 #include <fc.h>
 #ifdef MENDED
 #undef FC_FUNCTION

@@ -1,4 +1,4 @@
-/* From a comparison by sign nothing is learnt: the number is moved first, so that it is compared without a sign. */
+/* A signed comparison proves nothing: the number is moved first, so that it is compared without a sign. */
 #include <fc.h>
 fc_u64 run(const struct fc_request *request, fc_u64 *vars, fc_u64 length)
 {

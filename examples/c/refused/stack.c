@@ -1,4 +1,4 @@
-/* A frame has 256 bytes; clang stops at 512 alone. */
+/* A frame has 256 bytes; clang's limit is 512. */
 #include <fc.h>
 fc_u64 run(const struct fc_request *request, fc_u64 *vars, fc_u64 length)
 {

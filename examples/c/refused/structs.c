@@ -1,4 +1,4 @@
-/* A struct as an answer, of a function that is called. */
+/* A struct as the result of a function that is called. */
 #include <fc.h>
 struct parts { fc_u64 tens, ones; };
 #ifndef MENDED

@@ -1,4 +1,4 @@
-/* Each turn makes a pointer into the table, and there are too many to be written out. A function makes its pointers in a frame of its own. */
+/* Each iteration makes a pointer into the table, and there are too many to be written out. A function makes its pointers in its own frame. */
 #include <fc.h>
 static const fc_u8 bits[16] = {0, 1, 1, 2, 1, 2, 2, 3, 1, 2, 2, 3, 2, 3, 3, 4};
 FC_FUNCTION fc_u64 look_up(fc_u64 i) { return fc_at(bits, i & 15); }
