@@ -51,15 +51,20 @@ def changes(ask):
     return [(code, ask(it)) for it, code in asked]
 
 
-def lines_of(peer):
-    """Returns the lines of these changes. The refused block is no request that reaches its slot."""
+def first_serial(started):
+    """Returns the serial that slots begin with, on a server that started this many milliseconds after 1970."""
+    return 32 * started + 2**24 * (started // 1000)
+
+
+def lines_of(peer, version):
+    """Returns the lines of these changes, with the version of a first install. The refused block is no request that reaches its slot."""
     digest = {name: hashlib.sha256(it).hexdigest() for name, it in (("counter", COUNTER), ("dear", DEAR), ("largest", LARGEST))}
     return [
-        f"change PUT /p/3 peer={peer} code=2.01 version=1 cost=15 budget=15 vars=8 sha256={digest['counter']}",
+        f"change PUT /p/3 peer={peer} code=2.01 version={version} cost=15 budget=15 vars=8 sha256={digest['counter']}",
         f"change PUT /p/4 peer={peer} code=4.00 V16 slot 0 sha256={digest['dear']}",
         f"change DELETE /p/3 peer={peer} code=2.02",
         f"change DELETE /p/3 peer={peer} code=2.02",
-        f"change PUT /p/63 peer={peer} code=2.01 version=1 cost=512 budget=512 vars=0 sha256={digest['largest']}",
+        f"change PUT /p/63 peer={peer} code=2.01 version={version} cost=512 budget=512 vars=0 sha256={digest['largest']}",
     ]
 
 
@@ -69,6 +74,7 @@ def serve(workers, logs):
         it.bind(("127.0.0.1", 0))
         port = it.getsockname()[1]
     words = [FCD, "serve", "--port", str(port), "--workers", str(workers), "--limit", "13", *(it for log in logs for it in ("--log", log))]
+    before = time.time()
     server = subprocess.Popen([str(it) for it in words], stderr=subprocess.PIPE)
     with socket.socket(socket.AF_INET, socket.SOCK_DGRAM) as client:
         client.bind(("127.0.0.1", 0))
@@ -79,6 +85,7 @@ def serve(workers, logs):
                 client.connect(("127.0.0.1", port))
                 client.send(b"\x40\0\0\0")
                 client.recv(1500)
+                started = before, time.time()
                 break
             except ConnectionRefusedError:
                 time.sleep(0.05)
@@ -90,16 +97,20 @@ def serve(workers, logs):
 
         wrong = [f"{got:02x} for {code:02x}" for code, got in changes(ask) if got != code]
     _, told = server.communicate(timeout=20)
-    return wrong, told.decode().splitlines(), peer, port
+    return wrong, told.decode().splitlines(), peer, port, started
 
 
 def main():
     failed = 0
     for workers in (1, 2):
         for logs in ((), ("off",), ("info",), ("changes",), ("info", "changes")):
-            wrong, told, peer, port = serve(workers, logs)
+            wrong, told, peer, port, started = serve(workers, logs)
+            versions = {int(it) for it in re.findall(r" version=(\d+) ", " ".join(told))}
+            version = versions.pop() if len(versions) == 1 else 0
+            if "changes" in logs and not first_serial(int(started[0] * 1000)) < version <= first_serial(int(started[1] * 1000)) + 1:
+                wrong.append(f"version {version} of a start between {started}")
             bare = [re.sub(r"^\[INFO  [^]]*\] ", "", it) for it in told]
-            wanted = ([f"listening on 127.0.0.1:{port}"] if "info" in logs else []) + (lines_of(peer) if "changes" in logs else [])
+            wanted = ([f"listening on 127.0.0.1:{port}"] if "info" in logs else []) + (lines_of(peer, version) if "changes" in logs else [])
             wanted += ["sent 13 failed 0"] if "info" in logs else []
             right = not wrong and bare == wanted
             failed += not right

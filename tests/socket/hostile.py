@@ -85,9 +85,9 @@ SLOT = b"47"
 HONEST_PUT = bytes.fromhex("40030001b17002") + SLOT + b"\xff" + COUNTER
 HONEST_POST = bytes.fromhex("40020002b17202") + SLOT
 HONEST_GET = bytes.fromhex("40010003b17202") + SLOT
-INSTALLED = bytes.fromhex("60410001ff") + b"version=1 cost=15 budget=15 vars=8"
+INSTALLED = re.compile(rb"\x60\x41\x00\x01\xffversion=\d{17} cost=15 budget=15 vars=8")
 POSTED = bytes.fromhex("60440002ff0100000000000000")
-GOT = bytes.fromhex("60450003480000000000000002ff0100000000000000")
+GOT = re.compile(rb"\x60\x45\x00\x03\x48.{8}\xff\x01\0\0\0\0\0\0\0", re.DOTALL)
 
 PING = bytes.fromhex("40000000")
 
@@ -205,7 +205,7 @@ class Honest:
 
     def __init__(self):
         self.client = Client()
-        self.is_well = self.client.asked(HONEST_PUT) == INSTALLED and self.client.asked(HONEST_POST) == POSTED
+        self.is_well = INSTALLED.fullmatch(self.client.asked(HONEST_PUT)) is not None and self.client.asked(HONEST_POST) == POSTED
         self.until = time.monotonic() + REPEATED
         self.repeats = self.alike = 0
 
@@ -257,7 +257,7 @@ def asked_again(honest):
     print(f"PUT: {put}\nGET: {get}\nthe honest client's GET: {own.hex()}")
     heard = observed()
     print(f"{heard} of {OBSERVERS} observers hear of a change", flush=True)
-    return put in ("2.01", "2.04") and get == "2.05" and own == GOT and heard == OBSERVERS
+    return put in ("2.01", "2.04") and get == "2.05" and GOT.fullmatch(own) is not None and heard == OBSERVERS
 
 
 def ended(server, limit):

@@ -10,3 +10,4 @@ pub mod Histories
 pub mod Policies
 pub mod Every
 pub mod Logs
+pub mod Serials

@@ -23,6 +23,7 @@ use Rattle.fc_service.specs.Alone.{ReadiesRecorded}
 use Rattle.fc_host.specs.Clocks.{AreReadAt}
 use Rattle.fc_service.specs.Counting.{both_replies, replies_by, replies_of}
 use Rattle.fc_service.specs.Intakes.{IsHeardBy}
+use Rattle.fc_service.specs.Serials.{serial_of_start}
 use Rattle.fc_service.specs.Pooled.{AreSharesAt, Dispatching, IsNew, handover_where, locked_shop, pooled_calls}
 use Rattle.fc_service.specs.Traffic.{AreHanded, Sending, replies_to}
 use Rattle.fc_service.specs.declared.serve.Extent.{Extent}
@@ -184,12 +185,12 @@ pub record HasServedPooled (sensors : List ℕ → Type 0) (e : RoundCalls) (Rec
   pub count : length shares ≡ workers
   pub all : replies ≡ both_replies at_once (both_replies (replies_of shares) (replies_by last.done.share))
 
--- ---- a server with this number of workers: one is the receiving thread. Its slots begin at serial
--- 0
+-- ---- a server with this number of workers: one is the receiving thread. Its slots begin at the
+-- serial of its start
 
 abbrev pub IsServed : (List ℕ → Type 0) → RoundCalls → (Requested → CallLog → CallLog → Type 0) → Extent → Option (List Receive) → Option (List Receive) → Replies → Type 0
 IsServed sensors e Recorded extent before after replies =
-    ((extent.workers ≡ 1) × HasServed sensors e Recorded extent.limit (record { serial = 0; id = extent.first_id; policy = extent.policy }) before after replies)
+    ((extent.workers ≡ 1) × HasServed sensors e Recorded extent.limit (record { serial = serial_of_start extent.started; id = extent.first_id; policy = extent.policy }) before after replies)
     ⊎ ((extent.workers ≡ 1 → ⊥) × HasServedPooled sensors e Recorded extent.workers extent.limit (beginning extent.policy extent.first_id) before after replies)
 
 -- ---- timers together with a source

@@ -1,5 +1,5 @@
 //! Consequences of the service's definitions: each function's contract is a law.
-ghost use Rattle.std.specs.Prelude.{◌≡◌, ◌+◌, ◌*◌, ◌%◌, ◌<◌, ◌≤◌, ◌↔◌, ◌⊎◌, ℕ, Bool, List, [], ◌∷◌, None, Option, Some, codes, false, flat_map, map, true};
+ghost use Rattle.std.specs.Prelude.{◌≡◌, ◌+◌, ◌-◌, ◌*◌, ◌%◌, ◌<◌, ◌≤◌, ◌↔◌, ◌⊎◌, ℕ, Bool, List, [], ◌∷◌, None, Option, Some, codes, false, flat_map, map, true};
 ghost use Rattle.fc_core.specs.declared.front.Heard.TheVariants.{Job, Nothing, Reply, Signal};
 ghost use Rattle.fc_observe.specs.declared.observers.Ticked.{Ticked};
 ghost use Rattle.fc_observe.specs.declared.observers.Ticked.TheVariants.{Quiet};
@@ -19,6 +19,7 @@ ghost use Rattle.fc_lines.specs.Emissions.{printed};
 ghost use Rattle.fc_service.specs.Playing.{IsNextText, IsPlayedOut, PlayedLine, printed_lines};
 ghost use Rattle.fc_service.specs.Rounds.{EndsInTime, HasServed, WaitsAfter, round_calls, sendings_in};
 ghost use Rattle.fc_server.specs.Settling.{most_steps};
+ghost use Rattle.fc_service.specs.Serials.{IsNewerNumber, serial_of_start};
 ghost use Rattle.fc_server.specs.declared.alone.Alone.{Alone};
 ghost use Rattle.fc_service.specs.declared.replies.Replies.{Replies};
 
@@ -147,4 +148,26 @@ pub fn timers_hold_half_of_the_exchanges()
     ensures most { most_held (record { exchanges = 65536; share = 65536 }) ≡ 32768 }
     ensures share { most_held (record { exchanges = 1024; share = 100 }) ≡ 100 }
     ensures all { (a b : Timer) → timers_hold (record a { every = 966 } ∷ record b { every = 966 } ∷ []) ≡ 512 }
+{}
+
+/// A later start begins at a higher serial.
+///
+/// It is higher by 32 for each millisecond between the starts, and by 2^24 from a second on. A
+/// server that started in 1970 begins at 0, a millisecond later at 32, and a second later at
+/// 2^24 + 32,000.
+pub fn later_starts_begin_higher()
+    ensures first { (serial_of_start 0 ≡ 0) × (serial_of_start 1 ≡ 32) × (serial_of_start 1000 ≡ 16777216 + 32000) }
+    ensures millisecond { (first second : ℕ) → first ≤ second → second ≤ 281474976710656
+        → serial_of_start first + 32 * (second - first) ≤ serial_of_start second }
+    ensures second { (first second : ℕ) → first + 1000 ≤ second → second ≤ 281474976710656 → serial_of_start first + 16777216 ≤ serial_of_start second }
+{}
+
+/// A server that is started again sends newer sequence numbers of Observe.
+///
+/// An observer takes a notification for newer by RFC 7641, section 3.4, if its number is newer than
+/// the last. So a number after the later start is newer than one from before it, within 256 s, if
+/// the slot changed fewer than 32 times for each millisecond between the starts.
+pub fn restarts_keep_the_order_of_observe()
+    ensures { (first second changes : ℕ) → second ≤ first + 256000 → second ≤ 281474976710656 → changes < 32 * (second - first)
+        → IsNewerNumber ((serial_of_start first + changes) % 16777216) (serial_of_start second % 16777216) }
 {}

@@ -50,8 +50,8 @@
 //!   doesn't say which times its clock gives. It says nothing about a server that returns no source
 //!   or doesn't end. Tests show that `serve` opens its socket at the given address and receives
 //!   from it.
-//! - **With one worker** the rounds are lists of events of one server, which begins at the given
-//!   serial and message ID. A round's list has its datagram, or its time, and the calls of its
+//! - **With one worker** the rounds are lists of events of one server, which begins at the serial of
+//!   the given start and at the given message ID. A round's list has its datagram, or its time, and the calls of its
 //!   shards. A shard's result is true: that no notification has timed out, that an observer was
 //!   removed, or that no observer has a pending notification (`laws`). The readings are each
 //!   round's time and the sensor readings. The contract doesn't say that with `--readings` these
@@ -84,13 +84,17 @@
 //!   is made. Nothing else is recorded (`serve_at`, by `HasServed` and `HasServedPooled`, whose
 //!   calls are `recorded_calls` and `IsRecordedCall` of `fc_record`). A test shows that a logger
 //!   writes it.
+//! - **The first serial** of a server rises with the time of its start: by 32 for each millisecond,
+//!   and by 2^24 for each second. So the numbers of Observe keep their order if a server is started
+//!   again (`serials::serial_of_start`, `laws`). That a server with workers begins at this serial,
+//!   and that the time is the system clock's, is tested.
 //! - **Replies** of a server on a socket are counted and added exactly, up to 2^64 - 1, and written
 //!   as `sent S failed F`. They are those of the rounds, of each worker's jobs and of the
 //!   dispatcher's own. A test shows that this is logged.
 //!
 //! By the contracts of `play::play`, `workers::play_by_workers`, `options::serve_options`,
 //! `lines::play_lines`, `rounds::run_rounds`, `serve::serve`, `serve::serve_at`,
-//! `serve::serve_alone`, `pool::run_pool`, `Replies`, `laws`.
+//! `serve::serve_alone`, `serials::serial_of_start`, `pool::run_pool`, `Replies`, `laws`.
 #![tactic(auto)]
 
 mod alone;
@@ -105,6 +109,7 @@ pub mod policy;
 pub mod pool;
 pub mod replies;
 mod rounds;
+pub mod serials;
 pub mod serve;
 mod waiting;
 pub mod workers;

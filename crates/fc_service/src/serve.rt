@@ -11,6 +11,7 @@ use crate::alone::Sensed;
 use crate::pool::{Feeder, Intake, Pool, run_pool};
 use crate::replies::Replies;
 use crate::rounds::{Unprepared, run_rounds};
+use crate::serials::serial_of_start;
 use fc_cli::status::{Status, tell};
 use fc_core::Policy;
 use fc_host::clock::{Elapsed, SensingDevice};
@@ -31,9 +32,6 @@ use std::thread::Threads;
 use std::time::Clock;
 use thiserror::Error;
 
-/// The initial serial of empty slots.
-const FIRST_SERIAL: u64 = 0;
-
 /// The least cost of a run, in instructions, that is dispatched to a worker.
 ///
 /// Dispatching a job wakes a thread, which costs about 14 us of processor time. A program executes
@@ -43,11 +41,13 @@ const DEAR: u32 = 6_000;
 /// The extent of a server.
 ///
 /// It has the number of workers, 1 to 16, and the number of datagrams after which the server ends;
-/// 0 is never. It also has the first message ID of the server's own, and its policy.
+/// 0 is never. It also has the time of its start, in milliseconds since 1970, which gives the first
+/// serial of its slots; the first message ID of the server's own; and its policy.
 #[derive(Clone, Copy)]
 pub struct Extent {
     pub workers: u8,
     pub limit: u32,
+    pub started: u64,
     pub first_id: u16,
     pub policy: Policy,
 }
@@ -254,7 +254,7 @@ fn serve_to_end<
 {
     let moments = Elapsed::start(rt).map_err(ServeStop::Clock)?;
     let begin = Begin {
-        serial: FIRST_SERIAL,
+        serial: serial_of_start(extent.started),
         id: extent.first_id,
         policy: extent.policy,
     };

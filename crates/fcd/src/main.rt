@@ -15,6 +15,7 @@ use fc_service::every::{BadTimer, timers_in};
 use fc_service::options::{BadOption, ServeOptions, serve_options};
 use fc_service::play::play;
 use fc_service::policy::policy_in;
+use fc_service::serials::unix_milliseconds;
 use fc_service::serve::{Extent, Records, serve};
 use fc_service::workers::play_by_workers;
 use log::sink::Console;
@@ -28,7 +29,7 @@ use std::rt::Runtime;
 use std::sync::Wait;
 use std::thread::Threads;
 
-/// Revision that an empty slot begins with.
+/// Revision that an empty slot begins with in `fcd play`.
 const FIRST_SERIAL: u64 = 0;
 
 /// First message ID of the server's own.
@@ -121,10 +122,12 @@ fn serve_socket<R: Runtime + AllocGlobal + Threads + Wait + Net + RandomSource +
         end: &end,
         changes: &LoggedChanges { logger: &changes },
     };
+    let started = unix_milliseconds(rt).map_err(|error| anyhow::anyhow!("clock: {error}"))?;
     let first_id = random_id(rt).map_err(|error| anyhow::anyhow!("random bytes: {error}"))?;
     let extent = Extent {
         workers,
         limit,
+        started,
         first_id,
         policy,
     };

@@ -121,6 +121,7 @@ fn check_served<R: Abort + AllocGlobal + Threads + Wait + Clock + Sync>(
     let extent = Extent {
         workers,
         limit: 8,
+        started: 0,
         first_id: 0,
         policy: DEFAULT_POLICY,
     };

@@ -559,6 +559,7 @@ fn a_server_answers_a_ping(rt: HostRuntime) -> Result<(), Fail> {
     let extent = Extent {
         workers: 1,
         limit: 1,
+        started: 0,
         first_id: 0,
         policy: DEFAULT_POLICY,
     };
@@ -576,6 +577,7 @@ fn a_server_answers_a_ping_of_its_uri(rt: HostRuntime) -> Result<(), Fail> {
     let extent = Extent {
         workers: 1,
         limit: 2,
+        started: 0,
         first_id: 0,
         policy: DEFAULT_POLICY,
     };

@@ -77,6 +77,7 @@ fn serve_at_address<
     let extent = Extent {
         workers: 2,
         limit,
+        started: 0,
         first_id: 0,
         policy: DEFAULT_POLICY,
     };

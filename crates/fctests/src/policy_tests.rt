@@ -91,6 +91,7 @@ fn serve_two<R: Abort + AllocGlobal + Threads + Wait + Clock + Net + Sync>(
     let extent = Extent {
         workers,
         limit: 6,
+        started: 0,
         first_id: 0,
         policy: POLICY,
     };

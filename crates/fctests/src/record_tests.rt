@@ -138,6 +138,7 @@ fn recorded_by<R: Abort + AllocGlobal + Threads + Wait + Clock + Net + Sync>(
     let extent = Extent {
         workers,
         limit: 12,
+        started: 0,
         first_id: 0,
         policy: DEFAULT_POLICY,
     };

@@ -61,6 +61,7 @@ fn check_sensed<
     let extent = Extent {
         workers,
         limit: 6,
+        started: 0,
         first_id: 0,
         policy: DEFAULT_POLICY,
     };

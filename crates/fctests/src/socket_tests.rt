@@ -76,8 +76,9 @@ fn ask_counter<R: Abort + Net + Clock + RandomSource + AllocGlobal>(
     rt: &R,
     port: u16,
 ) -> Result<(), Fail> {
-    // version=1 cost=9 budget=9 vars=8
-    let installed = "2.01\n76657273696f6e3d3120636f73743d39206275646765743d3920766172733d38\n";
+    // version=16809217 cost=9 budget=9 vars=8
+    let installed =
+        "2.01\n76657273696f6e3d313638303932313720636f73743d39206275646765743d3920766172733d38\n";
     check_asked(
         rt,
         port,
@@ -158,7 +159,8 @@ pub(crate) fn serve_while<
     Ok(memory)
 }
 
-// Serves with this many workers: four datagrams, each answered.
+// Serves with this many workers: four datagrams, each answered. The server started a second after
+// the beginning of 1970, so its slots begin at serial 2^24 + 32,000.
 fn serve_counter<R: Abort + AllocGlobal + Threads + Wait + Clock + Net + RandomSource + Sync>(
     rt: &R,
     workers: u8,
@@ -166,6 +168,7 @@ fn serve_counter<R: Abort + AllocGlobal + Threads + Wait + Clock + Net + RandomS
     let extent = Extent {
         workers,
         limit: 4,
+        started: 1_000,
         first_id: 0,
         policy: DEFAULT_POLICY,
     };
@@ -201,6 +204,7 @@ fn a_taken_port_is_status_3(rt: HostRuntime) -> Result<(), Fail> {
     let extent = Extent {
         workers: 1,
         limit: 1,
+        started: 0,
         first_id: 0,
         policy: DEFAULT_POLICY,
     };
@@ -302,6 +306,7 @@ fn bodies_go_and_come_by_blocks(rt: HostRuntime) -> Result<(), Fail> {
     let extent = Extent {
         workers: 2,
         limit: 8,
+        started: 0,
         first_id: 0,
         policy: DEFAULT_POLICY,
     };
@@ -384,6 +389,7 @@ fn serve_script<R: Abort + AllocGlobal + Threads + Wait + Clock + Sync>(
     let extent = Extent {
         workers,
         limit: 2,
+        started: 0,
         first_id: 0,
         policy: DEFAULT_POLICY,
     };
@@ -549,6 +555,7 @@ fn eight_clients_count_right(rt: HostRuntime) -> Result<(), Fail> {
     let extent = Extent {
         workers: 2,
         limit: 978,
+        started: 0,
         first_id: 0,
         policy: DEFAULT_POLICY,
     };
@@ -634,6 +641,7 @@ fn check_clock<R: Abort + AllocGlobal + Threads + Wait + Clock + Net + RandomSou
     let extent = Extent {
         workers,
         limit: 2,
+        started: 0,
         first_id: 0,
         policy: DEFAULT_POLICY,
     };

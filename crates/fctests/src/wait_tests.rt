@@ -87,6 +87,7 @@ fn check_waits<R: Abort + AllocGlobal + Threads + Wait + Clock + Sync>(rt: &R, w
     let extent = Extent {
         workers,
         limit: 5,
+        started: 0,
         first_id: 0,
         policy: DEFAULT_POLICY,
     };
@@ -195,6 +196,7 @@ fn a_server_does_not_sleep_while_a_job_is_at_work(rt: HostRuntime) {
     let extent = Extent {
         workers: 2,
         limit: 3,
+        started: 0,
         first_id: 0,
         policy: DEFAULT_POLICY,
     };
