@@ -3,7 +3,7 @@ use Rattle.std.proofs.Common.{◌≡◌, ◌⊎◌, inl, inr, ℕ, ◌<◌, ◌�
 use Rattle.std.specs.Prelude.{◌≢◌, ◌+◌, All, find, unwrap_or, IfOk, IfErr, OnOk}
 use Rattle.std.specs.List.{AllByRecursion, filter}
 use Rattle.std.specs.List.Sorted.{IsPermutation}
-use Rattle.std.proofs.lemmas.Bool.{cases_Bool, cases_eq}
+use Rattle.std.proofs.lemmas.Bool.{cases_eq}
 use Rattle.std.proofs.lemmas.List.Elements.{All-map, All-nil, All-from_recursion, recursion_from_All}
 use Rattle.std.proofs.lemmas.List.Sorted.{All-permutation, IsPermutation-sym, length_permutation}
 use Rattle.std.proofs.lemmas.List.{get_or_default}
@@ -13,10 +13,10 @@ use Rattle.sqlite_value.specs.declared.value.Value.{Value}
 use Rattle.sqlite_value.specs.declared.value.Value.TheVariants.{Null, Int}
 use Rattle.sqlite_value.specs.Order.{Row, column}
 use Rattle.sqlite_trees.specs.Tree.{Trees, rowid, has_rowid}
-use Rattle.sqlite_trees.specs.View.{is_int, doubt}
+use Rattle.sqlite_trees.specs.View.{is_int}
 use Rattle.sqlite_rules.specs.Edit.{row_at}
 use Rattle.sqlite.specs.Listing.{understood}
-use Rattle.sqlite.specs.State.{State, HasCleanDisk, Survives, CommitsShowing, CommitsBy, IsUnchanged}
+use Rattle.sqlite.specs.State.{State, HasCleanDisk, Survives, CommitsShowing, IsUnchanged}
 use Rattle.sqlite.proofs.StateLemmas.{survives_weaker}
 use Rattle.sqlite.proofs.Callers.{IsPlain, never_commits, one_permutation}
 use Rattle.fc_store.specs.Stored.{StoredProgram, StoredSlot, StoredSlots, blank_slot, stored_in}
@@ -30,8 +30,8 @@ use Rattle.fc_sql.specs.declared.error.OpenError.{OpenError}
 use Rattle.fc_sql.specs.declared.error.OpenError.TheVariants as error
 use Rattle.fc_sql.specs.declared.columns.Unread.{Unread}
 use Rattle.fc_sql.specs.declared.columns.Unread.TheVariants.{Memory, Bad}
-use Rattle.fc_sql.specs.Table.{AreNumbered, Mirrors, bytes_in, nat_in, no_schema, program_if, slot_in_row, slot_schema, slots_of}
-use Rattle.fc_sql.specs.Found.{AreBad, AreOfSlot, AreSlotNumbers, AreWide, HasBad, HasOther, HasTable, IsBlob, IsFailure, IsKept, IsMade, IsNumber, IsRefused, IsSlotNumber, IsUnread, RefusesRow, StoresIn, StoresSlots, numbers_of, rows_of, state_columns, state_values}
+use Rattle.fc_sql.specs.Table.{AreNumbered, Mirrors, nat_in, program_if, slot_in_row, slot_schema, slots_in_rows}
+use Rattle.fc_sql.specs.Found.{AreBad, AreOfSlot, AreSlotNumbers, AreWide, HasBad, HasOther, HasTable, IsBlob, IsFailure, IsSameDatabase, IsTableMade, IsUnsigned, RefusesDatabase, IsSlotNumber, AreUnreadColumns, RefusesRow, StoresSlots, numbers_of, rows_of, state_columns, state_values}
 
 -- ---- results
 
@@ -56,13 +56,13 @@ fails_for_memory = (SqliteFailure OutOfMemory, refl)
 
 -- ---- columns
 
-pub version_bad : (r : Row) (e : Unread) → (e ≡ Memory) ⊎ ((e ≡ Bad Version) × (1 < length r → ¬ ((column r 1 ≡ Null) ⊎ IsNumber (column r 1)))) → length r ≡ 4 → IsUnread r e
-version_bad r e (inl memory) four = subst (IsUnread r) (sym memory) tt
-version_bad r e (inr bad) four = subst (IsUnread r) (sym bad.0) (let no = bad.1 (omega arith) in inl (λ null. no (inl null), λ number. no (inr number)))
+pub version_bad : (r : Row) (e : Unread) → (e ≡ Memory) ⊎ ((e ≡ Bad Version) × (1 < length r → ¬ ((column r 1 ≡ Null) ⊎ IsUnsigned (column r 1)))) → length r ≡ 4 → AreUnreadColumns r e
+version_bad r e (inl memory) four = subst (AreUnreadColumns r) (sym memory) tt
+version_bad r e (inr bad) four = subst (AreUnreadColumns r) (sym bad.0) (let no = bad.1 (omega arith) in inl (λ null. no (inl null), λ number. no (inr number)))
 
-pub vars_bad : (r : Row) (e : Unread) → (e ≡ Memory) ⊎ ((e ≡ Bad Program) × (3 < length r → ¬ ((column r 3 ≡ Null) ⊎ IsBlob (column r 3)))) → length r ≡ 4 → IsUnread r e
-vars_bad r e (inl memory) four = subst (IsUnread r) (sym memory) tt
-vars_bad r e (inr bad) four = subst (IsUnread r) (sym bad.0) (let no = bad.1 (omega arith) in inr (inl (λ null. no (inl null), λ blob. no (inr blob))))
+pub vars_bad : (r : Row) (e : Unread) → (e ≡ Memory) ⊎ ((e ≡ Bad Program) × (3 < length r → ¬ ((column r 3 ≡ Null) ⊎ IsBlob (column r 3)))) → length r ≡ 4 → AreUnreadColumns r e
+vars_bad r e (inl memory) four = subst (AreUnreadColumns r) (sym memory) tt
+vars_bad r e (inr bad) four = subst (AreUnreadColumns r) (sym bad.0) (let no = bad.1 (omega arith) in inr (inl (λ null. no (inl null), λ blob. no (inr blob))))
 
 pub one_item : (xs : List Row) (x : Row) → 1 ≤ length xs → length xs < 2 → x ≡ get_or xs 0 x → xs ≡ x ∷ []
 one_item [] x some few is = absurd (omega arith)
@@ -143,7 +143,7 @@ module _ (p : Row → Bool) where
       go true more e = absurd (cc e)
       go false more e = more e
 
-pub slot_of_rows : (rows : List Row) (n : ℕ) (s : StoredSlot) → AreOfSlot (rows_of rows n) s → slots_of rows n ≡ s
+pub slot_of_rows : (rows : List Row) (n : ℕ) (s : StoredSlot) → AreOfSlot (rows_of rows n) s → slots_in_rows rows n ≡ s
 slot_of_rows rows n s (inl one) = slot_is (row_at rows (pos n)) s (found (has_rowid (pos n)) rows (state_values s) one.0)
 slot_of_rows rows n s (inr none) = ap slot_in_row (missing (has_rowid (pos n)) rows none.0) ∙ sym none.1
 
@@ -166,7 +166,7 @@ mirrors_found old new stored schema autocommit committed rows it = record {
   autocommit = autocommit;
   committed = committed;
   numbered = subst AreNumbered (sym rows) (numbered (old.now.trees 0) it.numbers);
-  same = λ n few. ap (λ (all : List Row). slots_of all n) rows ∙ slot_of_rows (old.now.trees 0) n (stored n) (it.states n few);
+  same = λ n few. ap (λ (all : List Row). slots_in_rows all n) rows ∙ slot_of_rows (old.now.trees 0) n (stored n) (it.states n few);
 }
 
 pub none_bad : (rows : List Row) → rows ≡ [] → (z : ℤ) (why : BadRow) → HasBad rows z why → ⊥
@@ -207,10 +207,10 @@ reads_survive sql params old new table plain sv =
     survives_weaker old new (CommitsShowing sql params old) (λ _. ⊥)
     (λ (clean : HasCleanDisk new) (db : Trees). never_commits sql params old db (subst (λ schema. IsPlain (understood schema sql)) (sym (table (omega (arith, sv.clean, clean)))) plain)) sv
 
-pub kept_by : (old new : State) → IsUnchanged old new → IsKept old new
+pub kept_by : (old new : State) → IsUnchanged old new → IsSameDatabase old new
 kept_by old new u = (u.0.now_is, u.0.committed_is)
 
-pub kept_then : (a b c : State) → IsKept a b → IsKept b c → IsKept a c
+pub kept_then : (a b c : State) → IsSameDatabase a b → IsSameDatabase b c → IsSameDatabase a c
 kept_then a b c p q = (q.0 ∙ p.0, q.1 ∙ p.1)
 
 -- ---- refusals
@@ -222,7 +222,7 @@ one_more_number rows i r low is here before k d lt = ⊎_elim
     (λ (ne : k ≡ i → ⊥). before k d (omega (arith, lt, ne)))
     (cases_eq k i)
 
-pub row_refused : (old mid new : State) (n : ℕ) (e : OpenError) → n < 64 → IsKept old mid → (why : BadRow) × (e ≡ error.Row (pos n) why) × AreBad why (rows_of (mid.now.trees 0) n) × IsKept mid new → RefusesRow old new e
+pub row_refused : (old mid new : State) (n : ℕ) (e : OpenError) → n < 64 → IsSameDatabase old mid → (why : BadRow) × (e ≡ error.Row (pos n) why) × AreBad why (rows_of (mid.now.trees 0) n) × IsSameDatabase mid new → RefusesRow old new e
 row_refused old mid new n e low kept bad = (
   pos n,
   bad.0,
@@ -231,9 +231,9 @@ row_refused old mid new n e low kept bad = (
   kept_then old mid new kept bad.3,
 )
 
-pub refused_later : (old mid new : State) (e : OpenError) → IsKept old mid → RefusesRow mid new e → RefusesRow old new e
+pub refused_later : (old mid new : State) (e : OpenError) → IsSameDatabase old mid → RefusesRow mid new e → RefusesRow old new e
 refused_later old mid new e kept bad = (bad.0, bad.1, bad.2, subst (λ (d : Database). HasBad (d.trees 0) bad.0 bad.1) kept.0 bad.3, kept_then old mid new kept bad.4)
 
-pub made_refused : (old mid new : State) (e : OpenError) → IsMade old mid → RefusesRow mid new e → IsRefused old new e
+pub made_refused : (old mid new : State) (e : OpenError) → IsTableMade old mid → RefusesRow mid new e → RefusesDatabase old new e
 made_refused old mid new e (inl was) bad = inr (inl (was.0, refused_later old mid new e was.1 bad))
 made_refused old mid new e (inr made) bad = absurd (none_bad (mid.now.trees 0) made.2 bad.0 bad.1 bad.3)

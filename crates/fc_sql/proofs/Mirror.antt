@@ -35,7 +35,7 @@ use Rattle.sqlite.specs.Ops.{binary, is_null, is_true, from_truth}
 use Rattle.fc_store.specs.Stored.{StoredProgram, StoredSlot, StoredSlots, blank_slot, stored_in}
 use Rattle.fc_store.specs.declared.store.SlotUpdate.{SlotUpdate}
 use Rattle.fc_store.specs.Updates.{AreSameSlots, slot_after, slots_after}
-use Rattle.fc_sql.specs.Table.{AreNumbered, IsMirrored, Mirrors, Puts, put_text, row_values, slot_schema, slot_table, slots_of, slot_in_row, stored_of, with_stored_slot}
+use Rattle.fc_sql.specs.Table.{AreNumbered, IsMirrored, Mirrors, Puts, put_text, row_values, slot_schema, slot_table, slots_in_rows, slot_in_row, stored_of, with_stored_slot}
 use Rattle.fc_sql.proofs.Put.{cast_null, cast_int}
 use Rattle.fc_sql.proofs.Rows.{put_same, put_other, without_each, numbered_left, numbered_put, number_of, mapped_from}
 use Rattle.fc_sql.proofs.Put.{IsPutOver, puts, put_is, put_plain, put_terms}
@@ -83,16 +83,16 @@ module _ (n : ℕ) (s : StoredSlot) (old new : List Row) (numbered : AreNumbered
       let r = it.conflicting.sound x.0 x.1 in
       x.2 ∙ ap (λ (y : Row). id_in (rowid y)) r.3 ∙ conflict_of n s r.0 (number_of old r.0 numbered r.1) r.2
 
-  pub put_states : (m : ℕ) → slots_of new m ≡ with_stored_slot n s (slots_of old) m
+  pub put_states : (m : ℕ) → slots_in_rows new m ≡ with_stored_slot n s (slots_in_rows old) m
   put_states m = ⊎_elim
-      (λ (e : m ≡ n). ap (λ (k : ℕ). slots_of new k) e
-      ∙ ap (λ (rows : List Row). slots_of rows n) it.rows
+      (λ (e : m ≡ n). ap (λ (k : ℕ). slots_in_rows new k) e
+      ∙ ap (λ (rows : List Row). slots_in_rows rows n) it.rows
       ∙ ap slot_in_row (put_same n (stored_of n s) refl (without_all old (ids_of it.found)))
       ∙ stored_is n s.serial s.program
-      ∙ ap (λ (b : Bool). if b then s else slots_of old m) (sym (eq-eqb m n e)))
-      (λ (ne : m ≡ n → ⊥). ap (λ (rows : List Row). slots_of rows m) it.rows
+      ∙ ap (λ (b : Bool). if b then s else slots_in_rows old m) (sym (eq-eqb m n e)))
+      (λ (ne : m ≡ n → ⊥). ap (λ (rows : List Row). slots_in_rows rows m) it.rows
       ∙ ap slot_in_row (put_other n (stored_of n s) refl m ne (without_all old (ids_of it.found)) ∙ without_each m n ne (ids_of it.found) old ids_are)
-      ∙ ap (λ (b : Bool). if b then s else slots_of old m) (sym (ne_eqb m n ne)))
+      ∙ ap (λ (b : Bool). if b then s else slots_in_rows old m) (sym (ne_eqb m n ne)))
       (cases_eq m n)
 
   pub put_numbered : AreNumbered new
@@ -111,7 +111,7 @@ does_put limit mode db n serial (Some p) text tally after h = puts limit mode db
 
 module _ (n : ℕ) (s : StoredSlot) (old : State) (stored : StoredSlots) (has : Mirrors old stored) where
   abbrev changed : Trees → Type 0
-  changed db = AreNumbered (db 0) × AreSameSlots (slots_of (db 0)) (with_stored_slot n s stored)
+  changed db = AreNumbered (db 0) × AreSameSlots (slots_in_rows (db 0)) (with_stored_slot n s stored)
 
   over_stored : (b : Bool) (x y : StoredSlot) → x ≡ y → (if b then s else x) ≡ (if b then s else y)
   over_stored b x y e = ap (λ (z : StoredSlot). if b then s else z) e
@@ -123,12 +123,12 @@ module _ (n : ℕ) (s : StoredSlot) (old : State) (stored : StoredSlots) (has : 
         it.0,
         (
           put_numbered n s (old.now.trees 0) (after.trees 0) has.numbered it.1,
-          λ m few. put_states n s (old.now.trees 0) (after.trees 0) has.numbered it.1 m ∙ over_stored (m == n) (slots_of (old.now.trees 0) m) (stored m) (has.same m few),
+          λ m few. put_states n s (old.now.trees 0) (after.trees 0) has.numbered it.1 m ∙ over_stored (m == n) (slots_in_rows (old.now.trees 0) m) (stored m) (has.same m few),
         ),
       )
 
   -- what the statement may commit.
-  pub commits : (db : Trees) → CommitsBy put_text (row_values n s) old db → AreSameSlots (slots_of (db 0)) (with_stored_slot n s stored)
+  pub commits : (db : Trees) → CommitsBy put_text (row_values n s) old db → AreSameSlots (slots_in_rows (db 0)) (with_stored_slot n s stored)
   unfolding CommitsBy
   commits db h =
       let known : Ok h.0 ≡ understood slot_schema put_text = sym h.1.is ∙ ap (λ schema. understood schema put_text) has.schema in
@@ -137,9 +137,9 @@ module _ (n : ℕ) (s : StoredSlot) (old : State) (stored : StoredSlots) (has : 
       let may : MayCommit old None put_command (text_of put_text h.0) (row_values n s) db = rw (bare.0, bare.1, append-nil (row_values n s), command) at h.2 in
       committed (text_of put_text h.0) may
     where
-      committed : (text : List ℕ) → MayCommit old None put_command text (row_values n s) db → AreSameSlots (slots_of (db 0)) (with_stored_slot n s stored)
+      committed : (text : List ℕ) → MayCommit old None put_command text (row_values n s) db → AreSameSlots (slots_in_rows (db 0)) (with_stored_slot n s stored)
       committed text (inl other) = absurd (elim other.0 [ inl e ↦ cc e | inr r ↦ let e = r.2 in cc ])
-      committed text (inr w) = subst (λ (d : Trees). AreSameSlots (slots_of (d 0)) (with_stored_slot n s stored)) (sym w.5) (changed_by text w.1 w.2 w.3).1.1
+      committed text (inr w) = subst (λ (d : Trees). AreSameSlots (slots_in_rows (d 0)) (with_stored_slot n s stored)) (sym w.5) (changed_by text w.1 w.2 w.3).1.1
 
   -- the statement that ran.
   pub ran : (new : State) (count : ℕ) → Executes put_text (row_values n s) old new (Ok count) → Mirrors new (with_stored_slot n s stored)
@@ -161,7 +161,7 @@ module _ (n : ℕ) (s : StoredSlot) (old : State) (stored : StoredSlots) (has : 
     autocommit = u.0.mode ∙ has.autocommit;
     committed = u.0.committed_is ∙ has.committed ∙ sym u.0.now_is;
     numbered = subst (λ (d : Database). AreNumbered (d.trees 0)) (sym u.0.now_is) has.numbered;
-    same = λ m few. ap (λ (d : Database). slots_of (d.trees 0) m) u.0.now_is ∙ has.same m few;
+    same = λ m few. ap (λ (d : Database). slots_in_rows (d.trees 0) m) u.0.now_is ∙ has.same m few;
   }
   unchanged new is_open (inr r) =
       let undone = r.undone is_open in
@@ -170,7 +170,7 @@ module _ (n : ℕ) (s : StoredSlot) (old : State) (stored : StoredSlots) (has : 
         autocommit = r.autocommit;
         committed = undone.1 ∙ sym undone.0;
         numbered = subst (λ (d : Database). AreNumbered (d.trees 0)) (sym now) has.numbered;
-        same = λ m few. ap (λ (d : Database). slots_of (d.trees 0) m) now ∙ has.same m few;
+        same = λ m few. ap (λ (d : Database). slots_in_rows (d.trees 0) m) now ∙ has.same m few;
       }
 
   pub refused : (new : State) (e : Error) → IsTrue new.is_open → Executes put_text (row_values n s) old new (Err e) → Mirrors new stored
@@ -212,7 +212,7 @@ module _ (n : ℕ) (s : StoredSlot) (old new : State) (stored : StoredSlots) (C 
   stays_open answer put clean said = put_open n s old stored (was clean) new answer (put clean) said
 
 pub crashes : (n : ℕ) (s : StoredSlot) (old new : State) (stored : StoredSlots) → Survives old new (CommitsBy put_text (row_values n s) old) → IsMirrored old stored → IsTrue old.is_open → HasCleanDisk new
-    → (db : Trees) → new.may_leave db → old.may_leave db ⊎ AreSameSlots (slots_of (db 0)) (with_stored_slot n s stored)
+    → (db : Trees) → new.may_leave db → old.may_leave db ⊎ AreSameSlots (slots_in_rows (db 0)) (with_stored_slot n s stored)
 crashes n s old new stored sv m opened clean db may = elim (sv.crash clean db may) [
   | inl before ↦ inl before
   | inr by ↦ inr (commits n s old stored (was n s old new stored (CommitsBy put_text (row_values n s) old) sv m opened clean) db by)

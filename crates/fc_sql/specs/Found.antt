@@ -1,6 +1,7 @@
 -- The slots that a database stores, and the reasons why a database isn't a store of slots.
-use Rattle.std.specs.Prelude.{◌≡◌, ◌≢◌, ◌⊎◌, ℕ, ℤ, pos, ◌<◌, ◌≤◌, Bool, true, not, ◌&&◌, ◌||◌, List, [], ◌∷◌, length, map, Option, Some, None, IfSome, All, ⊤}
+use Rattle.std.specs.Prelude.{◌≡◌, ◌≢◌, ◌⊎◌, ℕ, ℤ, pos, ◌<◌, ◌≤◌, Bool, true, not, ◌&&◌, ◌||◌, List, [], ◌∷◌, length, map, Some, IfSome, All, ⊤}
 use Rattle.std.specs.List.{filter}
+use Rattle.std.specs.List.Sorted.{IsPermutation}
 use Rattle.sqlite.specs.declared.types.Value.{Value}
 use Rattle.sqlite.specs.declared.types.Value.TheVariants.{Null, Int, Blob}
 use Rattle.sqlite.specs.Order.{Row}
@@ -19,7 +20,7 @@ use Rattle.sqlite_value.specs.Order.{column}
 use Rattle.sqlite_trees.specs.Tree.{Trees, rowid, has_rowid}
 use Rattle.fc_store.specs.Stored.{StoredProgram, StoredSlot, StoredSlots, blank_slot}
 use Rattle.fc_store.specs.Updates.{AreSameSlots}
-use Rattle.fc_sql.specs.Table.{create_text, no_schema, slot_schema, values_of}
+use Rattle.fc_sql.specs.Table.{create_text, no_schema, slot_schema, program_values}
 use Rattle.fc_sql.specs.Errors.{open_error}
 use Rattle.fc_sql.specs.declared.error.BadRow.{BadRow}
 use Rattle.fc_sql.specs.declared.error.BadRow.TheVariants.{Number, Twice, Serial, Version, Program}
@@ -32,12 +33,12 @@ use Rattle.fc_sql.specs.declared.columns.Unread.TheVariants.{Memory, Bad}
 -- ---- a slot's row
 
 -- the serial of the install isn't above the slot's own.
-abbrev pub IsState : StoredSlot → Type 0
-IsState s = IfSome s.program (λ (p : StoredProgram). p.version ≤ s.serial)
+abbrev pub IsSlotState : StoredSlot → Type 0
+IsSlotState s = IfSome s.program (λ (p : StoredProgram). p.version ≤ s.serial)
 
 -- the columns serial, version, image and vars of a slot's row.
 abbrev pub state_values : StoredSlot → Row
-state_values s = Int (pos s.serial) ∷ values_of s.program
+state_values s = Int (pos s.serial) ∷ program_values s.program
 
 -- these columns of a row in the table.
 abbrev pub state_columns : Row → Row
@@ -49,9 +50,13 @@ rows_of rows n = map state_columns (filter (has_rowid (pos n)) rows)
 
 -- A slot's rows: one with its state, or none if the slot is blank.
 abbrev pub AreOfSlot : List Row → StoredSlot → Type 0
-AreOfSlot rows s = ((rows ≡ state_values s ∷ []) × IsState s) ⊎ ((rows ≡ []) × (s ≡ blank_slot))
+AreOfSlot rows s = ((rows ≡ state_values s ∷ []) × IsSlotState s) ⊎ ((rows ≡ []) × (s ≡ blank_slot))
 
 -- ---- a table
+
+-- the rows of the first table, that of the slots.
+abbrev pub slot_rows : State → List Row
+slot_rows s = s.now.trees 0
 
 abbrev pub IsSlotNumber : Value → Type 0
 IsSlotNumber v = (n : ℕ) × (n < 64) × (v ≡ Int (pos n))
@@ -59,10 +64,25 @@ IsSlotNumber v = (n : ℕ) × (n < 64) × (v ≡ Int (pos n))
 abbrev pub AreSlotNumbers : List Row → Type 0
 AreSlotNumbers = All (λ (r : Row). IsSlotNumber (rowid r))
 
+-- the rows with the numbers of slots store these slots.
+abbrev pub StoresStates : List Row → StoredSlots → Type 0
+StoresStates rows stored = (n : ℕ) → n < 64 → AreOfSlot (rows_of rows n) (stored n)
+
 -- The rows store these slots, and there is no other row.
 pub record StoresSlots (rows : List Row) (stored : StoredSlots) : Type 0 where
   pub numbers : AreSlotNumbers rows
-  pub states : (n : ℕ) → n < 64 → AreOfSlot (rows_of rows n) (stored n)
+  pub states : StoresStates rows stored
+
+-- the same of a table, of its slots' rows alone.
+abbrev pub TableStores : State → StoredSlots → Type 0
+TableStores s = StoresSlots (slot_rows s)
+
+abbrev pub TableHasStates : State → StoredSlots → Type 0
+TableHasStates s = StoresStates (slot_rows s)
+
+-- these are a slot's rows in the table, in any order.
+abbrev pub AreSlotRows : State → ℕ → List Row → Type 0
+AreSlotRows s n = IsPermutation (rows_of (slot_rows s) n)
 
 -- A database stores these slots: it has the table, or it is empty and the slots are blank.
 abbrev pub StoresIn : Database → StoredSlots → Type 0
@@ -74,8 +94,8 @@ HasTable s = HasCleanDisk s → s.now.schema ≡ slot_schema
 
 -- ---- refusals
 
-abbrev pub IsNumber : Value → Type 0
-IsNumber v = (n : ℕ) × (v ≡ Int (pos n))
+abbrev pub IsUnsigned : Value → Type 0
+IsUnsigned v = (n : ℕ) × (v ≡ Int (pos n))
 
 abbrev pub IsBlob : Value → Type 0
 IsBlob v = (b : List ℕ) × (v ≡ Blob b)
@@ -91,8 +111,8 @@ is_half a b c = (is_null a || is_null b || is_null c) && not (is_null a && is_nu
 abbrev pub IsBadRow : BadRow → Row → Type 0
 IsBadRow Number r = ⊥
 IsBadRow Twice r = ⊥
-IsBadRow Serial r = ¬ IsNumber (column r 0)
-IsBadRow Version r = ((column r 1 ≢ Null) × ¬ IsNumber (column r 1)) ⊎ ((s : ℕ) × (v : ℕ) × (column r 0 ≡ Int (pos s)) × (column r 1 ≡ Int (pos v)) × (s < v))
+IsBadRow Serial r = ¬ IsUnsigned (column r 0)
+IsBadRow Version r = ((column r 1 ≢ Null) × ¬ IsUnsigned (column r 1)) ⊎ ((s : ℕ) × (v : ℕ) × (column r 0 ≡ Int (pos s)) × (column r 1 ≡ Int (pos v)) × (s < v))
 IsBadRow Program r =
     ((column r 2 ≢ Null) × ¬ IsBlob (column r 2)) ⊎ (((column r 3 ≢ Null) × ¬ IsBlob (column r 3)) ⊎ (is_half (column r 1) (column r 2) (column r 3) ≡ true))
 
@@ -117,31 +137,47 @@ abbrev pub IsFailure : OpenError → Type 0
 IsFailure e = (why : Error) × (e ≡ open_error why)
 
 -- Nothing was changed.
-abbrev pub IsKept : State → State → Type 0
-IsKept old new = (new.now ≡ old.now) × (new.committed ≡ old.committed)
+abbrev pub IsSameDatabase : State → State → Type 0
+IsSameDatabase old new = (new.now ≡ old.now) × (new.committed ≡ old.committed)
 
 -- a row isn't the state of a slot, and nothing was changed.
 abbrev pub RefusesRow : State → State → OpenError → Type 0
-RefusesRow old new e = (z : ℤ) × (why : BadRow) × (e ≡ error.Row z why) × HasBad (old.now.trees 0) z why × IsKept old new
+RefusesRow old new e = (z : ℤ) × (why : BadRow) × (e ≡ error.Row z why) × HasBad (old.now.trees 0) z why × IsSameDatabase old new
+
+-- Why rows are refused: one isn't the state of a slot, or a call of the database failed.
+abbrev pub RefusesRows : State → State → OpenError → Type 0
+RefusesRows old new e = RefusesRow old new e ⊎ IsFailure e
 
 -- the tables are neither none nor that of slots, and nothing was changed.
 abbrev pub RefusesForeign : State → State → OpenError → Type 0
-RefusesForeign old new e = (e ≡ error.Foreign) × (old.now.schema ≢ slot_schema) × (old.now.schema ≢ no_schema) × IsKept old new
+RefusesForeign old new e = (e ≡ error.Foreign) × (old.now.schema ≢ slot_schema) × (old.now.schema ≢ no_schema) × IsSameDatabase old new
+
+-- Why tables are refused: they are others, or a call of the database failed.
+abbrev pub OtherTables : State → State → OpenError → Type 0
+OtherTables old new e = RefusesForeign old new e ⊎ IsFailure e
 
 -- Why a database is refused: it has other tables, a row isn't the state of a slot, or a call of the
 -- database failed.
-abbrev pub IsRefused : State → State → OpenError → Type 0
-IsRefused old new e = RefusesForeign old new e ⊎ (((old.now.schema ≡ slot_schema) × RefusesRow old new e) ⊎ IsFailure e)
+abbrev pub RefusesDatabase : State → State → OpenError → Type 0
+RefusesDatabase old new e = RefusesForeign old new e ⊎ (((old.now.schema ≡ slot_schema) × RefusesRow old new e) ⊎ IsFailure e)
 
 -- an empty database gets the table: the changes that the statement may commit.
 abbrev pub Makes : State → Trees → Type 0
 Makes old db = (old.now.schema ≡ no_schema) × CommitsBy create_text [] old db
 
+-- the table is there, and has no row.
+abbrev pub HasNoRow : State → Type 0
+HasNoRow s = (s.now.schema ≡ slot_schema) × (s.now.trees 0 ≡ [])
+
 -- The table is there: it was, or it was made in an empty database, and has no row.
-abbrev pub IsMade : State → State → Type 0
-IsMade old new = ((old.now.schema ≡ slot_schema) × IsKept old new) ⊎ ((old.now.schema ≡ no_schema) × (new.now.schema ≡ slot_schema) × (new.now.trees 0 ≡ []))
+abbrev pub IsTableMade : State → State → Type 0
+IsTableMade old new = ((old.now.schema ≡ slot_schema) × IsSameDatabase old new) ⊎ ((old.now.schema ≡ no_schema) × (new.now.schema ≡ slot_schema) × (new.now.trees 0 ≡ []))
 
 -- ---- columns that were read
+
+-- the state of a slot with a program.
+abbrev pub slot_with : ℕ → ℕ → List ℕ → List ℕ → StoredSlot
+slot_with serial version image vars = record { serial = serial; program = Some (record { version = version; image = image; vars = vars }) }
 
 -- the values that were read.
 abbrev pub column_values : Columns → Row
@@ -152,13 +188,33 @@ abbrev pub AreWide : ℕ → List Row → Type 0
 AreWide n = All (λ (r : Row). length r ≡ n)
 
 -- why columns weren't read.
-abbrev pub IsUnread : Row → Unread → Type 0
-IsUnread r Memory = ⊤
-IsUnread r (Bad why) = IsBadRow why r
+abbrev pub AreUnreadColumns : Row → Unread → Type 0
+AreUnreadColumns r Memory = ⊤
+AreUnreadColumns r (Bad why) = IsBadRow why r
+
+-- why a column wasn't read: memory was refused, or its value can't be read, for this reason.
+abbrev pub IsUnreadColumn : (Value → Type 0) → Row → ℕ → BadRow → Unread → Type 0
+IsUnreadColumn is_readable r at why e = (e ≡ Memory) ⊎ ((e ≡ Bad why) × (at < length r → ¬ is_readable (column r at)))
+
+-- why the rows of a slot weren't read: they aren't the slot's, or memory was refused.
+abbrev pub AreUnread : ℕ → List Row → OpenError → Type 0
+AreUnread slot rows e = ((why : BadRow) × (e ≡ error.Row (pos slot) why) × (AreWide 4 rows → AreBad why rows)) ⊎ (e ≡ error.Memory)
+
+-- the same of one row.
+abbrev pub IsUnreadRow : ℕ → Row → OpenError → Type 0
+IsUnreadRow slot r e = ((why : BadRow) × (e ≡ error.Row (pos slot) why) × (length r ≡ 4 → AreBad why (r ∷ []))) ⊎ (e ≡ error.Memory)
+
+-- why the number of a row was refused: it isn't a slot's, or it wasn't read.
+abbrev pub IsOtherNumber : Row → OpenError → Type 0
+IsOtherNumber r e = ((z : ℤ) × (e ≡ error.Row z Number) × ¬ IsSlotNumber (Int z) × (rowid r ≡ Int z)) ⊎ IsFailure e
 
 -- the rowid of each row, as a column.
 abbrev pub numbers_of : List Row → List Row
 numbers_of = map (λ (r : Row). rowid r ∷ [])
+
+-- these are the numbers in the table, in any order.
+abbrev pub AreRowNumbers : State → List Row → Type 0
+AreRowNumbers s = IsPermutation (numbers_of (slot_rows s))
 
 -- ---- files
 

@@ -15,7 +15,17 @@ use Rattle.fc_store.specs.Updates.{AreSameSlots}
 use Rattle.fc_store.specs.Stored.{StoredProgram, StoredSlot, StoredSlots}
 use Rattle.sqlite.specs.Table.{Table}
 use Rattle.sqlite.specs.Schema.{Schema}
+use Rattle.sqlite_schema.specs.declared.schema.Column.{Column}
+use Rattle.sqlite.specs.Kind.{Kind}
 use Rattle.sqlite.specs.Kind.TheVariants as kinds
+
+-- a column of a strict table: its name and its type, and whether it is NOT NULL.
+abbrev pub strict_column : List ℕ → Kind → Bool → Column
+strict_column name kind not_null = record { name = name; kind = kind; is_strict = true; not_null = not_null; default = Null; collation = Binary }
+
+-- the table without constraints of its own: UNIQUE, CHECK, references, and computed columns.
+abbrev pub without_rules : Table → Table
+without_rules t = record t { uniques = []; orders = []; checks = []; references = []; computed = []; stamps = record { places = []; terms = []; formats = [] } }
 
 -- the table that `create_text` defines.
 abbrev pub slot_table : Table
@@ -55,17 +65,17 @@ put_text = codes "INSERT OR REPLACE INTO slot (number, serial, version, image, v
 -- ---- rows
 
 -- the version, the image and the variables of a program.
-abbrev pub values_of : Option StoredProgram → Row
-values_of None = Null ∷ Null ∷ Null ∷ []
-values_of (Some p) = Int (pos p.version) ∷ Blob p.image ∷ Blob p.vars ∷ []
+abbrev pub program_values : Option StoredProgram → Row
+program_values None = Null ∷ Null ∷ Null ∷ []
+program_values (Some p) = Int (pos p.version) ∷ Blob p.image ∷ Blob p.vars ∷ []
 
 -- the parameters of `put_text` for a slot.
 abbrev pub row_values : ℕ → StoredSlot → Row
-row_values n s = Int (pos n) ∷ Int (pos s.serial) ∷ values_of s.program
+row_values n s = Int (pos n) ∷ Int (pos s.serial) ∷ program_values s.program
 
 -- the row in the table: the rowid, and NULL in the column of the primary key.
 abbrev pub stored_of : ℕ → StoredSlot → Row
-stored_of n s = Int (pos n) ∷ Null ∷ Int (pos s.serial) ∷ values_of s.program
+stored_of n s = Int (pos n) ∷ Null ∷ Int (pos s.serial) ∷ program_values s.program
 
 -- the numbers are integers of SQLite.
 abbrev pub AreStorable : StoredSlot → Type 0
@@ -81,12 +91,12 @@ abbrev pub nat_in : Value → ℕ
 nat_in (Int (pos n)) = n
 nat_in _ = 0
 
-abbrev pub bytes_in : Value → List ℕ
-bytes_in (Blob b) = b
-bytes_in _ = []
+abbrev pub blob_bytes : Value → List ℕ
+blob_bytes (Blob b) = b
+blob_bytes _ = []
 
 abbrev pub program_if : Value → Value → Value → Option StoredProgram
-program_if (Int (pos v)) image vars = Some (record { version = v; image = bytes_in image; vars = bytes_in vars })
+program_if (Int (pos v)) image vars = Some (record { version = v; image = blob_bytes image; vars = blob_bytes vars })
 program_if _ image vars = None
 
 -- the slot that a row stores; without a row it is blank.
@@ -94,8 +104,8 @@ abbrev pub slot_in_row : Row → StoredSlot
 slot_in_row row = record { serial = nat_in (column row 2); program = program_if (column row 3) (column row 4) (column row 5) }
 
 -- the slots that the rows of the table store.
-abbrev pub slots_of : List Row → StoredSlots
-slots_of rows n = slot_in_row (row_at rows (pos n))
+abbrev pub slots_in_rows : List Row → StoredSlots
+slots_in_rows rows n = slot_in_row (row_at rows (pos n))
 
 -- each rowid is an integer.
 abbrev pub AreNumbered : List Row → Type 0
@@ -107,7 +117,7 @@ pub record Mirrors (s : State) (stored : StoredSlots) : Type 0 where
   pub autocommit : s.in_transaction ≡ false
   pub committed : s.committed ≡ s.now
   pub numbered : AreNumbered (s.now.trees 0)
-  pub same : AreSameSlots (slots_of (s.now.trees 0)) stored
+  pub same : AreSameSlots (slots_in_rows (s.now.trees 0)) stored
 
 -- the same, as long as the medium is clean and the connection open.
 abbrev pub IsMirrored : State → StoredSlots → Type 0

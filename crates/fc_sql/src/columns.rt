@@ -3,7 +3,7 @@ ghost use Rattle.std.specs.Prelude.{◌≡◌, ◌⊎◌, ◌<◌, ◌≤◌, po
 ghost use Rattle.sqlite_value.specs.Order.{column};
 ghost use Rattle.sqlite.specs.Values.{or_null};
 ghost use Rattle.sqlite.specs.declared.types.Value.TheVariants.{Int, Blob};
-ghost use Rattle.fc_sql.specs.Found.{IsBadRow, IsState, IsUnread, column_values, state_values};
+ghost use Rattle.fc_sql.specs.Found.{IsBadRow, IsSlotState, AreUnreadColumns, IsUnreadColumn, column_values, slot_with, state_values};
 
 use crate::error::BadRow;
 use fc_store::{StoredProgram, StoredSlot};
@@ -30,8 +30,8 @@ struct Columns {
 ///
 /// The row has the columns serial, version, image and vars.
 pub(crate) fn stored_in(row: &Row) -> Result<StoredSlot, Unread>
-    ensures ok { IfOk result (λ s. length row.now ≡ 4 → (row.now ≡ state_values s) × IsState s) }
-    ensures bad { IfErr result (λ e. length row.now ≡ 4 → IsUnread row.now e) }
+    ensures ok { IfOk result (λ s. length row.now ≡ 4 → (row.now ≡ state_values s) × IsSlotState s) }
+    ensures bad { IfErr result (λ e. length row.now ≡ 4 → AreUnreadColumns row.now e) }
 {
     match slot_in(columns_in(row)?) {
         Ok(stored) => Ok(stored),
@@ -41,7 +41,7 @@ pub(crate) fn stored_in(row: &Row) -> Result<StoredSlot, Unread>
 
 fn columns_in(row: &Row) -> Result<Columns, Unread>
     ensures ok { IfOk result (λ c. length row.now ≡ 4 → row.now ≡ column_values c) }
-    ensures bad { IfErr result (λ e. length row.now ≡ 4 → IsUnread row.now e) }
+    ensures bad { IfErr result (λ e. length row.now ≡ 4 → AreUnreadColumns row.now e) }
 {
     let serial = column(row, 0, BadRow::Serial)?;
     let version = version_in(row)?;
@@ -57,14 +57,14 @@ fn columns_in(row: &Row) -> Result<Columns, Unread>
 
 fn version_in(row: &Row) -> Result<Option<u64>, Unread>
     ensures ok { IfOk result (λ v. column row.now 1 ≡ or_null (λ n. Int (pos n)) v) }
-    ensures bad { IfErr result (λ e. length row.now ≡ 4 → IsUnread row.now e) }
+    ensures bad { IfErr result (λ e. length row.now ≡ 4 → AreUnreadColumns row.now e) }
 {
     column(row, 1, BadRow::Version)
 }
 
 fn vars_in(row: &Row) -> Result<Option<Vec<u8>>, Unread>
     ensures ok { IfOk result (λ v. column row.now 3 ≡ or_null (λ b. Blob b.items) v) }
-    ensures bad { IfErr result (λ e. length row.now ≡ 4 → IsUnread row.now e) }
+    ensures bad { IfErr result (λ e. length row.now ≡ 4 → AreUnreadColumns row.now e) }
 {
     column(row, 3, BadRow::Program)
 }
@@ -72,7 +72,7 @@ fn vars_in(row: &Row) -> Result<Option<Vec<u8>>, Unread>
 // Reads a column. `bad` is the reason if it has no such value.
 fn column<T: FromSql>(row: &Row, at: usize, bad: BadRow) -> Result<T, Unread>
     ensures ok { IfOk result (λ x. T.FromSql.reads_as (column row.now at) x) }
-    ensures bad { IfErr result (λ e. (e ≡ Unread.Memory) ⊎ ((e ≡ Unread.Bad bad) × (at < length row.now → ¬ T.FromSql.is_readable (column row.now at)))) }
+    ensures bad { IfErr result (IsUnreadColumn T.FromSql.is_readable row.now at bad) }
 {
     match row.get::<T>(at) {
         Ok(value) => Ok(value),
@@ -83,7 +83,7 @@ fn column<T: FromSql>(row: &Row, at: usize, bad: BadRow) -> Result<T, Unread>
 
 // Returns the slot of these columns. A program has a version, an image and variables.
 fn slot_in(columns: Columns) -> Result<StoredSlot, BadRow>
-    ensures ok { IfOk result (λ s. (column_values columns ≡ state_values s) × IsState s) }
+    ensures ok { IfOk result (λ s. (column_values columns ≡ state_values s) × IsSlotState s) }
     ensures bad { IfErr result (λ why. IsBadRow why (column_values columns)) }
 {
     let Columns {
@@ -104,7 +104,7 @@ fn slot_in(columns: Columns) -> Result<StoredSlot, BadRow>
 
 // Returns the slot of a program.
 fn slot_of(serial: u64, version: u64, image: Vec<u8>, vars: Vec<u8>) -> Result<StoredSlot, BadRow>
-    ensures ok { IfOk result (λ s. (version ≤ serial) × (s ≡ record { serial = serial; program = Some (record { version = version; image = image.items; vars = vars.items }) })) }
+    ensures ok { IfOk result (λ s. (version ≤ serial) × (s ≡ slot_with serial version image.items vars.items)) }
     ensures bad { IfErr result (λ why. (why ≡ BadRow.Version) × (serial < version)) }
 {
     if version > serial {

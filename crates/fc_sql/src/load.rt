@@ -1,5 +1,5 @@
 //! Reading the stored slots of a database.
-ghost use Rattle.std.specs.Prelude.{◌≡◌, ◌⊎◌, ◌<◌, ℤ, pos, [], length, ◌∷◌, ℕ, IsTrue, IfOk, IfErr, OnOk};
+ghost use Rattle.std.specs.Prelude.{◌≡◌, ◌⊎◌, ℤ, pos, [], length, ◌∷◌, IsTrue, IfOk, IfErr, OnOk};
 ghost use Rattle.std.specs.List.{All};
 ghost use Rattle.std.specs.List.Sorted.{IsPermutation};
 ghost use Rattle.sqlite.specs.State.{CommitsBy, HasCleanDisk, Survives};
@@ -8,7 +8,7 @@ ghost use Rattle.sqlite_trees.specs.Tree.{rowid};
 ghost use Rattle.sqlite.specs.declared.types.Value.TheVariants.{Int};
 ghost use Rattle.fc_store.specs.Stored.{stored_in};
 ghost use Rattle.fc_sql.specs.Table.{IsMirrored, create_text, no_schema, slot_schema};
-ghost use Rattle.fc_sql.specs.Found.{AreBad, AreOfSlot, AreWide, AreSlotNumbers, HasOther, HasTable, IsFailure, IsKept, IsMade, IsRefused, IsSlotNumber, Makes, RefusesForeign, RefusesRow, StoresIn, StoresSlots, numbers_of, rows_of};
+ghost use Rattle.fc_sql.specs.Found.{AreBad, AreOfSlot, AreRowNumbers, AreSlotNumbers, AreSlotRows, AreUnread, AreWide, HasNoRow, HasOther, HasTable, IsFailure, IsOtherNumber, IsSlotNumber, IsTableMade, IsSameDatabase, IsUnreadRow, Makes, OtherTables, RefusesDatabase, RefusesRows, StoresIn, TableHasStates, TableStores, rows_of, slot_rows};
 
 use crate::columns::{Unread, stored_in};
 use crate::error::{BadRow, OpenError};
@@ -39,7 +39,7 @@ pub fn load<S: Alter + Drop>(
     ensures ready { IfOk result (λ v. IsMirrored (state S.Store conn.new) (stored_in v.items)) }
     ensures open { HasCleanDisk (state S.Store conn.new) → OnOk result (IsTrue (state S.Store conn.new).is_open) }
     ensures found { HasCleanDisk (state S.Store conn.new) → IfOk result (λ v. StoresIn (state S.Store conn.old).now (stored_in v.items)) }
-    ensures refused { HasCleanDisk (state S.Store conn.new) → IfErr result (IsRefused (state S.Store conn.old) (state S.Store conn.new)) }
+    ensures refused { HasCleanDisk (state S.Store conn.new) → IfErr result (RefusesDatabase (state S.Store conn.old) (state S.Store conn.new)) }
     ensures survives { Survives (state S.Store conn.old) (state S.Store conn.new) (Makes (state S.Store conn.old)) }
 {
     match make_table(conn) {
@@ -57,8 +57,8 @@ fn read_made<S: Alter + Drop>(
     ensures size { IfOk result (λ v. length v.items ≡ 64) }
     ensures ready { IfOk result (λ v. IsMirrored (state S.Store conn.new) (stored_in v.items)) }
     ensures open { HasCleanDisk (state S.Store conn.new) → OnOk result (IsTrue (state S.Store conn.new).is_open) }
-    ensures found { HasCleanDisk (state S.Store conn.new) → IfOk result (λ v. StoresSlots ((state S.Store conn.old).now.trees 0) (stored_in v.items)) }
-    ensures refused { HasCleanDisk (state S.Store conn.new) → IfErr result (λ e. RefusesRow (state S.Store conn.old) (state S.Store conn.new) e ⊎ IsFailure e) }
+    ensures found { HasCleanDisk (state S.Store conn.new) → IfOk result (λ v. TableStores (state S.Store conn.old) (stored_in v.items)) }
+    ensures refused { HasCleanDisk (state S.Store conn.new) → IfErr result (RefusesRows (state S.Store conn.old) (state S.Store conn.new)) }
     ensures survives { Survives (state S.Store conn.old) (state S.Store conn.new) (λ _. ⊥) }
 {
     match read_table(alloc, conn) {
@@ -75,8 +75,8 @@ fn read_made<S: Alter + Drop>(
 
 // Creates the table in an empty database.
 fn make_table<S: Alter + Drop>(conn: &mut Connection<S>) -> Result<(), OpenError>
-    ensures made { HasCleanDisk (state S.Store conn.new) → OnOk result (IsMade (state S.Store conn.old) (state S.Store conn.new)) }
-    ensures refused { HasCleanDisk (state S.Store conn.new) → IfErr result (λ e. RefusesForeign (state S.Store conn.old) (state S.Store conn.new) e ⊎ IsFailure e) }
+    ensures made { HasCleanDisk (state S.Store conn.new) → OnOk result (IsTableMade (state S.Store conn.old) (state S.Store conn.new)) }
+    ensures refused { HasCleanDisk (state S.Store conn.new) → IfErr result (OtherTables (state S.Store conn.old) (state S.Store conn.new)) }
     ensures survives { Survives (state S.Store conn.old) (state S.Store conn.new) (Makes (state S.Store conn.old)) }
 {
     if has_slots(conn.schema()) {
@@ -90,7 +90,7 @@ fn make_table<S: Alter + Drop>(conn: &mut Connection<S>) -> Result<(), OpenError
 
 fn create<S: Alter + Drop>(conn: &mut Connection<S>) -> Result<(), OpenError>
     requires empty { (state S.Store conn.old).now.schema ≡ no_schema }
-    ensures made { HasCleanDisk (state S.Store conn.new) → OnOk result (((state S.Store conn.new).now.schema ≡ slot_schema) × ((state S.Store conn.new).now.trees 0 ≡ [])) }
+    ensures made { HasCleanDisk (state S.Store conn.new) → OnOk result (HasNoRow (state S.Store conn.new)) }
     ensures failure { IfErr result IsFailure }
     ensures survives { Survives (state S.Store conn.old) (state S.Store conn.new) (CommitsBy create_text [] (state S.Store conn.old)) }
 {
@@ -107,10 +107,10 @@ fn read_table<S: Alter + Drop>(
 ) -> Result<Vec<StoredSlot>, OpenError>
     requires table { HasTable (state S.Store conn.old) }
     ensures size { IfOk result (λ v. length v.items ≡ 64) }
-    ensures found { HasCleanDisk (state S.Store conn.new) → IfOk result (λ v. StoresSlots ((state S.Store conn.old).now.trees 0) (stored_in v.items)) }
-    ensures kept { HasCleanDisk (state S.Store conn.new) → OnOk result (IsKept (state S.Store conn.old) (state S.Store conn.new)) }
+    ensures found { HasCleanDisk (state S.Store conn.new) → IfOk result (λ v. TableStores (state S.Store conn.old) (stored_in v.items)) }
+    ensures kept { HasCleanDisk (state S.Store conn.new) → OnOk result (IsSameDatabase (state S.Store conn.old) (state S.Store conn.new)) }
     ensures open { HasCleanDisk (state S.Store conn.new) → OnOk result (IsTrue (state S.Store conn.new).is_open) }
-    ensures refused { HasCleanDisk (state S.Store conn.new) → IfErr result (λ e. RefusesRow (state S.Store conn.old) (state S.Store conn.new) e ⊎ IsFailure e) }
+    ensures refused { HasCleanDisk (state S.Store conn.new) → IfErr result (RefusesRows (state S.Store conn.old) (state S.Store conn.new)) }
     ensures survives { Survives (state S.Store conn.old) (state S.Store conn.new) (λ _. ⊥) }
 {
     match read_slots(alloc, conn) {
@@ -128,9 +128,9 @@ fn read_slots<S: Alter + Drop>(
 ) -> Result<Vec<StoredSlot>, OpenError>
     requires table { HasTable (state S.Store conn.old) }
     ensures size { IfOk result (λ v. length v.items ≡ 64) }
-    ensures found { HasCleanDisk (state S.Store conn.new) → IfOk result (λ v. (n : ℕ) → n < 64 → AreOfSlot (rows_of ((state S.Store conn.old).now.trees 0) n) (stored_in v.items n)) }
-    ensures kept { HasCleanDisk (state S.Store conn.new) → OnOk result (IsKept (state S.Store conn.old) (state S.Store conn.new)) }
-    ensures refused { HasCleanDisk (state S.Store conn.new) → IfErr result (λ e. RefusesRow (state S.Store conn.old) (state S.Store conn.new) e ⊎ IsFailure e) }
+    ensures found { HasCleanDisk (state S.Store conn.new) → IfOk result (λ v. TableHasStates (state S.Store conn.old) (stored_in v.items)) }
+    ensures kept { HasCleanDisk (state S.Store conn.new) → OnOk result (IsSameDatabase (state S.Store conn.old) (state S.Store conn.new)) }
+    ensures refused { HasCleanDisk (state S.Store conn.new) → IfErr result (RefusesRows (state S.Store conn.old) (state S.Store conn.new)) }
     ensures survives { Survives (state S.Store conn.old) (state S.Store conn.new) (λ _. ⊥) }
 {
     let Ok(mut slots) = Vec::with_capacity(alloc, SLOTS) else {
@@ -151,10 +151,10 @@ fn read_slots<S: Alter + Drop>(
 // Reads a slot: without a row it is blank.
 fn read_slot<S: Alter + Drop>(conn: &mut Connection<S>, slot: u8) -> Result<StoredSlot, OpenError>
     requires table { HasTable (state S.Store conn.old) }
-    ensures found { HasCleanDisk (state S.Store conn.new) → IfOk result (AreOfSlot (rows_of ((state S.Store conn.old).now.trees 0) slot)) }
-    ensures kept { HasCleanDisk (state S.Store conn.new) → OnOk result (IsKept (state S.Store conn.old) (state S.Store conn.new)) }
+    ensures found { HasCleanDisk (state S.Store conn.new) → IfOk result (AreOfSlot (rows_of (slot_rows (state S.Store conn.old)) slot)) }
+    ensures kept { HasCleanDisk (state S.Store conn.new) → OnOk result (IsSameDatabase (state S.Store conn.old) (state S.Store conn.new)) }
     ensures refused { HasCleanDisk (state S.Store conn.new) → IfErr result (λ e.
-        ((why : BadRow) × (e ≡ OpenError.Row (pos slot) why) × AreBad why (rows_of ((state S.Store conn.old).now.trees 0) slot) × IsKept (state S.Store conn.old) (state S.Store conn.new)) ⊎ IsFailure e) }
+        ((why : BadRow) × (e ≡ OpenError.Row (pos slot) why) × AreBad why (rows_of (slot_rows (state S.Store conn.old)) slot) × IsSameDatabase (state S.Store conn.old) (state S.Store conn.new)) ⊎ IsFailure e) }
     ensures survives { Survives (state S.Store conn.old) (state S.Store conn.new) (λ _. ⊥) }
 {
     match rows_of_slot(conn, slot) {
@@ -172,8 +172,8 @@ fn number_of(slot: u8) -> i64
 // Reads the rows with the number of a slot.
 fn rows_of_slot<S: Alter + Drop>(conn: &mut Connection<S>, slot: u8) -> Result<Vec<Row>, OpenError>
     requires table { HasTable (state S.Store conn.old) }
-    ensures rows { HasCleanDisk (state S.Store conn.new) → IfOk result (λ v. IsPermutation (rows_of ((state S.Store conn.old).now.trees 0) slot) v.items) }
-    ensures kept { HasCleanDisk (state S.Store conn.new) → OnOk result (IsKept (state S.Store conn.old) (state S.Store conn.new)) }
+    ensures rows { HasCleanDisk (state S.Store conn.new) → IfOk result (λ v. AreSlotRows (state S.Store conn.old) slot v.items) }
+    ensures kept { HasCleanDisk (state S.Store conn.new) → OnOk result (IsSameDatabase (state S.Store conn.old) (state S.Store conn.new)) }
     ensures failure { IfErr result IsFailure }
     ensures survives { Survives (state S.Store conn.old) (state S.Store conn.new) (λ _. ⊥) }
 {
@@ -187,7 +187,7 @@ fn rows_of_slot<S: Alter + Drop>(conn: &mut Connection<S>, slot: u8) -> Result<V
 // Returns the slot that its rows store.
 fn slot_of(rows: &[Row], slot: u8) -> Result<StoredSlot, OpenError>
     ensures ok { IfOk result (λ s. AreWide 4 rows.now → AreOfSlot rows.now s) }
-    ensures bad { IfErr result (λ e. ((why : BadRow) × (e ≡ OpenError.Row (pos slot) why) × (AreWide 4 rows.now → AreBad why rows.now)) ⊎ (e ≡ OpenError.Memory)) }
+    ensures bad { IfErr result (AreUnread slot rows.now) }
 {
     match rows {
         [] => Ok(StoredSlot::blank()),
@@ -198,7 +198,7 @@ fn slot_of(rows: &[Row], slot: u8) -> Result<StoredSlot, OpenError>
 
 fn read_row(row: &Row, slot: u8) -> Result<StoredSlot, OpenError>
     ensures ok { IfOk result (λ s. length row.now ≡ 4 → AreOfSlot (row.now ∷ []) s) }
-    ensures bad { IfErr result (λ e. ((why : BadRow) × (e ≡ OpenError.Row (pos slot) why) × (length row.now ≡ 4 → AreBad why (row.now ∷ []))) ⊎ (e ≡ OpenError.Memory)) }
+    ensures bad { IfErr result (IsUnreadRow slot row.now) }
 {
     match stored_in(row) {
         Ok(stored) => Ok(stored),
@@ -210,10 +210,10 @@ fn read_row(row: &Row, slot: u8) -> Result<StoredSlot, OpenError>
 // Checks that each row is that of a slot, 0 to 63.
 fn check_rows<S: Alter + Drop>(conn: &mut Connection<S>) -> Result<(), OpenError>
     requires table { HasTable (state S.Store conn.old) }
-    ensures numbers { HasCleanDisk (state S.Store conn.new) → OnOk result (AreSlotNumbers ((state S.Store conn.old).now.trees 0)) }
-    ensures kept { HasCleanDisk (state S.Store conn.new) → OnOk result (IsKept (state S.Store conn.old) (state S.Store conn.new)) }
+    ensures numbers { HasCleanDisk (state S.Store conn.new) → OnOk result (AreSlotNumbers (slot_rows (state S.Store conn.old))) }
+    ensures kept { HasCleanDisk (state S.Store conn.new) → OnOk result (IsSameDatabase (state S.Store conn.old) (state S.Store conn.new)) }
     ensures open { HasCleanDisk (state S.Store conn.new) → OnOk result (IsTrue (state S.Store conn.new).is_open) }
-    ensures refused { HasCleanDisk (state S.Store conn.new) → IfErr result (λ e. RefusesRow (state S.Store conn.old) (state S.Store conn.new) e ⊎ IsFailure e) }
+    ensures refused { HasCleanDisk (state S.Store conn.new) → IfErr result (RefusesRows (state S.Store conn.old) (state S.Store conn.new)) }
     ensures survives { Survives (state S.Store conn.old) (state S.Store conn.new) (λ _. ⊥) }
 {
     match numbers(conn) {
@@ -225,8 +225,8 @@ fn check_rows<S: Alter + Drop>(conn: &mut Connection<S>) -> Result<(), OpenError
 // Reads the number of each row.
 fn numbers<S: Alter + Drop>(conn: &mut Connection<S>) -> Result<Vec<Row>, OpenError>
     requires table { HasTable (state S.Store conn.old) }
-    ensures rows { HasCleanDisk (state S.Store conn.new) → IfOk result (λ v. IsPermutation (numbers_of ((state S.Store conn.old).now.trees 0)) v.items) }
-    ensures kept { HasCleanDisk (state S.Store conn.new) → OnOk result (IsKept (state S.Store conn.old) (state S.Store conn.new)) }
+    ensures rows { HasCleanDisk (state S.Store conn.new) → IfOk result (λ v. AreRowNumbers (state S.Store conn.old) v.items) }
+    ensures kept { HasCleanDisk (state S.Store conn.new) → OnOk result (IsSameDatabase (state S.Store conn.old) (state S.Store conn.new)) }
     ensures open { HasCleanDisk (state S.Store conn.new) → OnOk result (IsTrue (state S.Store conn.new).is_open) }
     ensures failure { IfErr result IsFailure }
     ensures survives { Survives (state S.Store conn.old) (state S.Store conn.new) (λ _. ⊥) }
@@ -251,7 +251,7 @@ fn check_numbers(rows: &[Row]) -> Result<(), OpenError>
 
 fn check_number(row: &Row) -> Result<(), OpenError>
     ensures ok { OnOk result (IsSlotNumber (rowid row.now)) }
-    ensures bad { IfErr result (λ e. ((z : ℤ) × (e ≡ OpenError.Row z BadRow.Number) × ¬ IsSlotNumber (Int z) × (rowid row.now ≡ Int z)) ⊎ IsFailure e) }
+    ensures bad { IfErr result (IsOtherNumber row.now) }
 {
     let number = match row.get::<i64>(0) {
         Ok(number) => number,

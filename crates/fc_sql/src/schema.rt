@@ -1,8 +1,6 @@
 //! Whether a database is empty, or has just the table of slots.
 ghost use Rattle.std.specs.Prelude.{◌≡◌, true, []};
-ghost use Rattle.sqlite.specs.Collation.TheVariants.{Binary};
-ghost use Rattle.sqlite.specs.declared.types.Value.TheVariants.{Null};
-ghost use Rattle.fc_sql.specs.Table.{no_schema, slot_schema, slot_table};
+ghost use Rattle.fc_sql.specs.Table.{no_schema, slot_schema, slot_table, strict_column, without_rules};
 
 use sqlite_schema::schema::{Column, Kind, Schema, Table};
 use sqlite_value::keys::Collation;
@@ -59,8 +57,8 @@ fn has_slot_columns(columns: &[Column]) -> bool
 }
 
 fn is_column(column: &Column, name: &[u8], kind: Kind, not_null: bool) -> bool
-    ensures sound { result ≡ true → column.now ≡ record { name = name.now; kind = kind; is_strict = true; not_null = not_null; default = Null; collation = Binary } }
-    ensures complete { column.now ≡ record { name = name.now; kind = kind; is_strict = true; not_null = not_null; default = Null; collation = Binary } → result ≡ true }
+    ensures sound { result ≡ true → column.now ≡ strict_column name.now kind not_null }
+    ensures complete { column.now ≡ strict_column name.now kind not_null → result ≡ true }
 {
     column.name.as_slice() == name
         && column.kind == kind
@@ -72,8 +70,8 @@ fn is_column(column: &Column, name: &[u8], kind: Kind, not_null: bool) -> bool
 
 // Returns whether the table has no other key, check, reference or default.
 fn has_no_rules(table: &Table) -> bool
-    ensures sound { result ≡ true → table.now ≡ record table.now { uniques = []; orders = []; checks = []; references = []; computed = []; stamps = record { places = []; terms = []; formats = [] } } }
-    ensures complete { table.now ≡ record table.now { uniques = []; orders = []; checks = []; references = []; computed = []; stamps = record { places = []; terms = []; formats = [] } } → result ≡ true }
+    ensures sound { result ≡ true → table.now ≡ without_rules table.now }
+    ensures complete { table.now ≡ without_rules table.now → result ≡ true }
 {
     table.uniques.as_slice().is_empty()
         && table.orders.as_slice().is_empty()

@@ -5,8 +5,8 @@ ghost use Rattle.sqlite.specs.Held.{state};
 ghost use Rattle.sqlite.specs.Tree.{Trees};
 ghost use Rattle.fc_store.specs.Updates.{AreSameSlots};
 ghost use Rattle.fc_store.specs.Stored.{stored_in};
-ghost use Rattle.fc_sql.specs.Table.{IsMirrored, slots_of};
-ghost use Rattle.fc_sql.specs.Found.{IsRefused, Makes, StoresIn};
+ghost use Rattle.fc_sql.specs.Table.{IsMirrored, slots_in_rows};
+ghost use Rattle.fc_sql.specs.Found.{RefusesDatabase, Makes, StoresIn};
 
 use crate::error::OpenError;
 use crate::load::load;
@@ -35,8 +35,10 @@ impl<S: Alter + Drop> SqlStore<S> {
     ) -> Result<SqlStore<S>, (OpenError, Connection<S>)>
         ensures ready { IfOk result (λ s. IsMirrored (state S.Store s.conn) (stored_in s.slots.items)) }
         ensures open { IfOk result (λ s. HasCleanDisk (state S.Store s.conn) → IsTrue (state S.Store s.conn).is_open) }
-        ensures found { IfOk result (λ s. HasCleanDisk (state S.Store s.conn) → StoresIn (state S.Store conn).now (stored_in s.slots.items)) }
-        ensures refused { IfErr result (λ e. HasCleanDisk (state S.Store e.1) → IsRefused (state S.Store conn) (state S.Store e.1) e.0) }
+        ensures found { IfOk result (λ s. HasCleanDisk (state S.Store s.conn)
+            → StoresIn (state S.Store conn).now (stored_in s.slots.items)) }
+        ensures refused { IfErr result (λ e. HasCleanDisk (state S.Store e.1)
+            → RefusesDatabase (state S.Store conn) (state S.Store e.1) e.0) }
         ensures crash { MatchResult result
             (λ s. Survives (state S.Store conn) (state S.Store s.conn) (Makes (state S.Store conn)))
             (λ e. Survives (state S.Store conn) (state S.Store e.1) (Makes (state S.Store conn))) }
@@ -73,7 +75,7 @@ impl<S: Alter + Drop> Store for SqlStore<S> {
 
     ghost is_open = { λ s. IsTrue (state S.Store s.conn).is_open };
 
-    ghost may_recover = { λ s found. (db : Trees) × S.Store.recovers s.conn.store db × AreSameSlots found (slots_of (db 0)) };
+    ghost may_recover = { λ s found. (db : Trees) × S.Store.recovers s.conn.store db × AreSameSlots found (slots_in_rows (db 0)) };
 
     fn is_persistent(&self) -> bool {
         true

@@ -5,7 +5,7 @@ ghost use Rattle.sqlite.specs.State.{CommitsBy, HasCleanDisk, Survives};
 ghost use Rattle.sqlite.specs.Held.{state};
 ghost use Rattle.fc_store.specs.Updates.{AreSameSlots};
 ghost use Rattle.fc_store.specs.Stored.{StoredSlots};
-ghost use Rattle.fc_sql.specs.Table.{AreStorable, IsMirrored, Puts, put_text, row_values, slots_of, with_stored_slot};
+ghost use Rattle.fc_sql.specs.Table.{AreStorable, IsMirrored, Puts, put_text, row_values, slots_in_rows, with_stored_slot};
 
 use fc_store::{StoredProgram, StoredSlot};
 use sqlite::types::{ToSql, ValueRef};
@@ -32,11 +32,11 @@ pub fn write<S: Alter>(conn: &mut Connection<S>, slot: u8, stored: &StoredSlot) 
     ensures stored { (before : StoredSlots) → IsMirrored (state S.Store conn.old) before → IsTrue (state S.Store conn.old).is_open
         → IsMirrored (state S.Store conn.new) (if result then with_stored_slot slot stored.now before else before) }
     ensures clean { HasCleanDisk (state S.Store conn.new) → HasCleanDisk (state S.Store conn.old) }
-    ensures open { (before : StoredSlots) → IsMirrored (state S.Store conn.old) before → IsTrue (state S.Store conn.old).is_open → HasCleanDisk (state S.Store conn.new)
-        → result ≡ true → IsTrue (state S.Store conn.new).is_open }
-    ensures crash { (before : StoredSlots) → IsMirrored (state S.Store conn.old) before → IsTrue (state S.Store conn.old).is_open → HasCleanDisk (state S.Store conn.new)
-        → (db : Trees) → S.Store.recovers conn.new.store db
-        → S.Store.recovers conn.old.store db ⊎ AreSameSlots (slots_of (db 0)) (with_stored_slot slot stored.now before) }
+    ensures open { (before : StoredSlots) → IsMirrored (state S.Store conn.old) before → IsTrue (state S.Store conn.old).is_open
+        → HasCleanDisk (state S.Store conn.new) → result ≡ true → IsTrue (state S.Store conn.new).is_open }
+    ensures crash { (before : StoredSlots) → IsMirrored (state S.Store conn.old) before → IsTrue (state S.Store conn.old).is_open
+        → HasCleanDisk (state S.Store conn.new) → (db : Trees) → S.Store.recovers conn.new.store db
+        → S.Store.recovers conn.old.store db ⊎ AreSameSlots (slots_in_rows (db 0)) (with_stored_slot slot stored.now before) }
 {
     fits(stored) && put(conn, slot, stored)
 }

@@ -1,6 +1,5 @@
-use Rattle.std.proofs.Common.{◌≡◌, [], arith}
+use Rattle.std.proofs.Common.{[], arith}
 use Rattle.sqlite.specs.Held.{state}
-use Rattle.sqlite.specs.State.{Survives}
 use Rattle.fc_sql.proofs.Read.{get_numbers, numbers_plain, numbers_text, plain_there, shown_unchanged}
 use Rattle.fc_sql.proofs.Found.{kept_by, reads_survive}
 use Rattle.fc_sql.proofs.load.numbers.Goals as goal

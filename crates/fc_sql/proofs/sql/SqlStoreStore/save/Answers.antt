@@ -6,7 +6,7 @@ use Rattle.sqlite_trees.specs.Tree.{Trees}
 use Rattle.fc_store.specs.Stored.{stored_in}
 use Rattle.fc_store.specs.Updates.{slot_after}
 use Rattle.fc_store.proofs.Places.{places_written}
-use Rattle.fc_sql.specs.Table.{IsMirrored, slots_of, with_stored_slot}
+use Rattle.fc_sql.specs.Table.{IsMirrored, slots_in_rows, with_stored_slot}
 use Rattle.fc_sql.proofs.Mirror.{mirrors_same, same_both, with_after}
 use Rattle.fc_sql.proofs.sql.SqlStoreStore.save.Goals as goal
 
@@ -40,7 +40,7 @@ returns-else-not-write-clause-durable g c m opened clean said found it n few =
     let is_open = c.write.ensures.open (stored_in all) m opened clean c.if-not-write.false in
     let mirrors = returns-else-not-write-clause-ready g c m opened clean is_open in
     let settled : it.0 ≡ (state g.S.Store c.write.new.conn).now.trees = g.met.S.Store.settled c.write.new.conn.store it.0 is_open it.1 ∙ ap (λ (d : Database). d.trees) mirrors.committed in
-    it.2 n few ∙ ap (λ (db : Trees). slots_of (db 0) n) settled ∙ mirrors.same n few
+    it.2 n few ∙ ap (λ (db : Trees). slots_in_rows (db 0) n) settled ∙ mirrors.same n few
 
 pub returns-else-not-write-clause-crash : goal.returns-else-not-write-clause-crash
 returns-else-not-write-clause-crash g c m opened clean found it =
