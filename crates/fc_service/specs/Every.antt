@@ -1,5 +1,5 @@
 -- The timers that a command line gives.
-use Rattle.std.specs.Prelude.{◌≡◌, ℕ, ◌+◌, ◌/◌, ◌<◌, ◌≤◌, List, [], ◌∷◌, ◌++◌, Option, Some, None, codes, min, option_map, sum_by}
+use Rattle.std.specs.Prelude.{◌≡◌, ⊤, ℕ, ◌+◌, ◌/◌, ◌<◌, ◌≤◌, List, [], ◌∷◌, ◌++◌, Option, Some, None, codes, min, option_map, sum_by}
 use Rattle.std.specs.List.{AllZip}
 use Rattle.clap.specs.declared.parser.matches.Found.{Found}
 use Rattle.clap.specs.Matches.{matched_of, raw_values}
@@ -7,6 +7,8 @@ use Rattle.coap_dedup.specs.declared.exchange.Limits.{Limits}
 use Rattle.fc_host.specs.declared.timer.Timer.{Timer}
 use Rattle.fc_host.specs.Timers.{new_timer}
 use Rattle.fc_lines.specs.Fields.{IsNumber}
+use Rattle.fc_service.specs.declared.every.BadTimer.{BadTimer}
+use Rattle.fc_service.specs.declared.every.BadTimer.TheVariants.{Form, Memory, TooMany}
 
 abbrev pub texts_by : Option (List (List ℕ)) → List (List ℕ)
 texts_by None = []
@@ -30,6 +32,10 @@ pub record IsTimerText (text : List ℕ) (t : Timer) : Type 0 where
   pub some : 1 ≤ t.every
   pub most : t.every ≤ 86400000
   pub is_slot : t.slot < 64
+
+-- the text is that of no timer.
+pub record IsNoTimerText (text : List ℕ) : Type 0 where
+  pub none : (t : Timer) → IsTimerText text t → ⊥
 
 -- each text is that of the timer at its place.
 abbrev pub AreTimers : List (List ℕ) → List Timer → Type 0
@@ -55,3 +61,25 @@ timers_hold ts = sum_by held_by ts
 -- the most exchanges that they may hold: half of all, and no more than the share of an address.
 abbrev pub most_held : Limits → ℕ
 most_held limits = min (limits.exchanges / 2) limits.share
+
+-- ---- which texts are refused
+
+-- a text is refused: it is that of no timer; or the requests of its timer hold more exchanges than
+-- are left of this many; or memory couldn't be allocated.
+abbrev pub IsRefusedBy : (text : List ℕ) (left most : ℕ) → BadTimer → Type 0
+IsRefusedBy text left most Form = IsNoTimerText text
+IsRefusedBy text left most (TooMany n) = (n ≡ most) × (t : Timer) × IsTimerText text t × left < held_by t
+IsRefusedBy text left most (Memory refused) = ⊤
+
+-- texts are refused by the error of the first that is refused: those before it are the texts of
+-- timers, whose requests hold the rest of the exchanges.
+pub record AreRefusedBy (texts : List (List ℕ)) (most : ℕ) (error : BadTimer) : Type 0 where
+  pub before : List (List ℕ)
+  pub text : List ℕ
+  pub after : List (List ℕ)
+  pub texts_are : texts ≡ before ++ (text ∷ after)
+  pub timers : List Timer
+  pub good : AreTimers before timers
+  pub left : ℕ
+  pub rest : timers_hold timers + left ≡ most
+  pub refused : IsRefusedBy text left most error

@@ -1,7 +1,7 @@
 //! The timers of `fcd serve --every`: `1000:7` posts to slot 7 each second.
-ghost use Rattle.std.specs.Prelude.{◌≡◌, ◌≤◌, IfOk, IfSome, codes, map};
+ghost use Rattle.std.specs.Prelude.{◌≡◌, ◌≤◌, IfErr, IfOk, MatchOption, MatchResult, codes, map};
 ghost use Rattle.clap.specs.Matches.{found_of};
-ghost use Rattle.fc_service.specs.Every.{AreTimers, IsTimerText, Pushes, most_held, texts_of, timers_hold};
+ghost use Rattle.fc_service.specs.Every.{AreRefusedBy, AreTimers, IsNoTimerText, IsRefusedBy, IsTimerText, Pushes, most_held, texts_of, timers_hold};
 
 use clap::ArgMatches;
 use coap_dedup::Limits;
@@ -34,8 +34,11 @@ pub enum BadTimer {
 /// the exchanges, and no more than the share of an address.
 ///
 /// # Errors
-/// A value has another form, the timers need too many exchanges, or memory for the timers can't be
-/// allocated.
+/// Returns the error of the first value that is refused:
+///
+/// - `Form`: it is no period of 1 to 86,400,000 ms, a colon, and a slot of 0 to 63.
+/// - `TooMany`: the requests of its timer and of those before it hold more exchanges than that.
+/// - `Memory`: memory for the timers can't be allocated.
 pub fn timers_in(
     alloc: Global,
     matches: &ArgMatches<'_>,
@@ -43,6 +46,7 @@ pub fn timers_in(
 ) -> Result<Vec<Timer>, BadTimer>
     ensures timers { IfOk result (λ v. AreTimers (texts_of (found_of matches.now)) v.items) }
     ensures few { IfOk result (λ v. timers_hold v.items ≤ most_held limits) }
+    ensures refused { IfErr result (AreRefusedBy (texts_of (found_of matches.now)) (most_held limits)) }
 {
     match matches.get_strs("every") {
         Some(texts) => timers_of(alloc, texts, most_held(limits)),
@@ -61,6 +65,7 @@ fn most_held(limits: Limits) -> u64
 fn timers_of(alloc: Global, texts: &[&str], most: u64) -> Result<Vec<Timer>, BadTimer>
     ensures timers { IfOk result (λ v. AreTimers (map (λ text. text.now) texts.now) v.items) }
     ensures few { IfOk result (λ v. timers_hold v.items ≤ most) }
+    ensures refused { IfErr result (AreRefusedBy (map (λ text. text.now) texts.now) most) }
 {
     let mut timers = Vec::new(alloc);
     let mut left = most;
@@ -72,7 +77,7 @@ fn timers_of(alloc: Global, texts: &[&str], most: u64) -> Result<Vec<Timer>, Bad
 
 // Reads one more timer, and returns the number of exchanges left.
 fn push_timer(text: &str, left: u64, most: u64, timers: &mut Vec<Timer>) -> Result<u64, BadTimer>
-    ensures { IfOk result (Pushes text.now left timers.old.items timers.new.items) }
+    ensures { MatchResult result (Pushes text.now left timers.old.items timers.new.items) (IsRefusedBy text.now left most) }
 {
     let timer = timer_of(text).ok_or(BadTimer::Form)?;
     let left = left
@@ -86,7 +91,7 @@ fn push_timer(text: &str, left: u64, most: u64, timers: &mut Vec<Timer>) -> Resu
 
 // Reads a timer, such as `1000:7`.
 fn timer_of(text: &str) -> Option<Timer>
-    ensures { IfSome result (IsTimerText text.now) }
+    ensures { MatchOption result (IsNoTimerText text.now) (IsTimerText text.now) }
 {
     let (period, slot) = text.split_once(':')?;
     let every = number(period.as_bytes())?;
