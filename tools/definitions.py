@@ -336,7 +336,7 @@ class Code:
         value = re.search(r"ghost Value = \{ (.*?) \};", inside, re.S)[1]
         scope = Scope(house, self.crate, self.module, uses_of(self.text) + uses_of(inside))
         reader = Reader(scope)
-        reader.term(tokens(value))
+        reader.term(tokens(value), bound={*re.findall(r"(\w+):", item.text)})
         item.names = reader.found
         value = re.sub(r"\w+", lambda it: scope.means.get(it[0], [("", it[0])])[0][1], value)  # by the name at its definition
         item.text = re.sub(r"\{.*", "{ .. }", item.text, flags=re.S) + f"\n// in clauses: {value}"

@@ -1,11 +1,12 @@
 #!/usr/bin/env python3
-"""Tries `fcd serve --log changes`: which lines standard error gets, by the built program, over its socket.
+"""Tries `fcd serve --log`, changes and reports: which lines standard error gets, by the built program, over its socket.
 
 Run it at the top of the repository, after `rt run` in crates/fcd, which builds what it runs:
 
     python3 tests/records/try.py
 
-Each of `off`, `info`, `changes` and both is tried with 1 worker and with 2. The digests are those of Python's hashlib. Each row that isn't as it has to be is
+Each of `off`, `info`, `changes` and both is tried with 1 worker and with 2. The digests are those of Python's hashlib. Then reports of each second are tried over
+three seconds. Each row that isn't as it has to be is
 printed with what came, and then the status is 1.
 """
 import hashlib
@@ -68,27 +69,36 @@ def lines_of(peer, version):
     ]
 
 
-def serve(workers, logs):
-    """Returns what is wrong, and the lines of standard error, of a server that is asked for these changes."""
+def begin(workers, limit, logs):
+    """Starts a server of as many datagrams with these values of `--log`, and returns it and its port."""
     with socket.socket(socket.AF_INET, socket.SOCK_DGRAM) as it:
         it.bind(("127.0.0.1", 0))
         port = it.getsockname()[1]
-    words = [FCD, "serve", "--port", str(port), "--workers", str(workers), "--limit", "13", *(it for log in logs for it in ("--log", log))]
+    words = [FCD, "serve", "--port", str(port), "--workers", str(workers), "--limit", str(limit), *(it for log in logs for it in ("--log", log))]
+    return subprocess.Popen([str(it) for it in words], stderr=subprocess.PIPE), port
+
+
+def await_server(client, port):
+    """Connects a client to a server, waits until it is there, and returns the time then: an empty confirmable message is answered by a Reset message, and takes no place."""
+    client.bind(("127.0.0.1", 0))
+    client.settimeout(5)
+    for _ in range(100):
+        try:
+            client.connect(("127.0.0.1", port))
+            client.send(b"\x40\0\0\0")
+            client.recv(1500)
+            break
+        except ConnectionRefusedError:
+            time.sleep(0.05)
+    return time.time()
+
+
+def serve(workers, logs):
+    """Returns what is wrong, and the lines of standard error, of a server that is asked for these changes."""
     before = time.time()
-    server = subprocess.Popen([str(it) for it in words], stderr=subprocess.PIPE)
+    server, port = begin(workers, 13, logs)
     with socket.socket(socket.AF_INET, socket.SOCK_DGRAM) as client:
-        client.bind(("127.0.0.1", 0))
-        client.settimeout(5)
-        # an empty confirmable message is answered by a Reset message, and takes no place
-        for _ in range(100):
-            try:
-                client.connect(("127.0.0.1", port))
-                client.send(b"\x40\0\0\0")
-                client.recv(1500)
-                started = before, time.time()
-                break
-            except ConnectionRefusedError:
-                time.sleep(0.05)
+        started = before, await_server(client, port)
         peer = "127.0.0.1:%d" % client.getsockname()[1]
 
         def ask(it):
@@ -98,6 +108,27 @@ def serve(workers, logs):
         wrong = [f"{got:02x} for {code:02x}" for code, got in changes(ask) if got != code]
     _, told = server.communicate(timeout=20)
     return wrong, told.decode().splitlines(), peer, port, started
+
+
+def report(received):
+    """Returns the line of a report of as many datagrams, none of which is refused."""
+    return f"report received={received} forbidden=0 unavailable=0 notified=0 resent=0 removed=0 failed=0"
+
+
+def reports(workers):
+    """Returns the lines of standard error of a server that reports each second, and gets a datagram at its start and another after two and a half."""
+    server, port = begin(workers, 4, ("report:1",))
+    with socket.socket(socket.AF_INET, socket.SOCK_DGRAM) as client:
+        await_server(client, port)
+        time.sleep(2.5)
+        client.send(request(GET, 1, 3))
+        client.recv(1500)
+        time.sleep(1)
+        for message_id in (2, 3):
+            client.send(request(GET, message_id, 3))
+            client.recv(1500)
+    _, told = server.communicate(timeout=20)
+    return told.decode().splitlines()
 
 
 def main():
@@ -115,6 +146,10 @@ def main():
             right = not wrong and bare == wanted
             failed += not right
             print(f"{'right' if right else 'WRONG'}  --workers {workers} {' '.join(logs) or 'nothing'}", *([] if right else [*wrong, *told]), sep="\n    ")
+        told = reports(workers)
+        right = [re.sub(r"^\[INFO  [^]]*\] ", "", it) for it in told] == [report(1), report(1), report(2)]
+        failed += not right
+        print(f"{'right' if right else 'WRONG'}  --workers {workers} report:1", *([] if right else told), sep="\n    ")
     print(f"{failed} wrong")
     return int(failed > 0)
 

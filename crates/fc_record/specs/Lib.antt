@@ -1,2 +1,3 @@
 pub mod ProgramRequests
 pub mod Recording
+pub mod Reports

@@ -4,8 +4,13 @@
 ghost use Rattle.std.specs.Prelude.{◌≡◌, ℕ, [], ◌∷◌, ◌++◌, List, None, Option, Some, codes};
 ghost use Rattle.hex.specs.Hex.{encode_lower};
 ghost use Rattle.sha2.specs.Sha256.{sha256};
+ghost use Rattle.coap_msg.specs.declared.types.Emission.{Emission};
 ghost use Rattle.coap_msg.specs.declared.types.Endpoint.{Endpoint};
+ghost use Rattle.fc_core.specs.declared.front.Heard.TheVariants.{Job, Nothing, Reply};
+ghost use Rattle.fc_observe.specs.declared.observers.Ticked.TheVariants.{Quiet, Removed, Resend};
 ghost use Rattle.fc_record.specs.ProgramRequests.{Coded, request_text};
+ghost use Rattle.fc_record.specs.Reports.{datagram_counted, lease_counted, nothing_counted, report_text, tick_counted};
+ghost use Rattle.fc_server.specs.Notified.{Nobody, Starved, Unsent};
 
 /// The exact texts of two uploads and two removals.
 ///
@@ -28,4 +33,36 @@ pub fn requests_are_written_so()
         request_text (record { peer = peer; slot = 0; image = None; response = Some deleted }) ≡ codes "change DELETE /p/0 peer=127.0.0.1:5683 code=2.02" }
     ensures unanswered { let peer : Endpoint = record { ip = 127 ∷ 0 ∷ 0 ∷ 1 ∷ []; port = 5683 } in
         request_text (record { peer = peer; slot = 0; image = None; response = None }) ≡ codes "change DELETE /p/0 peer=127.0.0.1:5683 unanswered" }
+{}
+
+/// The exact text of a report.
+pub fn reports_are_written_so()
+    ensures { report_text (record { received = 1204; forbidden = 1; unavailable = 3; notified = 40; resent = 2; removed = 5 })
+        ≡ codes "report received=1204 forbidden=1 unavailable=3 notified=40 resent=2 removed=5" }
+{}
+
+/// The counts of a report after one call.
+///
+/// A datagram is one more that was received. If its immediate response is `60 83 00 01`, whose code
+/// is 4.03, one more was forbidden, and with `60 a3 00 01`, 5.03, one more was unavailable. Another
+/// code, as 2.05 in `60 45 00 01`, and a job's response count as nothing else. A shard's tick
+/// retransmits a notification, removes an observer, or does neither. A lease that was granted is
+/// one notification more, whatever it led to.
+pub fn reports_count_calls()
+    ensures forbidden { (to : Endpoint) →
+        let reply : Emission = record { to = to; bytes = record { items = 96 ∷ 131 ∷ 0 ∷ 1 ∷ [] } } in
+        datagram_counted Reply reply nothing_counted ≡ record nothing_counted { received = 1; forbidden = 1 } }
+    ensures unavailable { (to : Endpoint) →
+        let reply : Emission = record { to = to; bytes = record { items = 96 ∷ 163 ∷ 0 ∷ 1 ∷ [] } } in
+        datagram_counted Reply reply nothing_counted ≡ record nothing_counted { received = 1; unavailable = 1 } }
+    ensures content { (to : Endpoint) →
+        let reply : Emission = record { to = to; bytes = record { items = 96 ∷ 69 ∷ 0 ∷ 1 ∷ [] } } in
+        datagram_counted Reply reply nothing_counted ≡ record nothing_counted { received = 1 } }
+    ensures job { (last : Emission) → datagram_counted Job last nothing_counted ≡ record nothing_counted { received = 1 } }
+    ensures ignored { (last : Emission) → datagram_counted Nothing last nothing_counted ≡ record nothing_counted { received = 1 } }
+    ensures resent { (emission : Emission) → tick_counted (Resend emission) nothing_counted ≡ record nothing_counted { resent = 1 } }
+    ensures removed { tick_counted Removed nothing_counted ≡ record nothing_counted { removed = 1 } }
+    ensures quiet { tick_counted Quiet nothing_counted ≡ nothing_counted }
+    ensures granted { (lease_counted Unsent nothing_counted ≡ record nothing_counted { notified = 1 }) × (lease_counted Starved nothing_counted ≡ record nothing_counted { notified = 1 }) }
+    ensures nobody { lease_counted Nobody nothing_counted ≡ nothing_counted }
 {}

@@ -1,8 +1,11 @@
-//! Records of a server's answered requests to change a program.
+//! Records of a server's answered requests to change a program, and reports of its counts.
 //!
 //! [`request::ProgramRequest`] is a request that installs or removes a program, with its response.
 //! It has a text. A [`Recorder`] gets each such request once: [`RecordedBench`] passes it those
 //! that workers answer, and [`RecordedAlone`] those of a single-threaded server.
+//!
+//! [`Report`] has counts of a server's datagrams and notifications, and a text. A [`Reporter`] gets
+//! one from time to time; `fc_service` says when.
 //!
 //! # What is proved
 //!
@@ -14,20 +17,28 @@
 //!   else is recorded. This holds for workers (`RecordedBench`, by `IsRecordedCall`) and for a
 //!   single-threaded server (`RecordedAlone`, by `recorded_calls`). A duplicate request is no job,
 //!   and so no change.
-//! - The contracts don't say what a logger does with a record.
+//! - **A report** counts each call by its result: a datagram, and its immediate response by its
+//!   code; a retransmission or a removed observer; a lease. Its text is exact (`Report`, by
+//!   `datagram_counted`, `tick_counted`, `lease_counted` and `report_text`).
+//! - The contracts don't say what a logger does with a record or a report, nor how many datagrams
+//!   couldn't be sent.
 //!
 //! By the contracts of `ProgramRequest::of`, `ProgramRequest`'s `Display`, `RecordedBench`,
-//! `RecordedAlone`, `laws`.
+//! `RecordedAlone`, `Report`, `laws`.
 #![tactic(auto)]
 
 pub mod alone;
 pub mod bench;
 pub mod laws;
 pub mod recorder;
+pub mod report;
+pub mod reporter;
 pub mod request;
 mod text;
 
 pub use alone::RecordedAlone;
 pub use bench::RecordedBench;
 pub use recorder::{ChangeLog, LoggedChanges, NoChanges, Recorder};
+pub use report::Report;
+pub use reporter::{LoggedReports, NoReports, Reporter};
 pub use request::ProgramRequest;

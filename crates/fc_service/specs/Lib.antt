@@ -8,6 +8,7 @@ pub mod Playing
 pub mod Rounds
 pub mod Histories
 pub mod Policies
+pub mod Reporting
 pub mod Every
 pub mod Logs
 pub mod Serials

@@ -1,9 +1,10 @@
 -- The values of `--log`.
-use Rattle.std.specs.Prelude.{◌≡◌, ℕ, Bool, List, codes, option_map}
+use Rattle.std.specs.Prelude.{◌≡◌, ◌*◌, ◌++◌, ◌⊎◌, ◌≤◌, ℕ, Bool, List, [], ◌∷◌, None, Option, Some, codes, option_map}
 use Rattle.std.specs.List.{list_any}
 use Rattle.std.specs.Str.{bytes_eq}
 use Rattle.clap.specs.declared.parser.matches.Found.{Found}
 use Rattle.clap.specs.Matches.{matched_of, raw_values}
+use Rattle.fc_lines.specs.Fields.{IsNumber}
 use Rattle.fc_service.specs.Every.{texts_by}
 use Rattle.fc_service.specs.declared.logging.LogOptions.{LogOptions}
 
@@ -15,8 +16,30 @@ log_texts f = texts_by (option_map raw_values (matched_of f (codes "log")))
 abbrev pub has_text : List (List ℕ) → List ℕ → Bool
 has_text texts text = list_any (λ t. bytes_eq t text) texts
 
+-- a period of 1 to 86,400 seconds, as `report:60`; in milliseconds.
+pub record IsReportText (text : List ℕ) (period : ℕ) : Type 0 where
+  pub digits : List ℕ
+  pub seconds : ℕ
+  pub text_is : text ≡ codes "report:" ++ digits
+  pub number : IsNumber digits seconds
+  pub some : 1 ≤ seconds
+  pub most : seconds ≤ 86400
+  pub period_is : period ≡ 1000 * seconds
+
+-- a text is about other records, which leaves the period as it is, or it gives the period.
+abbrev pub IsPeriodAfter : List ℕ → Option ℕ → Option ℕ → Type 0
+IsPeriodAfter text before after =
+    (((text ≡ codes "off") ⊎ ((text ≡ codes "info") ⊎ (text ≡ codes "changes"))) × (after ≡ before)) ⊎ ((period : ℕ) × IsReportText text period × (after ≡ Some period))
+
+-- the texts, one after the other: the last period counts.
+abbrev pub ArePeriods : List (List ℕ) → Option ℕ → Option ℕ → Type 0
+ArePeriods [] before after = after ≡ before
+ArePeriods (text ∷ texts) before after = (mid : Option ℕ) × IsPeriodAfter text before mid × ArePeriods texts mid after
+
 -- the listening address and the server's end are logged if one of the values is `info`, and
--- requests to change programs if one is `changes`.
+-- requests to change programs if one is `changes`. Counts are reported in the period that the
+-- values give, if they give one.
 pub record AreLogsIn (f : Found) (logs : LogOptions) : Type 0 where
   pub info : logs.info ≡ has_text (log_texts f) (codes "info")
   pub changes : logs.changes ≡ has_text (log_texts f) (codes "changes")
+  pub report : ArePeriods (log_texts f) None logs.report

@@ -15,6 +15,7 @@ use Rattle.fc_server.specs.Settling.{AreQuietUntil, AreSettled, AreStepsBy, Sett
 use Rattle.fc_server.specs.States.{begin_of}
 use Rattle.fc_record.specs.ProgramRequests.{Requested}
 use Rattle.fc_record.specs.Recording.{Recording, recorded_calls}
+use Rattle.fc_record.specs.declared.report.Report.{Report}
 use Rattle.fc_server.specs.declared.server.Begin.{Begin}
 use Rattle.fc_host.specs.Sockets.{Comes, Incoming, IsHanded, Receive}
 use Rattle.fc_host.specs.Timers.{GoesPastTimers, IsTimedReceive}
@@ -25,6 +26,7 @@ use Rattle.fc_service.specs.Counting.{both_replies, replies_by, replies_of}
 use Rattle.fc_service.specs.Intakes.{IsHeardBy}
 use Rattle.fc_service.specs.Serials.{serial_of_start}
 use Rattle.fc_service.specs.Pooled.{AreSharesAt, Dispatching, IsNew, handover_where, locked_shop, pooled_calls}
+use Rattle.fc_service.specs.Reporting.{Reporting, readies_through, reported_calls, reporting_from}
 use Rattle.fc_service.specs.Traffic.{AreHanded, Sending, replies_to}
 use Rattle.fc_service.specs.declared.serve.Extent.{Extent}
 use Rattle.fc_service.specs.declared.replies.Outbox.{Outbox}
@@ -145,9 +147,19 @@ module _ {S : Type 0} (Readies : ℕ → S → S → Type 0) (calls : IntakeCall
     pub limited : 0 < limit
     pub received : length (received_in rounds) ≡ limit
 
--- a receiver, which prepares nothing before a round, has run.
-abbrev pub HasReceived : {S : Type 0} → IntakeCalls S → RoundCalls → ℕ → Option (List Receive) → Option (List Receive) → S → S → Replies → Type 0
-HasReceived c e limit before after first last replies = HasRun (λ now old new. new ≡ old) c e limit before after first last replies
+-- ---- with reports, or without
+
+-- a server has run in this way from a state, and its counts were reported each so many
+-- milliseconds. How it was left isn't said.
+pub record HasRunReported {S : Type 0} (every : ℕ) (Reported : Report → CallLog → CallLog → Type 0) (Readies : ℕ → S → S → Type 0) (calls : IntakeCalls S) (e : RoundCalls) (limit : ℕ) (before after : Option (List Receive)) (first : S) (replies : Replies) : Type 0 where
+  pub log : CallLog
+  pub last : Reporting S
+  pub run : HasRun (readies_through Readies) (reported_calls Reported calls) e limit before after (reporting_from every log first) last replies
+
+-- with a period of reports, in milliseconds, the counts were reported; without one nothing was.
+abbrev pub HasReceivedBy : {S : Type 0} → Option ℕ → (Report → CallLog → CallLog → Type 0) → (ℕ → S → S → Type 0) → IntakeCalls S → RoundCalls → ℕ → Option (List Receive) → Option (List Receive) → S → S → Replies → Type 0
+HasReceivedBy None Reported Readies c e limit before after first last replies = HasRun Readies c e limit before after first last replies
+HasReceivedBy (Some every) Reported Readies c e limit before after first last replies = HasRunReported every Reported Readies c e limit before after first replies
 
 -- ---- a server on one thread
 
@@ -159,6 +171,17 @@ pub record HasServed (sensors : List ℕ → Type 0) (e : RoundCalls) (Recorded 
   pub last : Recording
   pub begins : Serves (begin_of begin) first.alone.engine []
   pub run : HasRun (ReadiesRecorded sensors) (recorded_calls Recorded) e limit before after first last replies
+
+-- the same, and its counts were reported each so many milliseconds.
+pub record HasServedReported (every : ℕ) (Reported : Report → CallLog → CallLog → Type 0) (sensors : List ℕ → Type 0) (e : RoundCalls) (Recorded : Requested → CallLog → CallLog → Type 0) (limit : ℕ) (begin : Begin) (before after : Option (List Receive)) (replies : Replies) : Type 0 where
+  pub first : Recording
+  pub begins : Serves (begin_of begin) first.alone.engine []
+  pub run : HasRunReported every Reported (ReadiesRecorded sensors) (recorded_calls Recorded) e limit before after first replies
+
+-- with a period of reports, in milliseconds, or without one.
+abbrev pub HasServedBy : Option ℕ → (Report → CallLog → CallLog → Type 0) → (List ℕ → Type 0) → RoundCalls → (Requested → CallLog → CallLog → Type 0) → ℕ → Begin → Option (List Receive) → Option (List Receive) → Replies → Type 0
+HasServedBy None Reported sensors e Recorded limit begin before after replies = HasServed sensors e Recorded limit begin before after replies
+HasServedBy (Some every) Reported sensors e Recorded limit begin before after replies = HasServedReported every Reported sensors e Recorded limit begin before after replies
 
 -- ---- a server with workers
 
@@ -172,14 +195,14 @@ served_shop sensors e Recorded begin = locked_shop begin (AreReadAt e.moment sen
 -- of 6,000 instructions and more may be sent to the workers, or no job if no worker was started.
 -- The replies are those of the rounds, of the jobs of this number of workers, and of the
 -- dispatcher's jobs.
-pub record HasServedPooled (sensors : List ℕ → Type 0) (e : RoundCalls) (Recorded : Requested → CallLog → CallLog → Type 0) (workers limit : ℕ) (begin : Beginning) (before after : Option (List Receive)) (replies : Replies) : Type 0 where
+pub record HasServedPooled (every : Option ℕ) (Reported : Report → CallLog → CallLog → Type 0) (sensors : List ℕ → Type 0) (e : RoundCalls) (Recorded : Requested → CallLog → CallLog → Type 0) (workers limit : ℕ) (begin : Beginning) (before after : Option (List Receive)) (replies : Replies) : Type 0 where
   pub channel : Channel
   pub first : Dispatching Tallies
   pub last : Dispatching Tallies
   pub has_workers : Bool
   pub new : IsNew channel (handover_where has_workers (Dear 6000)) first
   pub at_once : Replies
-  pub run : HasReceived (pooled_calls (served_shop sensors e Recorded begin)) e limit before after first last at_once
+  pub run : HasReceivedBy every Reported (λ now old new. new ≡ old) (pooled_calls (served_shop sensors e Recorded begin)) e limit before after first last at_once
   pub shares : List (Share Tallies)
   pub worked : AreSharesAt (served_shop sensors e Recorded begin) channel shares
   pub count : length shares ≡ workers
@@ -188,10 +211,10 @@ pub record HasServedPooled (sensors : List ℕ → Type 0) (e : RoundCalls) (Rec
 -- ---- a server with this number of workers: one is the receiving thread. Its slots begin at the
 -- serial of its start
 
-abbrev pub IsServed : (List ℕ → Type 0) → RoundCalls → (Requested → CallLog → CallLog → Type 0) → Extent → Option (List Receive) → Option (List Receive) → Replies → Type 0
-IsServed sensors e Recorded extent before after replies =
-    ((extent.workers ≡ 1) × HasServed sensors e Recorded extent.limit (record { serial = serial_of_start extent.started; id = extent.first_id; policy = extent.policy }) before after replies)
-    ⊎ ((extent.workers ≡ 1 → ⊥) × HasServedPooled sensors e Recorded extent.workers extent.limit (beginning extent.policy extent.first_id) before after replies)
+abbrev pub IsServed : (List ℕ → Type 0) → RoundCalls → (Requested → CallLog → CallLog → Type 0) → Option ℕ → (Report → CallLog → CallLog → Type 0) → Extent → Option (List Receive) → Option (List Receive) → Replies → Type 0
+IsServed sensors e Recorded every Reported extent before after replies =
+    ((extent.workers ≡ 1) × HasServedBy every Reported sensors e Recorded extent.limit (record { serial = serial_of_start extent.started; id = extent.first_id; policy = extent.policy }) before after replies)
+    ⊎ ((extent.workers ≡ 1 → ⊥) × HasServedPooled every Reported sensors e Recorded extent.workers extent.limit (beginning extent.policy extent.first_id) before after replies)
 
 -- ---- timers together with a source
 
@@ -203,6 +226,6 @@ timed_calls received moment went = round_calls (IsTimedReceive moment received) 
 -- a server on a source whose receives are unknown, with timers or without. The timers that a
 -- receive had are unknown too.
 abbrev pub IsServedBeside : List Timer → (List ℕ → Type 0) → (Receive → CallLog → CallLog → Type 0) → (ℕ → CallLog → CallLog → Type 0) → (Emission → Bool → CallLog → CallLog → Type 0)
-    → (Requested → CallLog → CallLog → Type 0) → Extent → Replies → Type 0
-IsServedBeside [] sensors received moment went Recorded extent replies = IsServed sensors (round_calls received moment went) Recorded extent None None replies
-IsServedBeside (t ∷ ts) sensors received moment went Recorded extent replies = IsServed sensors (timed_calls received moment went) Recorded extent None None replies
+    → (Requested → CallLog → CallLog → Type 0) → Option ℕ → (Report → CallLog → CallLog → Type 0) → Extent → Replies → Type 0
+IsServedBeside [] sensors received moment went Recorded every Reported extent replies = IsServed sensors (round_calls received moment went) Recorded every Reported extent None None replies
+IsServedBeside (t ∷ ts) sensors received moment went Recorded every Reported extent replies = IsServed sensors (timed_calls received moment went) Recorded every Reported extent None None replies

@@ -40,6 +40,9 @@ After N datagrams the server ends, where N isn't 0. With `--log info` standard e
 `listening on ADDRESS:PORT` once it receives, and at its end `sent S failed F`, how many replies
 went out and how many didn't. With `--log changes` it gets a line for each request to install or
 remove a program that reaches its slot, with the sender, the response and the image's SHA-256.
+With `--log report:60` it gets a line each minute, 1 to 86400 seconds, with counts since the start:
+the datagrams received, the immediate responses with 4.03 and with 5.03, the notifications, those
+sent again, the observers removed for silence, and the datagrams that couldn't be sent.
 
   fcd serve --port 5683
   fcd serve --port 5683 --bind 0.0.0.0 --log info
@@ -208,9 +211,8 @@ fn log<'a>(alloc: Global) -> Arg<'a> {
         alloc,
         "log",
         "L",
-        "What it logs: off, info or changes; may be repeated",
+        "What it logs: off, info, changes or report:SECONDS; may be repeated",
     )
-    .value_parser(["off", "info", "changes"].as_slice())
     .action(ArgAction::Append)
     .default_value("off")
 }

@@ -17,6 +17,10 @@ ghost use Rattle.fc_service.specs.Histories.{IsOneHistory, arrivals_in, arrivals
 ghost use Rattle.fc_server.specs.Intakes.{is_reply};
 ghost use Rattle.fc_lines.specs.Emissions.{printed};
 ghost use Rattle.fc_service.specs.Playing.{IsNextText, IsPlayedOut, PlayedLine, printed_lines};
+ghost use Rattle.fc_record.specs.Reports.{nothing_counted};
+ghost use Rattle.fc_service.specs.Logs.{ArePeriods, IsReportText};
+ghost use Rattle.fc_service.specs.Reporting.{Reporting, ReportsIfDue, reported_calls, reporting_from};
+ghost use Rattle.fc_workers.specs.declared.call_log.CallLog.{CallLog};
 ghost use Rattle.fc_service.specs.Rounds.{EndsInTime, HasServed, WaitsAfter, round_calls, sendings_in};
 ghost use Rattle.fc_server.specs.Settling.{most_steps};
 ghost use Rattle.fc_service.specs.Serials.{IsNewerNumber, serial_of_start};
@@ -27,7 +31,7 @@ use crate::every::LONGEST;
 use fc_host::sensors::Sensors;
 use fc_host::socket::{Sink, Source};
 use fc_host::timers::TIMERS;
-use fc_record::Recorder;
+use fc_record::{Recorder, Reporter};
 use fc_server::Intake;
 use fc_server::settle::STEPS;
 use fc_workers::Moments;
@@ -170,4 +174,26 @@ pub fn later_starts_begin_higher()
 pub fn restarts_keep_the_order_of_observe()
     ensures { (first second changes : ℕ) → second ≤ first + 256000 → second ≤ 281474976710656 → changes < 32 * (second - first)
         → IsNewerNumber ((serial_of_start first + changes) % 16777216) (serial_of_start second % 16777216) }
+{}
+
+/// A report is made when it is due or later, once, and an idle server wakes up for it.
+///
+/// A server that reports each minute makes no report before 60,000 ms. At 61,500 ms, with nothing
+/// counted, it reports that, once, and the next report is due at 121,500 ms. No server is idle for
+/// longer than until its next report is due.
+pub fn reports_come_in_time<N: Intake, Q: Reporter>()
+    ensures early { (s : N) (log : CallLog) (new : Reporting N) → ReportsIfDue Q.reported N.calls 59999 (reporting_from 60000 log s) new → new ≡ reporting_from 60000 log s }
+    ensures late { (s : N) (log : CallLog) (new : Reporting N) → ReportsIfDue Q.reported N.calls 61500 (reporting_from 60000 log s) new
+        → (after : CallLog) × Q.reported nothing_counted log after
+        × (new ≡ record { intake = s; report = nothing_counted; every = 60000; due = 121500; log = after }) }
+    ensures awake { (shard until : ℕ) (now : Reporting N) → (reported_calls Q.reported N.calls).stays_quiet shard now until → until ≤ now.due }
+{}
+
+/// The texts of `--log` that give a period of reports.
+///
+/// `report:60` is each minute, and the longest period is a day. The last one counts.
+pub fn reports_have_their_periods()
+    ensures minute { IsReportText (codes "report:60") 60000 }
+    ensures day { (text : List ℕ) (period : ℕ) → IsReportText text period → period ≤ 24 * 60 * 60 * 1000 }
+    ensures last { ArePeriods (codes "report:60" ∷ codes "info" ∷ codes "report:5" ∷ []) None (Some 5000) }
 {}

@@ -88,13 +88,21 @@
 //!   and by 2^24 for each second. So the numbers of Observe keep their order if a server is started
 //!   again (`serials::serial_of_start`, `laws`). That a server with workers begins at this serial,
 //!   and that the time is the system clock's, is tested.
+//! - **Reports**: with a period, a report is made at the first round whose time is that of the due
+//!   one or later, before its datagram is handled. It is made once, of the counts up to then, and the
+//!   next is due one period later. The counts are those of the calls' results, in both kinds of
+//!   servers. Each wait ends when a report is due, or up to 100 ms later (`serve_at`, by
+//!   `HasRunReported`, whose calls are `reported_calls`). The contract doesn't say how such a run
+//!   left the server, and no law says that its rounds are one history. Without a period, the server
+//!   is called directly, and nothing is counted.
 //! - **Replies** of a server on a socket are counted and added exactly, up to 2^64 - 1, and written
 //!   as `sent S failed F`. They are those of the rounds, of each worker's jobs and of the
 //!   dispatcher's own. A test shows that this is logged.
 //!
 //! By the contracts of `play::play`, `workers::play_by_workers`, `options::serve_options`,
 //! `lines::play_lines`, `rounds::run_rounds`, `serve::serve`, `serve::serve_at`,
-//! `serve::serve_alone`, `serials::serial_of_start`, `pool::run_pool`, `Replies`, `laws`.
+//! `serve::serve_alone`, `serials::serial_of_start`, `pool::run_pool`, `reports::run_reported`,
+//! `Reporting`, `Replies`, `laws`.
 #![tactic(auto)]
 
 mod alone;
@@ -108,6 +116,8 @@ pub mod play;
 pub mod policy;
 pub mod pool;
 pub mod replies;
+mod reporting;
+pub mod reports;
 mod rounds;
 pub mod serials;
 pub mod serve;

@@ -1,11 +1,15 @@
-//! The values of `--log`: `info` and `changes`, either or both.
-ghost use Rattle.std.specs.Prelude.{◌≡◌};
+//! The values of `--log`: `info`, `changes` and `report:SECONDS`, in any number.
+ghost use Rattle.std.specs.Prelude.{◌≡◌, IfSome, None, map};
 ghost use Rattle.std.specs.List.{list_any};
 ghost use Rattle.std.specs.Str.{bytes_eq};
 ghost use Rattle.clap.specs.Matches.{found_of};
-ghost use Rattle.fc_service.specs.Logs.{AreLogsIn, has_text, log_texts};
+ghost use Rattle.fc_service.specs.Logs.{ArePeriods, AreLogsIn, IsPeriodAfter, IsReportText, has_text, log_texts};
 
 use clap::ArgMatches;
+use fc_lines::line::number;
+
+/// The longest period of reports in seconds: a day.
+pub const LONGEST_REPORT: u64 = 86_400;
 
 /// The records that a server logs.
 #[derive(Clone, Copy, Debug, PartialEq, Eq)]
@@ -14,16 +18,65 @@ pub struct LogOptions {
     pub info: bool,
     /// Each request to change a program that a job answers.
     pub changes: bool,
+    /// The counts of datagrams and notifications, each so many milliseconds, or never.
+    pub report: Option<u64>,
 }
 
 /// Reads the values of `--log`.
-pub(crate) fn logs_in(matches: &ArgMatches<'_>) -> LogOptions
-    ensures { AreLogsIn (found_of matches.now) result }
+///
+/// Of several values `report:SECONDS`, the last one counts. Returns `None` if a value is none of
+/// `off`, `info`, `changes` and `report:SECONDS`, or if the seconds aren't 1 to 86,400.
+pub(crate) fn logs_in(matches: &ArgMatches<'_>) -> Option<LogOptions>
+    ensures { IfSome result (AreLogsIn (found_of matches.now)) }
 {
-    LogOptions {
+    Some(LogOptions {
         info: is_logged(matches, "info"),
         changes: is_logged(matches, "changes"),
+        report: period_in(matches)?,
+    })
+}
+
+// Reads the period of reports, in milliseconds.
+fn period_in(matches: &ArgMatches<'_>) -> Option<Option<u64>>
+    ensures { IfSome result (ArePeriods (log_texts (found_of matches.now)) None) }
+{
+    match matches.get_strs("log") {
+        Some(texts) => period_among(texts),
+        None => Some(None),
     }
+}
+
+// Returns the period that the last text of reports gives.
+fn period_among(texts: &[&str]) -> Option<Option<u64>>
+    ensures { IfSome result (ArePeriods (map (λ text. text.now) texts.now) None) }
+{
+    let mut period = None;
+    for text in texts {
+        period = period_after(text, period)?;
+    }
+    Some(period)
+}
+
+// Returns the period that a text gives, or the given one if the text is about other records.
+fn period_after(text: &str, period: Option<u64>) -> Option<Option<u64>>
+    ensures { IfSome result (IsPeriodAfter text.now period) }
+{
+    match text {
+        "off" | "info" | "changes" => Some(period),
+        _ => Some(Some(report_period(text)?)),
+    }
+}
+
+// Reads the period of reports in milliseconds, from a text such as `report:60`.
+fn report_period(text: &str) -> Option<u64>
+    ensures { IfSome result (IsReportText text.now) }
+{
+    let (word, seconds) = text.split_once(':')?;
+    let seconds = number(seconds.as_bytes())?;
+    if word != "report" || seconds == 0 || seconds > LONGEST_REPORT {
+        return None;
+    }
+    Some(1_000 * seconds)
 }
 
 // Returns whether `--log` has this value.

@@ -36,6 +36,9 @@ pub enum BadOption {
     /// A value of `--managers` isn't a network, or there are more than four.
     #[error("error: `--managers` takes an address and a number of bits, for example 192.0.2.0/24, at most four times")]
     Managers,
+    /// A value of `--log` names no record, or the seconds of its reports aren't in their range.
+    #[error("error: `--log` takes off, info, changes, or report: and 1 to 86400 seconds, for example report:60")]
+    Log,
     /// An option is missing, or its value isn't a number in its range.
     ///
     /// The command line's parser refuses these earlier.
@@ -46,13 +49,14 @@ pub enum BadOption {
 /// Reads the options of `fcd serve`.
 ///
 /// # Errors
-/// `--bind` isn't an IPv4 address, or a value of `--managers` isn't a network.
+/// `--bind` isn't an IPv4 address, a value of `--managers` isn't a network, or a value of `--log`
+/// names no record.
 pub fn serve_options<'a>(matches: &ArgMatches<'a>) -> Result<ServeOptions<'a>, BadOption>
     ensures { IfOk result (AreServeOptions (found_of matches.now)) }
 {
     let ip = address_in(matches).ok_or(BadOption::Bind)?;
     let port = port_in(matches).ok_or(BadOption::Number("--port"))?;
-    let logs = logs_in(matches);
+    let logs = logs_in(matches).ok_or(BadOption::Log)?;
     Ok(ServeOptions {
         listening: Listening {
             address: SocketAddrV4::new(ip, port),

@@ -3,14 +3,15 @@
 //! One thread receives the datagrams. Their jobs run on worker threads or on the receiving thread.
 ghost use Rattle.std.specs.Prelude.{◌≡◌, ◌≤◌, ◌⊎◌, ⊤, if◌then◌else◌, IfOk, IfSome, None};
 ghost use Rattle.fc_server.specs.States.{CanBegin};
-ghost use Rattle.fc_service.specs.Rounds.{HasReceived, HasServed, IsServed, IsServedBeside, round_calls, timed_calls};
+ghost use Rattle.fc_service.specs.Rounds.{HasReceivedBy, HasServedBy, IsServed, IsServedBeside, round_calls, timed_calls};
 ghost use Rattle.fc_service.specs.declared.replies.Replies.{Replies as Counts};
 ghost use Rattle.fc_cli.specs.declared.status.Status.TheVariants.{Done, Failed};
 
 use crate::alone::Sensed;
 use crate::pool::{Feeder, Intake, Pool, run_pool};
 use crate::replies::Replies;
-use crate::rounds::{Unprepared, run_rounds};
+use crate::reports::{CountedSink, Reports, run_reported};
+use crate::rounds::Unprepared;
 use crate::serials::serial_of_start;
 use fc_cli::status::{Status, tell};
 use fc_core::Policy;
@@ -19,7 +20,7 @@ use fc_host::sensors::Sensors;
 use fc_host::socket::{Receiving, Replying, Sink, Source, open};
 use fc_host::timer::Timer;
 use fc_host::timers::{PastTimers, Timed, Timers};
-use fc_record::{RecordedAlone, Recorder};
+use fc_record::{RecordedAlone, Recorder, Reporter};
 use fc_server::{Alone, Begin};
 use fc_workers::{Handover, Moments};
 use log::{Log, info};
@@ -70,11 +71,12 @@ pub struct Listening {
     pub told: bool,
 }
 
-/// The receivers of a server's records: of its end, and of each program change.
+/// The receivers of a server's records: of its end, of each program change, and of its reports.
 #[derive(Clone, Copy)]
-pub struct Records<'a, L: Log, C: Recorder> {
+pub struct Records<'a, L: Log, C: Recorder, Q: Reporter> {
     pub end: &'a L,
     pub changes: &'a C,
+    pub reports: Reports<'a, Q>,
 }
 
 /// Serves on UDP at an address and a port of this host, as [`serve_at`] does.
@@ -86,12 +88,13 @@ pub fn serve<
     R: Threads + Wait + Clock + Net + Sync,
     L: Log,
     C: Recorder + Sync,
+    Q: Reporter + Sync,
     E: Write,
     Z: Sensors + Sync,
 >(
     rt: &R,
     alloc: Global,
-    records: &Records<'_, L, C>,
+    records: &Records<'_, L, C, Q>,
     err: &mut E,
     sensors: &Z,
     listening: Listening,
@@ -100,7 +103,7 @@ pub fn serve<
 ) -> Status
     ensures status { (result ≡ Done) ⊎ (result ≡ Failed) }
     ensures served { result ≡ Done → (replies : Counts) × IsServedBeside timers.items Z.are_sensed
-        (λ receive before after. after ≡ before) (λ now before after. after ≡ before) (λ emission out before after. ⊤) C.recorded extent replies }
+        (λ receive before after. after ≡ before) (λ now before after. after ≡ before) (λ emission out before after. ⊤) C.recorded records.now.reports.every Q.reported extent replies }
 {
     let address = listening.address;
     match open(rt, address) {
@@ -131,12 +134,13 @@ fn serve_timed<
     K: Sink + Sync,
     L: Log,
     C: Recorder + Sync,
+    Q: Reporter + Sync,
     E: Write,
     Z: Sensors + Sync,
 >(
     rt: &R,
     alloc: Global,
-    records: &Records<'_, L, C>,
+    records: &Records<'_, L, C, Q>,
     err: &mut E,
     sensors: &Z,
     source: S,
@@ -146,7 +150,7 @@ fn serve_timed<
 ) -> Status
     ensures status { (result ≡ Done) ⊎ (result ≡ Failed) }
     ensures served { result ≡ Done → (replies : Counts)
-        × IsServed Z.are_sensed (timed_calls S.received (λ now before after. after ≡ before) K.went) C.recorded extent None None replies }
+        × IsServed Z.are_sensed (timed_calls S.received (λ now before after. after ≡ before) K.went) C.recorded records.now.reports.every Q.reported extent None None replies }
 {
     let moments = match Elapsed::start(rt) {
         Ok(moments) => moments,
@@ -185,6 +189,9 @@ fn done_if(done: bool) -> Status
 /// that were passed to the sink and that couldn't be sent: a record `sent 2 failed 0` of level
 /// info. The source is returned.
 ///
+/// If `records.reports` has a period, the reporter gets the counts of datagrams and notifications
+/// once in each period, while the server runs: at the first round after they are due.
+///
 /// The recorder gets each program change that is answered, once: an image that is installed or
 /// refused, and a removal. A duplicate request is no change. A block-wise upload is one change, at
 /// its last block.
@@ -197,12 +204,13 @@ pub fn serve_at<
     K: Sink + Sync,
     L: Log,
     C: Recorder + Sync,
+    Q: Reporter + Sync,
     E: Write,
     Z: Sensors + Sync,
 >(
     rt: &R,
     alloc: Global,
-    records: &Records<'_, L, C>,
+    records: &Records<'_, L, C, Q>,
     err: &mut E,
     sensors: &Z,
     source: S,
@@ -210,10 +218,13 @@ pub fn serve_at<
     extent: Extent,
 ) -> Option<S>
     ensures { IfSome result (λ left. (replies : Counts)
-        × IsServed Z.are_sensed (round_calls S.received (λ now before after. after ≡ before) K.went) C.recorded extent (S.came source) (S.came left) replies) }
+        × IsServed Z.are_sensed (round_calls S.received (λ now before after. after ≡ before) K.went) C.recorded records.now.reports.every Q.reported extent (S.came source) (S.came left) replies) }
 {
-    let recorder = records.changes;
-    match serve_to_end(rt, alloc, recorder, err, sensors, source, sink, extent) {
+    let sink = &CountedSink {
+        sink,
+        reporter: records.reports.reporter,
+    };
+    match serve_to_end(rt, alloc, records, err, sensors, source, sink, extent) {
         Ok(Received { source, replies }) => {
             info!(records.end; "{replies}");
             Some(source)
@@ -235,7 +246,9 @@ struct Received<S: Source + Drop> {
 // Serves to the end.
 fn serve_to_end<
     R: Threads + Wait + Clock + Sync,
+    L: Log,
     C: Recorder + Sync,
+    Q: Reporter + Sync,
     E: Write,
     Z: Sensors + Sync,
     S: Source + Drop,
@@ -243,14 +256,14 @@ fn serve_to_end<
 >(
     rt: &R,
     alloc: Global,
-    recorder: &C,
+    records: &Records<'_, L, C, Q>,
     err: &mut E,
     sensors: &Z,
     source: S,
     sink: &K,
     extent: Extent,
 ) -> Result<Received<S>, ServeStop>
-    ensures { IfOk result (λ r. IsServed Z.are_sensed (round_calls S.received (λ now before after. after ≡ before) K.went) C.recorded extent (S.came source) (S.came r.source) r.replies) }
+    ensures { IfOk result (λ r. IsServed Z.are_sensed (round_calls S.received (λ now before after. after ≡ before) K.went) C.recorded records.now.reports.every Q.reported extent (S.came source) (S.came r.source) r.replies) }
 {
     let moments = Elapsed::start(rt).map_err(ServeStop::Clock)?;
     let begin = Begin {
@@ -259,9 +272,10 @@ fn serve_to_end<
         policy: extent.policy,
     };
     let limit = extent.limit;
+    let (recorder, reports) = (records.changes, &records.reports);
     if extent.workers == 1 {
         return Ok(serve_alone(
-            rt, alloc, begin, recorder, sensors, source, sink, &moments, limit,
+            rt, alloc, begin, recorder, reports, sensors, source, sink, &moments, limit,
         )?);
     }
     let pool = Pool {
@@ -281,6 +295,7 @@ fn serve_to_end<
         sink,
         moments: &moments,
         limit,
+        reports,
     };
     let fed = run_pool(rt, alloc, err, &pool, receiver)?;
     let Received { source, replies } = fed.given;
@@ -292,16 +307,18 @@ fn serve_to_end<
 
 // A receiver of datagrams, up to a limit. It sends what needs no job.
 #[derive(Drop)]
-struct Receiver<'a, S: Source + Drop, K: Sink, M: Moments> {
+struct Receiver<'a, 'b, S: Source + Drop, K: Sink, M: Moments, Q: Reporter> {
     source: S,
     sink: &'a K,
     moments: &'a M,
     limit: u32,
+    reports: &'a Reports<'b, Q>,
 }
 
-impl<'a, S: Source + Drop, K: Sink, M: Moments> Feeder<Received<S>> for Receiver<'a, S, K, M> {
-    ghost feeds = { λ T calls self first last given.
-        HasReceived calls (round_calls S.received M.is_moment K.went) self.limit (S.came self.source) (S.came given.source) first last given.replies };
+impl<'a, 'b, S: Source + Drop, K: Sink, M: Moments, Q: Reporter> Feeder<Received<S>>
+    for Receiver<'a, 'b, S, K, M, Q> {
+    ghost feeds = { λ T calls self first last given. HasReceivedBy self.reports.now.every Q.reported (λ now old new. new ≡ old)
+        calls (round_calls S.received M.is_moment K.went) self.limit (S.came self.source) (S.came given.source) first last given.replies };
 
     fn feed<N: Intake, R: Wait>(self, rt: &R, intake: &mut N) -> Received<S> {
         let Receiver {
@@ -309,19 +326,38 @@ impl<'a, S: Source + Drop, K: Sink, M: Moments> Feeder<Received<S>> for Receiver
             sink,
             moments,
             limit,
+            reports,
         } = self;
-        let replies = run_rounds(rt, intake, &Unprepared, &mut source, sink, moments, limit);
+        let replies = run_reported(
+            rt,
+            intake,
+            &Unprepared,
+            &mut source,
+            sink,
+            moments,
+            limit,
+            reports,
+        );
         Received { source, replies }
     }
 }
 
 // Runs each datagram's job on this thread, before the next is received. Returns the replies, each
 // counted once.
-fn serve_alone<R: Wait, C: Recorder, S: Source + Drop, K: Sink, M: Moments, Z: Sensors>(
+fn serve_alone<
+    R: Wait,
+    C: Recorder,
+    Q: Reporter,
+    S: Source + Drop,
+    K: Sink,
+    M: Moments,
+    Z: Sensors,
+>(
     rt: &R,
     alloc: Global,
     begin: Begin,
     recorder: &C,
+    reports: &Reports<'_, Q>,
     sensors: &Z,
     mut source: S,
     sink: &K,
@@ -329,10 +365,20 @@ fn serve_alone<R: Wait, C: Recorder, S: Source + Drop, K: Sink, M: Moments, Z: S
     limit: u32,
 ) -> Result<Received<S>, AllocError>
     requires { CanBegin begin }
-    ensures { IfOk result (λ r. HasServed Z.are_sensed (round_calls S.received M.is_moment K.went) C.recorded limit begin (S.came source) (S.came r.source) r.replies) }
+    ensures { IfOk result (λ r. HasServedBy reports.now.every Q.reported Z.are_sensed (round_calls S.received M.is_moment K.went) C.recorded limit begin
+        (S.came source) (S.came r.source) r.replies) }
 {
     let mut alone = RecordedAlone::new(Alone::new(alloc, &begin)?, recorder);
     let sensed = Sensed { sensors };
-    let replies = run_rounds(rt, &mut alone, &sensed, &mut source, sink, moments, limit);
+    let replies = run_reported(
+        rt,
+        &mut alone,
+        &sensed,
+        &mut source,
+        sink,
+        moments,
+        limit,
+        reports,
+    );
     Ok(Received { source, replies })
 }

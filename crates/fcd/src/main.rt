@@ -7,19 +7,21 @@ use fc_cli::command_line::{exit_code, parse, words};
 use fc_cli::message_id::random_id;
 use fc_core::Policy;
 use fc_host::sensors::{FileSensors, NoSensors};
+use fc_host::timer::Timer;
 use fc_lines::LineLimit;
-use fc_record::LoggedChanges;
+use fc_record::{LoggedChanges, LoggedReports, Recorder, Reporter};
 use fc_server::Begin;
 use fc_service::command::command;
 use fc_service::every::{BadTimer, timers_in};
 use fc_service::options::{BadOption, ServeOptions, serve_options};
 use fc_service::play::play;
 use fc_service::policy::policy_in;
+use fc_service::reports::Reports;
 use fc_service::serials::unix_milliseconds;
 use fc_service::serve::{Extent, Records, serve};
 use fc_service::workers::play_by_workers;
 use log::sink::Console;
-use log::{LevelFilter, Logged};
+use log::{LevelFilter, Log, Logged};
 use std::io;
 use std::io::{BufReader, BufWriter, Write};
 use std::net::Net;
@@ -103,6 +105,44 @@ fn serve_socket<R: Runtime + AllocGlobal + Threads + Wait + Net + RandomSource +
         Ok(options) => options,
         Err(bad) => return tell_bad(err, bad),
     };
+    let alloc = rt.alloc();
+    let timers = match timers_in(alloc, matches, options.policy.limits) {
+        Ok(timers) => timers,
+        Err(bad) => return tell_bad_timer(err, &bad),
+    };
+    let end = Logged::new(rt, level_if(options.logs.info), Console(rt));
+    let changes = Logged::new(rt, level_if(options.logs.changes), Console(rt));
+    let counts = Logged::new(rt, LevelFilter::Info, Console(rt));
+    serve_logged(
+        rt,
+        files,
+        err,
+        options,
+        timers,
+        &end,
+        &LoggedChanges { logger: &changes },
+        &LoggedReports::new(&counts),
+    )
+}
+
+// Serves with these options and timers. The end is recorded by a logger, changes by a recorder, and
+// counts by a reporter.
+fn serve_logged<
+    R: Runtime + AllocGlobal + Threads + Wait + Net + RandomSource + Sync,
+    E: Write,
+    L: Log,
+    C: Recorder + Sync,
+    Q: Reporter + Sync,
+>(
+    rt: &R,
+    files: &HostRuntime,
+    err: &mut E,
+    options: ServeOptions<'_>,
+    timers: Vec<Timer>,
+    end: &L,
+    changes: &C,
+    reporter: &Q,
+) -> anyhow::Result<Status> {
     let ServeOptions {
         listening,
         workers,
@@ -112,15 +152,13 @@ fn serve_socket<R: Runtime + AllocGlobal + Threads + Wait + Net + RandomSource +
         logs,
     } = options;
     let alloc = rt.alloc();
-    let timers = match timers_in(alloc, matches, policy.limits) {
-        Ok(timers) => timers,
-        Err(bad) => return tell_bad_timer(err, &bad),
-    };
-    let end = Logged::new(rt, level_if(logs.info), Console(rt));
-    let changes = Logged::new(rt, level_if(logs.changes), Console(rt));
     let records = Records {
-        end: &end,
-        changes: &LoggedChanges { logger: &changes },
+        end,
+        changes,
+        reports: Reports {
+            every: logs.report,
+            reporter,
+        },
     };
     let started = unix_milliseconds(rt).map_err(|error| anyhow::anyhow!("clock: {error}"))?;
     let first_id = random_id(rt).map_err(|error| anyhow::anyhow!("random bytes: {error}"))?;

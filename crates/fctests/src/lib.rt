@@ -66,6 +66,8 @@ mod record_tests;
 #[cfg(test)]
 mod reply_tests;
 #[cfg(test)]
+mod report_tests;
+#[cfg(test)]
 mod request_tests;
 #[cfg(test)]
 mod response_tests;

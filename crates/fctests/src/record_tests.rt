@@ -2,11 +2,11 @@
 //!
 //! Each answered change has one record, at its last block. A duplicate datagram has none.
 //! The digests are those that `sha256sum` printed of the images.
-use crate::socket_tests::{COUNT, at_port, client_of, largest_image};
+use crate::socket_tests::{COUNT, at_port, client_of, largest_image, never};
 use fc_core::DEFAULT_POLICY;
 use fc_host::sensors::NoSensors;
 use fc_host::socket::{Receiving, open};
-use fc_record::{LoggedChanges, Recorder};
+use fc_record::{LoggedChanges, NoReports, Recorder};
 use fc_service::serve::{Extent, Records, serve_at};
 use log::sink::{Discard, Locked};
 use log::{LevelFilter, Log, Logged};
@@ -193,8 +193,12 @@ fn serve_by<R: Threads + Wait + Clock + Sync, C: Recorder + Sync>(
     served.is_some()
 }
 
-fn records_of<'a, L: Log, C: Recorder>(end: &'a L, changes: &'a C) -> Records<'a, L, C> {
-    Records { end, changes }
+fn records_of<'a, L: Log, C: Recorder>(end: &'a L, changes: &'a C) -> Records<'a, L, C, NoReports> {
+    Records {
+        end,
+        changes,
+        reports: never(),
+    }
 }
 
 // Returns the expected lines of these changes, for a client at this port.

@@ -11,7 +11,8 @@ use fc_core::DEFAULT_POLICY;
 use fc_fetch::{FetchOptions, Shown, fetch};
 use fc_host::sensors::{NoSensors, Sensors};
 use fc_host::socket::{Buffer, Receiving, Sink, Source, open};
-use fc_record::NoChanges;
+use fc_record::{NoChanges, NoReports};
+use fc_service::reports::Reports;
 use fc_service::serve::{Extent, Listening, Records, serve, serve_at};
 use fc_workers::CallLog;
 use log::sink::Memory;
@@ -102,11 +103,20 @@ fn ask_counter<R: Abort + Net + Clock + RandomSource + AllocGlobal>(
     Ok(())
 }
 
-// Records a server's end by a logger, and no change.
-pub(crate) fn unrecorded<L: Log>(log: &L) -> Records<'_, L, NoChanges> {
+// Records a server's end by a logger, no change, and no report.
+pub(crate) fn unrecorded<L: Log>(log: &L) -> Records<'_, L, NoChanges, NoReports> {
     Records {
         end: log,
         changes: &NoChanges,
+        reports: never(),
+    }
+}
+
+// Reports nothing.
+pub(crate) fn never<'a>() -> Reports<'a, NoReports> {
+    Reports {
+        every: None,
+        reporter: &NoReports,
     }
 }
 

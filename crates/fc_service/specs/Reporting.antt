@@ -1,0 +1,52 @@
+-- Reports of a server's counts, each so many milliseconds.
+use Rattle.std.specs.Prelude.{◌≡◌, ◌+◌, ℕ, nat_lt, min, MatchBool}
+use Rattle.fc_server.specs.Intakes.{IntakeCalls}
+use Rattle.fc_workers.specs.Answers.{saturated}
+use Rattle.fc_workers.specs.declared.call_log.CallLog.{CallLog}
+use Rattle.fc_record.specs.Reports.{datagram_counted, lease_counted, nothing_counted, tick_counted}
+use Rattle.fc_record.specs.declared.report.Report.{Report}
+
+-- a server whose calls are counted; the period of its reports, in milliseconds, and the time at
+-- which the next one is due; and the log of its reports.
+pub record Reporting (S : Type 0) : Type 0 where
+  pub intake : S
+  pub report : Report
+  pub every : ℕ
+  pub due : ℕ
+  pub log : CallLog
+
+-- reporting begins: nothing was counted, and the first report is due after one period.
+abbrev pub reporting_from : {S : Type 0} → ℕ → CallLog → S → Reporting S
+reporting_from every log s = record { intake = s; report = nothing_counted; every = every; due = every; log = log }
+
+module _ {S : Type 0} (Reported : Report → CallLog → CallLog → Type 0) (calls : IntakeCalls S) where
+  -- the counts so far were reported, once. The next report is due one period after this time, so a
+  -- late report delays the next one.
+  pub record MakesReport (now : ℕ) (old new : Reporting S) : Type 0 where
+    pub log : CallLog
+    pub reported : Reported old.report old.log log
+    pub state : new ≡ record old { due = saturated (now + old.every); log = log }
+
+  -- nothing is reported before the due time.
+  abbrev pub ReportsIfDue : ℕ → Reporting S → Reporting S → Type 0
+  ReportsIfDue now old new = MatchBool (nat_lt now old.due) (new ≡ old) (MakesReport now old new)
+
+  -- the calls of a server, each counted by its result. A report is made if it is due when a
+  -- datagram comes, or when time passes, before that. A server is idle for no longer than until its
+  -- next report is due.
+  abbrev pub reported_calls : IntakeCalls (Reporting S)
+  reported_calls = record {
+    hears = λ now from bytes old new heard reply. (mid : Reporting S) × ReportsIfDue now old mid × calls.hears now from bytes mid.intake new.intake heard reply
+        × (new ≡ record mid { intake = new.intake; report = datagram_counted heard reply mid.report });
+    passes = λ now old new. (mid : Reporting S) × ReportsIfDue now old mid × calls.passes now mid.intake new.intake × (new ≡ record mid { intake = new.intake });
+    resends = λ shard now old new ticked. calls.resends shard now old.intake new.intake ticked
+        × (new ≡ record old { intake = new.intake; report = tick_counted ticked old.report });
+    passes_over = λ shard now old new. calls.passes_over shard now old.intake new.intake × (new ≡ record old { intake = new.intake });
+    notifies = λ shard now old new told. calls.notifies shard now old.intake new.intake told
+        × (new ≡ record old { intake = new.intake; report = lease_counted told old.report });
+    stays_quiet = λ shard now until. (own : ℕ) × calls.stays_quiet shard now.intake own × (until ≡ min own now.due);
+  }
+
+-- a server was prepared for a round, and its counts and reports are as before.
+abbrev pub readies_through : {S : Type 0} → (ℕ → S → S → Type 0) → ℕ → Reporting S → Reporting S → Type 0
+readies_through Readies now old new = Readies now old.intake new.intake × (new ≡ record old { intake = new.intake })

@@ -1,0 +1,82 @@
+//! Rounds of a server that reports its counts, each so many milliseconds.
+ghost use Rattle.std.specs.Prelude.{◌≡◌};
+ghost use Rattle.fc_service.specs.Rounds.{HasReceivedBy, round_calls};
+
+use crate::replies::Replies;
+use crate::reporting::{Reporting, Through};
+use crate::rounds::{Preparation, run_rounds};
+use coap_msg::Emission;
+use fc_host::socket::{Sink, Source};
+use fc_record::Reporter;
+use fc_server::Intake;
+use fc_workers::{CallLog, Moments};
+use std::sync::Wait;
+
+/// The reporter of a server, and the period of its reports in milliseconds.
+///
+/// Without a period, nothing is reported.
+#[derive(Clone, Copy)]
+pub struct Reports<'a, Q: Reporter> {
+    pub every: Option<u64>,
+    pub reporter: &'a Q,
+}
+
+// A sink whose reporter counts the datagrams that couldn't be sent.
+#[derive(Drop)]
+pub(crate) struct CountedSink<'a, K: Sink, Q: Reporter> {
+    pub(crate) sink: &'a K,
+    pub(crate) reporter: &'a Q,
+}
+
+impl<'a, K: Sink, Q: Reporter> Sink for CountedSink<'a, K, Q> {
+    ghost went = { K.went };
+
+    fn send(&self, emission: &Emission, log: &mut CallLog) -> bool {
+        let out = self.sink.send(emission, log);
+        if !out {
+            self.reporter.count_failure();
+        }
+        out
+    }
+}
+
+/// Receives datagrams as [`run_rounds`] does, and reports the counts if `reports` has a period.
+///
+/// A report is made at the first round after it is due. Each receive ends when a report is due, or
+/// up to 100 ms later.
+pub(crate) fn run_reported<
+    R: Wait,
+    N: Intake,
+    P: Preparation<N>,
+    S: Source,
+    K: Sink,
+    M: Moments,
+    Q: Reporter,
+>(
+    rt: &R,
+    intake: &mut N,
+    preparation: &P,
+    source: &mut S,
+    sink: &K,
+    moments: &M,
+    limit: u32,
+    reports: &Reports<'_, Q>,
+) -> Replies
+    ensures { HasReceivedBy reports.now.every Q.reported P.readies N.calls (round_calls S.received M.is_moment K.went) limit
+        (S.came source.old) (S.came source.new) intake.old intake.new result }
+{
+    let Some(every) = reports.every else {
+        return run_rounds(rt, intake, preparation, source, sink, moments, limit);
+    };
+    let mut reporting = Reporting::new(intake, every, reports.reporter);
+    let preparation = Through { preparation };
+    run_rounds(
+        rt,
+        &mut reporting,
+        &preparation,
+        source,
+        sink,
+        moments,
+        limit,
+    )
+}

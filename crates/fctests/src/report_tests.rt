@@ -1,0 +1,246 @@
+//! Reports of a server's counts: which numbers each has, and the options that ask for them.
+//!
+//! A script stands for the socket. With a period of 0 each round makes a report, of the counts
+//! before the round's datagram.
+use crate::socket_tests::put_datagram;
+use coap_dedup::Limits;
+use coap_msg::{Emission, Endpoint};
+use fc_core::{MOST_NETWORKS, Network, Policy};
+use fc_host::sensors::NoSensors;
+use fc_host::socket::{Buffer, Sink, Source};
+use fc_observe::CONFIRM_AFTER;
+use fc_record::{LoggedReports, NoChanges, Report, Reporter};
+use fc_service::command::command;
+use fc_service::options::{BadOption, serve_options};
+use fc_service::reports::Reports;
+use fc_service::serve::{Extent, Records, serve_at};
+use fc_workers::CallLog;
+use log::sink::{Discard, Locked};
+use log::{LevelFilter, Log, Logged};
+use std::alloc::Global;
+use std::process::Abort;
+use std::sync::Wait;
+use std::sync::atomic::{AtomicUsize, Ordering};
+use std::test::Fail;
+use std::thread::Threads;
+use std::time::Clock;
+
+// Nobody at 127.0.0.1 is a manager, and there are two exchanges.
+const POLICY: Policy = Policy {
+    managers: [Network {
+        ip: [192, 0, 2, 0],
+        bits: 24,
+    }; MOST_NETWORKS],
+    limits: Limits {
+        exchanges: 2,
+        share: 2,
+    },
+    confirm_after: CONFIRM_AFTER,
+};
+
+// DELETE /p/0, which is refused with 4.03; GET /r/0, which is empty; GET /r/1, for which there is
+// no exchange; and an empty confirmable message, which is rejected by a Reset.
+const DELETE_1: [u8; 8] = [0x40, 0x04, 0x00, 0x01, 0xb1, b'p', 0x01, b'0'];
+
+const GET_2: [u8; 8] = [0x40, 0x01, 0x00, 0x02, 0xb1, b'r', 0x01, b'0'];
+
+const GET_3: [u8; 8] = [0x40, 0x01, 0x00, 0x03, 0xb1, b'r', 0x01, b'1'];
+
+const EMPTY_4: [u8; 4] = [0x40, 0x00, 0x00, 0x04];
+
+// A source without a datagram at its first and its sixth call.
+#[derive(Drop)]
+struct Script {
+    calls: usize,
+}
+
+impl Source for Script {
+    fn receive(
+        &mut self,
+        wait: Option<u64>,
+        buffer: &mut Buffer,
+        log: &mut CallLog,
+    ) -> Option<(usize, Endpoint)> {
+        let _ = log;
+        let _ = wait;
+        self.calls = self.calls.saturating_add(1);
+        match self.calls {
+            2 => put_datagram(&DELETE_1, buffer),
+            3 => put_datagram(&GET_2, buffer),
+            4 => put_datagram(&GET_3, buffer),
+            5 | 7 => put_datagram(&EMPTY_4, buffer),
+            _ => None,
+        }
+    }
+}
+
+// A sink that fails at every second datagram.
+#[derive(Drop)]
+struct Lossy {
+    sends: AtomicUsize,
+}
+
+impl Sink for Lossy {
+    fn send(&self, emission: &Emission, log: &mut CallLog) -> bool {
+        let _ = emission;
+        let _ = log;
+        self.sends.fetch_add(1, Ordering::SeqCst) % 2 == 0
+    }
+}
+
+// The reports before each of the seven rounds.
+const EXPECTED: &str = "\
+[INFO  fcd] report received=0 forbidden=0 unavailable=0 notified=0 resent=0 removed=0 failed=0
+[INFO  fcd] report received=0 forbidden=0 unavailable=0 notified=0 resent=0 removed=0 failed=0
+[INFO  fcd] report received=1 forbidden=1 unavailable=0 notified=0 resent=0 removed=0 failed=0
+[INFO  fcd] report received=2 forbidden=1 unavailable=0 notified=0 resent=0 removed=0 failed=1
+[INFO  fcd] report received=3 forbidden=1 unavailable=1 notified=0 resent=0 removed=0 failed=1
+[INFO  fcd] report received=4 forbidden=1 unavailable=1 notified=0 resent=0 removed=0 failed=2
+[INFO  fcd] report received=4 forbidden=1 unavailable=1 notified=0 resent=0 removed=0 failed=2
+";
+
+// Returns the lines that a server with this many workers reports in this period.
+fn reported_by<R: Abort + AllocGlobal + Threads + Wait + Clock + Sync>(
+    rt: &R,
+    workers: u8,
+    every: Option<u64>,
+) -> Vec<u8> {
+    let alloc = rt.alloc();
+    let lines = Locked::new(rt, Vec::new(alloc));
+    let logger = Logged::new(rt, LevelFilter::Info, &lines);
+    let served = serve_by(rt, alloc, &LoggedReports::new(&logger), workers, every);
+    assert!(rt; served);
+    lines.into_inner()
+}
+
+// Serves the script with this reporter. Returns whether it was served.
+fn serve_by<R: Threads + Wait + Clock + Sync, Q: Reporter + Sync>(
+    rt: &R,
+    alloc: Global,
+    reporter: &Q,
+    workers: u8,
+    every: Option<u64>,
+) -> bool {
+    let end = Logged::new(rt, LevelFilter::Off, Discard);
+    let mut err = Vec::new(alloc);
+    let extent = Extent {
+        workers,
+        limit: 5,
+        started: 0,
+        first_id: 0,
+        policy: POLICY,
+    };
+    let lossy = Lossy {
+        sends: AtomicUsize::new(0),
+    };
+    let served = serve_at(
+        rt,
+        alloc,
+        &records_of(&end, Reports { every, reporter }),
+        &mut err,
+        &NoSensors,
+        Script { calls: 0 },
+        &lossy,
+        extent,
+    );
+    served.is_some()
+}
+
+fn records_of<'a, L: Log, Q: Reporter>(
+    end: &'a L,
+    reports: Reports<'a, Q>,
+) -> Records<'a, L, NoChanges, Q> {
+    Records {
+        end,
+        changes: &NoChanges,
+        reports,
+    }
+}
+
+#[test]
+fn reports_have_the_counts_of_their_rounds(rt: HostRuntime) -> Result<(), Fail> {
+    for workers in [1, 2] {
+        let lines = reported_by(&rt, workers, Some(0));
+        assert!(rt; lines.as_slice() == EXPECTED.as_bytes(), "{workers}");
+    }
+    Ok(())
+}
+
+// The script ends before a day has passed.
+#[test]
+fn nothing_is_reported_before_it_is_due(rt: HostRuntime) -> Result<(), Fail> {
+    for every in [None, Some(86_400_000)] {
+        assert!(rt; reported_by(&rt, 1, every).is_empty());
+        assert!(rt; reported_by(&rt, 2, every).is_empty());
+    }
+    Ok(())
+}
+
+#[test]
+fn a_report_has_each_of_its_numbers(rt: HostRuntime) -> Result<(), Fail> {
+    let lines = Locked::new(&rt, Vec::new(rt.alloc()));
+    let logger = Logged::new(&rt, LevelFilter::Info, &lines);
+    let reporter = LoggedReports::new(&logger);
+    let report = Report {
+        received: 1204,
+        forbidden: 1,
+        unavailable: 3,
+        notified: 40,
+        resent: 2,
+        removed: 5,
+    };
+    reporter.count_failure();
+    reporter.report(&report, &mut CallLog::new());
+    let text =
+        "[INFO  fcd] report received=1204 forbidden=1 unavailable=3 notified=40 resent=2 removed=5 failed=1\n";
+    assert!(rt; lines.into_inner().as_slice() == text.as_bytes());
+    Ok(())
+}
+
+// Returns the period in milliseconds that `--log` with this value, after `report:1`, gives.
+fn period_of(alloc: Global, value: &str) -> Result<Result<Option<u64>, BadOption>, Fail> {
+    let words = [
+        "fcd", "serve", "--port", "5683", "--log", "report:1", "--log", value,
+    ];
+    let matches = command(alloc)?.try_get_matches_from(&words)?;
+    let Some(matches) = matches.subcommand_matches("serve") else {
+        return Ok(Ok(None));
+    };
+    Ok(serve_options(matches).map(|options| options.logs.report))
+}
+
+#[test]
+fn the_last_period_of_reports_counts(rt: HostRuntime) -> Result<(), Fail> {
+    for (value, period) in [
+        ("report:60", 60_000),
+        ("report:86400", 86_400_000),
+        ("info", 1_000),
+        ("changes", 1_000),
+        ("off", 1_000),
+    ] {
+        let given = period_of(rt.alloc(), value)?;
+        assert!(rt;
+            matches!(given, Ok(Some(given)) if given == period),
+            "{value}"
+        );
+    }
+    Ok(())
+}
+
+#[test]
+fn other_values_of_log_are_refused(rt: HostRuntime) -> Result<(), Fail> {
+    for value in [
+        "report:0",
+        "report:86401",
+        "report:",
+        "report",
+        "report:1s",
+        "reports:1",
+        "all",
+        "",
+    ] {
+        let given = period_of(rt.alloc(), value)?;
+        assert!(rt; matches!(given, Err(BadOption::Log)), "{value}");
+    }
+    Ok(())
+}
