@@ -2,6 +2,7 @@
 use Rattle.std.specs.Prelude.{◌≡◌, ℕ, ◌<◌, ◌≤◌, List, [], ◌∷◌, drop, length}
 use lib.ListN.{get_elem?}
 use mathlib.Core.Option.{some}
+use Rattle.atomic_table.specs.Seated.{TableId}
 use Rattle.fc_book.specs.declared.view.Track.{Track}
 use Rattle.fc_book.specs.declared.view.BookView.{BookView}
 use Rattle.fc_book.specs.Tracks.{AreViewsOf, HasKey, IsViewOf, on}
@@ -9,6 +10,11 @@ use Rattle.fc_core.specs.Heads.{no_words}
 use Rattle.fc_linear.specs.Parts.{BringsItsJob}
 use Rattle.fc_filed.specs.declared.entry.FiledEntry.{FiledEntry}
 use Rattle.fc_filed.specs.Entries.{AreKeyed, ChangesWords, OperationsLead, entry_keys, log_of}
+
+-- a book, as a clause sees it: its table, and the key of the first job's track.
+pub record SeenBook : Type 0 where
+  pub table : TableId
+  pub first_job : ℕ
 
 -- the table's words after the first eight, which are padding: the head words of slots 0 to 63.
 abbrev pub heads_in : List ℕ → List ℕ

@@ -44,25 +44,49 @@ impl ServerName for Brand {
 }
 
 /// A book with an empty history and without a name yet.
+///
+/// A clause sees its table, and the key of the first job's track.
 #[derive(Drop)]
 pub struct NewServerBook {
     words: FiledWords,
     seat: FiledSeat,
-    pub ghost of: { seat.table_id ≡ words.shared.table_id },
-    pub ghost size: { words.shared.table_id.words ≡ 72 },
-    pub ghost empty: { seat.me ≡ (first_view, []) },
+    threads: u16,
+}
+
+impl Model for NewServerBook {
+    ghost use Rattle.fc_filed.specs.Books.{SeenBook};
+
+    ghost Value = { SeenBook };
+
+    ghost use Rattle.std.specs.Prelude.{◌≡◌, ◌+◌, []};
+    ghost use Rattle.fc_book.specs.Tracks.{first_view};
+
+    ghost view = { λ b. record { table = b.words.shared.table_id; first_job = b.words.shared.key } };
+
+    ghost invariant = { λ b. (b.seat.table_id ≡ b.words.shared.table_id) × (b.words.shared.table_id.words ≡ 72)
+        × (b.seat.me ≡ (first_view, [])) × (b.words.shared.key ≡ 9 + b.threads) };
 }
 
 /// The book: eight words of padding, and the head words of slots 0 to 63.
 ///
-/// The padding is never written. Steps that need no head word load its first word.
+/// The padding is never written. Steps that need no head word load its first word. A clause sees
+/// the table, and the key of the first job's track.
 #[derive(Drop)]
 pub struct ServerBook<J: ServerName> {
     words: FiledWords,
     of: PhantomData<J>,
-    ghost named: { words.shared.table_id ≡ J.table },
-    ghost key: { words.shared.key ≡ J.first_job },
-    ghost size: { words.shared.table_id.words ≡ 72 },
+}
+
+impl<J: ServerName> Model for ServerBook<J> {
+    ghost use Rattle.fc_filed.specs.Books.{SeenBook};
+
+    ghost Value = { SeenBook };
+
+    ghost use Rattle.std.specs.Prelude.{◌≡◌};
+
+    ghost view = { λ b. record { table = b.words.shared.table_id; first_job = b.words.shared.key } };
+
+    ghost invariant = { λ b. (b.words.shared.table_id ≡ J.table) × (b.words.shared.key ≡ J.first_job) × (b.words.shared.table_id.words ≡ 72) };
 }
 
 /// The tracks that a thread or a message owns.
@@ -116,20 +140,31 @@ impl NewServerBook {
     /// # Errors
     /// Returns `AllocError` if memory can't be allocated.
     pub fn new(alloc: Global, threads: u16) -> Result<NewServerBook, AllocError>
-        ensures { IfOk result (λ b. b.words.shared.key ≡ 9 + threads) }
+        ensures { IfOk result (λ b. b.first_job ≡ 9 + threads) }
     {
         let first_job = 9 + u64::from(threads);
         let (words, seat) = Table::of_words(alloc, &[0; 72], &first_job)?;
-        Ok(NewServerBook { words, seat })
+        Ok(NewServerBook {
+            words,
+            seat,
+            threads,
+        })
+    }
+
+    /// Returns the number of threads that it is for.
+    pub fn threads(&self) -> u16
+        ensures { 9 + result ≡ self.now.first_job }
+    {
+        self.threads
     }
 
     /// Names the book, and returns it with an owner that may begin each track.
     pub fn with_name<J: ServerName>(self) -> (ServerBook<J>, ServerTracks<J>)
-        requires named { self.words.shared.table_id ≡ J.table }
-        requires key { self.words.shared.key ≡ J.first_job }
+        requires named { self.table ≡ J.table }
+        requires key { self.first_job ≡ J.first_job }
         ensures { result.1 ≡ first_view }
     {
-        let NewServerBook { words, seat } = self;
+        let NewServerBook { words, seat, .. } = self;
         (
             ServerBook {
                 words,

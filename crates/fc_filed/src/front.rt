@@ -4,6 +4,7 @@ ghost use Rattle.fc_core.specs.Answering.{emission_of, responded};
 ghost use Rattle.fc_core.specs.Contents.{IsOf};
 ghost use Rattle.fc_core.specs.Receiving.{heard};
 ghost use Rattle.fc_book.specs.Tracks.{part_view, with_part};
+ghost use Rattle.fc_calls.specs.Doings.{AdvancesTo, AnswersAt, DrawsAt, HearsAt};
 ghost use Rattle.fc_calls.specs.Logged.{AdvancesFront, AnswersRequest, DrawsId, HearsDatagram};
 ghost use Rattle.fc_linear.specs.Operations.{FrontDoes, Logged};
 ghost use Rattle.fc_linear.specs.Parts.{first_server};
@@ -79,6 +80,7 @@ impl<J: ServerName> FiledFront<J> {
         requires thread { HasOwnTrack J.first_job who tracks.old }
         requires may_begin { tracks.old.may_begin ≡ true }
         requires next { J.first_job ≤ tracks.old.next }
+        ensures heard { HearsAt now endpoint bytes.now (heard result job.new reply.new) self.old.front self.new.front }
         ensures filed { let operation = Logged (HearsDatagram now endpoint bytes.now (heard result job.new reply.new)) in
             tracks.new ≡ did_by who operation (begun_if (brings_job result) tracks.old) }
     {
@@ -99,9 +101,47 @@ impl<J: ServerName> FiledFront<J> {
         outcome
     }
 
+    /// Handles a datagram at `now` ms, as [`Front::hear`] does, and files that.
+    ///
+    /// A job that the datagram produces begins no track: the entry is on the one that is first.
+    pub fn hear_for_first(
+        &mut self,
+        book: &ServerBook<J>,
+        tracks: &mut ServerTracks<J>,
+        who: u64,
+        now: u64,
+        endpoint: Endpoint,
+        bytes: &[u8],
+        job: &mut Job,
+        reply: &mut Emission,
+    ) -> Heard
+        requires thread { HasOwnTrack J.first_job who tracks.old }
+        requires job { HasJobFirst J.first_job tracks.old }
+        ensures heard { HearsAt now endpoint bytes.now (heard result job.new reply.new) self.old.front self.new.front }
+        ensures filed { let operation = Logged (HearsDatagram now endpoint bytes.now (heard result job.new reply.new)) in
+            tracks.new ≡ did_by who operation tracks.old }
+    {
+        let outcome = self.front.hear(now, endpoint, bytes, job, reply);
+        file_heard::<Brand, J>(
+            book,
+            tracks,
+            &mut self.track,
+            who,
+            now,
+            endpoint,
+            bytes,
+            &outcome,
+            job,
+            reply,
+        );
+        outcome
+    }
+
     /// Advances the clock to `now` ms, as [`Front::tick`] does, and files that.
+    #[tactic(auto, unfolding(fc_calls::specs::Doings::AdvancesTo))]
     pub fn tick(&mut self, book: &ServerBook<J>, tracks: &mut ServerTracks<J>, who: u64, now: u64)
         requires { HasOwnTrack J.first_job who tracks.old }
+        ensures advanced { AdvancesTo now self.old.front self.new.front }
         ensures filed { tracks.new ≡ did_by who (Logged (AdvancesFront now)) tracks.old }
     {
         self.front.tick(now);
@@ -118,6 +158,7 @@ impl<J: ServerName> FiledFront<J> {
     ) -> Option<u16>
         requires thread { HasOwnTrack J.first_job who tracks.old }
         requires job { HasJobFirst J.first_job tracks.old }
+        ensures drawn { DrawsAt now result self.old.front self.new.front }
         ensures filed { tracks.new ≡ did_by who (Logged (DrawsId now result)) tracks.old }
     {
         let id = self.front.fresh_id(now);
@@ -139,6 +180,7 @@ impl<J: ServerName> FiledFront<J> {
         requires thread { HasOwnTrack J.first_job who tracks.old }
         requires job { HasJobFirst J.first_job tracks.old }
         requires own { IsOf job.now answer.now }
+        ensures answered { AnswersAt now job.now answer.now (emission_of (responded result reply.new)) self.old.front self.new.front }
         ensures filed { let operation = Logged (AnswersRequest now job.now answer.now (emission_of (responded result reply.new))) in
             tracks.new ≡ did_by who operation tracks.old }
     {

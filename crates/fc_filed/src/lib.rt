@@ -12,8 +12,8 @@
 //! The front's track has key 0, shard i's `i + 1`, and the threads' have 9 and up. From the *first
 //! job's* key on, each job has its own. The rule is `HaveServerHistory` (`specs/Books.antt`).
 //!
-//! It is for `fc_workers`, whose locks will hold these parts: then the calls of all workers are one
-//! legal history. Nothing calls it yet.
+//! The server of `fc_workers` has its front under its lock in this form. Its shards and head words
+//! aren't filed yet: once they are, the calls of all workers are one legal history.
 //!
 //! ```rust
 //! ghost use Rattle.std.specs.Prelude.{◌≡◌};
@@ -59,7 +59,8 @@
 //! - The same holds for an attested history if its owner has the tracks of all parts and threads,
 //!   and the jobs came in the order of their keys.
 //!
-//! Not proved yet: that a server's threads make such tracks. That takes the workers' own contracts.
+//! Not proved yet: that a server's threads make such tracks for its jobs. That takes the workers'
+//! own contracts.
 //!
 //! By the contracts of `FiledFront`, `FiledShard`, `FiledCall`, `ServerTracks`, `file_as`, `laws`.
 #![tactic(auto)]

@@ -15,6 +15,7 @@ use Rattle.fc_server.specs.Intakes.{IntakeCalls, is_reply}
 use Rattle.fc_server.specs.Shown.{IsShown}
 use Rattle.fc_server.specs.declared.alone.Alone.{Alone}
 use Rattle.fc_workers.specs.declared.call_log.CallLog.{CallLog}
+use Rattle.fc_workers.specs.Logs.{IsUnfiled, TrackedLog}
 use Rattle.fc_record.specs.ProgramRequests.{Requested, IsRequestOf}
 
 -- the change that a job asked for was recorded, once, from one state of the caller's log to the
@@ -36,10 +37,10 @@ IsRecorded Recorded job sent before after = IsRecordedFor Recorded job.ask job s
 -- ---- by workers
 
 -- a call of the backend in a log. After each response the change that its request asked for is
--- recorded, before the next call.
-abbrev pub IsRecordedCall : (LoggedCall → CallLog → CallLog → Type 0) → (Requested → CallLog → CallLog → Type 0) → LoggedCall → CallLog → CallLog → Type 0
+-- recorded, before the next call. The record is not filed.
+abbrev pub IsRecordedCall : (LoggedCall → TrackedLog → TrackedLog → Type 0) → (Requested → CallLog → CallLog → Type 0) → LoggedCall → TrackedLog → TrackedLog → Type 0
 IsRecordedCall Logged Recorded (AnswersRequest now job content sent) before after =
-    (log : CallLog) × Logged (AnswersRequest now job content sent) before log × IsRecorded Recorded job sent log after
+    (log : TrackedLog) × Logged (AnswersRequest now job content sent) before log × IsUnfiled (IsRecorded Recorded job sent) log after
 IsRecordedCall Logged Recorded other before after = Logged other before after
 
 -- ---- on one thread

@@ -13,7 +13,7 @@ use fc_registry::{
     Ticket,
 };
 use fc_verify::Verified;
-use fc_workers::{Bench, CallLog};
+use fc_workers::{Bench, TrackLog};
 use std::sync::{Arc, Wait};
 
 /// A backend that records each response to a change, once, before the next call.
@@ -25,6 +25,8 @@ pub struct RecordedBench<'a, B: Bench, C: Recorder> {
 
 impl<'a, B: Bench, C: Recorder> Bench for RecordedBench<'a, B, C> {
     type Tallies = B::Tallies;
+
+    type Book = B::Book;
 
     ghost changes = { B.changes };
 
@@ -44,20 +46,20 @@ impl<'a, B: Bench, C: Recorder> Bench for RecordedBench<'a, B, C> {
         bytes: &[u8],
         job: &mut Job,
         reply: &mut Emission,
-        log: &mut CallLog,
+        log: &mut TrackLog<B::Book>,
     ) -> Heard {
         self.bench.hear(rt, now, endpoint, bytes, job, reply, log)
     }
 
-    fn tick<R: Wait>(&self, rt: &R, now: u64, log: &mut CallLog) {
+    fn tick<R: Wait>(&self, rt: &R, now: u64, log: &mut TrackLog<B::Book>) {
         self.bench.tick(rt, now, log);
     }
 
-    fn fresh_id<R: Wait>(&self, rt: &R, now: u64, log: &mut CallLog) -> Option<u16> {
+    fn fresh_id<R: Wait>(&self, rt: &R, now: u64, log: &mut TrackLog<B::Book>) -> Option<u16> {
         self.bench.fresh_id(rt, now, log)
     }
 
-    fn readings<R: Wait>(&self, rt: &R, log: &mut CallLog) -> Readings {
+    fn readings<R: Wait>(&self, rt: &R, log: &mut TrackLog<B::Book>) -> Readings {
         self.bench.readings(rt, log)
     }
 
@@ -68,7 +70,7 @@ impl<'a, B: Bench, C: Recorder> Bench for RecordedBench<'a, B, C> {
         readings: &Readings,
         found: &mut Found,
         tallies: &mut B::Tallies,
-        log: &mut CallLog,
+        log: &mut TrackLog<B::Book>,
     ) -> Taken {
         self.bench.take(rt, job, readings, found, tallies, log)
     }
@@ -80,16 +82,28 @@ impl<'a, B: Bench, C: Recorder> Bench for RecordedBench<'a, B, C> {
         endpoint: Endpoint,
         id: u16,
         reset: bool,
-        log: &mut CallLog,
+        log: &mut TrackLog<B::Book>,
     ) {
         self.bench.signal(rt, shard, endpoint, id, reset, log);
     }
 
-    fn tick_shard<R: Wait>(&self, rt: &R, shard: u8, now: u64, log: &mut CallLog) -> Ticked {
+    fn tick_shard<R: Wait>(
+        &self,
+        rt: &R,
+        shard: u8,
+        now: u64,
+        log: &mut TrackLog<B::Book>,
+    ) -> Ticked {
         self.bench.tick_shard(rt, shard, now, log)
     }
 
-    fn advance_if_quiet<R: Wait>(&self, rt: &R, shard: u8, now: u64, log: &mut CallLog) -> bool {
+    fn advance_if_quiet<R: Wait>(
+        &self,
+        rt: &R,
+        shard: u8,
+        now: u64,
+        log: &mut TrackLog<B::Book>,
+    ) -> bool {
         self.bench.advance_if_quiet(rt, shard, now, log)
     }
 
@@ -103,7 +117,7 @@ impl<'a, B: Bench, C: Recorder> Bench for RecordedBench<'a, B, C> {
         shard: u8,
         now: u64,
         job: &mut Job,
-        log: &mut CallLog,
+        log: &mut TrackLog<B::Book>,
     ) -> bool {
         self.bench.next_due(rt, shard, now, job, log)
     }
@@ -118,7 +132,7 @@ impl<'a, B: Bench, C: Recorder> Bench for RecordedBench<'a, B, C> {
         told: &Notification<'_>,
         emission: &mut Emission,
         tallies: &mut B::Tallies,
-        log: &mut CallLog,
+        log: &mut TrackLog<B::Book>,
     ) -> NoteOutcome {
         self.bench
             .note(rt, turn, id, now, random, told, emission, tallies, log)
@@ -130,7 +144,7 @@ impl<'a, B: Bench, C: Recorder> Bench for RecordedBench<'a, B, C> {
         turn: Turn,
         now: u64,
         tallies: &mut B::Tallies,
-        log: &mut CallLog,
+        log: &mut TrackLog<B::Book>,
     ) {
         self.bench.give_up(rt, turn, now, tallies, log);
     }
@@ -142,7 +156,7 @@ impl<'a, B: Bench, C: Recorder> Bench for RecordedBench<'a, B, C> {
         outcome: &Outcome<'_>,
         ticket: &Ticket<'_>,
         tallies: &mut B::Tallies,
-        log: &mut CallLog,
+        log: &mut TrackLog<B::Book>,
     ) -> Committed {
         self.bench.commit(rt, now, outcome, ticket, tallies, log)
     }
@@ -153,7 +167,7 @@ impl<'a, B: Bench, C: Recorder> Bench for RecordedBench<'a, B, C> {
         job: &Job,
         program: Arc<Verified>,
         tallies: &mut B::Tallies,
-        log: &mut CallLog,
+        log: &mut TrackLog<B::Book>,
     ) -> Made {
         self.bench.install(rt, job, program, tallies, log)
     }
@@ -163,12 +177,12 @@ impl<'a, B: Bench, C: Recorder> Bench for RecordedBench<'a, B, C> {
         rt: &R,
         job: &Job,
         tallies: &mut B::Tallies,
-        log: &mut CallLog,
+        log: &mut TrackLog<B::Book>,
     ) -> Removal {
         self.bench.remove(rt, job, tallies, log)
     }
 
-    fn receipt<R: Wait>(&self, rt: &R, job: &Job, log: &mut CallLog) -> Option<Receipt> {
+    fn receipt<R: Wait>(&self, rt: &R, job: &Job, log: &mut TrackLog<B::Book>) -> Option<Receipt> {
         self.bench.receipt(rt, job, log)
     }
 
@@ -176,11 +190,11 @@ impl<'a, B: Bench, C: Recorder> Bench for RecordedBench<'a, B, C> {
         self.bench.head_seat()
     }
 
-    fn peek(&self, slot: SlotNumber, seat: &mut HeadSeat, log: &mut CallLog) -> u64 {
+    fn peek(&self, slot: SlotNumber, seat: &mut HeadSeat, log: &mut TrackLog<B::Book>) -> u64 {
         self.bench.peek(slot, seat, log)
     }
 
-    fn raise(&self, job: &Job, word: u64, seat: &mut HeadSeat, log: &mut CallLog) {
+    fn raise(&self, job: &Job, word: u64, seat: &mut HeadSeat, log: &mut TrackLog<B::Book>) {
         self.bench.raise(job, word, seat, log);
     }
 
@@ -192,12 +206,12 @@ impl<'a, B: Bench, C: Recorder> Bench for RecordedBench<'a, B, C> {
         answer: &Answer,
         reply: &mut Emission,
         tallies: &mut B::Tallies,
-        log: &mut CallLog,
+        log: &mut TrackLog<B::Book>,
     ) -> bool {
         let has_reply = self
             .bench
             .respond(rt, now, job, answer, reply, tallies, log);
-        record_answer(self.recorder, job, has_reply, reply, log);
+        record_answer(self.recorder, job, has_reply, reply, &mut log.calls);
         has_reply
     }
 }

@@ -18,18 +18,18 @@ counted None r = r
 counted (Some true) r = record r { sent = saturated (r.sent + 1) }
 counted (Some false) r = record r { failed = saturated (r.failed + 1) }
 
-abbrev pub sent_by : {T : Type 0} → Share T → ℕ
+abbrev pub sent_by : {T L : Type 0} → Share T L → ℕ
 sent_by share = share.sent
 
-abbrev pub failed_by : {T : Type 0} → Share T → ℕ
+abbrev pub failed_by : {T L : Type 0} → Share T L → ℕ
 failed_by share = share.failed
 
 -- the replies that the worker of a share sent, and that it failed to send.
-abbrev pub replies_by : {T : Type 0} → Share T → Replies
+abbrev pub replies_by : {T L : Type 0} → Share T L → Replies
 replies_by share = record { sent = sent_by share; failed = failed_by share }
 
 -- the replies that the workers of these shares sent, and that they failed to send.
-abbrev pub replies_of : {T : Type 0} → List (Share T) → Replies
+abbrev pub replies_of : {T L : Type 0} → List (Share T L) → Replies
 replies_of shares = record { sent = saturated (sum_by sent_by shares); failed = saturated (sum_by failed_by shares) }
 
 -- the text of replies, such as `sent 2 failed 0`.

@@ -17,11 +17,10 @@ use Rattle.fc_workers.specs.Dispatch.{HasCalled, IsTakenIn, IsTurnAsked}
 use Rattle.fc_workers.specs.Shares.{AreSharesOf, new_share}
 use Rattle.fc_jobs.specs.Ends.{Channel, nothing_got, nothing_sent}
 use Rattle.fc_workers.specs.declared.call_log.CallLog.{CallLog}
-use Rattle.fc_workers.specs.declared.dispatcher.Dispatched.{Dispatched}
+use Rattle.fc_workers.specs.Logs.{TrackedLog}
+use Rattle.fc_workers.specs.Workers.{Dispatched, Seat, Share}
 use Rattle.fc_workers.specs.declared.dispatcher.Handover.{Handover}
 use Rattle.fc_workers.specs.declared.dispatcher.Handover.TheVariants.{Never}
-use Rattle.fc_workers.specs.declared.seat.Seat.{Seat}
-use Rattle.fc_workers.specs.declared.share.Share.{Share}
 use Rattle.fc_service.specs.Counting.{both_replies, replies_by, replies_of}
 use Rattle.fc_service.specs.declared.replies.Replies.{Replies}
 use Rattle.fc_server.specs.Intakes.{IntakeCalls}
@@ -43,7 +42,7 @@ handover_where false handover = Never
 pub record IsNew {T : Type 0} (channel : Channel) (handover : Handover) (d : Dispatching T) : Type 0 where
   pub handover_is : d.handover ≡ handover
   pub tallies : T
-  pub log : CallLog
+  pub log : TrackedLog
   pub done : d.done ≡ record { sent = nothing_sent channel; share = new_share (nothing_got channel) tallies log }
 
 module _ {T : Type 0} (s : Shop T) where
@@ -112,7 +111,7 @@ module _ {T : Type 0} (s : Shop T) where
     pub counted : replies ≡ both_replies (replies_of shares) (replies_by own)
 
 -- a worker context whose jobs are never delayed.
-abbrev pub open_shop : {T : Type 0} → (T → ℕ → ℕ) → (T → ℕ) → (BenchCall → Type 0) → (LoggedCall → CallLog → CallLog → Type 0)
+abbrev pub open_shop : {T : Type 0} → (T → ℕ → ℕ) → (T → ℕ) → (BenchCall → Type 0) → (LoggedCall → TrackedLog → TrackedLog → Type 0)
     → (IsMoment : ℕ → CallLog → CallLog → Type 0) → (IsRandom : ℕ → Type 0) → (WireCall → CallLog → CallLog → Type 0) → Shop T
 open_shop changes ended bench logged moment random wire = shop changes ended bench logged moment random (λ number before after. ⊤) wire
 

@@ -13,6 +13,7 @@ ghost use Rattle.fc_workers.specs.Naming.{AreNamed};
 use crate::replies::Replies;
 use coap_msg::{Emission, Endpoint};
 use fc_core::Heard;
+use fc_filed::NewServerBook;
 use fc_observe::Ticked;
 use fc_record::{RecordedBench, Recorder};
 use fc_server::Begin;
@@ -20,7 +21,7 @@ pub use fc_server::Intake;
 use fc_server::engine::NotifyOutcome;
 use fc_workers::{
     Bench, Blanks, Books, CallLog, ClosedServer, Device, Dispatcher, Gate, Handover, Locked,
-    Moments, Reserve, Share, Tallies, Wire, Workshop, feed_workers, make_seats,
+    Moments, Reserve, ServerOf, Share, Tallies, TrackLog, Wire, Workshop, feed_workers, make_seats,
 };
 use std::alloc::{AllocError, Global};
 use std::io::Write;
@@ -69,7 +70,7 @@ impl<'a, 'b, R: Wait, B: Bench, G: Gate, W: Wire, M: Moments> Model
 
 impl<'a, 'b, R: Wait, B: Bench, G: Gate, W: Wire, M: Moments> Dispatching<'a, 'b, R, B, G, W, M> {
     // Closes the dispatcher and returns its own statistics.
-    fn close(self) -> Share<B::Tallies>
+    fn close(self) -> Share<B::Tallies, TrackLog<B::Book>>
         ensures { result ≡ self.entry.done.share }
     {
         let Dispatching { dispatcher, .. } = self;
@@ -150,16 +151,17 @@ struct Begun<'a, B: Books, D: Device> {
     server: Locked<'a, B, D>,
     reserve: Reserve<B>,
     tallies: Vec<Tallies<B>>,
+    logs: Vec<TrackLog<ServerOf<B>>>,
 }
 
 // The feeder's result, whether workers were started, and the statistics of the feeder's thread and
 // of the workers.
 #[derive(Drop)]
-struct Ended<X: Drop, T: Drop> {
+struct Ended<X: Drop, T: Drop, L: Drop> {
     given: X,
     has_workers: bool,
-    own: Share<T>,
-    shares: Vec<Share<T>>,
+    own: Share<T, L>,
+    shares: Vec<Share<T, L>>,
 }
 
 /// The parts of a pool.
@@ -221,10 +223,11 @@ pub fn run_pool<
         IfOk result (λ fed. IsFedBeside shop (F.feeds _) (handover_where fed.has_workers pool.now.handover) pool.now.workers feeder fed.given fed.replies) }
 {
     let blanks = Blanks::new(u64::from(pool.workers) + 2);
-    run_named::<Brand, R, W, M, D, C, E, X, F>(rt, alloc, err, pool, feeder, blanks)
+    let book = NewServerBook::new(alloc, u16::from(pool.workers) + 1)?;
+    run_named::<Brand, R, W, M, D, C, E, X, F>(rt, alloc, err, pool, feeder, blanks, book)
 }
 
-// Runs a pool, with books of these names.
+// Runs a pool, with ledgers of these names and this book of its front's calls.
 fn run_named<
     B: Books + Send + Sync,
     R: Threads + Wait + Sync,
@@ -242,12 +245,17 @@ fn run_named<
     pool: &Pool<'_, W, M, D, C>,
     feeder: F,
     blanks: Blanks,
+    book: NewServerBook,
 ) -> Result<Fed<X>, AllocError>
     requires begin { CanBegin pool.now.begin }
     requires parts { blanks.parts ≡ pool.now.workers + 2 }
     requires names { AreNamed blanks B.names }
     requires books { blanks.parts ≡ B.parts }
     requires first { B.first ≡ beginning pool.now.begin.policy pool.now.begin.id }
+    requires table { book.table ≡ B.table }
+    requires book_threads { book.first_job ≡ 9 + pool.now.workers + 1 }
+    requires threads { book.first_job ≡ B.first_job }
+    requires book_begin { B.begin ≡ pool.now.begin }
     ensures counted { IfOk result (λ fed. HasCountedAll fed.closed) }
     ensures fed { let shop = locked_shop B.first D.are_readings M.is_moment M.is_random W.called C.recorded in
         IfOk result (λ fed. IsFedBeside shop (F.feeds _) (handover_where fed.has_workers pool.now.handover) pool.now.workers feeder fed.given fed.replies) }
@@ -256,53 +264,63 @@ fn run_named<
         server,
         reserve,
         tallies,
-    } = begin::<B, D>(alloc, pool.begin, pool.workers, pool.device, blanks)?;
+        logs,
+    } = begin::<B, D>(alloc, pool.begin, pool.workers, pool.device, blanks, book)?;
     let bench = RecordedBench {
         bench: &server,
         recorder: pool.recorder,
     };
-    let ended = run_at(rt, alloc, err, pool, &bench, tallies, feeder)?;
+    let ended = run_at(rt, alloc, err, pool, &bench, tallies, logs, feeder)?;
     Ok(close(server, reserve, ended))
 }
 
-// Makes a server, the change counters of its workers and feeder, and the unassigned shares.
+// Makes a server, the change counters and logs of its workers and feeder, and the unassigned
+// shares.
 fn begin<'a, B: Books, D: Device>(
     alloc: Global,
     begin: Begin,
     workers: u8,
     device: &'a D,
     blanks: Blanks,
+    book: NewServerBook,
 ) -> Result<Begun<'a, B, D>, AllocError>
     requires begin { CanBegin begin }
     requires parts { blanks.parts ≡ workers + 2 }
     requires names { AreNamed blanks B.names }
     requires books { blanks.parts ≡ B.parts }
     requires first { B.first ≡ beginning begin.policy begin.id }
+    requires table { book.table ≡ B.table }
+    requires book_threads { book.first_job ≡ 9 + workers + 1 }
+    requires threads { book.first_job ≡ B.first_job }
+    requires book_begin { B.begin ≡ begin }
     ensures count { IfOk result (λ b. vec_len b.tallies ≡ workers + 1) }
+    ensures logs { IfOk result (λ b. vec_len b.logs ≡ vec_len b.tallies) }
     ensures parts { IfOk result (λ b. b.reserve.parts + vec_len b.tallies ≡ B.parts) }
 {
-    let (server, mut reserve) = Locked::<B, D>::new(
+    let (server, mut reserve, logs) = Locked::<B, D>::new(
         alloc,
         begin.serial,
         begin.id,
         &begin.policy,
         device,
         blanks,
+        book,
     )?;
     let tallies = reserve.split_each(alloc, usize::from(workers) + 1)?;
     Ok(Begun {
         server,
         reserve,
         tallies,
+        logs,
     })
 }
 
 // Closes a server whose workers have ended. `reserve` has the unassigned shares that their change
 // counters were split from.
-fn close<B: Books, D: Device, X: Drop>(
+fn close<B: Books, D: Device, X: Drop, L: Drop>(
     server: Locked<'_, B, D>,
     mut reserve: Reserve<B>,
-    ended: Ended<X, Tallies<B>>,
+    ended: Ended<X, Tallies<B>, L>,
 ) -> Fed<X>
     requires { reserve.parts + vec_len ended.shares + 1 ≡ B.parts }
     ensures counted { HasCountedAll result.closed }
@@ -328,8 +346,8 @@ fn close<B: Books, D: Device, X: Drop>(
     }
 }
 
-// Runs a worker for each change counter except the last, and the feeder with the last. The workers
-// and the feeder return one share for each change counter.
+// Runs a worker for each change counter except the last, and the feeder with the last. Each has one
+// of the logs. The workers and the feeder return one share for each change counter.
 fn run_at<
     B: Bench + Sync,
     R: Threads + Wait + Sync,
@@ -347,16 +365,19 @@ fn run_at<
     pool: &Pool<'_, W, M, D, C>,
     bench: &B,
     tallies: Vec<B::Tallies>,
+    logs: Vec<TrackLog<B::Book>>,
     feeder: F,
-) -> Result<Ended<X, B::Tallies>, AllocError>
+) -> Result<Ended<X, B::Tallies, TrackLog<B::Book>>, AllocError>
 where
     B::Tallies: Send,
-    requires { 0 < vec_len tallies }
+    B::Book: Send,
+    requires some { 0 < vec_len tallies }
+    requires logs { vec_len logs ≡ vec_len tallies }
     ensures shares { IfOk result (λ ended. vec_len ended.shares + 1 ≡ vec_len tallies) }
     ensures fed { let shop = open_shop B.changes B.ended B.called B.logged M.is_moment M.is_random W.called in
         IfOk result (λ ended. IsFed shop (F.feeds _) (handover_where ended.has_workers pool.now.handover) feeder ended.given ended.own ended.shares.items) }
 {
-    let (jobs, sent, mut seats) = make_seats(alloc, tallies)?;
+    let (jobs, sent, mut seats) = make_seats(alloc, tallies, logs)?;
     let Some(own) = seats.pop() else {
         unreachable!();
     };
@@ -378,7 +399,7 @@ where
         workshop,
         channel,
         seats,
-        move |has_workers| -> (X, bool, Share<B::Tallies>)
+        move |has_workers| -> (X, bool, Share<B::Tallies, TrackLog<B::Book>>)
             requires sent { sent ≡ nothing_sent channel.now }
             requires got { own.got ≡ nothing_got channel.now }
             ensures { let shop = open_shop B.changes B.ended B.called B.logged M.is_moment M.is_random W.called in

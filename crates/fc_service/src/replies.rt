@@ -23,7 +23,7 @@ impl Replies {
     }
 
     /// Returns the replies of a worker.
-    pub fn by<T: Drop>(share: &Share<T>) -> Replies
+    pub fn by<T: Drop, L: Drop>(share: &Share<T, L>) -> Replies
         ensures { result ≡ replies_by share.now }
     {
         Replies {
@@ -33,7 +33,7 @@ impl Replies {
     }
 
     /// Sums the replies of workers.
-    pub fn of<T: Drop>(shares: &[Share<T>]) -> Replies
+    pub fn of<T: Drop, L: Drop>(shares: &[Share<T, L>]) -> Replies
         ensures { result ≡ replies_of shares.now }
     {
         let mut replies = Replies::none();

@@ -11,9 +11,9 @@ use Rattle.fc_registry.specs.Taken.{Given, Missing, Stale, Refused}
 use Rattle.fc_registry.specs.Calls.{turn_of}
 use Rattle.fc_registry.specs.Notes.{sent_of}
 use Rattle.fc_registry.specs.Slots.{Ticket}
-use Rattle.fc_workers.specs.declared.share.Share.{Share}
+use Rattle.fc_workers.specs.Workers.{Share}
 use Rattle.fc_workers.specs.Answers.{IsSomeNote}
-use Rattle.fc_workers.specs.declared.call_log.CallLog.{CallLog}
+use Rattle.fc_workers.specs.Logs.{TrackedLog}
 use Rattle.fc_workers.specs.Called.{SendsReply, Shop}
 use Rattle.fc_workers.specs.Outgoing.{IsNote, GoesOut, IsFoundTold, IsSent, IsTurnReply, with_reply}
 use Rattle.fc_workers.specs.Work.{IsWorked, IsWorkedAs}
@@ -34,11 +34,11 @@ sent_is_note now told turn id StaleNote e note is = nothing_out e is
 sent_is_note now told turn id Stranger e note is = nothing_out e is
 
 module _ {T : Type 0} (s : Shop T) where
-  told_is_reply : (turn : Turn) (found : Option Ticket) (e : Emission) (before after : CallLog) → IsFoundTold s turn found (Some e) before after → GoesOut e
+  told_is_reply : (turn : Turn) (found : Option Ticket) (e : Emission) (before after : TrackedLog) → IsFoundTold s turn found (Some e) before after → GoesOut e
   told_is_reply turn found e before after (inl n) = inr (sent_is_note n.noted.now n.told turn n.id n.noted.noted e n.noted.note n.noted.reply_is)
   told_is_reply turn found e before after (inr n) = nothing_out e n.given_up.nothing
 
-  turn_is_reply : (turn : Turn) (taken : Taken) (e : Emission) (before after : CallLog) → IsTurnReply s turn taken (Some e) before after → GoesOut e
+  turn_is_reply : (turn : Turn) (taken : Taken) (e : Emission) (before after : TrackedLog) → IsTurnReply s turn taken (Some e) before after → GoesOut e
   turn_is_reply turn (Given t) e before after is = told_is_reply turn (Some t) e before after is
   turn_is_reply turn Missing e before after is = told_is_reply turn None e before after is
   turn_is_reply turn Stale e before after is = nothing_out e is.0
@@ -56,7 +56,7 @@ module _ {T : Type 0} (s : Shop T) where
       (subst (λ (r : Option Emission). IsWorked s number job before after r) is w)
 
   -- it was sent and counted, or there was nothing to send.
-  pub sends_reply : (number : ℕ) (before : Share T) {reply : Option Emission} (e : Emission) (out : Bool) (log : CallLog) {after : Share T}
+  pub sends_reply : (number : ℕ) (before : Share T) {reply : Option Emission} (e : Emission) (out : Bool) (log : TrackedLog) {after : Share T}
       → s.wire (SendsReply number e out) before.log log → reply ≡ Some e → after ≡ with_reply out (record before { log = log })
       → IsSent s number reply before after
   sends_reply number before e out log {after} sends is counted =

@@ -38,10 +38,10 @@ use Rattle.fc_core.specs.Heads.{head_word, is_match}
 use Rattle.fc_core.specs.Ends.{refused, refused_by}
 use Rattle.fc_core.specs.Stages.{asked_stage, first_by, image_of, listed, matched, matched_by, run_content, removed, told, took, after_commit, made, takings}
 use Rattle.fc_core.specs.Steps.{Call, Takes, Commits, Installs, Lists, Matches, Rejects, Refuses, Removes, Describes, Raises}
-use Rattle.fc_workers.specs.declared.share.Share.{Share}
+use Rattle.fc_workers.specs.Workers.{Share}
 use Rattle.fc_workers.specs.Answers.{AreTallied, commit_overtakings, ended_by, saturated, taking_refusals, IsTakingWith, IsSomeInstall, IsSomeReceipt, IsSomeRemoval, IsSomeTaking}
 use Rattle.fc_calls.specs.Kept.{commit_changes, install_changes, removal_changes}
-use Rattle.fc_workers.specs.declared.call_log.CallLog.{CallLog}
+use Rattle.fc_workers.specs.Logs.{TrackedLog}
 use Rattle.fc_calls.specs.Logged.{InstallsProgram, LoggedCall, LooksAt, RaisesWord, RemovesProgram, TellsReceipt}
 use Rattle.fc_workers.specs.Called.{Shop}
 use Rattle.fc_workers.specs.Steps.{AreSeen, AsksRun, Follows, IsReady, IsStep, IsUntaken, ListsOn, Walked, taken_at}
@@ -161,7 +161,7 @@ module _ {T : Type 0} (shop : Shop T) (number : ℕ) (job : Job) where
       → IsStep shop number job old next before after
   from_stage {old} {at} {next} {before} {after} e s = subst (λ (x : Stage). IsStep shop number job x next before after) (sym e) s
 
-  pub took_step : (n : ℕ) (x : Taken) (p : Share T) (tallies : T) (log : CallLog) {next : Stage} {after : Share T} → n < takings
+  pub took_step : (n : ℕ) (x : Taken) (p : Share T) (tallies : T) (log : TrackedLog) {next : Stage} {after : Share T} → n < takings
       → IsTakingWith shop.logged job x p.log log
       → ((shard : ℕ) → shard < 8 → shop.changes tallies shard ≡ shop.changes p.tallies shard) → next ≡ took n x
       → after ≡ record p { tallies = tallies; log = log; refusals = saturated (p.refusals + taking_refusals x) }
@@ -181,7 +181,7 @@ module _ {T : Type 0} (shop : Shop T) (number : ℕ) (job : Job) where
     };
   })
 
-  pub commit_step : (n : ℕ) (t : Ticket) (x : Committed) (p : Share T) (tallies : T) (log : CallLog) {next : Stage} {after : Share T}
+  pub commit_step : (n : ℕ) (t : Ticket) (x : Committed) (p : Share T) (tallies : T) (log : TrackedLog) {next : Stage} {after : Share T}
       → IsReady job (ToCommit n t) → IsCommitted shop number t x p.log log
       → AreTallied (shop.changes p.tallies) (shop.changes tallies) t.origin.slot (commit_changes x) → next ≡ after_commit n t x
       → after ≡ record p { tallies = tallies; log = log; overtakings = saturated (p.overtakings + commit_overtakings x) }
@@ -202,7 +202,7 @@ module _ {T : Type 0} (shop : Shop T) (number : ℕ) (job : Job) where
     };
   })
 
-  pub install_step : (program : Program) (x : Made) (p : Share T) (tallies : T) (log : CallLog) {next : Stage} → judged (image_of job.ask) ≡ Accepts program
+  pub install_step : (program : Program) (x : Made) (p : Share T) (tallies : T) (log : TrackedLog) {next : Stage} → judged (image_of job.ask) ≡ Accepts program
       → shop.logged (InstallsProgram job program x) p.log log → IsSomeInstall (initial_vars_of job.ask) program x → AreTallied (shop.changes p.tallies) (shop.changes tallies) job.origin.slot (install_changes x)
       → next ≡ made (receipt_of program 0) x → IsStep shop number job ToInstall next p (record p { tallies = tallies; log = log })
   install_step program x p tallies log accepted installs is rises e = is_step ToInstall e refl (record {
@@ -220,7 +220,7 @@ module _ {T : Type 0} (shop : Shop T) (number : ℕ) (job : Job) where
     };
   })
 
-  pub remove_step : (x : Removal) (p : Share T) (tallies : T) (log : CallLog) {next : Stage} → shop.logged (RemovesProgram job x) p.log log → IsSomeRemoval x
+  pub remove_step : (x : Removal) (p : Share T) (tallies : T) (log : TrackedLog) {next : Stage} → shop.logged (RemovesProgram job x) p.log log → IsSomeRemoval x
       → AreTallied (shop.changes p.tallies) (shop.changes tallies) job.origin.slot (removal_changes x) → next ≡ removed x
       → IsStep shop number job ToRemove next p (record p { tallies = tallies; log = log })
   remove_step x p tallies log removes is rises e = is_step ToRemove e refl (record {
@@ -239,7 +239,7 @@ module _ {T : Type 0} (shop : Shop T) (number : ℕ) (job : Job) where
   })
 
   -- calls that count nothing.
-  logged_only : (call : Call) (p : Share T) (log : CallLog) → change_by call ≡ 0 → refusal_by call ≡ 0 → overtaking_by call ≡ 0
+  logged_only : (call : Call) (p : Share T) (log : TrackedLog) → change_by call ≡ 0 → refusal_by call ≡ 0 → overtaking_by call ≡ 0
       → HasCounted shop job.origin.slot (call ∷ []) p (record p { log = log })
   logged_only call p log none no_refusal no_overtaking = record {
     tallies = subst (λ (n : ℕ). AreTallied (shop.changes p.tallies) (shop.changes p.tallies) job.origin.slot (0 + n)) (sym none)
@@ -251,7 +251,7 @@ module _ {T : Type 0} (shop : Shop T) (number : ℕ) (job : Job) where
     failed = refl;
   }
 
-  pub describe_step : (x : Option Receipt) (p : Share T) (log : CallLog) {next : Stage} → shop.logged (TellsReceipt job x) p.log log → IsSomeReceipt x
+  pub describe_step : (x : Option Receipt) (p : Share T) (log : TrackedLog) {next : Stage} → shop.logged (TellsReceipt job x) p.log log → IsSomeReceipt x
       → next ≡ ToAnswer (told x) → IsStep shop number job ToDescribe next p (record p { log = log })
   describe_step x p log tells is e = is_step ToDescribe e refl (record {
     call = Describes x;
@@ -261,7 +261,7 @@ module _ {T : Type 0} (shop : Shop T) (number : ℕ) (job : Job) where
     counted = logged_only (Describes x) p log refl refl refl;
   })
 
-  pub match_step : (word : ℕ) (p : Share T) (log : CallLog) {next : Stage} → shop.logged (LooksAt job.origin.slot word) p.log log
+  pub match_step : (word : ℕ) (p : Share T) (log : TrackedLog) {next : Stage} → shop.logged (LooksAt job.origin.slot word) p.log log
       → next ≡ matched word job.etags.items → IsStep shop number job ToMatch next p (record p { log = log })
   match_step word p log looks e = is_step ToMatch e refl (record {
     call = Matches job.etags.items word;
@@ -271,7 +271,7 @@ module _ {T : Type 0} (shop : Shop T) (number : ℕ) (job : Job) where
     counted = logged_only (Matches job.etags.items word) p log refl refl refl;
   })
 
-  pub list_step : (seen : ArrayVec ℕ) (word : ℕ) (p : Share T) (log : CallLog) {next : Stage} → shop.logged (LooksAt (length seen.items) word) p.log log
+  pub list_step : (seen : ArrayVec ℕ) (word : ℕ) (p : Share T) (log : TrackedLog) {next : Stage} → shop.logged (LooksAt (length seen.items) word) p.log log
       → length seen.items < 64 → next ≡ listed (seen.items ++ word ∷ []) → IsStep shop number job (ToList seen) next p (record p { log = log })
   list_step seen word p log looks lt e = is_step (ToList seen) e refl (record {
     call = Lists seen word;
@@ -317,7 +317,7 @@ module _ {T : Type 0} (shop : Shop T) (number : ℕ) (job : Job) where
     };
   })
 
-  pub raise_step : (word : ℕ) (content : Content) (p : Share T) (log : CallLog) → shop.logged (RaisesWord job.origin.slot word) p.log log → IsOf job content
+  pub raise_step : (word : ℕ) (content : Content) (p : Share T) (log : TrackedLog) → shop.logged (RaisesWord job.origin.slot word) p.log log → IsOf job content
       → IsStep shop number job (ToRaise word content) (ToAnswer content) p (record p { log = log })
   raise_step word content p log raises own = record {
     call = Raises word content;
@@ -347,7 +347,7 @@ first_ready job (Run request) (x ∷ xs) = tt
 first_ready job Discover serials = omega arith
 first_ready job other serials = tt
 
-no_calls : {T : Type 0} (shop : Shop T) (number : ℕ) (job : Job) (log : CallLog) → AreCalls shop number job [] log log
+no_calls : {T : Type 0} (shop : Shop T) (number : ℕ) (job : Job) (log : TrackedLog) → AreCalls shop number job [] log log
 unfolding AreCalls
 no_calls shop number job log = refl
 
@@ -368,7 +368,7 @@ sets_out shop number job p = record {
   };
 }
 
-more_calls : {T : Type 0} (shop : Shop T) (number : ℕ) (job : Job) (calls : List Call) (call : Call) (before now after : CallLog)
+more_calls : {T : Type 0} (shop : Shop T) (number : ℕ) (job : Job) (calls : List Call) (call : Call) (before now after : TrackedLog)
     → AreCalls shop number job calls before now → IsCallAt shop number job (stage_after job calls) call now after
     → AreCalls shop number job (call ∷ calls) before after
 unfolding AreCalls
@@ -445,10 +445,10 @@ arrives shop number job stage content before now e w = record {
 }
 
 -- the words that were read, and one more.
-pub more_seen : (Logged : LoggedCall → CallLog → CallLog → Type 0) (n word : ℕ) (words : List ℕ) (before now after : CallLog) → AreSeen Logged n words before now
+pub more_seen : (Logged : LoggedCall → TrackedLog → TrackedLog → Type 0) (n word : ℕ) (words : List ℕ) (before now after : TrackedLog) → AreSeen Logged n words before now
     → Logged (LooksAt (n + length words) word) now after → AreSeen Logged n (words ++ word ∷ []) before after
 more_seen Logged n word [] before now after seen looks =
-    (after, subst (λ (l : CallLog). Logged (LooksAt n word) l after) seen (subst (λ (k : ℕ). Logged (LooksAt k word) now after) (omega arith) looks), refl)
+    (after, subst (λ (l : TrackedLog). Logged (LooksAt n word) l after) seen (subst (λ (k : ℕ). Logged (LooksAt k word) now after) (omega arith) looks), refl)
 more_seen Logged n word (w ∷ ws) before now after seen looks = (
   seen.0,
   seen.1,
@@ -457,7 +457,7 @@ more_seen Logged n word (w ∷ ws) before now after seen looks = (
 
 module _ {T : Type 0} (shop : Shop T) (number : ℕ) (job : Job) where
   -- the reads of all head words that are left.
-  walks_list : (seen : ArrayVec ℕ) (more : List ℕ) (log : CallLog) {stage : Stage} {before now : Share T} → stage ≡ ToList seen
+  walks_list : (seen : ArrayVec ℕ) (more : List ℕ) (log : TrackedLog) {stage : Stage} {before now : Share T} → stage ≡ ToList seen
       → AreSeen shop.logged (length seen.items) more now.log log → 0 < length more → length (seen.items ++ more) ≡ 64 → Walked shop number job stage before now
       → Walked shop number job (ToAnswer (Listed (seen.items ++ more))) before (record now { log = log })
   walks_list seen [] log at looks some all w = absurd (omega (arith, some))
@@ -466,7 +466,7 @@ module _ {T : Type 0} (shop : Shop T) (number : ℕ) (job : Job) where
       let words = seen.items ++ word ∷ [] in
       let last : nat_lt (length words) 64 ≡ false = le-ltb (length words) 64 (omega (arith, all)) in
       let next = sym (ap (λ (b : Bool). if b then ToList (record { items = words }) else ToAnswer (Listed words)) last) in
-      let looked = subst (λ (l : CallLog). shop.logged (LooksAt (length seen.items) word) now.log l) (sym looks.2) looks.1 in
+      let looked = subst (λ (l : TrackedLog). shop.logged (LooksAt (length seen.items) word) now.log l) (sym looks.2) looks.1 in
       walks_on shop number job at w (list_step shop number job seen word now log looked lt next)
   walks_list seen (word ∷ next ∷ more) log {stage} {before} {now} at looks some all w =
       let lt : length seen.items < 64 = subst (λ (x : Stage). IsReady job x) at w.ready in
@@ -483,7 +483,7 @@ module _ {T : Type 0} (shop : Shop T) (number : ℕ) (job : Job) where
       subst (λ (ws : List ℕ). Walked shop number job (ToAnswer (Listed ws)) before (record now { log = log })) same
       (walks_list on (next ∷ more) log refl left (omega arith) full step)
 
-  pub lists_on : (seen : ArrayVec ℕ) (words : List ℕ) (log : CallLog) {stage : Stage} {before now : Share T} → stage ≡ ToList seen
+  pub lists_on : (seen : ArrayVec ℕ) (words : List ℕ) (log : TrackedLog) {stage : Stage} {before now : Share T} → stage ≡ ToList seen
       → ListsOn shop.logged seen.items words now.log log → Walked shop number job stage before now
       → Walked shop number job (ToAnswer (Listed words)) before (record now { log = log })
   lists_on seen words log {stage} {before} {now} at lists w =

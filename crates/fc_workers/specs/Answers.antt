@@ -31,7 +31,7 @@ use Rattle.fc_registry.specs.Watches.{due_place, at_time, is_quiet, late_place, 
 use Rattle.fc_registry.specs.declared.receipt.Receipt.{Receipt}
 use Rattle.fc_registry.specs.declared.shard.Removal.{Removal}
 use Rattle.fc_registry.specs.Calls.{IsTaking, IsCommit, install_in, receipt_at, remove_from}
-use Rattle.fc_workers.specs.declared.call_log.CallLog.{CallLog}
+use Rattle.fc_workers.specs.Logs.{TrackedLog}
 use Rattle.fc_calls.specs.Logged.{GivesReadings, LoggedCall, TakesForJob}
 
 -- the result of a delivery at this time to some front.
@@ -61,9 +61,9 @@ pub record IsSomeTaking (job : Job) (readings : List ℕ) (taken : Taken) : Type
 
 -- the backend returned readings, and the next call took a snapshot with them for the job, with this
 -- result.
-pub record IsTakingWith (Logged : LoggedCall → CallLog → CallLog → Type 0) (job : Job) (taken : Taken) (before after : CallLog) : Type 0 where
+pub record IsTakingWith (Logged : LoggedCall → TrackedLog → TrackedLog → Type 0) (job : Job) (taken : Taken) (before after : TrackedLog) : Type 0 where
   pub readings : List ℕ
-  pub log : CallLog
+  pub log : TrackedLog
   pub given : Logged (GivesReadings readings) before log
   pub takes : Logged (TakesForJob job readings taken) log after
   pub is : IsSomeTaking job readings taken

@@ -4,6 +4,7 @@ use Rattle.std.specs.Prelude.{◌≡◌, ℕ, ◌%◌, ◌<◌, true, false, Lis
 use Rattle.fc_core.specs.Exchanges.{FrontState}
 use Rattle.fc_workers.specs.Fronts.{BeganAt, Beginning}
 use Rattle.fc_workers.specs.declared.call_log.CallLog.{CallLog}
+use Rattle.fc_workers.specs.Logs.{IsUnfiled, TrackedLog, with_filed_call}
 use Rattle.fc_registry.specs.Slots.{Shard}
 use Rattle.fc_workers.specs.Called.{BenchCall, LeavesUnquiet, LooksAhead}
 use Rattle.fc_calls.specs.Logged.{LoggedCall, HearsDatagram, DrawsId, AnswersRequest, TakesForJob, CommitsRun, InstallsProgram, RemovesProgram, TellsReceipt}
@@ -31,25 +32,34 @@ abbrev pub IsServerCall : Beginning → BenchCall → Type 0
 IsServerCall first (LeavesUnquiet shard now) = IsAsked first shard (λ before after. PassesIfQuiet now before false after)
 IsServerCall first (LooksAhead shard until) = IsAsked first shard (λ before after. TellsQuietUntil before until after)
 
+-- a call with this effect was made on such a front, and is filed: it is the last entry on the
+-- worker's own track.
+abbrev pub IsFrontCall : FrontState → (FrontState → FrontState → Type 0) → LoggedCall → TrackedLog → TrackedLog → Type 0
+IsFrontCall first Does call before after = IsFrontAsked first Does × (after ≡ with_filed_call call before)
+
+-- a call with this effect was made on the shard with this index. The log is unchanged.
+abbrev pub IsShardCall : Beginning → ℕ → (Shard → Shard → Type 0) → TrackedLog → TrackedLog → Type 0
+IsShardCall first index Does before after = IsAsked first index Does × (after ≡ before)
+
 -- the meaning of a call in a worker's log: its readings are the device's, or the front or a shard
--- was called. The read of a head word and a raise take no lock: their effects are stated of the
--- worker's handle.
-abbrev pub IsLoggedCall : Beginning → (List ℕ → CallLog → CallLog → Type 0) → LoggedCall → CallLog → CallLog → Type 0
-IsLoggedCall first AreReadings (GivesReadings readings) before after = AreReadings readings before after
-IsLoggedCall first AreReadings (TellsReceipt job receipt) before after = IsAsked first (job.origin.slot % 8) (λ before after. DescribesTo job before receipt after)
-IsLoggedCall first AreReadings (LooksAt slot word) before after = Unit {0}
-IsLoggedCall first AreReadings (HearsDatagram now from bytes brings) before after = IsFrontAsked first.front (HearsAt now from bytes brings)
-IsLoggedCall first AreReadings (AdvancesFront now) before after = IsFrontAsked first.front (AdvancesTo now)
-IsLoggedCall first AreReadings (DrawsId now drawn) before after = IsFrontAsked first.front (DrawsAt now drawn)
-IsLoggedCall first AreReadings (AnswersRequest now job content sent) before after = IsFrontAsked first.front (AnswersAt now job content sent)
-IsLoggedCall first AreReadings (TakesForJob job readings taken) before after = IsAsked first (job.origin.slot % 8) (λ before after. TakesTo job readings before taken after)
-IsLoggedCall first AreReadings (CommitsRun now ran ticket committed) before after = IsAsked first (ticket.origin.slot % 8) (λ before after. CommitsAt now ran ticket before committed after)
-IsLoggedCall first AreReadings (InstallsProgram job program made) before after = IsAsked first (job.origin.slot % 8) (λ before after. InstallsTo job program before made after)
-IsLoggedCall first AreReadings (RemovesProgram job removal) before after = IsAsked first (job.origin.slot % 8) (λ before after. RemovesFrom job before removal after)
-IsLoggedCall first AreReadings (HandsSignal shard from message reset) before after = IsAsked first shard (λ before after. HandsOn reset from message before after)
-IsLoggedCall first AreReadings (AdvancesQuiet shard now) before after = IsAsked first shard (λ before after. PassesIfQuiet now before true after)
-IsLoggedCall first AreReadings (AdvancesShard shard now ticked) before after = IsAsked first shard (λ before after. TicksAt now before ticked after)
-IsLoggedCall first AreReadings (GivesTurn shard now turn) before after = IsAsked first shard (λ before after. GivesTurnAt now before turn after)
-IsLoggedCall first AreReadings (NotesTurn turn message now random told noted) before after = IsAsked first (turn.slot % 8) (λ before after. NotesAt turn message now random told before noted after)
-IsLoggedCall first AreReadings (GivesUpTurn turn now) before after = IsAsked first (turn.slot % 8) (λ before after. GivesUpAt now turn before after)
-IsLoggedCall first AreReadings (RaisesWord slot word) before after = Unit {0}
+-- was called. The calls of the front are filed, and no others. The read of a head word and a raise
+-- take no lock: their effects are stated of the worker's handle.
+abbrev pub IsLoggedCall : Beginning → (List ℕ → CallLog → CallLog → Type 0) → LoggedCall → TrackedLog → TrackedLog → Type 0
+IsLoggedCall first AreReadings (GivesReadings readings) before after = IsUnfiled (AreReadings readings) before after
+IsLoggedCall first AreReadings (TellsReceipt job receipt) before after = IsShardCall first (job.origin.slot % 8) (λ x y. DescribesTo job x receipt y) before after
+IsLoggedCall first AreReadings (LooksAt slot word) before after = after ≡ before
+IsLoggedCall first AreReadings (HearsDatagram now from bytes brings) before after = IsFrontCall first.front (HearsAt now from bytes brings) (HearsDatagram now from bytes brings) before after
+IsLoggedCall first AreReadings (AdvancesFront now) before after = IsFrontCall first.front (AdvancesTo now) (AdvancesFront now) before after
+IsLoggedCall first AreReadings (DrawsId now drawn) before after = IsFrontCall first.front (DrawsAt now drawn) (DrawsId now drawn) before after
+IsLoggedCall first AreReadings (AnswersRequest now job content sent) before after = IsFrontCall first.front (AnswersAt now job content sent) (AnswersRequest now job content sent) before after
+IsLoggedCall first AreReadings (TakesForJob job readings taken) before after = IsShardCall first (job.origin.slot % 8) (λ x y. TakesTo job readings x taken y) before after
+IsLoggedCall first AreReadings (CommitsRun now ran ticket committed) before after = IsShardCall first (ticket.origin.slot % 8) (λ x y. CommitsAt now ran ticket x committed y) before after
+IsLoggedCall first AreReadings (InstallsProgram job program made) before after = IsShardCall first (job.origin.slot % 8) (λ x y. InstallsTo job program x made y) before after
+IsLoggedCall first AreReadings (RemovesProgram job removal) before after = IsShardCall first (job.origin.slot % 8) (λ x y. RemovesFrom job x removal y) before after
+IsLoggedCall first AreReadings (HandsSignal shard from message reset) before after = IsShardCall first shard (λ x y. HandsOn reset from message x y) before after
+IsLoggedCall first AreReadings (AdvancesQuiet shard now) before after = IsShardCall first shard (λ x y. PassesIfQuiet now x true y) before after
+IsLoggedCall first AreReadings (AdvancesShard shard now ticked) before after = IsShardCall first shard (λ x y. TicksAt now x ticked y) before after
+IsLoggedCall first AreReadings (GivesTurn shard now turn) before after = IsShardCall first shard (λ x y. GivesTurnAt now x turn y) before after
+IsLoggedCall first AreReadings (NotesTurn turn message now random told noted) before after = IsShardCall first (turn.slot % 8) (λ x y. NotesAt turn message now random told x noted y) before after
+IsLoggedCall first AreReadings (GivesUpTurn turn now) before after = IsShardCall first (turn.slot % 8) (λ x y. GivesUpAt now turn x y) before after
+IsLoggedCall first AreReadings (RaisesWord slot word) before after = after ≡ before

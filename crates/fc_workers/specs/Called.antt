@@ -4,6 +4,7 @@ use Rattle.std.specs.Prelude.{ℕ, Bool}
 use Rattle.coap_msg.specs.declared.types.Emission.{Emission}
 use Rattle.fc_calls.specs.Logged.{LoggedCall}
 use Rattle.fc_workers.specs.declared.call_log.CallLog.{CallLog}
+use Rattle.fc_workers.specs.Logs.{IsUnfiled, TrackedLog}
 
 -- a call of a backend that changes nothing, and is in no log. It is known that the call was made,
 -- but not how often or when.
@@ -29,13 +30,14 @@ pub record Shop (T : Type 0) : Type 1 where
   pub changes : T → ℕ → ℕ
   pub ended : T → ℕ
   pub bench : BenchCall → Type 0
-  pub logged : LoggedCall → CallLog → CallLog → Type 0
-  pub moment : ℕ → CallLog → CallLog → Type 0
+  pub logged : LoggedCall → TrackedLog → TrackedLog → Type 0
+  pub moment : ℕ → TrackedLog → TrackedLog → Type 0
   pub random : ℕ → Type 0
-  pub gate : ℕ → CallLog → CallLog → Type 0
-  pub wire : WireCall → CallLog → CallLog → Type 0
+  pub gate : ℕ → TrackedLog → TrackedLog → Type 0
+  pub wire : WireCall → TrackedLog → TrackedLog → Type 0
 
-abbrev pub shop : {T : Type 0} → (T → ℕ → ℕ) → (T → ℕ) → (BenchCall → Type 0) → (LoggedCall → CallLog → CallLog → Type 0) → (ℕ → CallLog → CallLog → Type 0)
+-- the calls for times, and those of the gate and of the transmitter, are not filed.
+abbrev pub shop : {T : Type 0} → (T → ℕ → ℕ) → (T → ℕ) → (BenchCall → Type 0) → (LoggedCall → TrackedLog → TrackedLog → Type 0) → (ℕ → CallLog → CallLog → Type 0)
     → (ℕ → Type 0) → (ℕ → CallLog → CallLog → Type 0) → (WireCall → CallLog → CallLog → Type 0) → Shop T
 shop changes ended bench logged moment random gate wire = record
-    { changes = changes; ended = ended; bench = bench; logged = logged; moment = moment; random = random; gate = gate; wire = wire }
+    { changes = changes; ended = ended; bench = bench; logged = logged; moment = λ now. IsUnfiled (moment now); random = random; gate = λ number. IsUnfiled (gate number); wire = λ call. IsUnfiled (wire call) }

@@ -11,16 +11,15 @@ use Rattle.fc_registry.specs.declared.job.Job.{Job}
 use Rattle.fc_registry.specs.declared.receipt.Receipt.{Receipt}
 use Rattle.fc_core.specs.Stage.{Stage}
 use Rattle.fc_core.specs.Stage.{ToCommit}
-use Rattle.fc_workers.specs.declared.dispatcher.Dispatched.{Dispatched}
 use Rattle.fc_workers.specs.declared.dispatcher.Handover.{Handover}
 use Rattle.fc_workers.specs.declared.dispatcher.Handover.TheVariants.{Every, Dear, Never}
-use Rattle.fc_workers.specs.declared.call_log.CallLog.{CallLog}
+use Rattle.fc_workers.specs.Logs.{TrackedLog}
 use Rattle.fc_workers.specs.Answers.{IsSomeDelivery, IsSomeTurn, saturated}
 use Rattle.fc_calls.specs.Logged.{GivesTurn, HandsSignal, HearsDatagram, TellsReceipt}
 use Rattle.fc_workers.specs.Called.{Shop}
 use Rattle.fc_workers.specs.Steps.{AsksRun, HasTaken}
 use Rattle.fc_workers.specs.Work.{IsReplied}
-use Rattle.fc_workers.specs.declared.share.Share.{Share}
+use Rattle.fc_workers.specs.Workers.{Dispatched, Share}
 
 -- the stage is the commit of a ticket whose program may run for this many instructions or more.
 abbrev pub IsDearAt : ℕ → Stage → Type 0
@@ -32,7 +31,7 @@ abbrev pub unsent : ℕ
 unsent = 18446744073709551615
 
 -- a dispatcher whose log is in this state.
-abbrev pub logged_at : {T : Type 0} → CallLog → Dispatched T → Dispatched T
+abbrev pub logged_at : {T : Type 0} → TrackedLog → Dispatched T → Dispatched T
 logged_at log done = record done { share = record done.share { log = log } }
 
 -- it has only made calls.
@@ -42,14 +41,14 @@ HasCalled before after = after ≡ logged_at after.share.log before
 module _ {T : Type 0} (s : Shop T) where
   -- the job of a run, with the receipt that was returned for its slot when it arrived. The
   -- receipt's cost is this number of instructions or more. The log has no other call.
-  pub record IsDear (least : ℕ) (job : Job) (before after : CallLog) : Type 0 where
+  pub record IsDear (least : ℕ) (job : Job) (before after : TrackedLog) : Type 0 where
     pub asks : AsksRun job.ask
     pub receipt : Receipt
     pub told : s.logged (TellsReceipt job (Some receipt)) before after
     pub cost : least ≤ receipt.cost
 
   -- the receipt of a job's slot was returned, or it wasn't requested. The log has no other call.
-  abbrev pub IsPriced : Job → CallLog → CallLog → Type 0
+  abbrev pub IsPriced : Job → TrackedLog → TrackedLog → Type 0
   IsPriced job before after = (after ≡ before) ⊎ ((receipt : Option Receipt) × s.logged (TellsReceipt job receipt) before after)
 
   -- a request's job of a run was looked up here, or wasn't, and took one snapshot. The snapshot's
@@ -78,7 +77,7 @@ module _ {T : Type 0} (s : Shop T) where
   -- reply is sent and counted.
   pub record IsWorkedHere (job : Job) (before after : Dispatched T) : Type 0 where
     pub sent : after.sent ≡ before.sent
-    pub log : CallLog
+    pub log : TrackedLog
     pub priced : IsPriced job before.share.log log
     pub worked : IsReplied s unsent job (record before.share { log = log }) after.share
     pub ends : s.ended after.share.tallies ≡ saturated (s.ended before.share.tallies + 1)
@@ -88,9 +87,9 @@ module _ {T : Type 0} (s : Shop T) where
   IsDispatched handover job before after = IsHandedOver handover job before after ⊎ IsWorkedHere job before after
 
   -- a Reset message or an Acknowledgement was passed once to each of the first n shards, in order.
-  unfoldable pub AreSignalled : ℕ → Endpoint → ℕ → Bool → CallLog → CallLog → Type 0
+  unfoldable pub AreSignalled : ℕ → Endpoint → ℕ → Bool → TrackedLog → TrackedLog → Type 0
   AreSignalled zero from id reset before after = after ≡ before
-  AreSignalled (suc n) from id reset before after = (log : CallLog) × AreSignalled n from id reset before log × s.logged (HandsSignal n from id reset) log after
+  AreSignalled (suc n) from id reset before after = (log : TrackedLog) × AreSignalled n from id reset before log × s.logged (HandsSignal n from id reset) log after
 
   -- the job that results from a delivery is dispatched, and a signal reaches the observers of all
   -- shards; otherwise nothing is done.
@@ -103,7 +102,7 @@ module _ {T : Type 0} (s : Shop T) where
   pub record IsTakenIn (handover : Handover) (now : ℕ) (from : Endpoint) (bytes : List ℕ) (result : Heard) (reply : Emission)
       (before after : Dispatched T) : Type 0 where
     pub job : Job
-    pub log : CallLog
+    pub log : TrackedLog
     pub hears : s.logged (HearsDatagram now from bytes (heard result job reply)) before.share.log log
     pub delivery : IsSomeDelivery now from bytes (heard result job reply)
     pub done : IsDone handover from (heard result job reply) (logged_at log before) after
@@ -117,7 +116,7 @@ module _ {T : Type 0} (s : Shop T) where
   -- dispatched.
   pub record IsTurnAsked (handover : Handover) (shard now : ℕ) (given : Bool) (before after : Dispatched T) : Type 0 where
     pub turn : Option Job
-    pub log : CallLog
+    pub log : TrackedLog
     pub asks : s.logged (GivesTurn shard now turn) before.share.log log
     pub turn_is : IsSomeTurn now turn
     pub done : IsTurnDone handover turn given (logged_at log before) after

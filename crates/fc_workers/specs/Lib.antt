@@ -1,3 +1,5 @@
+pub mod Logs
+pub mod Workers
 pub mod Called
 pub mod Answers
 pub mod Asked

@@ -12,9 +12,9 @@ use Rattle.fc_registry.specs.Notes.{sent_of}
 use Rattle.fc_registry.specs.Slots.{Ticket}
 use Rattle.fc_core.specs.Contents.{Content}
 use Rattle.fc_calls.specs.Doings.{SaysFound}
-use Rattle.fc_workers.specs.declared.share.Share.{Share}
+use Rattle.fc_workers.specs.Workers.{Share}
 use Rattle.fc_workers.specs.Answers.{IsSomeAnswer, IsSomeDraw, IsSomeNote, saturated}
-use Rattle.fc_workers.specs.declared.call_log.CallLog.{CallLog}
+use Rattle.fc_workers.specs.Logs.{TrackedLog}
 use Rattle.fc_calls.specs.Logged.{AnswersRequest, DrawsId, GivesUpTurn, NotesTurn}
 use Rattle.fc_workers.specs.Called.{SendsReply, Shop}
 
@@ -27,9 +27,9 @@ module _ {T : Type 0} (s : Shop T) where
 
   -- the time was requested, and then some front answered the job at it, and this is to be sent, or
   -- nothing.
-  pub record GivesAnswer (job : Job) (content : Content) (reply : Option Emission) (before after : CallLog) : Type 0 where
+  pub record GivesAnswer (job : Job) (content : Content) (reply : Option Emission) (before after : TrackedLog) : Type 0 where
     pub now : ℕ
-    pub asked : CallLog
+    pub asked : TrackedLog
     pub moment : s.moment now before asked
     pub answers : s.logged (AnswersRequest now job content reply) asked after
     pub answer : IsSomeAnswer now job content reply
@@ -38,9 +38,9 @@ module _ {T : Type 0} (s : Shop T) where
 
   -- the time was requested, and then the lease's observer was notified of this at it, with this
   -- message ID. The reply is to be sent, or nothing.
-  pub record IsNoteSent (told : Notification) (turn : Turn) (id : ℕ) (reply : Option Emission) (before after : CallLog) : Type 0 where
+  pub record IsNoteSent (told : Notification) (turn : Turn) (id : ℕ) (reply : Option Emission) (before after : TrackedLog) : Type 0 where
     pub now : ℕ
-    pub asked : CallLog
+    pub asked : TrackedLog
     pub moment : s.moment now before asked
     pub random : ℕ
     pub random_is : s.random random
@@ -51,12 +51,12 @@ module _ {T : Type 0} (s : Shop T) where
 
   -- the time was requested, a message ID was drawn at it, and the observer was notified of the
   -- snapshot with this message ID.
-  pub record IsNotification (turn : Turn) (found : Option Ticket) (reply : Option Emission) (before after : CallLog) : Type 0 where
+  pub record IsNotification (turn : Turn) (found : Option Ticket) (reply : Option Emission) (before after : TrackedLog) : Type 0 where
     pub drawn : ℕ
-    pub asked : CallLog
+    pub asked : TrackedLog
     pub moment : s.moment drawn before asked
     pub id : ℕ
-    pub log : CallLog
+    pub log : TrackedLog
     pub draws : s.logged (DrawsId drawn (Some id)) asked log
     pub draw : IsSomeDraw drawn (Some id)
     pub told : Notification
@@ -64,29 +64,29 @@ module _ {T : Type 0} (s : Shop T) where
     pub noted : IsNoteSent told turn id reply log after
 
   -- the time was requested, and then the lease was released at it. Nothing is sent.
-  pub record IsGivenUp (turn : Turn) (reply : Option Emission) (before after : CallLog) : Type 0 where
+  pub record IsGivenUp (turn : Turn) (reply : Option Emission) (before after : TrackedLog) : Type 0 where
     pub now : ℕ
-    pub asked : CallLog
+    pub asked : TrackedLog
     pub moment : s.moment now before asked
     pub gives_up : s.logged (GivesUpTurn turn now) asked after
     pub nothing : reply ≡ None
 
   -- no message ID was available, and the lease was released.
-  pub record IsStarved (turn : Turn) (reply : Option Emission) (before after : CallLog) : Type 0 where
+  pub record IsStarved (turn : Turn) (reply : Option Emission) (before after : TrackedLog) : Type 0 where
     pub now : ℕ
-    pub asked : CallLog
+    pub asked : TrackedLog
     pub moment : s.moment now before asked
-    pub log : CallLog
+    pub log : TrackedLog
     pub draws : s.logged (DrawsId now None) asked log
     pub draw : IsSomeDraw now None
     pub given_up : IsGivenUp turn reply log after
 
-  abbrev pub IsFoundTold : Turn → Option Ticket → Option Emission → CallLog → CallLog → Type 0
+  abbrev pub IsFoundTold : Turn → Option Ticket → Option Emission → TrackedLog → TrackedLog → Type 0
   IsFoundTold turn found reply before after = IsNotification turn found reply before after ⊎ IsStarved turn reply before after
 
   -- the effect by the result of the lease's snapshot. If memory was refused, the lease is released.
   -- If the snapshot is stale, nothing is left to do.
-  abbrev pub IsTurnReply : Turn → Taken → Option Emission → CallLog → CallLog → Type 0
+  abbrev pub IsTurnReply : Turn → Taken → Option Emission → TrackedLog → TrackedLog → Type 0
   IsTurnReply turn (Given t) reply before after = IsFoundTold turn (Some t) reply before after
   IsTurnReply turn Missing reply before after = IsFoundTold turn None reply before after
   IsTurnReply turn Stale reply before after = (reply ≡ None) × (after ≡ before)
@@ -99,7 +99,7 @@ module _ {T : Type 0} (s : Shop T) where
   abbrev pub IsSent : ℕ → Option Emission → Share T → Share T → Type 0
   IsSent number None before after = after ≡ before
   IsSent number (Some reply) before after =
-      (out : Bool) × (log : CallLog) × s.wire (SendsReply number reply out) before.log log × (after ≡ with_reply out (record before { log = log }))
+      (out : Bool) × (log : TrackedLog) × s.wire (SendsReply number reply out) before.log log × (after ≡ with_reply out (record before { log = log }))
 
 -- ---- replies
 

@@ -3,15 +3,14 @@ use Rattle.std.specs.Prelude.{◌≡◌, ℕ, ◌+◌, ◌<◌, List, [], ◌∷
 use Rattle.std.specs.List.{All}
 use Rattle.fc_jobs.specs.Ends.{Channel, Got, nothing_got, with_got}
 use Rattle.fc_jobs.specs.declared.protocol.Numbered.{Numbered}
-use Rattle.fc_workers.specs.declared.call_log.CallLog.{CallLog}
-use Rattle.fc_workers.specs.declared.seat.Seat.{Seat}
-use Rattle.fc_workers.specs.declared.share.Share.{Share}
+use Rattle.fc_workers.specs.Logs.{TrackedLog}
+use Rattle.fc_workers.specs.Workers.{Seat, Share}
 use Rattle.fc_workers.specs.Answers.{HasRisen, saturated}
 use Rattle.fc_workers.specs.Called.{Shop}
 use Rattle.fc_workers.specs.Work.{IsReplied}
 
 -- the statistics of a worker that hasn't begun.
-abbrev pub new_share : {T : Type 0} → Got → T → CallLog → Share T
+abbrev pub new_share : {T : Type 0} → Got → T → TrackedLog → Share T
 new_share got tallies log = record { tallies = tallies; log = log; got = got; sent = 0; failed = 0; refusals = 0; overtakings = 0 }
 
 -- a seat for each of these tallies, whose worker has received nothing yet.
@@ -38,10 +37,9 @@ module _ {T : Type 0} (s : Shop T) where
     pub got : after.got ≡ record before.got { got = before.got.got ++ reverse jobs }
     pub count : HasRisen (s.ended before.tallies) (length jobs) (s.ended after.tallies)
 
-  -- the statistics of the worker with this seat, whose log is new.
+  -- the statistics of the worker with this seat, whose log goes on from the seat's.
   pub record IsShareOf (seat : Seat T) (share : Share T) : Type 0 where
-    pub log : CallLog
-    pub ended : HasEnded (new_share seat.got seat.tallies log) share
+    pub ended : HasEnded (new_share seat.got seat.tallies seat.log) share
 
   -- the statistics for each seat, in the order of the seats.
   pub record AreSharesOf (seats : List (Seat T)) (shares : List (Share T)) : Type 0 where

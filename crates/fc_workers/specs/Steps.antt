@@ -8,8 +8,8 @@ use Rattle.fc_core.specs.Stage.{ToMatch, ToTake, ToCommit, ToInstall, ToRemove, 
 use Rattle.fc_core.specs.Contents.{IsOf}
 use Rattle.fc_core.specs.Stages.{takings}
 use Rattle.fc_core.specs.Steps.{Call, next_stage}
-use Rattle.fc_workers.specs.declared.share.Share.{Share}
-use Rattle.fc_workers.specs.declared.call_log.CallLog.{CallLog}
+use Rattle.fc_workers.specs.Workers.{Share}
+use Rattle.fc_workers.specs.Logs.{TrackedLog}
 use Rattle.fc_calls.specs.Logged.{LoggedCall, LooksAt}
 use Rattle.fc_workers.specs.Called.{Shop}
 use Rattle.fc_workers.specs.Work.{AreCalls, HasCounted, IsCallAt, stage_after, takings_made, total}
@@ -101,12 +101,12 @@ IsUntaken job other = Unit {0}
 
 -- each of these words was read from the head word of its slot, from slot n on, one after the other.
 -- The log has no other call.
-abbrev pub AreSeen : (LoggedCall → CallLog → CallLog → Type 0) → ℕ → List ℕ → CallLog → CallLog → Type 0
+abbrev pub AreSeen : (LoggedCall → TrackedLog → TrackedLog → Type 0) → ℕ → List ℕ → TrackedLog → TrackedLog → Type 0
 AreSeen Logged n [] before after = after ≡ before
-AreSeen Logged n (word ∷ words) before after = (next : CallLog) × Logged (LooksAt n word) before next × AreSeen Logged (n + 1) words next after
+AreSeen Logged n (word ∷ words) before after = (next : TrackedLog) × Logged (LooksAt n word) before next × AreSeen Logged (n + 1) words next after
 
 -- the head words of all slots, of which these were read before, but not all.
-pub record ListsOn (Logged : LoggedCall → CallLog → CallLog → Type 0) (seen words : List ℕ) (before after : CallLog) : Type 0 where
+pub record ListsOn (Logged : LoggedCall → TrackedLog → TrackedLog → Type 0) (seen words : List ℕ) (before after : TrackedLog) : Type 0 where
   pub more : List ℕ
   pub looks : AreSeen Logged (length seen) more before after
   pub some : 0 < length more
@@ -114,11 +114,11 @@ pub record ListsOn (Logged : LoggedCall → CallLog → CallLog → Type 0) (see
   pub all : length words ≡ 64
 
 -- the head word of the job's slot was read once, or it wasn't. The log has no other call.
-abbrev pub IsLookedUp : (LoggedCall → CallLog → CallLog → Type 0) → Job → CallLog → CallLog → Type 0
+abbrev pub IsLookedUp : (LoggedCall → TrackedLog → TrackedLog → Type 0) → Job → TrackedLog → TrackedLog → Type 0
 IsLookedUp Logged job before after = (after ≡ before) ⊎ ((word : ℕ) × Logged (LooksAt job.origin.slot word) before after)
 
 -- the job was looked up, or it wasn't, and then took one snapshot, which led to this stage.
 pub record HasTaken {T : Type 0} (s : Shop T) (number : ℕ) (job : Job) (stage : Stage) (before after : Share T) : Type 0 where
-  pub log : CallLog
+  pub log : TrackedLog
   pub looks : IsLookedUp s.logged job before.log log
   pub took : IsStep s number job (ToTake 0) stage (record before { log = log }) after

@@ -23,11 +23,11 @@ use Rattle.fc_core.specs.Stages.{asked_stage, image_of, takings}
 use Rattle.fc_core.specs.Steps.{Call, Matches, Lists, Takes, Commits, Installs, Rejects, Refuses, Removes, Describes, Raises, called_at, next_stage}
 use Rattle.fc_workers.specs.Answers.{IsTakingWith, IsSomeCommit, IsSomeInstall, IsSomeReceipt, IsSomeRemoval, AreTallied, HasRisen, commit_overtakings, taking_refusals}
 use Rattle.fc_calls.specs.Kept.{commit_changes, install_changes, removal_changes}
-use Rattle.fc_workers.specs.declared.call_log.CallLog.{CallLog}
+use Rattle.fc_workers.specs.Logs.{TrackedLog}
 use Rattle.fc_calls.specs.Logged.{CommitsRun, InstallsProgram, LooksAt, RaisesWord, RemovesProgram, TellsReceipt}
 use Rattle.fc_workers.specs.Called.{EndsJob, Shop}
 use Rattle.fc_workers.specs.Outgoing.{GivesAnswer, IsSent, IsTurnReply}
-use Rattle.fc_workers.specs.declared.share.Share.{Share}
+use Rattle.fc_workers.specs.Workers.{Share}
 
 -- ---- counts of calls
 
@@ -67,11 +67,11 @@ module _ {T : Type 0} (s : Shop T) where
 
   -- the gate let the job with this number through, then the time was requested, and then the run of
   -- the ticket was committed at it.
-  pub record IsCommitted (number : ℕ) (t : Ticket) (committed : Committed) (before after : CallLog) : Type 0 where
-    pub passed : CallLog
+  pub record IsCommitted (number : ℕ) (t : Ticket) (committed : Committed) (before after : TrackedLog) : Type 0 where
+    pub passed : TrackedLog
     pub gate : s.gate number before passed
     pub now : ℕ
-    pub asked : CallLog
+    pub asked : TrackedLog
     pub moment : s.moment now passed asked
     pub commits : s.logged (CommitsRun now (run_of t) t committed) asked after
     pub commit : IsSomeCommit (run_of t) t committed
@@ -81,7 +81,7 @@ module _ {T : Type 0} (s : Shop T) where
   -- head word of the next slot. A raise has the word of the job's stage. A rejection and a refused
   -- allocation are those of the job's image. The result of any other call is that of some slot. An
   -- answer, a loss and the calls of a lease are in no request's list.
-  abbrev pub IsCallOf : ℕ → Job → Call → CallLog → CallLog → Type 0
+  abbrev pub IsCallOf : ℕ → Job → Call → TrackedLog → TrackedLog → Type 0
   IsCallOf number job (Matches serials word) before after = (serials ≡ job.etags.items) × s.logged (LooksAt job.origin.slot word) before after
   IsCallOf number job (Lists seen word) before after = s.logged (LooksAt (length seen.items) word) before after
   IsCallOf number job (Takes count taken) before after = IsTakingWith s.logged job taken before after
@@ -97,15 +97,15 @@ module _ {T : Type 0} (s : Shop T) where
   IsCallOf number job other before after = ⊥
 
   -- the call is the one that the stage needs, and it is a call for the job with this number.
-  abbrev pub IsCallAt : ℕ → Job → Stage → Call → CallLog → CallLog → Type 0
+  abbrev pub IsCallAt : ℕ → Job → Stage → Call → TrackedLog → TrackedLog → Type 0
   IsCallAt number job stage call before after = (stage ≡ called_at call) × IsCallOf number job call before after
 
   -- each is the call that is needed at the stage after the calls before it. The log has only these,
   -- from one state to the other.
-  unfoldable pub AreCalls : ℕ → Job → List Call → CallLog → CallLog → Type 0
+  unfoldable pub AreCalls : ℕ → Job → List Call → TrackedLog → TrackedLog → Type 0
   AreCalls number job [] before after = after ≡ before
   AreCalls number job (call ∷ calls) before after =
-      (now : CallLog) × AreCalls number job calls before now × IsCallAt number job (stage_after job calls) call now after
+      (now : TrackedLog) × AreCalls number job calls before now × IsCallAt number job (stage_after job calls) call now after
 
   -- a worker's statistics before and after these calls, for a job of slot n.
   pub record HasCounted (n : ℕ) (calls : List Call) (before after : Share T) : Type 0 where
@@ -143,7 +143,7 @@ module _ {T : Type 0} (s : Shop T) where
   -- for it, or nothing.
   pub record IsRequestWorked (number : ℕ) (job : Job) (before after : Share T) (reply : Option Emission) : Type 0 where
     pub content : Content
-    pub log : CallLog
+    pub log : TrackedLog
     pub worked : IsWorkedOff number job content before (record after { log = log })
     pub answered : GivesAnswer s job content reply log after.log
 
@@ -151,7 +151,7 @@ module _ {T : Type 0} (s : Shop T) where
   -- be sent for it, or nothing. The job changes no slot.
   pub record IsTurnWorked (job : Job) (turn : Turn) (before after : Share T) (reply : Option Emission) : Type 0 where
     pub taken : Taken
-    pub log : CallLog
+    pub log : TrackedLog
     pub taking : IsTakingWith s.logged job taken before.log log
     pub told : IsTurnReply s turn taken reply log after.log
     pub kept : HasSameTallies before after
@@ -167,7 +167,7 @@ module _ {T : Type 0} (s : Shop T) where
   -- the reply, if there is one, was sent once and counted. The last call reported to the
   -- transmitter, once, that the job has ended.
   pub record IsFinished (number : ℕ) (reply : Option Emission) (before after : Share T) : Type 0 where
-    pub log : CallLog
+    pub log : TrackedLog
     pub sent : IsSent s number reply before (record after { log = log })
     pub over : s.wire (EndsJob number) log after.log
 

@@ -1,77 +1,104 @@
 //! A server's front, which began in the initial state that the server's books name.
-ghost use Rattle.std.specs.Prelude.{◌≡◌};
+ghost use Rattle.std.specs.Prelude.{◌≡◌, []};
 ghost use Rattle.fc_core.specs.Answering.{emission_of, responded};
 ghost use Rattle.fc_core.specs.Contents.{IsOf};
 ghost use Rattle.fc_core.specs.Receiving.{heard};
-ghost use Rattle.fc_workers.specs.Asked.{IsFrontAsked};
 ghost use Rattle.fc_calls.specs.Doings.{AdvancesTo, AnswersAt, DrawsAt, HearsAt};
+ghost use Rattle.fc_calls.specs.Logged.{AdvancesFront, AnswersRequest, DrawsId, HearsDatagram};
+ghost use Rattle.fc_linear.specs.Parts.{first_server};
+ghost use Rattle.fc_workers.specs.Asked.{IsFrontCall};
 ghost use Rattle.fc_workers.specs.Fronts.{BeganAt};
 
-use crate::books::Books;
+use crate::books::{Books, ServerOf};
+use crate::track_log::TrackLog;
 use coap_msg::{Emission, Endpoint};
 use fc_core::{Answer, Front, Heard, Responded};
+use fc_filed::{FiledFront, FiledTrack, FrontOf, ServerBook};
 use fc_registry::Job;
 use std::marker::PhantomData;
 
 /// A front that began as its server's first front, and has only been called since.
+///
+/// Each call is filed in the server's book, on the track of the front and on those of the caller.
 #[derive(Drop)]
 pub(crate) struct BegunFront<B: Books> {
-    front: Front,
+    filed: FiledFront<ServerOf<B>>,
     of: PhantomData<B>,
-    ghost began: { ∥ BeganAt B.first.front front ∥₁ },
+    ghost began: { ∥ BeganAt B.first.front filed.front ∥₁ },
 }
 
 impl<B: Books> BegunFront<B> {
-    /// Wraps a front that hasn't been called.
-    pub(crate) fn new(front: Front) -> BegunFront<B>
-        requires { front ≡ B.first.front }
+    /// Wraps a front that hasn't been called, with its track.
+    pub(crate) fn new(front: Front, track: FiledTrack<FrontOf<ServerOf<B>>>) -> BegunFront<B>
+        requires front { front ≡ B.first.front }
+        requires begin { (first_server B.begin).front ≡ B.first.front }
+        requires track { track ≡ [] }
     {
         BegunFront {
-            front,
+            filed: FiledFront::new(front, track),
             of: PhantomData,
         }
     }
 
-    /// Handles a datagram. See [`Front::hear`].
+    /// Handles a datagram, and files that. See [`Front::hear`].
     pub(crate) fn hear(
         &mut self,
+        book: &ServerBook<ServerOf<B>>,
+        log: &mut TrackLog<ServerOf<B>>,
         now: u64,
         endpoint: Endpoint,
         bytes: &[u8],
         job: &mut Job,
         reply: &mut Emission,
     ) -> Heard
-        ensures { IsFrontAsked B.first.front (HearsAt now endpoint bytes.now (heard result job.new reply.new)) }
+        ensures { let brings = heard result job.new reply.new in
+            IsFrontCall B.first.front (HearsAt now endpoint bytes.now brings) (HearsDatagram now endpoint bytes.now brings) log.old log.new }
     {
-        self.front.hear(now, endpoint, bytes, job, reply)
+        let tracks = &mut log.tracks;
+        self.filed
+            .hear_for_first(book, tracks, log.who, now, endpoint, bytes, job, reply)
     }
 
-    /// Advances the clock to a time in milliseconds. See [`Front::tick`].
-    #[tactic(auto, unfolding(fc_calls::specs::Doings::AdvancesTo))]
-    pub(crate) fn tick(&mut self, now: u64)
-        ensures { IsFrontAsked B.first.front (AdvancesTo now) }
+    /// Advances the clock to a time in milliseconds, and files that. See [`Front::tick`].
+    pub(crate) fn tick(
+        &mut self,
+        book: &ServerBook<ServerOf<B>>,
+        log: &mut TrackLog<ServerOf<B>>,
+        now: u64,
+    )
+        ensures { IsFrontCall B.first.front (AdvancesTo now) (AdvancesFront now) log.old log.new }
     {
-        self.front.tick(now);
+        self.filed.tick(book, &mut log.tracks, log.who, now);
     }
 
-    /// Draws a message ID. See [`Front::fresh_id`].
-    pub(crate) fn fresh_id(&mut self, now: u64) -> Option<u16>
-        ensures { IsFrontAsked B.first.front (DrawsAt now result) }
+    /// Draws a message ID, and files that. See [`Front::fresh_id`].
+    pub(crate) fn fresh_id(
+        &mut self,
+        book: &ServerBook<ServerOf<B>>,
+        log: &mut TrackLog<ServerOf<B>>,
+        now: u64,
+    ) -> Option<u16>
+        ensures { IsFrontCall B.first.front (DrawsAt now result) (DrawsId now result) log.old log.new }
     {
-        self.front.fresh_id(now)
+        self.filed.fresh_id(book, &mut log.tracks, log.who, now)
     }
 
-    /// Answers a job. See [`Front::respond`].
+    /// Answers a job, and files that. See [`Front::respond`].
     pub(crate) fn respond(
         &mut self,
+        book: &ServerBook<ServerOf<B>>,
+        log: &mut TrackLog<ServerOf<B>>,
         now: u64,
         job: &Job,
         answer: &Answer,
         reply: &mut Emission,
     ) -> Responded
         requires { IsOf job.now answer.now }
-        ensures { IsFrontAsked B.first.front (AnswersAt now job.now answer.now (emission_of (responded result reply.new))) }
+        ensures { let sent = emission_of (responded result reply.new) in
+            IsFrontCall B.first.front (AnswersAt now job.now answer.now sent) (AnswersRequest now job.now answer.now sent) log.old log.new }
     {
-        self.front.respond(now, job, answer, reply)
+        let tracks = &mut log.tracks;
+        self.filed
+            .respond(book, tracks, log.who, now, job, answer, reply)
     }
 }

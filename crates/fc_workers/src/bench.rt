@@ -13,15 +13,16 @@ ghost use Rattle.fc_calls.specs.Logged.{AdvancesFront, AdvancesQuiet, GivesReadi
 ghost use Rattle.fc_calls.specs.Logged.{AdvancesShard, AnswersRequest, CommitsRun, DrawsId, GivesTurn, GivesUpTurn, HearsDatagram};
 ghost use Rattle.fc_calls.specs.Logged.{InstallsProgram};
 ghost use Rattle.fc_calls.specs.Logged.{LoggedCall, NotesTurn, RaisesWord, RemovesProgram, TakesForJob, TellsReceipt};
-ghost use Rattle.fc_workers.specs.declared.call_log.CallLog.{CallLog as Log};
+ghost use Rattle.fc_workers.specs.Logs.{TrackedLog as Log};
 ghost use Rattle.fc_workers.specs.Answers.{AreTallied, IsSomeAnswer, IsSomeCommit, IsSomeDelivery, IsSomeDraw, IsSomeInstall, IsSomeNote};
 ghost use Rattle.fc_workers.specs.Answers.{IsSomeQuiet, IsSomeReceipt, IsSomeRemoval, IsSomeTaking, IsSomeTick, IsSomeTurn};
 ghost use Rattle.fc_calls.specs.Kept.{commit_changes, install_changes, removal_changes};
 ghost use Rattle.fc_workers.specs.Answers.{ended_by, saturated};
 
-use crate::call_log::CallLog;
+use crate::track_log::TrackLog;
 use coap_msg::{Emission, Endpoint};
 use fc_core::{Answer, Heard};
+use fc_filed::ServerName;
 use fc_heads::HeadSeat;
 use fc_help::Readings;
 use fc_machine::Outcome;
@@ -43,10 +44,14 @@ use std::sync::{Arc, Wait};
 /// Each worker passes tallies of its own. They count the changes of each shard that the results of
 /// its calls report, and the jobs that it ended. It passes its log to each call that may change
 /// something, or whose result is soon out of date. So a clause can state which of these calls it
-/// made, and in which order.
+/// made, and in which order. The log has the worker's tracks in the server's book, on which an
+/// implementation files the calls of its front.
 pub trait Bench {
     /// The counts of one worker's changes, and of the jobs that it ended.
     type Tallies: Drop;
+
+    /// The name of the book in which the front's calls are filed.
+    type Book: ServerName;
 
     // The number of changes of a shard, by its index, from 0 to 7.
     ghost changes: { Self.Tallies → ℕ → ℕ };
@@ -77,7 +82,7 @@ pub trait Bench {
         bytes: &[u8],
         job: &mut Job,
         reply: &mut Emission,
-        log: &mut CallLog,
+        log: &mut TrackLog<Self::Book>,
     ) -> Heard
         ensures heard { IsSomeDelivery now endpoint bytes.now (heard result job.new reply.new) }
         ensures logged { logged (HearsDatagram now endpoint bytes.now (heard result job.new reply.new)) log.old log.new };
@@ -85,18 +90,18 @@ pub trait Bench {
     /// Advances the front to a time in milliseconds.
     ///
     /// See [`Front::tick`](fc_core::Front::tick).
-    fn tick<R: Wait>(&self, rt: &R, now: u64, log: &mut CallLog)
+    fn tick<R: Wait>(&self, rt: &R, now: u64, log: &mut TrackLog<Self::Book>)
         ensures { logged (AdvancesFront now) log.old log.new };
 
     /// Draws a message ID of the server's own, at a time in milliseconds.
     ///
     /// See [`Front::fresh_id`](fc_core::Front::fresh_id).
-    fn fresh_id<R: Wait>(&self, rt: &R, now: u64, log: &mut CallLog) -> Option<u16>
+    fn fresh_id<R: Wait>(&self, rt: &R, now: u64, log: &mut TrackLog<Self::Book>) -> Option<u16>
         ensures drawn { IsSomeDraw now result }
         ensures logged { logged (DrawsId now result) log.old log.new };
 
     /// Returns the readings of the device.
-    fn readings<R: Wait>(&self, rt: &R, log: &mut CallLog) -> Readings
+    fn readings<R: Wait>(&self, rt: &R, log: &mut TrackLog<Self::Book>) -> Readings
         ensures { logged (GivesReadings result) log.old log.new };
 
     /// Takes a snapshot of a job's slot, with these readings.
@@ -110,7 +115,7 @@ pub trait Bench {
         readings: &Readings,
         found: &mut Found,
         tallies: &mut Self::Tallies,
-        log: &mut CallLog,
+        log: &mut TrackLog<Self::Book>,
     ) -> Taken
         ensures taken { IsSomeTaking job.now readings.now (taken_with result found.new) }
         ensures size { HasSize result found.new }
@@ -129,7 +134,7 @@ pub trait Bench {
         outcome: &Outcome<'_>,
         ticket: &Ticket<'_>,
         tallies: &mut Self::Tallies,
-        log: &mut CallLog,
+        log: &mut TrackLog<Self::Book>,
     ) -> Committed
         ensures committed { IsSomeCommit outcome.now ticket.now result }
         ensures logged { logged (CommitsRun now outcome.now ticket.now result) log.old log.new }
@@ -146,7 +151,7 @@ pub trait Bench {
         job: &Job,
         program: Arc<Verified>,
         tallies: &mut Self::Tallies,
-        log: &mut CallLog,
+        log: &mut TrackLog<Self::Book>,
     ) -> Made
         ensures made { IsSomeInstall (initial_vars_of job.now.ask) program.value result }
         ensures logged { logged (InstallsProgram job.now program.value result) log.old log.new }
@@ -162,7 +167,7 @@ pub trait Bench {
         rt: &R,
         job: &Job,
         tallies: &mut Self::Tallies,
-        log: &mut CallLog,
+        log: &mut TrackLog<Self::Book>,
     ) -> Removal
         ensures removal { IsSomeRemoval result }
         ensures logged { logged (RemovesProgram job.now result) log.old log.new }
@@ -180,14 +185,20 @@ pub trait Bench {
         endpoint: Endpoint,
         id: u16,
         reset: bool,
-        log: &mut CallLog,
+        log: &mut TrackLog<Self::Book>,
     )
         ensures { logged (HandsSignal shard endpoint id reset) log.old log.new };
 
     /// Advances a shard, 0 to 7, to a time in milliseconds.
     ///
     /// See [`Shard::tick`](fc_registry::Shard::tick).
-    fn tick_shard<R: Wait>(&self, rt: &R, shard: u8, now: u64, log: &mut CallLog) -> Ticked
+    fn tick_shard<R: Wait>(
+        &self,
+        rt: &R,
+        shard: u8,
+        now: u64,
+        log: &mut TrackLog<Self::Book>,
+    ) -> Ticked
         ensures ticked { IsSomeTick now result }
         ensures logged { logged (AdvancesShard shard now result) log.old log.new };
 
@@ -196,7 +207,13 @@ pub trait Bench {
     /// It is idle if no notification has timed out and no observer has a pending one. Returns
     /// whether the shard was advanced. If it wasn't, nothing changes, and the log doesn't have the
     /// call. See [`Shard::advance_if_quiet`](fc_registry::Shard::advance_if_quiet).
-    fn advance_if_quiet<R: Wait>(&self, rt: &R, shard: u8, now: u64, log: &mut CallLog) -> bool
+    fn advance_if_quiet<R: Wait>(
+        &self,
+        rt: &R,
+        shard: u8,
+        now: u64,
+        log: &mut TrackLog<Self::Book>,
+    ) -> bool
         ensures quiet { IsSomeQuiet now result }
         ensures logged { MatchBool result (logged (AdvancesQuiet shard now) log.old log.new)
             (called (LeavesUnquiet shard now) × (log.new ≡ log.old)) };
@@ -218,7 +235,7 @@ pub trait Bench {
         shard: u8,
         now: u64,
         job: &mut Job,
-        log: &mut CallLog,
+        log: &mut TrackLog<Self::Book>,
     ) -> bool
         ensures turn { IsSomeTurn now (written_if result job.new) }
         ensures logged { logged (GivesTurn shard now (written_if result job.new)) log.old log.new };
@@ -237,7 +254,7 @@ pub trait Bench {
         told: &Notification<'_>,
         emission: &mut Emission,
         tallies: &mut Self::Tallies,
-        log: &mut CallLog,
+        log: &mut TrackLog<Self::Book>,
     ) -> NoteOutcome
         requires { turn.slot < 64 }
         ensures noted { IsSomeNote now told.now turn id (noted_as result emission.new) }
@@ -255,7 +272,7 @@ pub trait Bench {
         turn: Turn,
         now: u64,
         tallies: &mut Self::Tallies,
-        log: &mut CallLog,
+        log: &mut TrackLog<Self::Book>,
     )
         requires { turn.slot < 64 }
         ensures logged { logged (GivesUpTurn turn now) log.old log.new }
@@ -266,7 +283,7 @@ pub trait Bench {
     /// Returns the receipt of the program in `job`'s slot.
     ///
     /// See [`Shard::receipt`](fc_registry::Shard::receipt).
-    fn receipt<R: Wait>(&self, rt: &R, job: &Job, log: &mut CallLog) -> Option<Receipt>
+    fn receipt<R: Wait>(&self, rt: &R, job: &Job, log: &mut TrackLog<Self::Book>) -> Option<Receipt>
         ensures receipt { IsSomeReceipt result }
         ensures logged { logged (TellsReceipt job.now result) log.old log.new };
 
@@ -278,7 +295,7 @@ pub trait Bench {
     ///
     /// It is no less than the word that the handle has seen of that slot. See
     /// [`Heads::peek`](fc_heads::Heads::peek).
-    fn peek(&self, slot: SlotNumber, seat: &mut HeadSeat, log: &mut CallLog) -> u64
+    fn peek(&self, slot: SlotNumber, seat: &mut HeadSeat, log: &mut TrackLog<Self::Book>) -> u64
         requires { seat.old.table ≡ heads self.now }
         ensures rises { word_of seat.old.view.seen slot ≤ result }
         ensures seen { seat.new ≡ record seat.old { view = peeked seat.old.view slot result } }
@@ -287,7 +304,7 @@ pub trait Bench {
     /// Raises the head word of `job`'s slot, without a lock.
     ///
     /// Afterwards it is no less than `word`. See [`Heads::raise`](fc_heads::Heads::raise).
-    fn raise(&self, job: &Job, word: u64, seat: &mut HeadSeat, log: &mut CallLog)
+    fn raise(&self, job: &Job, word: u64, seat: &mut HeadSeat, log: &mut TrackLog<Self::Book>)
         requires { seat.old.table ≡ heads self.now }
         ensures raised { IsRaised job.now.origin.slot word seat.old seat.new }
         ensures logged { logged (RaisesWord job.now.origin.slot word) log.old log.new };
@@ -304,7 +321,7 @@ pub trait Bench {
         answer: &Answer,
         reply: &mut Emission,
         tallies: &mut Self::Tallies,
-        log: &mut CallLog,
+        log: &mut TrackLog<Self::Book>,
     ) -> bool
         requires { IsOf job.now answer.now }
         ensures sent { IsSomeAnswer now job.now answer.now (emission_if result reply.new) }

@@ -1,21 +1,33 @@
-//! The ledgers that count the changes of a server's shards.
+//! The ledgers that count the changes of a server's shards, and the book of its front's calls.
 ghost use Rattle.std.specs.Prelude.{ℕ};
+ghost use Rattle.atomic_table.specs.Seated.{TableId};
+ghost use Rattle.fc_book.specs.Tracks.{no_table};
 ghost use Rattle.fc_core.specs.Policies.{default_policy};
+ghost use Rattle.fc_filed.specs.Blank.{some_begin};
+ghost use Rattle.fc_server.specs.declared.server.Begin.{Begin};
 ghost use Rattle.fc_workers.specs.Fronts.{Beginning, beginning};
 
+use fc_filed::ServerName;
 use std::marker::{Brand, PhantomData};
 use std::sync::ledger::Ledger;
 
 /// The names of a server's ledgers, their parts, and the server's initial state.
 ///
 /// A name is given by the index of the ledger's shard. Each ledger is divided into the same number
-/// of parts.
+/// of parts. The table is that of the book in which the front's calls are filed. The keys of its
+/// threads' tracks are below `first_job`.
 pub trait Books {
     ghost names: { ℕ → ℕ };
 
     ghost parts: { ℕ };
 
     ghost first: { Beginning };
+
+    ghost table: { TableId };
+
+    ghost first_job: { ℕ };
+
+    ghost begin: { Begin };
 }
 
 impl Books for Brand {
@@ -24,6 +36,12 @@ impl Books for Brand {
     ghost parts = { 0 };
 
     ghost first = { beginning default_policy 0 };
+
+    ghost table = { no_table };
+
+    ghost first_job = { 0 };
+
+    ghost begin = { some_begin };
 }
 
 /// The ledger of the shard with this index.
@@ -35,4 +53,17 @@ impl<B: Books, const INDEX: u8> Ledger for BookOf<B, INDEX> {
     ghost name = { B.names INDEX };
 
     ghost parts = { B.parts };
+}
+
+/// The name of the book in which the front's calls are filed.
+pub struct ServerOf<B: Books> {
+    of: PhantomData<B>,
+}
+
+impl<B: Books> ServerName for ServerOf<B> {
+    ghost table = { B.table };
+
+    ghost first_job = { B.first_job };
+
+    ghost begin = { B.begin };
 }

@@ -5,15 +5,15 @@ ghost use Rattle.fc_workers.specs.Answers.{IsSomeQuiet, IsSomeTick};
 ghost use Rattle.fc_calls.specs.Logged.{AdvancesFront, AdvancesQuiet, AdvancesShard};
 ghost use Rattle.fc_workers.specs.Called.{LeavesUnquiet, LooksAhead, shop};
 ghost use Rattle.fc_workers.specs.Dispatch.{AreSignalled, HasCalled, IsDear, IsDearAt, IsDispatched, IsPriced, IsTakenIn, IsTurnAsked, IsWorkedHere, MayGo, logged_at};
-ghost use Rattle.fc_workers.specs.declared.call_log.CallLog.{CallLog as Log};
+ghost use Rattle.fc_workers.specs.Logs.{TrackedLog as Log};
 ghost use Rattle.fc_workers.specs.declared.dispatcher.Handover.TheVariants.{Dear};
 ghost use Rattle.fc_workers.specs.Shares.{new_share};
 
 use crate::bench::Bench;
-use crate::call_log::CallLog;
 use crate::seat::Seat;
 use crate::share::Share;
 use crate::tools::Tools;
+use crate::track_log::TrackLog;
 use crate::workshop::{Gate, Moments, Wire, Workshop};
 use coap_msg::{Emission, Endpoint};
 use fc_core::front::blank_job;
@@ -50,9 +50,9 @@ pub enum Handover {
 /// It has the jobs that were sent to the workers, and the statistics of the jobs that the
 /// dispatcher ran itself.
 #[derive(Drop)]
-pub struct Dispatched<T: Drop> {
+pub struct Dispatched<T: Drop, L: Drop> {
     pub sent: Sent,
-    pub share: Share<T>,
+    pub share: Share<T, L>,
 }
 
 /// A dispatcher of datagrams and notification leases, in a thread of its own.
@@ -67,7 +67,7 @@ pub struct Dispatcher<'a, B: Bench, G: Gate, W: Wire, M: Moments> {
     handover: Handover,
     job: Job,
     tools: Tools,
-    done: Dispatched<B::Tallies>,
+    done: Dispatched<B::Tallies, TrackLog<B::Book>>,
     ghost channel: { done.sent.channel ≡ jobs.now },
     ghost heads: { tools.heads.table ≡ B.heads workshop.now.bench.now },
 }
@@ -78,16 +78,17 @@ impl<'a, B: Bench, G: Gate, W: Wire, M: Moments> Dispatcher<'a, B, G, W, M> {
         workshop: &'a Workshop<'a, B, G, W, M>,
         jobs: &'a Jobs,
         sent: Sent,
-        seat: Seat<B::Tallies>,
+        seat: Seat<B::Tallies, TrackLog<B::Book>>,
         handover: Handover,
     ) -> Dispatcher<'a, B, G, W, M>
         requires { sent.channel ≡ jobs.now }
-        ensures done { result.done ≡ record { sent = sent; share = new_share seat.got seat.tallies result.done.share.log } }
+        ensures done { result.done ≡ record { sent = sent; share = new_share seat.got seat.tallies seat.log } }
         ensures handover { result.handover ≡ handover }
     {
         let Seat {
             got,
             tallies,
+            log,
             frame,
         } = seat;
         Dispatcher {
@@ -98,13 +99,13 @@ impl<'a, B: Bench, G: Gate, W: Wire, M: Moments> Dispatcher<'a, B, G, W, M> {
             tools: Tools::new(workshop.bench, frame),
             done: Dispatched {
                 sent,
-                share: Share::new(got, tallies),
+                share: Share::new(got, tallies, log),
             },
         }
     }
 
     /// Closes the channel, and returns the dispatcher's own statistics.
-    pub fn close(self) -> Share<B::Tallies>
+    pub fn close(self) -> Share<B::Tallies, TrackLog<B::Book>>
         ensures { result ≡ self.entry.done.share }
     {
         let Dispatcher { done, .. } = self;
@@ -351,7 +352,7 @@ impl<'a, B: Bench, G: Gate, W: Wire, M: Moments> Dispatcher<'a, B, G, W, M> {
 impl<'a, B: Bench, G: Gate, W: Wire, M: Moments> Workshop<'a, B, G, W, M> {
     // Returns whether a job requests a run of this many instructions or more, by the program that
     // its slot has now.
-    fn is_dear<R: Wait>(&self, rt: &R, least: u32, job: &Job, log: &mut CallLog) -> bool
+    fn is_dear<R: Wait>(&self, rt: &R, least: u32, job: &Job, log: &mut TrackLog<B::Book>) -> bool
         ensures dear { result ≡ true → IsDear (shop B.changes B.ended B.called B.logged M.is_moment M.is_random G.passed W.called)
             least job.now log.old log.new }
         ensures priced { IsPriced (shop B.changes B.ended B.called B.logged M.is_moment M.is_random G.passed W.called)
@@ -367,7 +368,14 @@ impl<'a, B: Bench, G: Gate, W: Wire, M: Moments> Workshop<'a, B, G, W, M> {
     }
 
     // Passes a signal to each shard, once.
-    fn signal<R: Wait>(&self, rt: &R, from: Endpoint, id: u16, reset: bool, log: &mut CallLog)
+    fn signal<R: Wait>(
+        &self,
+        rt: &R,
+        from: Endpoint,
+        id: u16,
+        reset: bool,
+        log: &mut TrackLog<B::Book>,
+    )
         ensures { AreSignalled (shop B.changes B.ended B.called B.logged M.is_moment M.is_random G.passed W.called)
             8 from id reset log.old log.new }
     {

@@ -15,8 +15,8 @@ ghost use Rattle.fc_workers.specs.Asked.{IsLoggedCall};
 ghost use Rattle.fc_workers.specs.Fronts.{beginning};
 ghost use Rattle.fc_workers.specs.Called.{shop};
 ghost use Rattle.fc_workers.specs.Dispatch.{IsDone};
-ghost use Rattle.fc_workers.specs.declared.call_log.CallLog.{CallLog as Log};
-ghost use Rattle.fc_workers.specs.declared.dispatcher.Dispatched.{Dispatched};
+ghost use Rattle.fc_workers.specs.Logs.{TrackedLog as Log};
+ghost use Rattle.fc_workers.specs.Workers.{Dispatched};
 ghost use Rattle.fc_workers.specs.declared.dispatcher.Handover.{Handover};
 
 use crate::bench::Bench;

@@ -11,31 +11,38 @@
 //! statistics of a worker's jobs, its [`Share`]. The worker has run and ended exactly the jobs that
 //! its `Got` gained, and its tallies have risen by the changes that the results of its calls
 //! report. Each call that may change something, or whose result is soon out of date, gets the
-//! worker's [`CallLog`]. So contracts state that these calls were made in this order, and no others
-//! with this log.
+//! worker's log. So contracts state that these calls were made in this order, and no others with
+//! this log. A [`TrackLog`] has the worker's tracks in the server's book besides, on which the
+//! server files the calls of its front. Gates, transmitters and clocks get its [`CallLog`] alone.
 //!
 //! The contracts don't say which slot a call meets: that a backend takes a snapshot of the job's
 //! own slot is up to its implementation. They don't say either that a call returns, or when.
 //!
 //! ```rust
+//! ghost use Rattle.std.specs.Prelude.{◌≡◌, vec_len};
+//!
 //! use fc_jobs::{Jobs, Sent};
 //! use fc_registry::Job;
-//! use fc_workers::{Bench, Gate, Moments, Share, Wire, Workshop, feed_workers, make_seats};
+//! use fc_workers::{
+//!     Bench, Gate, Moments, Share, TrackLog, Wire, Workshop, feed_workers, make_seats,
+//! };
 //! use std::alloc::AllocError;
 //! use std::sync::Wait;
 //! use std::thread::Threads;
 //!
-//! /// Runs one job, with a worker for each of these tallies, and returns their statistics.
+//! /// Runs one job, with a worker for each of these tallies and logs, and returns their statistics.
 //! fn work_one<B: Bench + Sync, G: Gate + Sync, W: Wire + Sync, M: Moments + Sync, R>(
 //!     rt: &R,
 //!     workshop: &Workshop<'_, B, G, W, M>,
 //!     tallies: Vec<B::Tallies>,
+//!     logs: Vec<TrackLog<B::Book>>,
 //!     job: Job,
-//! ) -> Result<Vec<Share<B::Tallies>>, AllocError>
+//! ) -> Result<Vec<Share<B::Tallies, TrackLog<B::Book>>>, AllocError>
 //! where
 //!     R: Threads + Wait + Sync,
+//!     requires { vec_len logs ≡ vec_len tallies }
 //! {
-//!     let (jobs, mut sent, seats) = make_seats(workshop.alloc, tallies)?;
+//!     let (jobs, mut sent, seats) = make_seats(workshop.alloc, tallies, logs)?;
 //!     let channel = &jobs;
 //!     let (_back, shares) = feed_workers(rt, workshop, channel, seats, move |_staffed| -> Option<Job>
 //!         requires { sent.channel ≡ channel.now }
@@ -47,10 +54,11 @@
 //! # What is proved
 //!
 //! - **A worker's calls**: each logged call leads the log on from the state where the call before
-//!   it left it. So with this log no call was made twice, out of order, or in addition. That a
-//!   worker passes its calls no other log is seen from the code: only `Share::new` makes one. Calls
-//!   without a log change nothing: random words, the time until which a shard stays idle, and that
-//!   it isn't idle now. One such call can stand for a later one with the same result.
+//!   it left it. So with this log no call was made twice, out of order, or in addition. A bench's
+//!   calls have no other log: only `Locked::new` makes a `TrackLog`, one for each thread of the
+//!   server's book. That gates, transmitters and clocks get no other `CallLog` is seen from the code.
+//!   Calls without a log change nothing: random words, the time until which a shard stays idle, and
+//!   that it isn't idle now. One such call can stand for a later one with the same result.
 //! - **A request's job** reaches its answer by a list of calls from its first stage. Each is the
 //!   call that its stage needs, with the result of its shard at some slot. At most eight take a
 //!   snapshot. A look reads the head word of the job's slot, or, for a list, of each slot in order.
@@ -96,13 +104,17 @@
 //!   result of some front or shard. Its time is the given one or a later one. Each change of a slot
 //!   is counted on the worker's tally. Once the server is closed, the serials of each shard have
 //!   risen by exactly what was counted.
+//! - Each call of the front is filed in the server's book, once, by its caller, with its arguments
+//!   and its result. It is then the last entry on the tracks of the front and of the caller, and the
+//!   front's entries lead from the server's first front to the one under the lock. No other call is
+//!   filed. So two calls are of one front, the server's own, in one order.
 //! - The readings that a server returns are those of some call of its device
 //!   (`Device::are_readings`).
 //! - A head word that a worker reads is no less than the worker has seen of that slot. After a raise
 //!   the worker has seen no less than the given word. Neither takes a lock.
-//! - Not claimed: which state of a slot or front a call meets; that a call holds one lock; which
-//!   readings a server returns; which random word its shard gets; that it releases the given lease;
-//!   and that a call returns.
+//! - Not claimed: which state of a slot a call meets; that a call holds one lock; which readings a
+//!   server returns; which random word its shard gets; that it releases the given lease; that the
+//!   entries of one job have a track of their own; and that a call returns.
 //!
 //! By the contracts of `Workshop::work_off`, `Workshop::work`, `worker`, `run_workers`,
 //! `feed_workers`, `Dispatcher::hear`, `Dispatcher::notify`, the clauses of `Bench`, `Counted`,
@@ -129,12 +141,13 @@ pub mod share;
 pub mod tallies;
 pub mod tally;
 pub mod tools;
+pub mod track_log;
 pub mod work;
 pub mod workshop;
 
 pub use bench::Bench;
 pub use blanks::Blanks;
-pub use books::{BookOf, Books};
+pub use books::{BookOf, Books, ServerOf};
 pub use call_log::CallLog;
 pub use closed::ClosedServer;
 pub use counted_shard::Counted;
@@ -148,4 +161,5 @@ pub use share::Share;
 pub use tallies::Tallies;
 pub use tally::Tally;
 pub use tools::Tools;
+pub use track_log::TrackLog;
 pub use workshop::{Gate, Moments, Wire, Workshop};

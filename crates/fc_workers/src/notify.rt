@@ -11,6 +11,7 @@ ghost use Rattle.fc_workers.specs.Work.{HasSameTallies, IsTurnWorked};
 use crate::bench::Bench;
 use crate::share::Share;
 use crate::tools::Tools;
+use crate::track_log::TrackLog;
 use crate::workshop::{Gate, Moments, Wire, Workshop};
 use coap_msg::Emission;
 use fc_core::Step;
@@ -32,7 +33,7 @@ impl<'a, B: Bench, G: Gate, W: Wire, M: Moments> Workshop<'a, B, G, W, M> {
         tools: &mut Tools,
         job: &Job,
         turn: Turn,
-        share: &mut Share<B::Tallies>,
+        share: &mut Share<B::Tallies, TrackLog<B::Book>>,
     ) -> bool
         requires { turn.slot < 64 }
         ensures heads { tools.new.heads ≡ tools.old.heads }
@@ -75,7 +76,7 @@ impl<'a, B: Bench, G: Gate, W: Wire, M: Moments> Workshop<'a, B, G, W, M> {
         turn: Turn,
         found: Option<Ticket<'_>>,
         reply: &mut Emission,
-        share: &mut Share<B::Tallies>,
+        share: &mut Share<B::Tallies, TrackLog<B::Book>>,
     ) -> bool
         requires { turn.slot < 64 }
         ensures told { IsFoundTold (shop B.changes B.ended B.called B.logged M.is_moment M.is_random G.passed W.called)
@@ -84,7 +85,7 @@ impl<'a, B: Bench, G: Gate, W: Wire, M: Moments> Workshop<'a, B, G, W, M> {
             share.old share.new }
         ensures ended { B.ended share.new.tallies ≡ saturated (B.ended share.old.tallies + 1) }
     {
-        let now = self.moments.now(rt, &mut share.log);
+        let now = self.now(rt, &mut share.log);
         let Some(id) = self.bench.fresh_id(rt, now, &mut share.log) else {
             self.give_up(rt, turn, share);
             return false;
@@ -113,7 +114,7 @@ impl<'a, B: Bench, G: Gate, W: Wire, M: Moments> Workshop<'a, B, G, W, M> {
         id: u16,
         told: &Notification<'_>,
         reply: &mut Emission,
-        share: &mut Share<B::Tallies>,
+        share: &mut Share<B::Tallies, TrackLog<B::Book>>,
     ) -> bool
         requires { turn.slot < 64 }
         ensures noted { IsNoteSent (shop B.changes B.ended B.called B.logged M.is_moment M.is_random G.passed W.called)
@@ -123,7 +124,7 @@ impl<'a, B: Bench, G: Gate, W: Wire, M: Moments> Workshop<'a, B, G, W, M> {
         ensures ended { B.ended share.new.tallies ≡ saturated (B.ended share.old.tallies + 1) }
     {
         let Share { tallies, log, .. } = share;
-        let now = self.moments.now(rt, log);
+        let now = self.now(rt, log);
         let random = self.moments.random(rt);
         let noted = self
             .bench
@@ -132,7 +133,7 @@ impl<'a, B: Bench, G: Gate, W: Wire, M: Moments> Workshop<'a, B, G, W, M> {
     }
 
     // Releases a lease, at the current time. Nothing is sent.
-    fn give_up<R: Wait>(&self, rt: &R, turn: Turn, share: &mut Share<B::Tallies>)
+    fn give_up<R: Wait>(&self, rt: &R, turn: Turn, share: &mut Share<B::Tallies, TrackLog<B::Book>>)
         requires { turn.slot < 64 }
         ensures given_up { IsGivenUp (shop B.changes B.ended B.called B.logged M.is_moment M.is_random G.passed W.called)
             turn None share.old.log share.new.log }
@@ -141,7 +142,7 @@ impl<'a, B: Bench, G: Gate, W: Wire, M: Moments> Workshop<'a, B, G, W, M> {
         ensures ended { B.ended share.new.tallies ≡ saturated (B.ended share.old.tallies + 1) }
     {
         let log = &mut share.log;
-        let now = self.moments.now(rt, log);
+        let now = self.now(rt, log);
         self.bench.give_up(rt, turn, now, &mut share.tallies, log);
     }
 }

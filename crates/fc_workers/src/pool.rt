@@ -8,7 +8,9 @@ ghost use Rattle.fc_workers.specs.Shares.{AreNewSeats, AreSharesOf, IsShareOf};
 use crate::bench::Bench;
 use crate::seat::{Seat, worker};
 use crate::share::Share;
+use crate::track_log::TrackLog;
 use crate::workshop::{Gate, Moments, Wire, Workshop};
+use fc_filed::ServerName;
 use fc_jobs::{Got, Jobs, Sent};
 use std::alloc::{AllocError, Global};
 use std::marker::PhantomData;
@@ -17,33 +19,37 @@ use std::sync::Wait;
 use std::thread;
 use std::thread::{Promise, Threads};
 
-/// Makes a channel of jobs, and a seat for each of the given tallies.
+/// Makes a channel of jobs, and a seat for each of the given tallies, with one of the logs.
 ///
 /// Returns the channel, its sending end and the seats.
 ///
 /// # Errors
 /// Returns `AllocError` if memory can't be allocated.
-pub fn make_seats<T: Drop>(
+pub fn make_seats<T: Drop, J: ServerName>(
     alloc: Global,
     tallies: Vec<T>,
-) -> Result<(Jobs, Sent, Vec<Seat<T>>), AllocError>
+    logs: Vec<TrackLog<J>>,
+) -> Result<(Jobs, Sent, Vec<Seat<T, TrackLog<J>>>), AllocError>
+    requires { vec_len logs ≡ vec_len tallies }
     ensures sent { IfOk result (λ r. r.1 ≡ nothing_sent r.0) }
     ensures seats { IfOk result (λ r. AreNewSeats r.0 tallies.items r.2.items) }
 {
     let (jobs, sent, gots) = Jobs::new(alloc, tallies.len())?;
-    let seats = seats_at(alloc, &jobs, gots, tallies)?;
+    let seats = seats_at(alloc, &jobs, gots, tallies, logs)?;
     Ok((jobs, sent, seats))
 }
 
 // Makes a seat for each place at the channel, with its tallies.
-fn seats_at<T: Drop>(
+fn seats_at<T: Drop, J: ServerName>(
     alloc: Global,
     jobs: &Jobs,
     mut gots: Vec<Got>,
     tallies: Vec<T>,
-) -> Result<Vec<Seat<T>>, AllocError>
+    mut logs: Vec<TrackLog<J>>,
+) -> Result<Vec<Seat<T, TrackLog<J>>>, AllocError>
     requires got { All (λ g. g ≡ nothing_got jobs.now) gots.items }
     requires count { vec_len gots ≡ vec_len tallies }
+    requires logs { vec_len logs ≡ vec_len tallies }
     ensures { IfOk result (λ v. AreNewSeats jobs.now tallies.items v.items) }
 {
     let _ = jobs;
@@ -52,7 +58,10 @@ fn seats_at<T: Drop>(
         let Some(got) = gots.pop() else {
             unreachable!();
         };
-        seats.push(Seat::new(alloc, got, own)?)?;
+        let Some(log) = logs.pop() else {
+            unreachable!();
+        };
+        seats.push(Seat::new(alloc, got, own, log)?)?;
     }
     Ok(seats)
 }
@@ -75,10 +84,11 @@ pub fn run_workers<
     rt: &R,
     workshop: &Workshop<'_, B, G, W, M>,
     jobs: &Jobs,
-    seats: Vec<Seat<B::Tallies>>,
-) -> Result<Vec<Share<B::Tallies>>, AllocError>
+    seats: Vec<Seat<B::Tallies, TrackLog<B::Book>>>,
+) -> Result<Vec<Share<B::Tallies, TrackLog<B::Book>>>, AllocError>
 where
     B::Tallies: Send,
+    B::Book: Send,
     requires { All (λ s. s.got.channel ≡ jobs.now) seats.items }
     ensures { IfOk result (λ v. AreSharesOf (shop B.changes B.ended B.called B.logged M.is_moment M.is_random G.passed W.called)
         seats.items v.items) }
@@ -86,7 +96,7 @@ where
     thread::map_vec(
         rt,
         seats,
-        &|seat: Seat<B::Tallies>| -> Share<B::Tallies>
+        &|seat: Seat<B::Tallies, TrackLog<B::Book>>| -> Share<B::Tallies, TrackLog<B::Book>>
             requires { seat.got.channel ≡ jobs.now }
             ensures { IsShareOf (shop B.changes B.ended B.called B.logged M.is_moment M.is_random G.passed W.called) seat result }
         { worker(rt, workshop, jobs, seat) },
@@ -96,14 +106,15 @@ where
 // The promise that a thread returns the statistics of the workers at these seats.
 #[derive(Drop)]
 struct SharesOf<B: Bench, G: Gate, W: Wire, M: Moments> {
-    seats: Snapshot<Vec<Seat<B::Tallies>>>,
+    seats: Snapshot<Vec<Seat<B::Tallies, TrackLog<B::Book>>>>,
     gate: PhantomData<G>,
     wire: PhantomData<W>,
     moments: PhantomData<M>,
 }
 
-impl<B: Bench, G: Gate, W: Wire, M: Moments> Promise<Result<Vec<Share<B::Tallies>>, AllocError>>
-    for SharesOf<B, G, W, M> {
+impl<B: Bench, G: Gate, W: Wire, M: Moments> Promise<
+    Result<Vec<Share<B::Tallies, TrackLog<B::Book>>>, AllocError>,
+> for SharesOf<B, G, W, M> {
     ghost kept_by = { λ p r. IfOk r (λ v. AreSharesOf (shop B.changes B.ended B.called B.logged M.is_moment M.is_random G.passed W.called)
         p.seats.value.items v.items) };
 }
@@ -132,11 +143,15 @@ pub fn feed_workers<
     rt: &R,
     workshop: &Workshop<'_, B, G, W, M>,
     jobs: &Jobs,
-    seats: Vec<Seat<B::Tallies>>,
+    seats: Vec<Seat<B::Tallies, TrackLog<B::Book>>>,
     feed: F,
-) -> (X, Result<Vec<Share<B::Tallies>>, AllocError>)
+) -> (
+    X,
+    Result<Vec<Share<B::Tallies, TrackLog<B::Book>>>, AllocError>,
+)
 where
     B::Tallies: Send,
+    B::Book: Send,
     requires seats { All (λ s. s.got.channel ≡ jobs.now) seats.items }
     requires feed { F.IsAlwaysCallable feed }
     ensures fed { (has_workers : Bool) × F.post feed has_workers result.0 }
@@ -146,7 +161,10 @@ where
     thread::scope(
         thread::scope_env(),
         rt,
-        move |scope| -> (X, Result<Vec<Share<B::Tallies>>, AllocError>)
+        move |scope| -> (
+            X,
+            Result<Vec<Share<B::Tallies, TrackLog<B::Book>>>, AllocError>,
+        )
             requires { All (λ s. s.got.channel ≡ jobs.now) seats.items × F.IsAlwaysCallable feed }
             ensures { ((has_workers : Bool) × F.post feed has_workers result.0)
                 × IfOk result.1 (λ v. AreSharesOf (shop B.changes B.ended B.called B.logged M.is_moment M.is_random G.passed W.called)
@@ -161,7 +179,7 @@ where
             };
             let started = scope.spawn_with(
                 promise,
-                move || -> Result<Vec<Share<B::Tallies>>, AllocError>
+                move || -> Result<Vec<Share<B::Tallies, TrackLog<B::Book>>>, AllocError>
                     requires { All (λ s. s.got.channel ≡ jobs.now) seats.items }
                     ensures { IfOk result
                         (λ v. AreSharesOf (shop B.changes B.ended B.called B.logged M.is_moment M.is_random G.passed W.called)

@@ -124,7 +124,7 @@ impl<B: Books> Reserve<B> {
     }
 
     /// Merges the tallies of all these workers.
-    pub fn merge_each(&mut self, mut workers: Vec<Share<Tallies<B>>>)
+    pub fn merge_each<L: Drop>(&mut self, mut workers: Vec<Share<Tallies<B>, L>>)
         ensures { self.new.parts ≡ self.old.parts + vec_len workers }
     {
         while let Some(worker) = workers.pop() {

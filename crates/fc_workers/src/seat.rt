@@ -7,11 +7,12 @@ ghost use Rattle.fc_workers.specs.Shares.{IsShareOf};
 ghost use Rattle.fc_workers.specs.Outgoing.{GoesOut};
 ghost use Rattle.fc_workers.specs.Steps.{IsReady, IsToAnswer, Walked};
 ghost use Rattle.fc_workers.specs.Work.{IsFinished, IsReplied, IsRequestWorked, IsWorked, IsWorkedTo};
-ghost use Rattle.fc_workers.specs.declared.share.Share.{Share as Done};
+ghost use Rattle.fc_workers.specs.Workers.{Share as Done};
 
 use crate::bench::Bench;
 use crate::share::Share;
 use crate::tools::Tools;
+use crate::track_log::TrackLog;
 use crate::workshop::{Gate, Moments, Wire, Workshop};
 use coap_msg::Emission;
 use fc_jobs::{Got, Jobs};
@@ -23,28 +24,31 @@ use std::sync::Wait;
 
 /// The initial state of a worker.
 ///
-/// It has the worker's place at the channel, its backend's tallies, and the frame that its programs
-/// run in.
+/// It has the worker's place at the channel, its backend's tallies, its log, and the frame that its
+/// programs run in.
 #[derive(Drop)]
-pub struct Seat<T: Drop> {
+pub struct Seat<T: Drop, L: Drop> {
     pub got: Got,
     pub tallies: T,
+    pub log: L,
     pub frame: Frame,
 }
 
-impl<T: Drop> Seat<T> {
+impl<T: Drop, L: Drop> Seat<T, L> {
     /// Makes a seat with a new frame.
     ///
     /// # Errors
     /// Returns `AllocError` if memory for the frame can't be allocated.
-    pub fn new(alloc: Global, got: Got, tallies: T) -> Result<Seat<T>, AllocError>
+    pub fn new(alloc: Global, got: Got, tallies: T, log: L) -> Result<Seat<T, L>, AllocError>
         ensures got { IfOk result (λ s. s.got ≡ got) }
         ensures tallies { IfOk result (λ s. s.tallies ≡ tallies) }
+        ensures log { IfOk result (λ s. s.log ≡ log) }
     {
         let frame = Frame::new(alloc)?;
         Ok(Seat {
             got,
             tallies,
+            log,
             frame,
         })
     }
@@ -58,17 +62,18 @@ pub fn worker<B: Bench, G: Gate, W: Wire, M: Moments, R: Wait>(
     rt: &R,
     workshop: &Workshop<'_, B, G, W, M>,
     jobs: &Jobs,
-    seat: Seat<B::Tallies>,
-) -> Share<B::Tallies>
+    seat: Seat<B::Tallies, TrackLog<B::Book>>,
+) -> Share<B::Tallies, TrackLog<B::Book>>
     requires { seat.got.channel ≡ jobs.now }
     ensures { IsShareOf (shop B.changes B.ended B.called B.logged M.is_moment M.is_random G.passed W.called) seat result }
 {
     let Seat {
         got,
         tallies,
+        log,
         frame,
     } = seat;
-    let mut share = Share::new(got, tallies);
+    let mut share = Share::new(got, tallies, log);
     let mut tools = Tools::new(workshop.bench, frame);
     for _ in rt.forever() {
         let Some((number, job)) = jobs.next(rt, &mut share.got) else {
@@ -91,7 +96,7 @@ impl<'a, B: Bench, G: Gate, W: Wire, M: Moments> Workshop<'a, B, G, W, M> {
         tools: &mut Tools,
         number: u64,
         job: &Job,
-        share: &mut Share<B::Tallies>,
+        share: &mut Share<B::Tallies, TrackLog<B::Book>>,
     )
         requires { tools.old.heads.table ≡ B.heads self.now.bench.now }
         ensures heads { tools.new.heads.table ≡ tools.old.heads.table }
@@ -114,7 +119,7 @@ impl<'a, B: Bench, G: Gate, W: Wire, M: Moments> Workshop<'a, B, G, W, M> {
         tools: &mut Tools,
         number: u64,
         job: &Job,
-        share: &mut Share<B::Tallies>,
+        share: &mut Share<B::Tallies, TrackLog<B::Book>>,
     )
         requires asked { job.now.turn ≡ None }
         requires ready { IsReady job.now tools.old.stage }
@@ -139,7 +144,7 @@ impl<'a, B: Bench, G: Gate, W: Wire, M: Moments> Workshop<'a, B, G, W, M> {
         tools: &mut Tools,
         number: u64,
         job: &Job,
-        share: &mut Share<B::Tallies>,
+        share: &mut Share<B::Tallies, TrackLog<B::Book>>,
     ) -> bool
         requires { tools.old.heads.table ≡ B.heads self.now.bench.now }
         ensures heads { tools.new.heads.table ≡ tools.old.heads.table }
@@ -165,7 +170,7 @@ impl<'a, B: Bench, G: Gate, W: Wire, M: Moments> Workshop<'a, B, G, W, M> {
         tools: &mut Tools,
         number: u64,
         job: &Job,
-        share: &mut Share<B::Tallies>,
+        share: &mut Share<B::Tallies, TrackLog<B::Book>>,
     ) -> bool
         requires asked { job.now.turn ≡ None }
         requires heads { tools.old.heads.table ≡ B.heads self.now.bench.now }
@@ -185,7 +190,7 @@ impl<'a, B: Bench, G: Gate, W: Wire, M: Moments> Workshop<'a, B, G, W, M> {
         rt: &R,
         tools: &mut Tools,
         job: &Job,
-        share: &mut Share<B::Tallies>,
+        share: &mut Share<B::Tallies, TrackLog<B::Book>>,
     ) -> bool
         requires { IsToAnswer job.now tools.old.stage }
         ensures heads { tools.new.heads ≡ tools.old.heads }
@@ -202,7 +207,7 @@ impl<'a, B: Bench, G: Gate, W: Wire, M: Moments> Workshop<'a, B, G, W, M> {
             unreachable!()
         };
         let Share { tallies, log, .. } = share;
-        let now = self.moments.now(rt, log);
+        let now = self.now(rt, log);
         self.bench
             .respond(rt, now, job, answer, &mut tools.reply, tallies, log)
     }
@@ -215,7 +220,7 @@ impl<'a, B: Bench, G: Gate, W: Wire, M: Moments> Workshop<'a, B, G, W, M> {
         number: u64,
         replies: bool,
         reply: &Emission,
-        share: &mut Share<B::Tallies>,
+        share: &mut Share<B::Tallies, TrackLog<B::Book>>,
     )
         requires { replies ≡ true → GoesOut reply.now }
         ensures finished { IsFinished (shop B.changes B.ended B.called B.logged M.is_moment M.is_random G.passed W.called)
@@ -224,9 +229,9 @@ impl<'a, B: Bench, G: Gate, W: Wire, M: Moments> Workshop<'a, B, G, W, M> {
         ensures got { share.new.got ≡ share.old.got }
     {
         if replies {
-            let out = self.wire.send(rt, number, reply, &mut share.log);
+            let out = self.send(rt, number, reply, &mut share.log);
             share.count_reply(out);
         }
-        self.wire.ended(rt, number, &mut share.log);
+        self.ended(rt, number, &mut share.log);
     }
 }

@@ -17,11 +17,12 @@
 //! No type in that function's signature may name a ledger. The function opens the server, splits
 //! the reserve into the tallies of its workers, and runs them. Then it merges their tallies, and
 //! closes the server.
-ghost use Rattle.std.specs.Prelude.{◌≡◌, ◌+◌, ◌*◌, ◌-◌, ◌<◌, ◌≤◌, ◌%◌, map, slice_index, take, vec_len, IfOk};
+ghost use Rattle.std.specs.Prelude.{◌≡◌, ◌+◌, ◌*◌, ◌-◌, ◌<◌, ◌≤◌, ◌%◌, true, map, slice_index, take, vec_len, IfOk};
 ghost use Rattle.coap_msg.specs.declared.types.Emission.{Emission as Emitted};
 ghost use Rattle.fc_core.specs.Answering.{emission_of, responded};
 ghost use Rattle.fc_core.specs.Contents.{IsOf};
 ghost use Rattle.fc_core.specs.Receiving.{emission_if};
+ghost use Rattle.fc_linear.specs.Parts.{first_server};
 ghost use Rattle.fc_registry.specs.Notes.{noted_as};
 ghost use Rattle.fc_registry.specs.Shards.{shard_at};
 ghost use Rattle.fc_registry.specs.Slots.{IsOwned, Shard as Seen, last_serial};
@@ -38,14 +39,14 @@ ghost use Rattle.fc_workers.specs.Answers.{IsSomeTick, IsSomeTurn, saturated};
 use crate::begun_front::BegunFront;
 use crate::bench::Bench;
 use crate::blanks::Blanks;
-use crate::books::{BookOf, Books};
-use crate::call_log::CallLog;
+use crate::books::{BookOf, Books, ServerOf};
 use crate::closed::ClosedServer;
 use crate::device::Device;
 use crate::locked_shard::LockedShard;
 use crate::reserve::Reserve;
 use crate::tallies::Tallies;
 use crate::tally::Tally;
+use crate::track_log::{TrackLog, begin_logs};
 use coap_msg::{Emission, Endpoint};
 use fc_calls::calls::{
     AdvanceIfQuiet, Commit, Describe, GiveUp, Install, NextDue, Note, QuietUntil, Remove, Signal,
@@ -53,6 +54,7 @@ use fc_calls::calls::{
 };
 use fc_calls::{Change, ShardCall};
 use fc_core::{Answer, Front, Heard, Policy, Responded};
+use fc_filed::{NewServerBook, ServerBook, ServerTracks};
 use fc_heads::{HeadSeat, Heads};
 use fc_help::Readings;
 use fc_machine::Outcome;
@@ -111,6 +113,46 @@ fn reserve_of<B: Books>(
     }
 }
 
+// A front, the book in which its calls are filed, and a log for each thread of the book.
+#[derive(Drop)]
+struct FrontParts<B: Books> {
+    book: ServerBook<ServerOf<B>>,
+    front: BegunFront<B>,
+    logs: Vec<TrackLog<ServerOf<B>>>,
+}
+
+// Makes a front with this policy, and begins the tracks of its book.
+fn begin_front<B: Books>(
+    alloc: Global,
+    policy: &Policy,
+    first_id: u16,
+    book: NewServerBook,
+) -> Result<FrontParts<B>, AllocError>
+    requires table { book.table ≡ B.table }
+    requires threads { book.first_job ≡ B.first_job }
+    requires first { B.first ≡ beginning policy.now first_id }
+    requires begin { (first_server B.begin).front ≡ B.first.front }
+    ensures { IfOk result (λ p. 9 + vec_len p.logs ≡ B.first_job) }
+{
+    let threads = book.threads();
+    let (book, mut first) = book.with_name::<ServerOf<B>>();
+    let front = Front::new(alloc, policy, first_id)?;
+    let front = BegunFront::new(front, first.begin_part(&book));
+    begin_shards(&book, &mut first);
+    let logs = begin_logs(alloc, &book, &mut first, threads)?;
+    Ok(FrontParts { book, front, logs })
+}
+
+// Begins the tracks of eight shards, on which nothing is filed.
+fn begin_shards<B: Books>(book: &ServerBook<ServerOf<B>>, first: &mut ServerTracks<ServerOf<B>>)
+    requires { first.old.may_begin ≡ true }
+    ensures { first.new ≡ record first.old { next = first.old.next + 8 } }
+{
+    for shard in 0..SHARDS {
+        let _track = first.begin_tracks(book);
+    }
+}
+
 // Returns the index of the shard that owns a slot.
 fn shard_of(slot: SlotNumber) -> u8
     ensures { (result ≡ slot % 8) × (slot < 64) × (result < 8) }
@@ -126,6 +168,7 @@ fn shard_of(slot: SlotNumber) -> u8
 pub struct Locked<'a, B: Books, D: Device> {
     device: &'a D,
     heads: Heads,
+    book: ServerBook<ServerOf<B>>,
     front: Mutex<BegunFront<B>>,
     shard0: LockedShard<0, B>,
     shard1: LockedShard<1, B>,
@@ -141,7 +184,8 @@ impl<'a, B: Books, D: Device> Locked<'a, B, D> {
     /// Makes a server with slots 0 to 63 empty, each at `first_serial`.
     ///
     /// It has this policy, and draws `first_id` first. Its programs get the readings of `device`.
-    /// It opens the books, and the reserve has all their parts.
+    /// It opens the ledgers, and the reserve has all their parts. The calls of its front are filed
+    /// in `book`; each thread of the book has a log.
     ///
     /// # Errors
     /// Returns `AllocError` if memory for the server can't be allocated.
@@ -152,15 +196,20 @@ impl<'a, B: Books, D: Device> Locked<'a, B, D> {
         policy: &Policy,
         device: &'a D,
         blanks: Blanks,
-    ) -> Result<(Locked<'a, B, D>, Reserve<B>), AllocError>
+        book: NewServerBook,
+    ) -> Result<(Locked<'a, B, D>, Reserve<B>, Vec<TrackLog<ServerOf<B>>>), AllocError>
         requires serial { first_serial ≤ last_serial }
         requires names { AreNamed blanks B.names }
         requires books { blanks.parts ≡ B.parts }
         requires first { B.first ≡ beginning policy.now first_id }
-        ensures { IfOk result (λ r. r.1 ≡ record { parts = blanks.parts; changes = no_changes; ended = 0 }) }
+        requires table { book.table ≡ B.table }
+        requires threads { book.first_job ≡ B.first_job }
+        requires begin { B.begin ≡ record { serial = first_serial; id = first_id; policy = policy.now } }
+        ensures reserve { IfOk result (λ r. r.1 ≡ record { parts = blanks.parts; changes = no_changes; ended = 0 }) }
+        ensures logs { IfOk result (λ r. 9 + vec_len r.2 ≡ B.first_job) }
     {
         let (heads, _seat) = Heads::new(alloc)?;
-        let front = Front::new(alloc, policy, first_id)?;
+        let FrontParts { book, front, logs } = begin_front::<B>(alloc, policy, first_id, book)?;
         let mut shards = make_shards(alloc, first_serial, policy.confirm_after)?;
         let shard7 = last_of(&mut shards);
         let shard6 = last_of(&mut shards);
@@ -181,7 +230,8 @@ impl<'a, B: Books, D: Device> Locked<'a, B, D> {
         let server = Locked {
             device,
             heads,
-            front: Mutex::new(BegunFront::new(front)),
+            book,
+            front: Mutex::new(front),
             shard0,
             shard1,
             shard2,
@@ -194,7 +244,7 @@ impl<'a, B: Books, D: Device> Locked<'a, B, D> {
         let reserve = reserve_of(
             tally0, tally1, tally2, tally3, tally4, tally5, tally6, tally7,
         );
-        Ok((server, reserve))
+        Ok((server, reserve, logs))
     }
 
     /// Runs a call that changes no slot, at the shard with this index, 0 to 7.
@@ -288,6 +338,8 @@ impl<'a, B: Books, D: Device> Bench for Locked<'a, B, D> {
 
     type Tallies = Tallies<B>;
 
+    type Book = ServerOf<B>;
+
     ghost changes = { λ t. slice_index t.changes };
 
     ghost ended = { λ t. t.ended };
@@ -302,27 +354,24 @@ impl<'a, B: Books, D: Device> Bench for Locked<'a, B, D> {
         bytes: &[u8],
         job: &mut Job,
         reply: &mut Emission,
-        log: &mut CallLog,
+        log: &mut TrackLog<ServerOf<B>>,
     ) -> Heard {
-        let _ = log;
         let mut front = self.front.lock(rt);
-        front.hear(now, endpoint, bytes, job, reply)
+        front.hear(&self.book, log, now, endpoint, bytes, job, reply)
     }
 
-    fn tick<R: Wait>(&self, rt: &R, now: u64, log: &mut CallLog) {
-        let _ = log;
+    fn tick<R: Wait>(&self, rt: &R, now: u64, log: &mut TrackLog<ServerOf<B>>) {
         let mut front = self.front.lock(rt);
-        front.tick(now);
+        front.tick(&self.book, log, now);
     }
 
-    fn fresh_id<R: Wait>(&self, rt: &R, now: u64, log: &mut CallLog) -> Option<u16> {
-        let _ = log;
+    fn fresh_id<R: Wait>(&self, rt: &R, now: u64, log: &mut TrackLog<ServerOf<B>>) -> Option<u16> {
         let mut front = self.front.lock(rt);
-        front.fresh_id(now)
+        front.fresh_id(&self.book, log, now)
     }
 
-    fn readings<R: Wait>(&self, rt: &R, log: &mut CallLog) -> Readings {
-        self.device.readings(rt, log)
+    fn readings<R: Wait>(&self, rt: &R, log: &mut TrackLog<ServerOf<B>>) -> Readings {
+        self.device.readings(rt, &mut log.calls)
     }
 
     fn take<R: Wait>(
@@ -332,7 +381,7 @@ impl<'a, B: Books, D: Device> Bench for Locked<'a, B, D> {
         readings: &Readings,
         found: &mut Found,
         tallies: &mut Tallies<B>,
-        log: &mut CallLog,
+        log: &mut TrackLog<ServerOf<B>>,
     ) -> Taken {
         let _ = log;
         let taken = self.ask(rt, shard_of(job.origin.slot), Take { job, readings }, found);
@@ -347,7 +396,7 @@ impl<'a, B: Books, D: Device> Bench for Locked<'a, B, D> {
         endpoint: Endpoint,
         id: u16,
         reset: bool,
-        log: &mut CallLog,
+        log: &mut TrackLog<ServerOf<B>>,
     ) {
         let _ = log;
         let signal = Signal {
@@ -358,12 +407,24 @@ impl<'a, B: Books, D: Device> Bench for Locked<'a, B, D> {
         self.ask(rt, shard, signal, &mut ());
     }
 
-    fn tick_shard<R: Wait>(&self, rt: &R, shard: u8, now: u64, log: &mut CallLog) -> Ticked {
+    fn tick_shard<R: Wait>(
+        &self,
+        rt: &R,
+        shard: u8,
+        now: u64,
+        log: &mut TrackLog<ServerOf<B>>,
+    ) -> Ticked {
         let _ = log;
         self.ask(rt, shard, Tick { now }, &mut ())
     }
 
-    fn advance_if_quiet<R: Wait>(&self, rt: &R, shard: u8, now: u64, log: &mut CallLog) -> bool {
+    fn advance_if_quiet<R: Wait>(
+        &self,
+        rt: &R,
+        shard: u8,
+        now: u64,
+        log: &mut TrackLog<ServerOf<B>>,
+    ) -> bool {
         let _ = log;
         self.ask(rt, shard, AdvanceIfQuiet { now }, &mut ())
     }
@@ -378,7 +439,7 @@ impl<'a, B: Books, D: Device> Bench for Locked<'a, B, D> {
         shard: u8,
         now: u64,
         job: &mut Job,
-        log: &mut CallLog,
+        log: &mut TrackLog<ServerOf<B>>,
     ) -> bool {
         let _ = log;
         self.ask(rt, shard, NextDue { now }, job)
@@ -394,7 +455,7 @@ impl<'a, B: Books, D: Device> Bench for Locked<'a, B, D> {
         told: &Notification<'_>,
         emission: &mut Emission,
         tallies: &mut Tallies<B>,
-        log: &mut CallLog,
+        log: &mut TrackLog<ServerOf<B>>,
     ) -> NoteOutcome {
         let _ = log;
         tallies.end_job();
@@ -414,7 +475,7 @@ impl<'a, B: Books, D: Device> Bench for Locked<'a, B, D> {
         turn: Turn,
         now: u64,
         tallies: &mut Tallies<B>,
-        log: &mut CallLog,
+        log: &mut TrackLog<ServerOf<B>>,
     ) {
         let _ = log;
         tallies.end_job();
@@ -428,7 +489,7 @@ impl<'a, B: Books, D: Device> Bench for Locked<'a, B, D> {
         outcome: &Outcome<'_>,
         ticket: &Ticket<'_>,
         tallies: &mut Tallies<B>,
-        log: &mut CallLog,
+        log: &mut TrackLog<ServerOf<B>>,
     ) -> Committed {
         let _ = log;
         let commit = Commit {
@@ -445,7 +506,7 @@ impl<'a, B: Books, D: Device> Bench for Locked<'a, B, D> {
         job: &Job,
         program: Arc<Verified>,
         tallies: &mut Tallies<B>,
-        log: &mut CallLog,
+        log: &mut TrackLog<ServerOf<B>>,
     ) -> Made {
         let _ = log;
         self.change(
@@ -462,13 +523,18 @@ impl<'a, B: Books, D: Device> Bench for Locked<'a, B, D> {
         rt: &R,
         job: &Job,
         tallies: &mut Tallies<B>,
-        log: &mut CallLog,
+        log: &mut TrackLog<ServerOf<B>>,
     ) -> Removal {
         let _ = log;
         self.change(rt, job.origin.slot, Remove { job }, &mut (), tallies)
     }
 
-    fn receipt<R: Wait>(&self, rt: &R, job: &Job, log: &mut CallLog) -> Option<Receipt> {
+    fn receipt<R: Wait>(
+        &self,
+        rt: &R,
+        job: &Job,
+        log: &mut TrackLog<ServerOf<B>>,
+    ) -> Option<Receipt> {
         let _ = log;
         self.ask(rt, shard_of(job.origin.slot), Describe { job }, &mut ())
     }
@@ -477,12 +543,12 @@ impl<'a, B: Books, D: Device> Bench for Locked<'a, B, D> {
         self.heads.new_seat()
     }
 
-    fn peek(&self, slot: SlotNumber, seat: &mut HeadSeat, log: &mut CallLog) -> u64 {
+    fn peek(&self, slot: SlotNumber, seat: &mut HeadSeat, log: &mut TrackLog<ServerOf<B>>) -> u64 {
         let _ = log;
         self.heads.peek(slot.number(), seat)
     }
 
-    fn raise(&self, job: &Job, word: u64, seat: &mut HeadSeat, log: &mut CallLog) {
+    fn raise(&self, job: &Job, word: u64, seat: &mut HeadSeat, log: &mut TrackLog<ServerOf<B>>) {
         let _ = log;
         self.heads.raise(job.origin.slot.number(), word, seat);
     }
@@ -495,12 +561,11 @@ impl<'a, B: Books, D: Device> Bench for Locked<'a, B, D> {
         answer: &Answer,
         reply: &mut Emission,
         tallies: &mut Tallies<B>,
-        log: &mut CallLog,
+        log: &mut TrackLog<ServerOf<B>>,
     ) -> bool {
-        let _ = log;
         tallies.end_job();
         let mut front = self.front.lock(rt);
-        is_sent(front.respond(now, job, answer, reply))
+        is_sent(front.respond(&self.book, log, now, job, answer, reply))
     }
 }
 

@@ -5,7 +5,8 @@ ghost use Rattle.fc_registry.specs.Views.{taken_with};
 ghost use Rattle.fc_workers.specs.Answers.{commit_overtakings, saturated, taking_refusals};
 ghost use Rattle.fc_workers.specs.Shares.{new_share};
 
-use crate::call_log::CallLog;
+use crate::track_log::TrackLog;
+use fc_filed::ServerName;
 use fc_jobs::Got;
 use fc_registry::{Committed, Taken};
 
@@ -15,9 +16,9 @@ use fc_registry::{Committed, Taken};
 /// are of replies that went out and that didn't, of refused allocations, and of conflicts of
 /// commits. Each counter stops at 2^64 - 1.
 #[derive(Drop)]
-pub struct Share<T: Drop> {
+pub struct Share<T: Drop, L: Drop> {
     pub tallies: T,
-    pub log: CallLog,
+    pub log: L,
     pub got: Got,
     pub sent: u64,
     pub failed: u64,
@@ -25,14 +26,14 @@ pub struct Share<T: Drop> {
     pub overtakings: u64,
 }
 
-impl<T: Drop> Share<T> {
-    /// Makes the statistics of a worker that hasn't begun.
-    pub fn new(got: Got, tallies: T) -> Share<T>
-        ensures { result ≡ new_share got tallies result.log }
+impl<T: Drop, J: ServerName> Share<T, TrackLog<J>> {
+    /// Makes the statistics of a worker that hasn't begun, with this log.
+    pub fn new(got: Got, tallies: T, log: TrackLog<J>) -> Share<T, TrackLog<J>>
+        ensures { result ≡ new_share got tallies log }
     {
         Share {
             tallies,
-            log: CallLog::new(),
+            log,
             got,
             sent: 0,
             failed: 0,

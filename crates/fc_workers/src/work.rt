@@ -7,12 +7,12 @@ ghost use Rattle.fc_core.specs.Stage.{ToInstall, ToRemove};
 ghost use Rattle.fc_workers.specs.Called.{shop};
 ghost use Rattle.fc_workers.specs.Work.{IsWorkedTo};
 ghost use Rattle.fc_workers.specs.Steps.{AsksRun, HasTaken, IsLookedUp, IsReady, IsStep, IsToAnswer, IsToCommit, IsToTake, IsUntaken, ListsOn, Walked};
-ghost use Rattle.fc_workers.specs.declared.share.Share.{Share as Done};
+ghost use Rattle.fc_workers.specs.Workers.{Share as Done};
 
 use crate::bench::Bench;
-use crate::call_log::CallLog;
 use crate::share::Share;
 use crate::tools::Tools;
+use crate::track_log::TrackLog;
 use crate::workshop::{Gate, Moments, Wire, Workshop};
 use fc_core::answer::Words;
 use fc_core::heads::WORDS;
@@ -46,7 +46,7 @@ impl<'a, B: Bench, G: Gate, W: Wire, M: Moments> Workshop<'a, B, G, W, M> {
         tools: &mut Tools,
         number: u64,
         job: &Job,
-        share: &mut Share<B::Tallies>,
+        share: &mut Share<B::Tallies, TrackLog<B::Book>>,
     )
         requires asked { job.now.turn ≡ None }
         requires heads { tools.old.heads.table ≡ B.heads self.now.bench.now }
@@ -69,7 +69,7 @@ impl<'a, B: Bench, G: Gate, W: Wire, M: Moments> Workshop<'a, B, G, W, M> {
         tools: &mut Tools,
         number: u64,
         job: &Job,
-        share: &mut Share<B::Tallies>,
+        share: &mut Share<B::Tallies, TrackLog<B::Book>>,
     )
         requires asked { job.now.turn ≡ None }
         requires ready { IsReady job.now tools.old.stage }
@@ -127,7 +127,7 @@ impl<'a, B: Bench, G: Gate, W: Wire, M: Moments> Workshop<'a, B, G, W, M> {
         rt: &R,
         tools: &mut Tools,
         job: &Job,
-        share: &mut Share<B::Tallies>,
+        share: &mut Share<B::Tallies, TrackLog<B::Book>>,
     )
         requires asked { job.now.turn ≡ None }
         requires heads { tools.old.heads.table ≡ B.heads self.now.bench.now }
@@ -148,7 +148,7 @@ impl<'a, B: Bench, G: Gate, W: Wire, M: Moments> Workshop<'a, B, G, W, M> {
 
     // Begins a request's job: reads its slot's head word if the request has ETags. It takes no
     // snapshot yet.
-    fn look(&self, tools: &mut Tools, job: &Job, share: &mut Share<B::Tallies>)
+    fn look(&self, tools: &mut Tools, job: &Job, share: &mut Share<B::Tallies, TrackLog<B::Book>>)
         requires { tools.old.heads.table ≡ B.heads self.now.bench.now }
         ensures heads { tools.new.heads.table ≡ tools.old.heads.table }
         ensures kept { share.new ≡ record share.old { log = share.new.log } }
@@ -168,7 +168,7 @@ impl<'a, B: Bench, G: Gate, W: Wire, M: Moments> Workshop<'a, B, G, W, M> {
 
     // Reads the remaining head words, from the slot after the last of `words` to the last slot.
     #[inline(never)]
-    fn list(&self, heads: &mut HeadSeat, words: &mut Words, log: &mut CallLog)
+    fn list(&self, heads: &mut HeadSeat, words: &mut Words, log: &mut TrackLog<B::Book>)
         requires seen { length words.old.items < 64 }
         requires heads { heads.old.table ≡ B.heads self.now.bench.now }
         ensures heads { heads.new.table ≡ heads.old.table }
@@ -183,7 +183,13 @@ impl<'a, B: Bench, G: Gate, W: Wire, M: Moments> Workshop<'a, B, G, W, M> {
 
     // Removes the program of the job's slot.
     #[inline(never)]
-    fn remove<R: Wait>(&self, rt: &R, job: &Job, stage: &mut Stage, share: &mut Share<B::Tallies>)
+    fn remove<R: Wait>(
+        &self,
+        rt: &R,
+        job: &Job,
+        stage: &mut Stage,
+        share: &mut Share<B::Tallies, TrackLog<B::Book>>,
+    )
         ensures step { (number : ℕ) → IsStep (shop B.changes B.ended B.called B.logged M.is_moment M.is_random G.passed W.called)
             number job.now ToRemove stage.new share.old share.new }
         ensures ended { B.ended share.new.tallies ≡ B.ended share.old.tallies }
@@ -194,7 +200,13 @@ impl<'a, B: Bench, G: Gate, W: Wire, M: Moments> Workshop<'a, B, G, W, M> {
     }
 
     // Takes a snapshot for the job.
-    fn take<R: Wait>(&self, rt: &R, job: &Job, stage: &mut Stage, share: &mut Share<B::Tallies>)
+    fn take<R: Wait>(
+        &self,
+        rt: &R,
+        job: &Job,
+        stage: &mut Stage,
+        share: &mut Share<B::Tallies, TrackLog<B::Book>>,
+    )
         requires at { IsToTake stage.old }
         requires ready { IsReady job.now stage.old }
         requires asked { job.now.turn ≡ None }
@@ -222,7 +234,7 @@ impl<'a, B: Bench, G: Gate, W: Wire, M: Moments> Workshop<'a, B, G, W, M> {
         number: u64,
         job: &Job,
         stage: &mut Stage,
-        share: &mut Share<B::Tallies>,
+        share: &mut Share<B::Tallies, TrackLog<B::Book>>,
     )
         requires at { IsToCommit stage.old }
         requires ready { IsReady job.now stage.old }
@@ -235,7 +247,7 @@ impl<'a, B: Bench, G: Gate, W: Wire, M: Moments> Workshop<'a, B, G, W, M> {
         };
         let ticket = Ticket::of(program, &stage.found);
         let log = &mut share.log;
-        self.gate.between(rt, number, log);
+        self.between(rt, number, log);
         let outcome = run(
             frame,
             ticket.program(),
@@ -243,7 +255,7 @@ impl<'a, B: Bench, G: Gate, W: Wire, M: Moments> Workshop<'a, B, G, W, M> {
             ticket.vars(),
             ticket.readings(),
         );
-        let now = self.moments.now(rt, log);
+        let now = self.now(rt, log);
         let committed = self
             .bench
             .commit(rt, now, &outcome, &ticket, &mut share.tallies, log);
@@ -253,7 +265,13 @@ impl<'a, B: Bench, G: Gate, W: Wire, M: Moments> Workshop<'a, B, G, W, M> {
 
     // Verifies the job's image, and installs the program.
     #[inline(never)]
-    fn install<R: Wait>(&self, rt: &R, job: &Job, stage: &mut Stage, share: &mut Share<B::Tallies>)
+    fn install<R: Wait>(
+        &self,
+        rt: &R,
+        job: &Job,
+        stage: &mut Stage,
+        share: &mut Share<B::Tallies, TrackLog<B::Book>>,
+    )
         ensures step { (number : ℕ) → IsStep (shop B.changes B.ended B.called B.logged M.is_moment M.is_random G.passed W.called)
             number job.now ToInstall stage.new share.old share.new }
         ensures ended { B.ended share.new.tallies ≡ B.ended share.old.tallies }
@@ -275,7 +293,7 @@ impl<'a, B: Bench, G: Gate, W: Wire, M: Moments> Workshop<'a, B, G, W, M> {
         job: &Job,
         program: Verified,
         stage: &mut Stage,
-        share: &mut Share<B::Tallies>,
+        share: &mut Share<B::Tallies, TrackLog<B::Book>>,
     )
         requires accepted { IsAccepted (image_of job.now.ask) program }
         requires judged { judged (image_of job.now.ask) ≡ Accepts program }

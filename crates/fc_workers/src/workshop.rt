@@ -2,10 +2,12 @@
 ghost use Rattle.std.specs.Prelude.{⊤, ℕ};
 ghost use Rattle.fc_workers.specs.Called.{EndsJob, SendsReply, WireCall};
 ghost use Rattle.fc_workers.specs.declared.call_log.CallLog.{CallLog as Log};
+ghost use Rattle.fc_workers.specs.Logs.{IsUnfiled};
 ghost use Rattle.fc_workers.specs.Outgoing.{GoesOut};
 
 use crate::bench::Bench;
 use crate::call_log::CallLog;
+use crate::track_log::TrackLog;
 use coap_msg::Emission;
 use std::alloc::Global;
 use std::sync::Wait;
@@ -74,4 +76,42 @@ pub struct Workshop<'a, B: Bench, G: Gate, W: Wire, M: Moments> {
     pub gate: &'a G,
     pub wire: &'a W,
     pub moments: &'a M,
+}
+
+// The calls that aren't filed.
+impl<'a, B: Bench, G: Gate, W: Wire, M: Moments> Workshop<'a, B, G, W, M> {
+    // Calls the gate before a run of the job with this number. See [`Gate::between`].
+    pub(crate) fn between<R: Wait>(&self, rt: &R, number: u64, log: &mut TrackLog<B::Book>)
+        ensures { IsUnfiled (G.passed number) log.old log.new }
+    {
+        self.gate.between(rt, number, &mut log.calls);
+    }
+
+    // Returns the time of the call. See [`Moments::now`].
+    pub(crate) fn now<R: Wait>(&self, rt: &R, log: &mut TrackLog<B::Book>) -> u64
+        ensures { IsUnfiled (M.is_moment result) log.old log.new }
+    {
+        self.moments.now(rt, &mut log.calls)
+    }
+
+    // Sends the reply of the job with this number. See [`Wire::send`].
+    pub(crate) fn send<R: Wait>(
+        &self,
+        rt: &R,
+        number: u64,
+        reply: &Emission,
+        log: &mut TrackLog<B::Book>,
+    ) -> bool
+        requires { GoesOut reply.now }
+        ensures { IsUnfiled (W.called (SendsReply number reply.now result)) log.old log.new }
+    {
+        self.wire.send(rt, number, reply, &mut log.calls)
+    }
+
+    // Reports that the job with this number has ended. See [`Wire::ended`].
+    pub(crate) fn ended<R: Wait>(&self, rt: &R, number: u64, log: &mut TrackLog<B::Book>)
+        ensures { IsUnfiled (W.called (EndsJob number)) log.old log.new }
+    {
+        self.wire.ended(rt, number, &mut log.calls);
+    }
 }

@@ -6,9 +6,9 @@ use fc_core::Heard;
 use fc_core::front::{blank_emission, blank_job};
 use fc_jobs::{Jobs, Sent};
 use fc_registry::{Job, SlotNumber};
-use fc_workers::{Bench, CallLog};
+use fc_workers::{Bench, TrackLog};
 use std::alloc::{AllocError, Global};
-use std::sync::Wait;
+use std::sync::{Mutex, Wait};
 
 /// The source of all datagrams.
 pub(crate) const PEER: Endpoint = Endpoint {
@@ -71,6 +71,7 @@ pub(crate) struct Feeder<'a, B: Bench> {
     pub(crate) alloc: Global,
     pub(crate) bench: &'a B,
     pub(crate) jobs: &'a Jobs,
+    pub(crate) log: Mutex<TrackLog<B::Book>>,
 }
 
 impl<'a, B: Bench> Feeder<'a, B> {
@@ -100,7 +101,7 @@ impl<'a, B: Bench> Feeder<'a, B> {
     pub(crate) fn job<R: Wait>(&self, rt: &R, now: u64, bytes: &[u8]) -> Option<Job> {
         let mut job = blank_job();
         let mut reply = blank_emission();
-        let mut log = CallLog::new();
+        let mut log = self.log.lock(rt);
         match self
             .bench
             .hear(rt, now, PEER, bytes, &mut job, &mut reply, &mut log)

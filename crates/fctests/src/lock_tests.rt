@@ -3,12 +3,12 @@ ghost use Rattle.std.specs.Prelude.{◌≡◌};
 
 use crate::feeder::{Feeder, Request, datagram};
 use crate::overtaking_tests::{
-    COUNTER, CREATED, Feed, Held, Replies, Reply, Trial, hold, work_fed,
+    COUNTER, CREATED, Crew, Feed, Held, Replies, Reply, Trial, hold, work_fed,
 };
 use fc_calls::ShardCall;
 use fc_jobs::Sent;
 use fc_registry::{Job, Shard, SlotNumber};
-use fc_workers::{Bench, Books, CallLog, Device, Gate, Locked};
+use fc_workers::{Bench, Books, CallLog, Device, Gate, Locked, TrackLog};
 use std::alloc::{AllocError, Global};
 use std::sync::Wait;
 use std::test::Fail;
@@ -81,13 +81,14 @@ impl ShardHeld {
         rt: &R,
         alloc: Global,
         bench: &B,
-        tallies: Vec<B::Tallies>,
+        crew: Crew<B::Tallies, TrackLog<B::Book>>,
     ) -> anyhow::Result<Held<B::Tallies>>
     where
         B::Tallies: Send,
+        B::Book: Send,
     {
         let replies = Replies::new();
-        let shares = work_fed(rt, alloc, bench, tallies, &Open, &replies, self)?;
+        let shares = work_fed(rt, alloc, bench, crew, &Open, &replies, self)?;
         replies.seen(alloc, shares)
     }
 }

@@ -1,5 +1,5 @@
 //! Jobs that overtake one another: the order of the answers, the workers' counts.
-ghost use Rattle.std.specs.Prelude.{◌≡◌, ◌+◌, ◌<◌};
+ghost use Rattle.std.specs.Prelude.{◌≡◌, ◌+◌, ◌<◌, vec_len};
 ghost use Rattle.fc_workers.specs.Fronts.{beginning};
 ghost use Rattle.fc_core.specs.Policies.{default_policy};
 ghost use Rattle.fc_workers.specs.Naming.{AreNamed};
@@ -11,12 +11,13 @@ use crate::told_tests::Told;
 use arrayvec::ArrayVec;
 use coap_msg::Emission;
 use fc_core::DEFAULT_POLICY;
+use fc_filed::NewServerBook;
 use fc_help::{NO_READINGS, Readings};
 use fc_jobs::Sent;
 use fc_registry::SlotNumber;
 use fc_verify::{Verified, verify};
 use fc_workers::{
-    Bench, Blanks, Books, CallLog, Device, Gate, Locked, Moments, Share, Wire, Workshop,
+    Bench, Blanks, Books, CallLog, Device, Gate, Locked, Moments, Share, TrackLog, Wire, Workshop,
     feed_workers, make_seats,
 };
 use std::alloc::{AllocError, Global};
@@ -93,10 +94,10 @@ impl Replies {
     }
 
     // Returns the workers' results, or an error if an expected response wasn't sent.
-    pub(crate) fn seen<T: Drop>(
+    pub(crate) fn seen<T: Drop, L: Drop>(
         self,
         alloc: Global,
-        shares: Vec<Share<T>>,
+        shares: Vec<Share<T, L>>,
     ) -> anyhow::Result<Held<T>> {
         if self.missed.into_inner() {
             return Err(anyhow::anyhow!("a reply was missed"));
@@ -174,6 +175,15 @@ pub(crate) trait Feed<B: Bench> {
         requires { sent.channel ≡ feeder.now.jobs.now };
 }
 
+// The tallies and logs of workers, and the log of a test's own calls.
+#[derive(Drop)]
+pub(crate) struct Crew<T: Drop, L: Drop> {
+    pub(crate) tallies: Vec<T>,
+    pub(crate) logs: Vec<L>,
+    pub(crate) own: L,
+    ghost equal: { vec_len logs ≡ vec_len tallies },
+}
+
 // Runs workers on an input, with this test hook, and returns their statistics.
 pub(crate) fn work_fed<
     B: Bench + Sync,
@@ -184,15 +194,17 @@ pub(crate) fn work_fed<
     rt: &R,
     alloc: Global,
     bench: &B,
-    tallies: Vec<B::Tallies>,
+    crew: Crew<B::Tallies, TrackLog<B::Book>>,
     gate: &G,
     replies: &Replies,
     feed: &F,
-) -> anyhow::Result<Vec<Share<B::Tallies>>>
+) -> anyhow::Result<Vec<Share<B::Tallies, TrackLog<B::Book>>>>
 where
     B::Tallies: Send,
+    B::Book: Send,
 {
-    let (jobs, sent, seats) = make_seats(alloc, tallies)?;
+    let Crew { tallies, logs, own } = crew;
+    let (jobs, sent, seats) = make_seats(alloc, tallies, logs)?;
     let workshop = Workshop {
         alloc,
         bench,
@@ -204,6 +216,7 @@ where
         alloc,
         bench,
         jobs: &jobs,
+        log: Mutex::new(own),
     };
     let (fed, shares) = feed_workers(
         rt,
@@ -228,17 +241,18 @@ impl TwoAtOnce {
         rt: &R,
         alloc: Global,
         bench: &B,
-        tallies: Vec<B::Tallies>,
+        crew: Crew<B::Tallies, TrackLog<B::Book>>,
     ) -> anyhow::Result<Held<B::Tallies>>
     where
         B::Tallies: Send,
+        B::Book: Send,
     {
         let replies = Replies::new();
         let gate = Holding {
             clock: rt,
             replies: &replies,
         };
-        let shares = work_fed(rt, alloc, bench, tallies, &gate, &replies, self)?;
+        let shares = work_fed(rt, alloc, bench, crew, &gate, &replies, self)?;
         replies.seen(alloc, shares)
     }
 }
@@ -260,10 +274,11 @@ impl<B: Bench> Feed<B> for TwoAtOnce {
     }
 }
 
-// The worker's current job, and the number of hook calls for its run.
+// The worker's current job, the number of hook calls for its run, and the hook's log.
 #[derive(Drop)]
-struct Turn<T: Drop> {
+struct Turn<T: Drop, L: Drop> {
     tallies: T,
+    log: L,
     job: u64,
     runs: u64,
 }
@@ -276,12 +291,13 @@ struct Changing<'a, B: Bench> {
     counter: Arc<Verified>,
     every: u64,
     held: u64,
-    turn: Mutex<Turn<B::Tallies>>,
+    turn: Mutex<Turn<B::Tallies, TrackLog<B::Book>>>,
     ghost some: { 0 < every },
 }
 
 impl<'a, B: Bench> Gate for Changing<'a, B> {
     fn between<R: Wait>(&self, rt: &R, number: u64, log: &mut CallLog) {
+        let _ = log;
         let mut turn = self.turn.lock(rt);
         if turn.job != number {
             turn.job = number;
@@ -292,9 +308,8 @@ impl<'a, B: Bench> Gate for Changing<'a, B> {
             return;
         }
         if let Ok(counter) = Arc::try_clone(&self.counter) {
-            let _made = self
-                .bench
-                .install(rt, &job(0), counter, &mut turn.tallies, log);
+            let Turn { tallies, log, .. } = &mut *turn;
+            let _made = self.bench.install(rt, &job(0), counter, tallies, log);
         }
     }
 }
@@ -315,17 +330,22 @@ impl Overtaken {
         rt: &R,
         alloc: Global,
         bench: &B,
-        mut tallies: Vec<B::Tallies>,
+        crew: Crew<B::Tallies, TrackLog<B::Book>>,
     ) -> anyhow::Result<Held<B::Tallies>>
     where
         B::Tallies: Send,
+        B::Book: Send,
     {
-        let Some(mut others) = tallies.pop() else {
+        let Crew {
+            mut tallies,
+            mut logs,
+            own,
+        } = crew;
+        let (Some(mut others), Some(mut log)) = (tallies.pop(), logs.pop()) else {
             return Err(anyhow::anyhow!("no tallies"));
         };
         let counter = Arc::new(alloc, verify(alloc, COUNTER)?)?;
         let installed = Arc::try_clone(&counter)?;
-        let mut log = CallLog::new();
         let _made = bench.install(rt, &job(0), installed, &mut others, &mut log);
         let gate = Changing {
             bench,
@@ -334,12 +354,14 @@ impl Overtaken {
             held: self.runs,
             turn: Mutex::new(Turn {
                 tallies: others,
+                log,
                 job: u64::MAX,
                 runs: 0,
             }),
         };
         let replies = Replies::new();
-        let shares = work_fed(rt, alloc, bench, tallies, &gate, &replies, self)?;
+        let crew = Crew { tallies, logs, own };
+        let shares = work_fed(rt, alloc, bench, crew, &gate, &replies, self)?;
         let mut held = replies.seen(alloc, shares)?;
         let Changing { turn, .. } = gate;
         held.tallies.push(turn.into_inner().tallies)?;
@@ -378,16 +400,17 @@ impl Trial {
         rt: &R,
         alloc: Global,
         bench: &B,
-        tallies: Vec<B::Tallies>,
+        crew: Crew<B::Tallies, TrackLog<B::Book>>,
     ) -> anyhow::Result<Held<B::Tallies>>
     where
         B::Tallies: Send,
+        B::Book: Send,
     {
         match self {
-            Trial::TwoAtOnce(two) => two.hold(rt, alloc, bench, tallies),
-            Trial::Overtaken(overtaken) => overtaken.hold(rt, alloc, bench, tallies),
-            Trial::ShardHeld(held) => held.hold(rt, alloc, bench, tallies),
-            Trial::Told(told) => told.hold(rt, alloc, bench, tallies),
+            Trial::TwoAtOnce(two) => two.hold(rt, alloc, bench, crew),
+            Trial::Overtaken(overtaken) => overtaken.hold(rt, alloc, bench, crew),
+            Trial::ShardHeld(held) => held.hold(rt, alloc, bench, crew),
+            Trial::Told(told) => told.hold(rt, alloc, bench, crew),
         }
     }
 }
@@ -424,33 +447,44 @@ pub(crate) fn hold<R: Threads + Wait + Clock + Sync>(
     trial: &Trial,
 ) -> anyhow::Result<Held<u64>> {
     let blanks = Blanks::new(u64::from(tallies) + 1);
-    hold_named::<Brand, R>(rt, alloc, tallies, trial, blanks)
+    let book = NewServerBook::new(alloc, u16::from(tallies) + 1)?;
+    hold_named::<Brand, R>(rt, alloc, tallies, trial, blanks, book)
 }
 
-// Runs it with a server whose ledgers have these names.
+// Runs it with a server whose ledgers have these names, and with this book of its front's calls.
 fn hold_named<B: Books + Send + Sync, R: Threads + Wait + Clock + Sync>(
     rt: &R,
     alloc: Global,
     tallies: u8,
     trial: &Trial,
     blanks: Blanks,
+    book: NewServerBook,
 ) -> anyhow::Result<Held<u64>>
     requires parts { blanks.parts ≡ tallies + 1 }
     requires names { AreNamed blanks B.names }
     requires books { blanks.parts ≡ B.parts }
     requires first { B.first ≡ beginning default_policy 0 }
+    requires table { book.table ≡ B.table }
+    requires book_threads { book.first_job ≡ 9 + tallies + 1 }
+    requires threads { book.first_job ≡ B.first_job }
+    requires begin { B.begin ≡ record { serial = 0; id = 0; policy = default_policy } }
 {
     let device = Bare::new();
-    let (server, mut reserve) = Locked::<B, Bare>::new(
+    let (server, mut reserve, mut logs) = Locked::<B, Bare>::new(
         alloc,
         0,
         0,
         &DEFAULT_POLICY,
         &device,
         blanks,
+        book,
     )?;
     let tallies = reserve.split_each(alloc, usize::from(tallies))?;
-    let held = trial.hold(rt, alloc, &server, tallies)?;
+    let Some(own) = logs.pop() else {
+        unreachable!();
+    };
+    let crew = Crew { tallies, logs, own };
+    let held = trial.hold(rt, alloc, &server, crew)?;
     let mut changes = Vec::new(alloc);
     for tally in &held.tallies {
         changes.push(tally.shown(0))?;

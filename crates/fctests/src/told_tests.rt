@@ -4,12 +4,12 @@
 //! word.
 use crate::feeder::{PEER, Request, datagram};
 use crate::lock_tests::Open;
-use crate::overtaking_tests::{COUNTER, Held, Replies, Trial, hold};
+use crate::overtaking_tests::{COUNTER, Crew, Held, Replies, Trial, hold};
 use fc_core::Heard;
 use fc_core::front::{blank_emission, blank_job};
 use fc_observe::{Ticked, Turn};
 use fc_registry::SlotNumber;
-use fc_workers::{Bench, CallLog, Dispatcher, Handover, Moments, Workshop, make_seats};
+use fc_workers::{Bench, CallLog, Dispatcher, Handover, Moments, TrackLog, Workshop, make_seats};
 use std::alloc::{AllocError, Global};
 use std::sync::Wait;
 use std::sync::atomic::{AtomicU64, Ordering};
@@ -75,14 +75,19 @@ impl Told {
         rt: &R,
         alloc: Global,
         bench: &B,
-        mut tallies: Vec<B::Tallies>,
+        crew: Crew<B::Tallies, TrackLog<B::Book>>,
     ) -> anyhow::Result<Held<B::Tallies>> {
-        let Some(mut own) = tallies.pop() else {
+        let Crew {
+            mut tallies,
+            mut logs,
+            own: mut log,
+        } = crew;
+        let (Some(mut own), Some(_)) = (tallies.pop(), logs.pop()) else {
             return Err(anyhow::anyhow!("no tallies"));
         };
         let replies = Replies::new();
         let watch = Watch::new();
-        let (jobs, sent, mut seats) = make_seats(alloc, tallies)?;
+        let (jobs, sent, mut seats) = make_seats(alloc, tallies, logs)?;
         let Some(seat) = seats.pop() else {
             return Err(anyhow::anyhow!("no seat"));
         };
@@ -97,8 +102,8 @@ impl Told {
         observe_counter(rt, alloc, &mut dispatcher)?;
         let shows = match self {
             Told::Moment => shows_moment(rt, alloc, &mut dispatcher)?,
-            Told::Signals => shows_signals(rt, alloc, bench, &mut dispatcher)?,
-            Told::Turn => shows_turn(rt, bench, &mut own),
+            Told::Signals => shows_signals(rt, alloc, bench, &mut log, &mut dispatcher)?,
+            Told::Turn => shows_turn(rt, bench, &mut own, &mut log),
             Told::Word => shows_word(rt, &watch, &mut dispatcher),
         };
         if !shows {
@@ -142,31 +147,35 @@ fn shows_signals<B: Bench, R: Wait>(
     rt: &R,
     alloc: Global,
     bench: &B,
+    log: &mut TrackLog<B::Book>,
     teller: &mut Teller<'_, B>,
 ) -> Result<bool, AllocError> {
-    let mut log = CallLog::new();
     let is_first = teller.notify(rt, 0, 10);
-    bench.signal(rt, 0, PEER, 0, false, &mut log);
+    bench.signal(rt, 0, PEER, 0, false, log);
     ask(rt, alloc, teller, 20, Request::Post, 2)?;
     let is_second = teller.notify(rt, 0, 30);
-    bench.signal(rt, 0, PEER, 1, true, &mut log);
+    bench.signal(rt, 0, PEER, 1, true, log);
     ask(rt, alloc, teller, 40, Request::Post, 3)?;
     Ok(is_first && is_second && !teller.notify(rt, 0, 50))
 }
 
 // Returns whether the observer gets one more lease after its first one was released, and no sooner.
-fn shows_turn<B: Bench, R: Wait>(rt: &R, bench: &B, own: &mut B::Tallies) -> bool {
-    let mut log = CallLog::new();
+fn shows_turn<B: Bench, R: Wait>(
+    rt: &R,
+    bench: &B,
+    own: &mut B::Tallies,
+    log: &mut TrackLog<B::Book>,
+) -> bool {
     let mut job = blank_job();
-    if !bench.next_due(rt, 0, 10, &mut job, &mut log) {
+    if !bench.next_due(rt, 0, 10, &mut job, log) {
         return false;
     }
     let Some(number) = job.turn else {
         return false;
     };
-    bench.give_up(rt, Turn { slot: 0, number }, 20, own, &mut log);
-    let is_early = bench.next_due(rt, 0, 20, &mut job, &mut log);
-    !is_early && bench.next_due(rt, 0, 21, &mut job, &mut log)
+    bench.give_up(rt, Turn { slot: 0, number }, 20, own, log);
+    let is_early = bench.next_due(rt, 0, 20, &mut job, log);
+    !is_early && bench.next_due(rt, 0, 21, &mut job, log)
 }
 
 // Returns whether a confirmable notification times out 2,500 ms after it was sent, and no sooner.

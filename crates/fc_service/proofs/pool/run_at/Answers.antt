@@ -2,7 +2,7 @@ use Rattle.std.proofs.Common.{◌≡◌, ◌-◌, subst}
 use Rattle.std.specs.Prelude.{IfOk, vec_len}
 use Rattle.fc_jobs.specs.Ends.{nothing_got}
 use Rattle.fc_workers.specs.Shares.{AreSharesOf}
-use Rattle.fc_workers.specs.declared.seat.Seat.{Seat}
+use Rattle.fc_workers.specs.Workers.{Seat}
 use Rattle.fc_service.specs.Pooled.{open_shop}
 use Rattle.fc_service.proofs.Seats.{all_before}
 use Rattle.fc_service.proofs.pool.run_at.Goals as goal

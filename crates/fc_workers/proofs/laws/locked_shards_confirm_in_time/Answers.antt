@@ -21,11 +21,11 @@ returns-clause-default g c = λ id. refl
 
 pub returns-clause-noted : goal.returns-clause-noted
 returns-clause-noted g c = λ turn id now random told noted before after lt call.
-    let shard = call.before in (
+    let shard = call.0.before in (
       watch_at shard (turn.slot / 8),
       (slot_in shard turn.slot).serial,
       max shard.now now,
-      time_at shard.watches (turn.slot / 8) g.B.Books.first.confirm_after (place_lt turn.slot lt) call.confirms,
+      time_at shard.watches (turn.slot / 8) g.B.Books.first.confirm_after (place_lt turn.slot lt) call.0.confirms,
       omega (arith),
-      call.does.is,
+      call.0.does.is,
     )

@@ -1,7 +1,7 @@
 use Rattle.std.proofs.Common.{subst}
 use Rattle.fc_calls.specs.Logged.{HandsSignal}
 use Rattle.fc_workers.specs.Dispatch.{AreSignalled}
-use Rattle.fc_workers.specs.declared.call_log.CallLog.{CallLog}
+use Rattle.fc_workers.specs.Logs.{TrackedLog}
 use Rattle.fc_workers.proofs.laws.signals_reach_eight_shards.Goals as goal
 
 pub returns : goal.returns
@@ -22,7 +22,7 @@ returns g c handover from id reset old new w =
       w5.0,
       w6.0,
       w7.0,
-      subst (λ (log : CallLog). g.B.Bench.logged (HandsSignal 0 from id reset) log w1.0) w0.1 w0.2,
+      subst (λ (log : TrackedLog). g.B.Bench.logged (HandsSignal 0 from id reset) log w1.0) w0.1 w0.2,
       w1.2,
       w2.2,
       w3.2,

@@ -1,7 +1,7 @@
 use Rattle.std.proofs.Common.{◌∙◌, ap, refl, subst, sym}
 use Rattle.fc_jobs.specs.Ends.{Got}
 use Rattle.fc_jobs.specs.declared.protocol.Numbered.{Numbered}
-use Rattle.fc_workers.specs.declared.share.Share.{Share}
+use Rattle.fc_workers.specs.Workers.{Share}
 use Rattle.fc_workers.specs.Called.{shop}
 use Rattle.fc_workers.specs.Shares.{HasEnded}
 use Rattle.fc_workers.specs.Work.{IsReplied}
@@ -44,4 +44,4 @@ returns g c =
       | in-Some+in_default w ↦ subst (λ (x : Share _). HasEnded s c.new-share.result x)
           (sym (w.share-is ∙ ap (λ (x : Got). record c.loop.share { got = x }) w.in_default.ensures.got)) c.loop.invariant.4
     ] in
-    record { log = c.new-share.result.log; ended = subst (λ (x : Share _). HasEnded s x c.match-next.share) c.new-share.ensures ended }
+    record { ended = subst (λ (x : Share _). HasEnded s x c.match-next.share) c.new-share.ensures ended }

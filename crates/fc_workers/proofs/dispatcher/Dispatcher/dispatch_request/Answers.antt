@@ -1,7 +1,7 @@
 use Rattle.std.proofs.Common.{◌∙◌, ◌+◌, ℕ, ap, inl, inr, refl, subst, sym}
 use Rattle.fc_core.specs.Stage.{Stage, ToCommit}
 use Rattle.fc_registry.specs.declared.job.Job.{Job}
-use Rattle.fc_workers.specs.declared.dispatcher.Dispatched.{Dispatched}
+use Rattle.fc_workers.specs.Workers.{Dispatched}
 use Rattle.fc_workers.specs.declared.dispatcher.Handover.TheVariants.{Dear}
 use Rattle.fc_workers.specs.declared.tools.Tools.{Tools}
 use Rattle.fc_workers.specs.Called.{shop}

@@ -2,8 +2,8 @@ use Rattle.std.proofs.Common.{◌∙◌, ap, inr, subst, sym}
 use Rattle.fc_registry.specs.declared.job.Job.{Job}
 use Rattle.fc_workers.specs.Called.{shop}
 use Rattle.fc_workers.specs.Dispatch.{IsPriced, IsWorkedHere, logged_at}
-use Rattle.fc_workers.specs.declared.call_log.CallLog.{CallLog}
-use Rattle.fc_workers.specs.declared.dispatcher.Dispatched.{Dispatched}
+use Rattle.fc_workers.specs.Logs.{TrackedLog}
+use Rattle.fc_workers.specs.Workers.{Dispatched}
 use Rattle.fc_workers.proofs.dispatcher.Dispatcher.dispatch_whole.Goals as goal
 
 -- the job that isn't sent is the one that arrived, and its slot's receipt was returned since.

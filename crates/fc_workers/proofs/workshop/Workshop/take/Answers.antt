@@ -2,7 +2,7 @@ use Rattle.std.proofs.Common.{◌≡◌, ◌∙◌, ap, subst}
 use Rattle.fc_registry.specs.Views.{taken_with}
 use Rattle.fc_core.specs.Stage.{Stage, ToTake}
 use Rattle.fc_core.specs.declared.stage.Step.TheVariants as steps
-use Rattle.fc_workers.specs.declared.share.Share.{Share}
+use Rattle.fc_workers.specs.Workers.{Share}
 use Rattle.fc_workers.specs.Answers.{IsTakingWith}
 use Rattle.fc_workers.specs.Called.{shop}
 use Rattle.fc_workers.specs.Steps.{IsReady}

@@ -1,5 +1,5 @@
 use Rattle.std.proofs.Common.{◌≡◌}
-use Rattle.fc_workers.specs.declared.share.Share.{Share}
+use Rattle.fc_workers.specs.Workers.{Share}
 use Rattle.fc_workers.specs.Called.{shop}
 use Rattle.fc_workers.specs.Steps.{IsReady, Walked, calls_left}
 use Rattle.fc_workers.proofs.workshop.Workshop.work_on.Given as goal

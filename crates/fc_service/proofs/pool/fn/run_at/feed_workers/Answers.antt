@@ -9,8 +9,8 @@ returns g c = record {
   new = record {
     handover_is = c.new.ensures.handover ∙ c.handover_where-handover.ensures;
     tallies = c.captures.own.tallies;
-    log = c.new.result.done.share.log;
-    done = c.new.ensures.done ∙ (λ i. record { sent = c.requires.sent i; share = new_share (c.requires.got i) c.captures.own.tallies c.new.result.done.share.log });
+    log = c.captures.own.log;
+    done = c.new.ensures.done ∙ (λ i. record { sent = c.requires.sent i; share = new_share (c.requires.got i) c.captures.own.tallies c.captures.own.log });
   };
   feeds = c.feed-given.ensures;
   own_is = c.close.ensures;

@@ -1,0 +1,30 @@
+-- The log of a worker: that of its calls, and its tracks in the server's book.
+use Rattle.std.specs.Prelude.{◌≡◌, ℕ, false}
+use Rattle.fc_book.specs.declared.view.BookView.{BookView}
+use Rattle.fc_calls.specs.Logged.{LoggedCall}
+use Rattle.fc_linear.specs.Operations.{Logged}
+use Rattle.fc_filed.specs.declared.entry.FiledEntry.{FiledEntry}
+use Rattle.fc_filed.specs.Threads.{HasJobFirst, HasOwnTrack, did_by}
+use Rattle.fc_workers.specs.declared.call_log.CallLog.{CallLog}
+
+-- the log of its calls, the key of its own track, and its tracks.
+pub record TrackedLog : Type 0 where
+  pub calls : CallLog
+  pub who : ℕ
+  pub tracks : BookView FiledEntry
+
+-- a worker with these tracks may file each call of the front: the first track is that of its jobs,
+-- and its own is among them. It begins no other.
+pub record MayFileAll (first_job who : ℕ) (v : BookView FiledEntry) : Type 0 where
+  pub thread : HasOwnTrack first_job who v
+  pub job : HasJobFirst first_job v
+  pub begins_none : v.may_begin ≡ false
+
+-- the log after the worker has filed the call: it is the last entry on the worker's own track. The
+-- log of its calls is unchanged.
+abbrev pub with_filed_call : LoggedCall → TrackedLog → TrackedLog
+with_filed_call call log = record log { tracks = did_by log.who (Logged call) log.tracks }
+
+-- a call that led the log of the worker's calls on, and is not filed.
+abbrev pub IsUnfiled : (CallLog → CallLog → Type 0) → TrackedLog → TrackedLog → Type 0
+IsUnfiled Leads before after = Leads before.calls after.calls × (after ≡ record before { calls = after.calls })

@@ -1,0 +1,107 @@
+//! The log of a worker, with its tracks in the server's book.
+ghost use Rattle.std.specs.Prelude.{◌≡◌, ◌+◌, ◌<◌, ◌≤◌, [], true, vec_len, IfOk};
+ghost use Rattle.fc_book.specs.Tracks.{own_view, with_next};
+
+use crate::call_log::CallLog;
+use fc_filed::{ServerBook, ServerName, ServerTracks};
+use std::alloc::{AllocError, Global};
+use std::marker::Model;
+
+/// The key of the first thread's track: keys 0 to 8 are those of the front and of eight shards.
+const FIRST_THREAD: u64 = 9;
+
+/// A worker's log: that of its calls, and its tracks in the server's book.
+///
+/// Each call of the server's front that gets the log becomes the last entry on the worker's own
+/// track, and on the one of its jobs. The other calls leave the tracks unchanged. A clause sees the
+/// log of the calls, the key of the worker's own track, and the tracks.
+#[derive(Drop)]
+pub struct TrackLog<J: ServerName> {
+    pub calls: CallLog,
+    pub(crate) who: u64,
+    pub(crate) tracks: ServerTracks<J>,
+}
+
+impl<J: ServerName> Model for TrackLog<J> {
+    ghost use Rattle.fc_workers.specs.Logs.{TrackedLog};
+
+    ghost Value = { TrackedLog };
+
+    ghost use Rattle.fc_workers.specs.Logs.{MayFileAll};
+
+    ghost view = { λ l. record { calls = l.calls; who = l.who; tracks = l.tracks } };
+
+    ghost invariant = { λ l. MayFileAll J.first_job l.who l.tracks };
+}
+
+// A thread's own track, without an entry.
+#[derive(Drop)]
+struct ThreadTrack<J: ServerName> {
+    who: u64,
+    tracks: ServerTracks<J>,
+    ghost key: { (9 ≤ who) × (who < J.first_job) },
+    ghost own: { tracks ≡ own_view who [] },
+}
+
+impl<J: ServerName> TrackLog<J> {
+    // Makes the log of a thread. Its jobs have the next track of `first`.
+    fn new(book: &ServerBook<J>, first: &mut ServerTracks<J>, thread: ThreadTrack<J>) -> TrackLog<J>
+        requires may_begin { first.old.may_begin ≡ true }
+        requires next { J.first_job ≤ first.old.next }
+        ensures kept { first.new ≡ with_next first.old }
+    {
+        let ThreadTrack { who, mut tracks } = thread;
+        let jobs = first.begin_tracks(book);
+        tracks.merge(book, jobs);
+        TrackLog {
+            calls: CallLog::new(),
+            who,
+            tracks,
+        }
+    }
+}
+
+/// Begins the tracks of a book's threads, and returns a log for each.
+///
+/// # Errors
+/// Returns `AllocError` if memory for the list can't be allocated.
+pub(crate) fn begin_logs<J: ServerName>(
+    alloc: Global,
+    book: &ServerBook<J>,
+    first: &mut ServerTracks<J>,
+    threads: u16,
+) -> Result<Vec<TrackLog<J>>, AllocError>
+    requires may_begin { first.old.may_begin ≡ true }
+    requires next { first.old.next ≡ 9 }
+    requires threads { J.first_job ≡ 9 + threads }
+    ensures { IfOk result (λ v. vec_len v ≡ threads) }
+{
+    let began = begin_threads(alloc, book, first, threads)?;
+    let mut logs = Vec::with_capacity(alloc, began.len())?;
+    for thread in began {
+        logs.push(TrackLog::new(book, first, thread))?;
+    }
+    Ok(logs)
+}
+
+// Begins the next tracks, one for each thread.
+fn begin_threads<J: ServerName>(
+    alloc: Global,
+    book: &ServerBook<J>,
+    first: &mut ServerTracks<J>,
+    threads: u16,
+) -> Result<Vec<ThreadTrack<J>>, AllocError>
+    requires may_begin { first.old.may_begin ≡ true }
+    requires next { first.old.next ≡ 9 }
+    requires threads { J.first_job ≡ 9 + threads }
+    ensures next { IfOk result (λ v. first.new ≡ record first.old { next = J.first_job }) }
+    ensures count { IfOk result (λ v. vec_len v ≡ threads) }
+{
+    let mut began = Vec::with_capacity(alloc, usize::from(threads))?;
+    for thread in 0..threads {
+        let tracks = first.begin_tracks(book);
+        let who = FIRST_THREAD + u64::from(thread);
+        began.push(ThreadTrack { who, tracks })?;
+    }
+    Ok(began)
+}
