@@ -136,9 +136,9 @@ nothing_named text port a (stop.Notes error) is h = absurd h
 nothing_named text port a (stop.Memory error) is h = record { address = a; address_is = is; none = h }
 
 -- ---- the reasons for an observation to stop
-module _ {S : Type 0} (connected : S → SocketAddrV4 → Type 0) (drawn came tried : List ℕ → Type 0) (is_error : PeerError → Type 0) (called : S → List PeerCall → Type 0) (observing : Observing) where
+module _ {S : Type 0} (connected : S → SocketAddrV4 → Type 0) (drawn went came tried : List ℕ → Type 0) (told : ℕ → Type 0) (is_error : PeerError → Type 0) (called : S → List PeerCall → Type 0) (observing : Observing) where
   abbrev Ends : FetchStop → Type 0
-  Ends s = IsObserveStop connected drawn came tried is_error called observing s
+  Ends s = IsObserveStop connected drawn went came tried told is_error called observing s
 
   pub observed_nothing : (s : FetchStop) → IsTargetStop observing.target.now observing.port s → Ends s
   observed_nothing (stop.Address error) h = h
@@ -153,7 +153,7 @@ module _ {S : Type 0} (connected : S → SocketAddrV4 → Type 0) (drawn came tr
   observed_nothing (stop.Memory error) h = h
 
   abbrev AtErrand : Errand → SocketAddrV4 → FetchStop → Type 0
-  AtErrand e server s = IsErrandStop connected drawn came tried is_error called observing e server s
+  AtErrand e server s = IsErrandStop connected drawn went came tried told is_error called observing e server s
 
   pub observed_errand : (a : Address) (e : Errand) (s : FetchStop) → IsAddress observing.target.now observing.port a → IsResourceOf a e.target → AtErrand e a.server s → Ends s
   observed_errand a e (stop.Address error) is target h = absurd h

@@ -1,7 +1,7 @@
 -- Failures of an observer.
-use Rattle.std.proofs.Common.{◌≡◌, ◌⊎◌, ℕ, false, true, List, Option, Some, None, Result, Ok, Err, IfErr, OnErr, OnOk, inl, inr, sym, subst, ◌∙◌, if◌then◌else◌}
-use Rattle.coap_client.specs.Faults.{IsLeavingFault, IsNotificationFault, IsOfPeer, IsRegistrationFault, UnfitCame, deregistration_of}
-use Rattle.coap_client.specs.ObserverCalls.{IsDeregistration}
+use Rattle.std.proofs.Common.{◌≡◌, ◌⊎◌, ℕ, Bool, false, true, List, Option, Some, None, Result, Ok, Err, IfErr, OnErr, OnOk, is_some, inl, inr, sym, subst, ◌∙◌, if◌then◌else◌}
+use Rattle.coap_client.specs.Faults.{EndsOnNotification, IsLeavingFault, IsNewState, IsNotificationFault, IsOfPeer, IsRegistrationFault, UnfitCame, deregistration_of}
+use Rattle.coap_client.specs.ObserverCalls.{IsDatedRegistration, IsDeregistration}
 use Rattle.coap_client.specs.Notes.{IsRegistered, IsResponseWith}
 use Rattle.coap_client.specs.Notices.{by_sequence, by_success, can_be_shown, notice_of, sequence_of}
 use Rattle.coap_client.specs.Replies.{is_success}
@@ -14,54 +14,92 @@ use Rattle.coap_client.specs.declared.notice.Notice.TheVariants as notice
 use Rattle.coap_client.specs.declared.observing.Observer.{Observer}
 use Rattle.coap_client.specs.declared.watch.Watch.{Watch}
 use Rattle.coap_client.proofs.Failing.{unfit_notice}
-use Rattle.coap_client.proofs.Transmitting.{both}
+use Rattle.coap_client.proofs.Transmitting.{Calls, both, does_of}
 use Rattle.coap_msg.specs.Reading.{reading_of}
 use Rattle.coap_msg.specs.Wire.{Message}
 use Rattle.fc_fetch.specs.declared.observer.NotesError.{NotesError}
 use Rattle.fc_fetch.specs.declared.observer.NotesError.TheVariants as notes_error
 use Rattle.fc_fetch.specs.declared.observer.ObservationEnd.{ObservationEnd}
-use Rattle.fc_fetch.specs.Observing.{IsAwaitFault, IsEndFault, IsLeftInVain, IsNotesFault, IsTimedObservation, LeavesAtFault, may_notify}
+use Rattle.fc_fetch.specs.declared.printer.Shown.{Shown}
+use Rattle.fc_fetch.specs.Observing.{AwaitsNote, AwaitsUntil, IsAwaitFault, IsFirstFault, IsLaterFault, IsLeftInVain, IsNotesFault, IsShowing, IsState, IsStoppedByFirst, IsTimedObservation, LeavesAtFault, may_notify}
+use Rattle.fc_fetch.proofs.Timing.{HasAwaited, HasObserved, observed_until}
 
 -- the registration failed
 pub unanswered : (came : List ℕ → Type 0) (is_error : PeerError → Type 0) (Makes : (List PeerCall → Type 0) → Type 0) (o : Observer) (f : FetchFault) → IsRegistrationFault is_error Makes o f
-    → IsNotesFault came is_error Makes o (notes_error.Fault f)
+    → IsFirstFault came is_error Makes o (notes_error.Fault f)
 unanswered came is_error Makes o fault.Silence h = h
 unanswered came is_error Makes o fault.Rejected h = h
 unanswered came is_error Makes o fault.Misfit h = h
 unanswered came is_error Makes o fault.Changed h = h
 unanswered came is_error Makes o fault.Part h = absurd h
 unanswered came is_error Makes o (fault.Socket error) h = h
-unanswered came is_error Makes o (fault.Memory error) h = tt
+unanswered came is_error Makes o (fault.Memory error) h = h
 
--- or the wait after it failed
-pub awaited : (came : List ℕ → Type 0) (is_error : PeerError → Type 0) (Makes : (List PeerCall → Type 0) → Type 0) (o : Observer) (f : FetchFault) → IsAwaitFault came is_error o f
-    → IsNotesFault came is_error Makes o (notes_error.Fault f)
-awaited came is_error Makes o fault.Silence h = absurd h
-awaited came is_error Makes o fault.Rejected h = absurd h
-awaited came is_error Makes o fault.Misfit h = h
-awaited came is_error Makes o fault.Changed h = h
-awaited came is_error Makes o fault.Part h = h
-awaited came is_error Makes o (fault.Socket error) h = h
-awaited came is_error Makes o (fault.Memory error) h = h
+-- or the clock after it
+pub undated : (came : List ℕ → Type 0) (is_error : PeerError → Type 0) (Makes : (List PeerCall → Type 0) → Type 0) (o : Observer) (f : FetchFault) → IsOfPeer is_error ⊥ f
+    → IsFirstFault came is_error Makes o (notes_error.Fault f)
+undated came is_error Makes o fault.Silence h = absurd h
+undated came is_error Makes o fault.Rejected h = absurd h
+undated came is_error Makes o fault.Misfit h = absurd h
+undated came is_error Makes o fault.Changed h = absurd h
+undated came is_error Makes o fault.Part h = absurd h
+undated came is_error Makes o (fault.Socket error) h = h
+undated came is_error Makes o (fault.Memory error) h = absurd h
 
-pub of_peer : (came : List ℕ → Type 0) (is_error : PeerError → Type 0) (o : Observer) (f : FetchFault) → IsOfPeer is_error ⊥ f → IsAwaitFault came is_error o f
-of_peer came is_error o fault.Silence h = h
-of_peer came is_error o fault.Rejected h = h
-of_peer came is_error o fault.Misfit h = h
-of_peer came is_error o fault.Changed h = h
-of_peer came is_error o fault.Part h = absurd h
-of_peer came is_error o (fault.Socket error) h = h
-of_peer came is_error o (fault.Memory error) h = tt
+-- or a wait can't begin
+pub unbegun : (went came : List ℕ → Type 0) (told : ℕ → Type 0) (is_error : PeerError → Type 0) (Makes : (List PeerCall → Type 0) → Type 0) (o : Observer) (seconds : Option ℕ) (f : FetchFault)
+    → IsOfPeer is_error ⊥ f → IsLaterFault went came told is_error Makes o seconds (notes_error.Fault f)
+unbegun went came told is_error Makes o seconds fault.Silence h = absurd h
+unbegun went came told is_error Makes o seconds fault.Rejected h = absurd h
+unbegun went came told is_error Makes o seconds fault.Misfit h = absurd h
+unbegun went came told is_error Makes o seconds fault.Changed h = absurd h
+unbegun went came told is_error Makes o seconds fault.Part h = absurd h
+unbegun went came told is_error Makes o seconds (fault.Socket error) h = h
+unbegun went came told is_error Makes o seconds (fault.Memory error) h = absurd h
 
-pub no_note : (came : List ℕ → Type 0) (is_error : PeerError → Type 0) (Makes : (List PeerCall → Type 0) → Type 0) (told : ℕ → Type 0) (o : Observer) (w : Watch) (f : FetchFault)
-    → IsNotificationFault came is_error Makes told o.token w f → IsAwaitFault came is_error o f
-no_note came is_error Makes told o w fault.Silence h = h
-no_note came is_error Makes told o w fault.Rejected h = h
-no_note came is_error Makes told o w fault.Misfit h = h
-no_note came is_error Makes told o w fault.Changed h = h
-no_note came is_error Makes told o w fault.Part h = h.1 o.id
-no_note came is_error Makes told o w (fault.Socket error) h = h
-no_note came is_error Makes told o w (fault.Memory error) h = tt
+pub of_peer : (came : List ℕ → Type 0) (told : ℕ → Type 0) (is_error : PeerError → Type 0) (Makes : (List PeerCall → Type 0) → Type 0) (o : Observer) (ends : Bool) (w : Watch) (f : FetchFault)
+    → IsOfPeer is_error ⊥ f → IsAwaitFault came told is_error Makes o ends w f
+of_peer came told is_error Makes o ends w fault.Silence h = h
+of_peer came told is_error Makes o ends w fault.Rejected h = h
+of_peer came told is_error Makes o ends w fault.Misfit h = h
+of_peer came told is_error Makes o ends w fault.Changed h = h
+of_peer came told is_error Makes o ends w fault.Part h = absurd h
+of_peer came told is_error Makes o ends w (fault.Socket error) h = h
+of_peer came told is_error Makes o ends w (fault.Memory error) h = absurd h
+
+-- the wait for a note ends on a notification
+until : (told : ℕ → Type 0) (token : List ℕ) (ends : Bool) (n : ℕ) (w : Watch) (P : Notice → Type 0) (before between after : Calls) → MakesCalls before between (HasAwaited token ends n)
+    → MakesCalls between after (EndsOnNotification told token w P) → MakesCalls before after (AwaitsUntil told token ends w P)
+until told token ends n w P before between after one other =
+    both before between after (AwaitsNote token ends false) (EndsOnNotification told token w P)
+    (does_of before between (HasAwaited token ends n) (AwaitsNote token ends false) one (λ calls h. record { observing = h.observing; awaited = h.awaited; over = λ x. absurd (cc x) })) other
+
+-- the wait for a note failed
+pub no_note : (came : List ℕ → Type 0) (told : ℕ → Type 0) (is_error : PeerError → Type 0) (before between after : Calls) (o : Observer) (ends : Bool) (n : ℕ) (w : Watch) (f : FetchFault)
+    → MakesCalls before between (HasAwaited o.token ends n) → IsNotificationFault came is_error (MakesCalls between after) told o.token w f
+    → IsAwaitFault came told is_error (MakesCalls before after) o ends w f
+no_note came told is_error before between after o ends n w fault.Silence one h = h
+no_note came told is_error before between after o ends n w fault.Rejected one h = h
+no_note came told is_error before between after o ends n w fault.Misfit one h = h
+no_note came told is_error before between after o ends n w fault.Changed one h = h
+no_note came told is_error before between after o ends n w fault.Part one h = (h.1 o.id, until told o.token ends n w (λ x. x ≡ notice.Misfit) before between after one h.0)
+no_note came told is_error before between after o ends n w (fault.Socket error) one h = h
+no_note came told is_error before between after o ends n w (fault.Memory error) one h = until told o.token ends n w IsNewState before between after one h
+
+-- it fails after these notes
+pub stopped : (went came : List ℕ → Type 0) (told : ℕ → Type 0) (is_error : PeerError → Type 0) (before between after : Calls) (o : Observer) (shown : Shown) (out now : Option (List ℕ))
+    (lines : ℕ) (seconds : Option ℕ) (ends : Bool) (w : Watch) (f : FetchFault) → ends ≡ is_some seconds → IsShowing went came told o shown out now lines w
+    → MakesCalls before between (HasObserved o seconds) → IsAwaitFault came told is_error (MakesCalls between after) o ends w f
+    → IsLaterFault went came told is_error (MakesCalls before after) o seconds (notes_error.Fault f)
+stopped went came told is_error before between after o shown out now lines seconds ends w fault.Silence is s one h = h
+stopped went came told is_error before between after o shown out now lines seconds ends w fault.Rejected is s one h = h
+stopped went came told is_error before between after o shown out now lines seconds ends w fault.Misfit is s one h = h
+stopped went came told is_error before between after o shown out now lines seconds ends w fault.Changed is s one h = h
+stopped went came told is_error before between after o shown out now lines seconds ends w fault.Part is s one h =
+    (h.0, record { latest = s.latest; older = s.older; w = w; watching = s.watching; called = observed_until told o seconds ends w (λ x. x ≡ notice.Misfit) before between after is one h.1 })
+stopped went came told is_error before between after o shown out now lines seconds ends w (fault.Socket error) is s one h = h
+stopped went came told is_error before between after o shown out now lines seconds ends w (fault.Memory error) is s one h =
+    record { latest = s.latest; older = s.older; w = w; watching = s.watching; called = observed_until told o seconds ends w IsNewState before between after is one h }
 
 -- no response is older by itself
 no_sequence_is_older : (o : Option ℕ) → by_sequence o ≡ notice.Older → ⊥
@@ -92,18 +130,37 @@ unfit_first went came o bytes m n registered read is (inr so) =
       unfit = unfit_notice m (sym is ∙ so);
     }
 
+-- the response is a state, and there is no memory for its mark
+pub unmarked : (went came : List ℕ → Type 0) (before after : Calls) (o : Observer) (bytes : List ℕ) (m : Message) (v : ℕ) → IsRegistered went came o bytes → reading_of bytes ≡ Ok m
+    → notice_of m ≡ notice.State v → MakesCalls before after (IsDatedRegistration o) → IsStoppedByFirst came (MakesCalls before after) o
+unmarked went came before after o bytes m v registered read is one =
+    let same : registered.message ≡ m = cc (registered.heard.read_is, read) in
+    record {
+      bytes = bytes;
+      came_is = record {
+        message = m;
+        came_is = registered.heard.came_is;
+        read_is = read;
+        holds = (subst (IsResponseWith o.token o.id) same registered.own, subst IsState (sym is) tt);
+      };
+      called = one;
+    }
+
 -- the server doesn't have the observer
-pub unregistered : {S : Type 0} (called : S → List PeerCall → Type 0) (tried came : List ℕ → Type 0) (is_error : PeerError → Type 0) (before after : S) (o : Observer) (e : NotesError)
-    → may_notify e ≡ false → IsNotesFault came is_error (MakesCalls (called before) (called after)) o e → LeavesAtFault called is_error tried before after o
-unregistered called tried came is_error before after o (notes_error.Fault fault.Silence) is h = inr (inr (inr h))
-unregistered called tried came is_error before after o (notes_error.Fault fault.Rejected) is h = inr (inr (inl h))
-unregistered called tried came is_error before after o (notes_error.Fault fault.Misfit) is h = absurd (cc is)
-unregistered called tried came is_error before after o (notes_error.Fault fault.Changed) is h = absurd (cc is)
-unregistered called tried came is_error before after o (notes_error.Fault fault.Part) is h = absurd (cc is)
-unregistered called tried came is_error before after o (notes_error.Fault (fault.Socket error)) is h = absurd (cc is)
-unregistered called tried came is_error before after o (notes_error.Fault (fault.Memory error)) is h = absurd (cc is)
-unregistered called tried came is_error before after o (notes_error.Print error) is h = absurd (cc is)
-unregistered called tried came is_error before after o (notes_error.Memory error) is h = absurd (cc is)
+pub unregistered : {S : Type 0} (called : S → List PeerCall → Type 0) (tried went came : List ℕ → Type 0) (told : ℕ → Type 0) (is_error : PeerError → Type 0) (before after : S) (o : Observer)
+    (seconds : Option ℕ) (e : NotesError) → may_notify e ≡ false → IsNotesFault went came told is_error (MakesCalls (called before) (called after)) o seconds e
+    → LeavesAtFault called is_error tried before after o
+unregistered called tried went came told is_error before after o seconds (notes_error.Fault fault.Silence) is (inl h) = inr (inr (inr h))
+unregistered called tried went came told is_error before after o seconds (notes_error.Fault fault.Silence) is (inr h) = absurd h
+unregistered called tried went came told is_error before after o seconds (notes_error.Fault fault.Rejected) is (inl h) = inr (inr (inl h))
+unregistered called tried went came told is_error before after o seconds (notes_error.Fault fault.Rejected) is (inr h) = absurd h
+unregistered called tried went came told is_error before after o seconds (notes_error.Fault fault.Misfit) is h = absurd (cc is)
+unregistered called tried went came told is_error before after o seconds (notes_error.Fault fault.Changed) is h = absurd (cc is)
+unregistered called tried went came told is_error before after o seconds (notes_error.Fault fault.Part) is h = absurd (cc is)
+unregistered called tried went came told is_error before after o seconds (notes_error.Fault (fault.Socket error)) is h = absurd (cc is)
+unregistered called tried went came told is_error before after o seconds (notes_error.Fault (fault.Memory error)) is h = absurd (cc is)
+unregistered called tried went came told is_error before after o seconds (notes_error.Print error) is h = absurd (cc is)
+unregistered called tried went came told is_error before after o seconds (notes_error.Memory error) is h = absurd (cc is)
 
 -- it deregistered, successfully or not
 pub left_anyhow : {S : Type 0} (called : S → List PeerCall → Type 0) (is_error : PeerError → Type 0) (tried : List ℕ → Type 0) (before from after : S) (o : Observer) (r : Result Unit FetchFault)
@@ -111,25 +168,6 @@ pub left_anyhow : {S : Type 0} (called : S → List PeerCall → Type 0) (is_err
     → IfErr r (IsLeavingFault is_error (MakesCalls (called from) (called after)) o) → LeavesAtFault called is_error tried before after o
 left_anyhow called is_error tried before from after o (Ok x) sent ended failed = inl (sent, record { from = from; ends = inl ended })
 left_anyhow called is_error tried before from after o (Err f) sent ended failed = inl (sent, record { from = from; ends = inr (f, failed) })
-
-pub ends_unregistered : (came : List ℕ → Type 0) (is_error : PeerError → Type 0) (Makes : (List PeerCall → Type 0) → Type 0) (o : Observer) (seconds : Option ℕ) (e : NotesError)
-    → IsNotesFault came is_error Makes o e → IsEndFault came is_error Makes o seconds e
-ends_unregistered came is_error Makes o seconds (notes_error.Fault f) h = inl h
-ends_unregistered came is_error Makes o seconds (notes_error.Print error) h = tt
-ends_unregistered came is_error Makes o seconds (notes_error.Memory error) h = tt
-
--- for another error the calls since then make no difference
-pub ends_registered : (came : List ℕ → Type 0) (is_error : PeerError → Type 0) (Makes Other : (List PeerCall → Type 0) → Type 0) (o : Observer) (seconds : Option ℕ) (e : NotesError)
-    → may_notify e ≡ true → IsNotesFault came is_error Makes o e → IsEndFault came is_error Other o seconds e
-ends_registered came is_error Makes Other o seconds (notes_error.Fault fault.Silence) is h = absurd (cc is)
-ends_registered came is_error Makes Other o seconds (notes_error.Fault fault.Rejected) is h = absurd (cc is)
-ends_registered came is_error Makes Other o seconds (notes_error.Fault fault.Misfit) is h = inl h
-ends_registered came is_error Makes Other o seconds (notes_error.Fault fault.Changed) is h = inl h
-ends_registered came is_error Makes Other o seconds (notes_error.Fault fault.Part) is h = inl h
-ends_registered came is_error Makes Other o seconds (notes_error.Fault (fault.Socket error)) is h = inl h
-ends_registered came is_error Makes Other o seconds (notes_error.Fault (fault.Memory error)) is h = inl h
-ends_registered came is_error Makes Other o seconds (notes_error.Print error) is h = tt
-ends_registered came is_error Makes Other o seconds (notes_error.Memory error) is h = tt
 
 -- the deregistration failed
 pub left_in_vain : (is_error : PeerError → Type 0) (before between after : List PeerCall → Type 0) (o : Observer) (seconds : Option ℕ) (end : ObservationEnd) (f : FetchFault)

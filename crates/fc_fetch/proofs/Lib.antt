@@ -1,4 +1,5 @@
 pub mod Segments
+pub mod Addressing
 pub mod Texts
 pub mod Lines
 pub mod Timing

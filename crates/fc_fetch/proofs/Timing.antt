@@ -2,11 +2,13 @@
 use Rattle.std.proofs.Common.{◌≡◌, ℕ, zero, suc, ◌+◌, ◌≤◌, ◌^◌, ◌⊎◌, inl, inr, Bool, true, false, List, [], ◌∷◌, ◌++◌, length, Option, Some, None, is_some, refl, sym, ap, subst, ◌∙◌, append_assoc, length-append, arith}
 use Rattle.std.specs.List.{All}
 use Rattle.std.proofs.lemmas.List.Elements.{All-append, All-cons, All-nil, filter-append}
+use Rattle.coap_client.specs.Faults.{EndsOnNotification}
 use Rattle.coap_client.specs.Listening.{ArePassedOver, IsOver}
 use Rattle.coap_client.specs.ObserverCalls.{AwaitsNotification, Dated, IsDatedRegistration, IsObserving, IsRegistration, IsPassedOverWatching}
 use Rattle.coap_client.specs.PeerCalls.{Adds, PeerCall, Reads, Receives, Waits}
 use Rattle.coap_client.specs.Schedules.{is_scheduled, schedule}
-use Rattle.coap_client.specs.Transmissions.{MakesCalls}
+use Rattle.coap_client.specs.Transmissions.{AreBehind, MakesCalls}
+use Rattle.coap_client.specs.declared.notice.Notice.{Notice}
 use Rattle.coap_client.specs.declared.observing.Observer.{Observer}
 use Rattle.coap_client.specs.declared.watch.Watch.{Watch}
 use Rattle.coap_client.proofs.ObserverCalls.{awaited_steps, observed, waiting_step}
@@ -14,7 +16,7 @@ use Rattle.coap_client.proofs.Scheduled.{noted_quietly}
 use Rattle.coap_client.proofs.Transmitting.{Calls, Passes, does_both, does_nothing, does_of, does_then}
 use Rattle.fc_fetch.specs.declared.observer.ObservationEnd.{ObservationEnd}
 use Rattle.fc_fetch.specs.declared.observer.ObservationEnd.TheVariants.{Over}
-use Rattle.fc_fetch.specs.Observing.{AwaitsNote, EndsInTime, IsAwaitedIn, IsOverAtLast, IsOverIn, IsTimedObservation, IsTimeOver, IsWaitedFor, first_wait, is_day}
+use Rattle.fc_fetch.specs.Observing.{AwaitsNote, AwaitsUntil, EndsInTime, IsAwaitedIn, IsObservedSoFar, IsOverAtLast, IsOverIn, IsTimedObservation, IsTimeOver, IsWaitedFor, first_wait, is_day}
 
 schedule_of : (newer older : List PeerCall) → schedule (newer ++ older) ≡ schedule newer ++ schedule older
 schedule_of newer older = filter-append is_scheduled newer older
@@ -175,6 +177,28 @@ observes_on o seconds ends none before between after is one other =
       observing = observed o.token newer a.newer b.observing a.observing;
       waited = waited_on seconds ends newer a.newer is b.awaited a.waited;
       is = ap (λ (x : List PeerCall). newer ++ x) a.is ∙ sym (append_assoc newer a.newer a.older);
+    })
+
+-- a notification ends the observation
+pub observed_until : (told : ℕ → Type 0) (o : Observer) (seconds : Option ℕ) (ends : Bool) (w : Watch) (P : Notice → Type 0) (before between after : Calls) → ends ≡ is_some seconds
+    → MakesCalls before between (HasObserved o seconds) → MakesCalls between after (AwaitsUntil told o.token ends w P)
+    → MakesCalls before after (AreBehind (IsObservedSoFar o seconds) (EndsOnNotification told o.token w P))
+observed_until told o seconds ends w P before between after is one other =
+    does_both before between after (HasObserved o seconds) (AwaitsUntil told o.token ends w P) (AreBehind (IsObservedSoFar o seconds) (EndsOnNotification told o.token w P)) one other
+    (λ older newer a b. record {
+      older = b.older ++ older;
+      first = record {
+        older = a.older;
+        registered = a.registered;
+        newer = b.older ++ a.newer;
+        observing = observed o.token b.older a.newer b.first.observing a.observing;
+        waited = inr (waited_on seconds ends b.older a.newer is b.first.awaited a.waited);
+        ends = tt;
+        is = ap (λ (x : List PeerCall). b.older ++ x) a.is ∙ sym (append_assoc b.older a.newer a.older);
+      };
+      newer = b.newer;
+      then = b.then;
+      is = ap (λ (x : List PeerCall). x ++ older) b.is ∙ append_assoc b.newer b.older older;
     })
 
 time_over : (seconds : Option ℕ) (ends : Bool) (newer older : List PeerCall) → ends ≡ is_some seconds → IsOverIn ends newer → IsTimeOver seconds (newer ++ older)

@@ -1,15 +1,17 @@
 -- The server and the resource of a client's request: a path at a port of this host, or a URI of the
 -- scheme coap, read as the URL Standard says (RFC 7252, sections 6.1 and 6.4).
 use Rattle.std.specs.Global.{Vec}
-use Rattle.std.specs.Prelude.{◌≡◌, ◌==◌, ◌||◌, ◌⊎◌, ℕ, nat_eq, is_some, Bool, true, false, List, [], ◌∷◌, map, Option, Some, None, Ok, codes, option_map, unwrap_or, if◌then◌else◌}
+use Rattle.std.specs.Prelude.{◌≡◌, ◌≢◌, ◌==◌, ◌||◌, ◌⊎◌, ℕ, nat_eq, is_some, Bool, true, false, List, [], ◌∷◌, map, Option, Some, None, Ok, Err, codes, option_map, unwrap_or, if◌then◌else◌}
 use Rattle.std.specs.List.{after_first, before_first, list_any, slice_split}
 use Rattle.std.specs.Net.Addr.{ipv4_octets}
 use Rattle.std.specs.Net.Grammar.{IsIpv4Text}
 use Rattle.std.specs.Net.Socket.{v4_ip, v4_port}
+use Rattle.std.specs.Str.Iter.{HasSubslice}
 use Rattle.std.specs.declared.net.ipv4_addr.Ipv4Addr.{Ipv4Addr}
 use Rattle.coap_client.specs.Paths.{path_text, slash}
 use Rattle.percent_encoding.specs.Percent.{percent_decode}
 use Rattle.url.specs.Parser.{parse_url}
+use Rattle.url.specs.declared.error.ParseError.{ParseError}
 use Rattle.url.specs.Host.{host_text}
 use Rattle.url.specs.Parts.{Parts, has_credentials, nonempty_host}
 use Rattle.fc_fetch.specs.declared.address.Address.{Address}
@@ -80,20 +82,82 @@ pub record IsAtPort (text : List ℕ) (port : ℕ) (a : Address) : Type 0 where
   pub path_is : a.path.items ≡ before_first is_question text
   pub query_is : texts_in a.query.items ≡ plain_pieces ampersand (after_first is_question text)
 
--- a path has a port with it, and a URI has none.
-abbrev pub IsAddress : List ℕ → Option ℕ → Address → Type 0
-IsAddress text (Some port) a = IsAtPort text port a
-IsAddress text None a = IsOfUri text a
+-- ---- the form of a text
 
--- an error of a URI itself, or of memory.
-abbrev pub IsOfUriAlone : AddressError → Type 0
-IsOfUriAlone address_error.NoPort = ⊥
-IsOfUriAlone address_error.TwoPorts = ⊥
-IsOfUriAlone other = Unit {0}
+-- the text begins with a slash.
+abbrev pub begins_with_slash : List ℕ → Bool
+begins_with_slash [] = false
+begins_with_slash (first ∷ text) = first == slash
+
+-- a text is read as a URI if it has `://` and doesn't begin with a slash; any other is a path.
+pub record IsReadAsUri (text : List ℕ) : Type 0 where
+  pub scheme : HasSubslice text (codes "://")
+  pub no_slash : begins_with_slash text ≡ false
+
+-- a path has a port with it, and a URI has none.
+abbrev pub FitsPort : List ℕ → Option ℕ → Type 0
+FitsPort text (Some port) = IsReadAsUri text → ⊥
+FitsPort text None = IsReadAsUri text
+
+-- the address of a text of this form.
+abbrev pub IsAddressBy : List ℕ → Option ℕ → Address → Type 0
+IsAddressBy text (Some port) a = IsAtPort text port a
+IsAddressBy text None a = IsOfUri text a
+
+pub record IsAddress (text : List ℕ) (port : Option ℕ) (a : Address) : Type 0 where
+  pub form : FitsPort text port
+  pub is : IsAddressBy text port a
+
+-- ---- no address
+
+-- the text is no URI by the URL Standard, or one of another scheme.
+abbrev pub IsNoCoapUri : List ℕ → Type 0
+IsNoCoapUri text =
+    ((error : ParseError) × (parse_url None text ≡ Err error))
+    ⊎ ((uri : Parts) × (parse_url None text ≡ Ok uri) × (uri.scheme ≢ codes "coap"))
+
+-- the URI's host denotes this IPv4 address.
+pub record HasHost (uri : Parts) (ip : Ipv4Addr) : Type 0 where
+  pub name : List ℕ
+  pub name_is : option_map host_text (nonempty_host uri) ≡ Some name
+  pub host_is : IsHostOf name ip
+
+-- the URI has no other parts, and its host denotes an IPv4 address.
+pub record IsAtHost (uri : Parts) : Type 0 where
+  pub no_others : has_other_parts uri ≡ false
+  pub ip : Ipv4Addr
+  pub host : HasHost uri ip
+
+-- the first reason why the parts of a coap URI are no address: it has other parts; its host denotes
+-- no IPv4 address; or a segment of its path contains a slash. Memory is needed after the host.
+abbrev pub IsUnfitBy : Parts → AddressError → Type 0
+IsUnfitBy uri address_error.Parts = has_other_parts uri ≡ true
+IsUnfitBy uri address_error.Host = (has_other_parts uri ≡ false) × ((ip : Ipv4Addr) → HasHost uri ip → ⊥)
+IsUnfitBy uri address_error.Escape = IsAtHost uri × (list_any has_slash (segments_in uri.path) ≡ true)
+IsUnfitBy uri address_error.NoMemory = IsAtHost uri
+IsUnfitBy uri other = ⊥
+
+-- the same of the URI's path alone.
+abbrev pub IsUnfitSegment : List ℕ → AddressError → Type 0
+IsUnfitSegment path address_error.Escape = list_any has_slash (segments_in path) ≡ true
+IsUnfitSegment path address_error.NoMemory = Unit {0}
+IsUnfitSegment path other = ⊥
+
+pub record IsUnfitUri (text : List ℕ) (error : AddressError) : Type 0 where
+  pub uri : Parts
+  pub parsed : parse_url None text ≡ Ok uri
+  pub scheme_is : uri.scheme ≡ codes "coap"
+  pub unfit : IsUnfitBy uri error
+
+abbrev pub IsNoUri : List ℕ → AddressError → Type 0
+IsNoUri text address_error.NoUri = IsNoCoapUri text
+IsNoUri text address_error.NoMemory = Unit {0}
+IsNoUri text other = IsUnfitUri text other
 
 -- the reason why there is no address: a path without a port, or a URI with one; a URI that can't be
--- the target of a request; or no memory.
+-- the target of a request. Memory is needed only for a text of the form that goes with the port.
 abbrev pub IsNoAddress : List ℕ → Option ℕ → AddressError → Type 0
-IsNoAddress text port address_error.TwoPorts = is_some port ≡ true
-IsNoAddress text port address_error.NoMemory = Unit {0}
-IsNoAddress text port other = port ≡ None
+IsNoAddress text port address_error.NoPort = (IsReadAsUri text → ⊥) × (port ≡ None)
+IsNoAddress text port address_error.TwoPorts = IsReadAsUri text × (is_some port ≡ true)
+IsNoAddress text port address_error.NoMemory = FitsPort text port
+IsNoAddress text port other = IsReadAsUri text × (port ≡ None) × IsNoUri text other

@@ -2,8 +2,8 @@
 use Rattle.std.specs.Prelude.{◌≡◌, ℕ, ◌+◌, ◌/◌, ◌<◌, ◌≤◌, ◌^◌, ◌⊎◌, ◌++◌, max, Bool, true, false, List, [], ◌∷◌, length, Option, Some, None, is_some, codes}
 use Rattle.std.specs.List.{All}
 use Rattle.std.specs.Io.KnownBytes.{Appends}
-use Rattle.coap_client.specs.Faults.{IsLeavingFault, IsRejection, IsSilence, UnfitCame, deregistration_of, registration_of}
-use Rattle.coap_client.specs.Notes.{AreNotes, HasDeregistered, IsWatching, Note, TellsObserver}
+use Rattle.coap_client.specs.Faults.{EndsOnNotification, IsLeavingFault, IsNewState, IsRegistrationFault, IsRejection, IsSilence, UnfitCame, deregistration_of, registration_of}
+use Rattle.coap_client.specs.Notes.{AreNotes, HasArrived, HasDeregistered, IsResponseWith, IsWatching, Note, TellsObserver}
 use Rattle.coap_client.specs.Notices.{notice_of, observe_request}
 use Rattle.coap_client.specs.ObserverCalls.{IsDatedRegistration, IsDeregistration, IsObserving}
 use Rattle.coap_client.specs.PeerCalls.{PeerCall, PeerError, Receives, Waits}
@@ -208,35 +208,94 @@ may_notify (notes_error.Fault fault.Silence) = false
 may_notify (notes_error.Fault fault.Rejected) = false
 may_notify other = true
 
--- the wait for the next note failed: a notification that came can't be shown, memory for one can't
--- be allocated, or the peer returned an error.
-abbrev pub IsAwaitFault : (List ℕ → Type 0) → (PeerError → Type 0) → Observer → FetchFault → Type 0
-IsAwaitFault came is_error o fault.Part = UnfitCame came o.token o.id
-IsAwaitFault came is_error o (fault.Socket error) = is_error error
-IsAwaitFault came is_error o (fault.Memory error) = Unit {0}
-IsAwaitFault came is_error o other = ⊥
+-- the time is over during the wait for the next note.
+abbrev pub IsOverIn : Bool → List PeerCall → Type 0
+IsOverIn true calls = IsOverAtLast calls
+IsOverIn false calls = 2 ^ 64 ≤ length (schedule calls) + 1
 
--- printing notes failed: the registration failed, a message can't be shown or printed, or the peer
--- returned an error.
-abbrev pub IsNotesFault : (List ℕ → Type 0) → (PeerError → Type 0) → ((List PeerCall → Type 0) → Type 0) → Observer → NotesError → Type 0
-IsNotesFault came is_error Makes o (notes_error.Fault fault.Silence) = Makes (IsSilence true (TellsObserver o.token o.id) (registration_of o))
-IsNotesFault came is_error Makes o (notes_error.Fault fault.Rejected) = Makes (IsRejection true (TellsObserver o.token o.id) (registration_of o))
-IsNotesFault came is_error Makes o (notes_error.Fault other) = IsAwaitFault came is_error o other
-IsNotesFault came is_error Makes o other = Unit {0}
+pub record AwaitsNote (token : List ℕ) (ends none : Bool) (calls : List PeerCall) : Type 0 where
+  pub observing : IsObserving token calls
+  pub awaited : IsAwaitedIn ends calls
+  pub over : none ≡ true → IsOverIn ends calls
+
+-- the observation so far: the observer registered, and observed for that time.
+abbrev pub IsObservedSoFar : Observer → Option ℕ → List PeerCall → Type 0
+IsObservedSoFar o seconds = IsTimedObservation o seconds Counted
+
+-- during the wait for the next note a notification came last that has this classification.
+abbrev pub AwaitsUntil : (ℕ → Type 0) → List ℕ → Bool → Watch → (Notice → Type 0) → List PeerCall → Type 0
+AwaitsUntil told token ends w P = AreBehind (AwaitsNote token ends false) (EndsOnNotification told token w P)
+
+-- the wait for the next note failed. A notification that came last can't be shown; it is a newer
+-- state, and memory for its mark can't be allocated; or the peer returned an error.
+abbrev pub IsAwaitFault : (List ℕ → Type 0) → (ℕ → Type 0) → (PeerError → Type 0) → ((List PeerCall → Type 0) → Type 0) → Observer → Bool → Watch → FetchFault → Type 0
+IsAwaitFault came told is_error Makes o ends w fault.Part = UnfitCame came o.token o.id × Makes (AwaitsUntil told o.token ends w (λ n. n ≡ notice.Misfit))
+IsAwaitFault came told is_error Makes o ends w (fault.Memory error) = Makes (AwaitsUntil told o.token ends w IsNewState)
+IsAwaitFault came told is_error Makes o ends w (fault.Socket error) = is_error error
+IsAwaitFault came told is_error Makes o ends w other = ⊥
+
+-- the notes so far came, and then a notification came last that has this classification.
+pub record IsStoppedBy (went came : List ℕ → Type 0) (told : ℕ → Type 0) (Makes : (List PeerCall → Type 0) → Type 0) (o : Observer) (seconds : Option ℕ) (P : Notice → Type 0) : Type 0 where
+  pub latest : Note
+  pub older : List Note
+  pub w : Watch
+  pub watching : IsWatching went came told o.token o.id latest older w
+  pub called : Makes (AreBehind (IsObservedSoFar o seconds) (EndsOnNotification told o.token w P))
+
+-- the response to the registration came last, and it is a state.
+pub record IsStoppedByFirst (came : List ℕ → Type 0) (Makes : (List PeerCall → Type 0) → Type 0) (o : Observer) : Type 0 where
+  pub bytes : List ℕ
+  pub came_is : HasArrived came (λ m. IsResponseWith o.token o.id m × IsState (notice_of m)) bytes
+  pub called : Makes (IsDatedRegistration o)
+
+-- the first line failed: the registration failed, the response can't be shown, memory for its mark
+-- can't be allocated, its line can't be printed, or the peer returned an error. If memory for the
+-- registration can't be allocated, nothing was called.
+abbrev pub IsFirstFault : (List ℕ → Type 0) → (PeerError → Type 0) → ((List PeerCall → Type 0) → Type 0) → Observer → NotesError → Type 0
+IsFirstFault came is_error Makes o (notes_error.Fault fault.Part) = UnfitCame came o.token o.id × Makes (IsDatedRegistration o)
+IsFirstFault came is_error Makes o (notes_error.Fault f) = IsRegistrationFault is_error Makes o f
+IsFirstFault came is_error Makes o (notes_error.Print error) = Makes (IsDatedRegistration o)
+IsFirstFault came is_error Makes o (notes_error.Memory error) = IsStoppedByFirst came Makes o
+
+-- a later line failed: a notification can't be shown, memory for its mark can't be allocated, its
+-- line can't be printed, or the peer returned an error.
+abbrev pub IsLaterFault : (List ℕ → Type 0) → (List ℕ → Type 0) → (ℕ → Type 0) → (PeerError → Type 0) → ((List PeerCall → Type 0) → Type 0) → Observer → Option ℕ → NotesError → Type 0
+IsLaterFault went came told is_error Makes o seconds (notes_error.Fault fault.Part) = UnfitCame came o.token o.id × IsStoppedBy went came told Makes o seconds (λ n. n ≡ notice.Misfit)
+IsLaterFault went came told is_error Makes o seconds (notes_error.Fault (fault.Memory error)) = IsStoppedBy went came told Makes o seconds IsNewState
+IsLaterFault went came told is_error Makes o seconds (notes_error.Fault (fault.Socket error)) = is_error error
+IsLaterFault went came told is_error Makes o seconds (notes_error.Fault other) = ⊥
+IsLaterFault went came told is_error Makes o seconds (notes_error.Print error) = Makes (IsObservedSoFar o seconds)
+IsLaterFault went came told is_error Makes o seconds (notes_error.Memory error) = ⊥
+
+abbrev pub IsNotesFault : (List ℕ → Type 0) → (List ℕ → Type 0) → (ℕ → Type 0) → (PeerError → Type 0) → ((List PeerCall → Type 0) → Type 0) → Observer → Option ℕ → NotesError → Type 0
+IsNotesFault went came told is_error Makes o seconds e = IsFirstFault came is_error Makes o e ⊎ IsLaterFault went came told is_error Makes o seconds e
 
 -- the observation ended, and its deregistration failed with this fault.
 pub record IsLeftInVain (is_error : PeerError → Type 0) (Makes : (List PeerCall → Type 0) → Type 0) (o : Observer) (seconds : Option ℕ) (f : FetchFault) : Type 0 where
   pub end : ObservationEnd
   pub fails : IsLeavingFault is_error (λ Calls. Makes (AreBehind (IsTimedObservation o seconds end) Calls)) o f
 
-abbrev pub IsEndFault : (List ℕ → Type 0) → (PeerError → Type 0) → ((List PeerCall → Type 0) → Type 0) → Observer → Option ℕ → NotesError → Type 0
-IsEndFault came is_error Makes o seconds (notes_error.Fault f) = IsNotesFault came is_error Makes o (notes_error.Fault f) ⊎ IsLeftInVain is_error Makes o seconds f
-IsEndFault came is_error Makes o seconds other = Unit {0}
+-- printing notes failed in some state of the peer.
+pub record IsFailedIn {S : Type 0} (went came : List ℕ → Type 0) (told : ℕ → Type 0) (is_error : PeerError → Type 0) (called : S → List PeerCall → Type 0) (before : S) (o : Observer)
+    (seconds : Option ℕ) (e : NotesError) : Type 0 where
+  pub at : S
+  pub fails : IsNotesFault went came told is_error (MakesCalls (called before) (called at)) o seconds e
+
+-- memory for the deregistration, which is written first, can't be allocated, and nothing was called;
+-- or the deregistration failed.
+abbrev pub IsLeavingError : (PeerError → Type 0) → ((List PeerCall → Type 0) → Type 0) → Observer → Option ℕ → NotesError → Type 0
+IsLeavingError is_error Makes o seconds (notes_error.Fault f) = IsLeftInVain is_error Makes o seconds f
+IsLeavingError is_error Makes o seconds (notes_error.Memory error) = Makes (λ calls. calls ≡ [])
+IsLeavingError is_error Makes o seconds (notes_error.Print error) = ⊥
+
+abbrev pub IsEndFault : {S : Type 0} → (List ℕ → Type 0) → (List ℕ → Type 0) → (ℕ → Type 0) → (PeerError → Type 0) → (S → List PeerCall → Type 0) → S → S → Observer → Option ℕ → NotesError → Type 0
+IsEndFault went came told is_error called before after o seconds e =
+    IsFailedIn went came told is_error called before o seconds e ⊎ IsLeavingError is_error (MakesCalls (called before) (called after)) o seconds e
 
 -- ---- the reasons to stop
 
 -- the observer of an errand failed at the server that the client connected to, and deregistered.
-pub record IsObservedInVain {S : Type 0} (connected : S → SocketAddrV4 → Type 0) (drawn came tried : List ℕ → Type 0) (is_error : PeerError → Type 0) (called : S → List PeerCall → Type 0)
+pub record IsObservedInVain {S : Type 0} (connected : S → SocketAddrV4 → Type 0) (drawn went came tried : List ℕ → Type 0) (told : ℕ → Type 0) (is_error : PeerError → Type 0) (called : S → List PeerCall → Type 0)
     (observing : Observing) (e : Errand) (server : SocketAddrV4) (error : NotesError) : Type 0 where
   pub observer : Observer
   pub errand_is : observer.errand.now ≡ e
@@ -245,25 +304,25 @@ pub record IsObservedInVain {S : Type 0} (connected : S → SocketAddrV4 → Typ
   pub opened : S
   pub opened_is : connected opened server
   pub ended : S
-  pub fails : IsEndFault came is_error (MakesCalls (called opened) (called ended)) observer observing.extent.seconds error
+  pub fails : IsEndFault went came told is_error called opened ended observer observing.extent.seconds error
   pub leaves : LeavesAtFault called is_error tried opened ended observer
 
 -- or there are no random bytes, or the client can't connect.
-abbrev pub IsErrandStop : {S : Type 0} → (S → SocketAddrV4 → Type 0) → (List ℕ → Type 0) → (List ℕ → Type 0) → (List ℕ → Type 0) → (PeerError → Type 0) → (S → List PeerCall → Type 0) → Observing
+abbrev pub IsErrandStop : {S : Type 0} → (S → SocketAddrV4 → Type 0) → (List ℕ → Type 0) → (List ℕ → Type 0) → (List ℕ → Type 0) → (List ℕ → Type 0) → (ℕ → Type 0) → (PeerError → Type 0) → (S → List PeerCall → Type 0) → Observing
     → Errand → SocketAddrV4 → FetchStop → Type 0
-IsErrandStop connected drawn came tried is_error called observing e server (stop.Random error) = Unit {0}
-IsErrandStop connected drawn came tried is_error called observing e server (stop.Fault f) = IsUnconnected f
-IsErrandStop connected drawn came tried is_error called observing e server (stop.Notes error) = IsObservedInVain connected drawn came tried is_error called observing e server error
-IsErrandStop connected drawn came tried is_error called observing e server other = ⊥
+IsErrandStop connected drawn went came tried told is_error called observing e server (stop.Random error) = Unit {0}
+IsErrandStop connected drawn went came tried told is_error called observing e server (stop.Fault f) = IsUnconnected f
+IsErrandStop connected drawn went came tried told is_error called observing e server (stop.Notes error) = IsObservedInVain connected drawn went came tried told is_error called observing e server error
+IsErrandStop connected drawn went came tried told is_error called observing e server other = ⊥
 
 -- the same for the errand of the target's resource.
-pub record HasStoppedObserving {S : Type 0} (connected : S → SocketAddrV4 → Type 0) (drawn came tried : List ℕ → Type 0) (is_error : PeerError → Type 0) (called : S → List PeerCall → Type 0)
+pub record HasStoppedObserving {S : Type 0} (connected : S → SocketAddrV4 → Type 0) (drawn went came tried : List ℕ → Type 0) (told : ℕ → Type 0) (is_error : PeerError → Type 0) (called : S → List PeerCall → Type 0)
     (observing : Observing) (reason : FetchStop) : Type 0 where
   pub address : Address
   pub address_is : IsAddress observing.target.now observing.port address
   pub errand : Errand
   pub target_is : IsResourceOf address errand.target
-  pub stops : IsErrandStop connected drawn came tried is_error called observing errand address.server reason
+  pub stops : IsErrandStop connected drawn went came tried told is_error called observing errand address.server reason
 
 -- a GET of the resource doesn't fit in a datagram.
 pub record HasNoRoomFor (observing : Observing) : Type 0 where
@@ -271,13 +330,13 @@ pub record HasNoRoomFor (observing : Observing) : Type 0 where
   pub unfit : FitsDatagrams Get (slices_in resource.target.path.segments.items) (slices_in resource.target.query.items) [] → ⊥
 
 -- or the target names no resource.
-abbrev pub IsObserveStop : {S : Type 0} → (S → SocketAddrV4 → Type 0) → (List ℕ → Type 0) → (List ℕ → Type 0) → (List ℕ → Type 0) → (PeerError → Type 0) → (S → List PeerCall → Type 0) → Observing
+abbrev pub IsObserveStop : {S : Type 0} → (S → SocketAddrV4 → Type 0) → (List ℕ → Type 0) → (List ℕ → Type 0) → (List ℕ → Type 0) → (List ℕ → Type 0) → (ℕ → Type 0) → (PeerError → Type 0) → (S → List PeerCall → Type 0) → Observing
     → FetchStop → Type 0
-IsObserveStop connected drawn came tried is_error called observing stop.Room = HasNoRoomFor observing
-IsObserveStop connected drawn came tried is_error called observing (stop.Random error) = HasStoppedObserving connected drawn came tried is_error called observing (stop.Random error)
-IsObserveStop connected drawn came tried is_error called observing (stop.Fault f) = HasStoppedObserving connected drawn came tried is_error called observing (stop.Fault f)
-IsObserveStop connected drawn came tried is_error called observing (stop.Notes error) = HasStoppedObserving connected drawn came tried is_error called observing (stop.Notes error)
-IsObserveStop connected drawn came tried is_error called observing other = IsTargetStop observing.target.now observing.port other
+IsObserveStop connected drawn went came tried told is_error called observing stop.Room = HasNoRoomFor observing
+IsObserveStop connected drawn went came tried told is_error called observing (stop.Random error) = HasStoppedObserving connected drawn went came tried told is_error called observing (stop.Random error)
+IsObserveStop connected drawn went came tried told is_error called observing (stop.Fault f) = HasStoppedObserving connected drawn went came tried told is_error called observing (stop.Fault f)
+IsObserveStop connected drawn went came tried told is_error called observing (stop.Notes error) = HasStoppedObserving connected drawn went came tried told is_error called observing (stop.Notes error)
+IsObserveStop connected drawn went came tried told is_error called observing other = IsTargetStop observing.target.now observing.port other
 
 -- ---- steps
 
@@ -294,13 +353,3 @@ pub record IsShowing (went came : List ℕ → Type 0) (told : ℕ → Type 0) (
 abbrev pub IsFirstShown : (List ℕ → Type 0) → (List ℕ → Type 0) → (ℕ → Type 0) → Observer → Shown → Option (List ℕ) → Option (List ℕ) → First → Type 0
 IsFirstShown went came told o shown before after (State w) = IsShowing went came told o shown before after 1 w
 IsFirstShown went came told o shown before after (Only code) = (limit : ℕ) → 1 ≤ limit → HasShown went came told o shown limit before after (Last code)
-
--- the time is over during the wait for the next note.
-abbrev pub IsOverIn : Bool → List PeerCall → Type 0
-IsOverIn true calls = IsOverAtLast calls
-IsOverIn false calls = 2 ^ 64 ≤ length (schedule calls) + 1
-
-pub record AwaitsNote (token : List ℕ) (ends none : Bool) (calls : List PeerCall) : Type 0 where
-  pub observing : IsObserving token calls
-  pub awaited : IsAwaitedIn ends calls
-  pub over : none ≡ true → IsOverIn ends calls

@@ -2,12 +2,13 @@
 //!
 //! A target is a path at a port of this host, or a URI of the scheme coap (RFC 7252, sections 6.1
 //! and 6.4).
-ghost use Rattle.std.specs.Prelude.{◌≡◌, ◌<◌, false, [], IfErr, IfOk, IfSome, None, unwrap_or};
+ghost use Rattle.std.specs.Prelude.{◌≡◌, ◌↔◌, ◌<◌, false, [], IfErr, IfOk, IsTrue, MatchOption, None, unwrap_or};
+ghost use Rattle.std.specs.declared.net.ipv4_addr.Ipv4Addr.{Ipv4Addr as Ipv4};
 ghost use Rattle.fc_fetch.specs.declared.address.AddressError.TheVariants.{NoMemory};
 ghost use Rattle.std.specs.List.{after_first, before_first, list_any};
 ghost use Rattle.coap_client.specs.Paths.{path_text};
 ghost use Rattle.percent_encoding.specs.Percent.{percent_decode};
-ghost use Rattle.fc_fetch.specs.Addresses.{HasParts, IsAddress, IsAtPort, IsHostOf, IsNoAddress, IsOfUri, IsOfUriAlone, decoded_pieces, has_other_parts, has_slash, is_question, plain_pieces, segments_in, texts_in};
+ghost use Rattle.fc_fetch.specs.Addresses.{HasParts, IsAddress, IsAtPort, IsHostOf, IsNoAddress, IsNoUri, IsOfUri, IsReadAsUri, IsUnfitBy, IsUnfitSegment, decoded_pieces, has_other_parts, has_slash, is_question, plain_pieces, segments_in, texts_in};
 
 use percent_encoding::percent_decode_str;
 use std::alloc::{AllocError, Global};
@@ -50,7 +51,7 @@ pub enum AddressError {
     /// An escaped slash in a path.
     #[error("%2F in a path can't be sent: a slash parts its segments")]
     Escape,
-    /// Memory can't be allocated.
+    /// Memory can't be allocated, or the URI would have 4 GB.
     #[error("out of memory")]
     NoMemory,
 }
@@ -78,18 +79,20 @@ impl Address {
         ensures address { IfOk result (IsAddress text.now port) }
         ensures none { IfErr result (IsNoAddress text.now port) }
     {
-        if text.contains("://") && !text.starts_with('/') {
-            match port {
-                None => read_uri(alloc, text),
-                Some(_) => Err(AddressError::TwoPorts),
-            }
-        } else {
-            match port {
-                Some(port) => at_port(alloc, text, port),
-                None => Err(AddressError::NoPort),
-            }
+        match (is_uri(text), port) {
+            (true, None) => read_uri(alloc, text),
+            (true, Some(_)) => Err(AddressError::TwoPorts),
+            (false, Some(port)) => at_port(alloc, text, port),
+            (false, None) => Err(AddressError::NoPort),
         }
     }
+}
+
+// Returns whether a text is read as a URI.
+fn is_uri(text: &str) -> bool
+    ensures { IsTrue result ↔ IsReadAsUri text.now }
+{
+    text.contains("://") && !text.starts_with('/')
 }
 
 // Parses a path, with its query, at a port of this host.
@@ -133,11 +136,11 @@ fn arguments(alloc: Global, query: &str) -> Result<Vec<Vec<u8>>, AllocError>
 // Parses a URI.
 fn read_uri(alloc: Global, text: &str) -> Result<Address, AddressError>
     ensures address { IfOk result (IsOfUri text.now) }
-    ensures none { IfErr result (IsNoAddress text.now None) }
+    ensures none { IfErr result (IsNoUri text.now) }
 {
     let uri = match Url::parse(alloc, text) {
         Ok(uri) => uri,
-        Err(ParseError::OutOfMemory) => return Err(AddressError::NoMemory),
+        Err(ParseError::OutOfMemory | ParseError::Overflow) => return Err(AddressError::NoMemory),
         Err(_) => return Err(AddressError::NoUri),
     };
     match uri.scheme() {
@@ -149,7 +152,7 @@ fn read_uri(alloc: Global, text: &str) -> Result<Address, AddressError>
 // Returns the address of a URI.
 fn address_of(alloc: Global, uri: &Url) -> Result<Address, AddressError>
     ensures address { IfOk result (HasParts uri.now) }
-    ensures none { IfErr result IsOfUriAlone }
+    ensures none { IfErr result (IsUnfitBy uri.now) }
 {
     if has_other_parts(uri) {
         return Err(AddressError::Parts);
@@ -177,7 +180,7 @@ fn has_other_parts(uri: &Url) -> bool
 
 // Returns the IPv4 address that a host's name denotes.
 fn host_of(name: &str) -> Option<Ipv4Addr>
-    ensures { IfSome result (IsHostOf name.now) }
+    ensures { MatchOption result ((ip : Ipv4) → IsHostOf name.now ip → ⊥) (IsHostOf name.now) }
 {
     match name {
         "localhost" => Some(Ipv4Addr::LOCALHOST),
@@ -189,7 +192,7 @@ fn host_of(name: &str) -> Option<Ipv4Addr>
 fn whole_segments_of(alloc: Global, path: &str) -> Result<Vec<Vec<u8>>, AddressError>
     ensures segments { IfOk result (λ v. texts_in v.items ≡ segments_in path.now) }
     ensures whole { IfOk result (λ v. list_any has_slash (segments_in path.now) ≡ false) }
-    ensures none { IfErr result IsOfUriAlone }
+    ensures none { IfErr result (IsUnfitSegment path.now) }
 {
     let segments = segments_of(alloc, path)?;
     if have_slash(&segments) {

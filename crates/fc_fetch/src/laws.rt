@@ -10,7 +10,9 @@ ghost use Rattle.clap.specs.declared.parser.matches.Found.{Found};
 ghost use Rattle.url.specs.Parts.{Parts};
 ghost use Rattle.coap_opts.specs.declared.request.Method.{Method};
 ghost use Rattle.coap_opts.specs.declared.request.Method.TheVariants.{Delete, Get, Post, Put};
-ghost use Rattle.fc_fetch.specs.Addresses.{HasParts, is_question, plain_pieces};
+ghost use Rattle.fc_fetch.specs.Addresses.{HasParts, IsNoAddress, IsNoUri, is_question, plain_pieces};
+ghost use Rattle.fc_fetch.specs.declared.address.AddressError.{AddressError};
+ghost use Rattle.fc_fetch.specs.declared.address.AddressError.TheVariants.{NoMemory, NoPort, TwoPorts};
 ghost use Rattle.fc_fetch.specs.Operations.{IsFormatNamed, IsOperationError, body_at};
 ghost use Rattle.fc_fetch.specs.declared.operation.OperationError.TheVariants.{Missing};
 ghost use Rattle.fc_fetch.specs.declared.operation.BodySource.TheVariants as source;
@@ -35,6 +37,17 @@ pub fn a_uri_without_a_port_is_of_port_5683()
 pub fn localhost_is_one_address()
     ensures { (uri : Parts) (a : Address) (h : HasParts uri a) → h.name ≡ codes "localhost"
         → ipv4_octets (v4_ip a.server) ≡ 127 ∷ 0 ∷ 0 ∷ 1 ∷ [] }
+{}
+
+/// A path needs a port, and a URI must have none beside it.
+///
+/// `/r/1` is a path, also `/a://b`, and `coap://[::1]/r/1` is a URI.
+pub fn a_path_has_a_port_and_a_uri_has_none()
+    ensures path { (error : AddressError) → IsNoAddress (codes "/r/1") None error → error ≡ NoPort }
+    ensures slashed { (error : AddressError) → IsNoAddress (codes "/a://b") None error → error ≡ NoPort }
+    ensures with_port { (error : AddressError) → IsNoAddress (codes "/a://b") (Some 7) error → error ≡ NoMemory }
+    ensures uri { (error : AddressError) → IsNoAddress (codes "coap://[::1]/r/1") (Some 7) error → error ≡ TwoPorts }
+    ensures alone { (error : AddressError) → IsNoAddress (codes "coap://[::1]/r/1") None error → IsNoUri (codes "coap://[::1]/r/1") error }
 {}
 
 /// The waits of an observation, with and without `--seconds`.

@@ -30,6 +30,10 @@
 //!   gives the host, the port, the segments of its path and the arguments of its query, each with
 //!   its escapes decoded (RFC 7252, section 6.4). Such a URI has no user, no password, no fragment,
 //!   and no slash in a segment. Without a port it has port 5683, and `localhost` is 127.0.0.1.
+//! - A text with `://` that doesn't begin with a slash is read as a URI, and any other as a path. A
+//!   text that is no address has the first of these faults. It is a path without a port, or a URI
+//!   with one. It is no URI, or one of another scheme. It has other parts. Its host is no IPv4
+//!   address. An escaped slash is in its path.
 //! - The printed form of a response, in hex or as text. The client is done only at a success.
 //! - An argument of a query has at most 255 bytes. A target that names no resource has a bad path
 //!   or a longer argument.
@@ -48,11 +52,12 @@
 //!   before 2^64 - 1 days. After the deregistration, or an error or a response without a sequence
 //!   number, nothing is called.
 //! - An observation fails for one of these reasons. No response, or a Reset message, came to its
-//!   registration or its deregistration. A message that came can't be shown. Printing, memory or a
-//!   call of the peer failed. Even then its deregistration was passed to the peer, unless nothing
-//!   was called, or the registration was rejected or got no response. The deregistration was sent
-//!   until it was acknowledged or rejected, or by its whole schedule, unless a call of the peer
-//!   failed.
+//!   registration or its deregistration. The message that came last can't be shown. It is a state,
+//!   and memory for it can't be allocated. The line of the message that came last can't be printed.
+//!   Memory for a request can't be allocated, and nothing was called. Or a call of the peer failed.
+//!   Even then its deregistration was passed to the peer, unless nothing was called, or the
+//!   registration was rejected or got no response. The deregistration was sent until it was
+//!   acknowledged or rejected, or by its whole schedule, unless a call of the peer failed.
 //! - A request has the method, the type (`-N`), the resource and the body that its options contain.
 //!   One that doesn't fit in a datagram isn't sent, and its errors are those of a fetch. The body
 //!   is the input to its end.

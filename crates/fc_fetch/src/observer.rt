@@ -7,7 +7,7 @@ ghost use Rattle.coap_client.specs.Notes.{Watches};
 ghost use Rattle.coap_client.specs.ObserverCalls.{IsDatedRegistration};
 ghost use Rattle.coap_client.specs.PeerCalls.{Adds, Reads, Waits};
 ghost use Rattle.coap_client.specs.Transmissions.{MakesCalls};
-ghost use Rattle.fc_fetch.specs.Observing.{AwaitsNote, HasEnded, HasLeft, HasShown, IsAwaitFault, IsEndFault, IsErrandStop, IsFirstShown, IsLeaving, IsNotesFault, IsObserveStop, IsObservedAt, IsObservedIn, IsTimedObservation, IsToldEnd, LeavesAtFault, ObservesToEnd, first_wait, lines_wanted};
+ghost use Rattle.fc_fetch.specs.Observing.{AwaitsNote, HasEnded, HasLeft, HasShown, IsAwaitFault, IsEndFault, IsErrandStop, IsFirstFault, IsFirstShown, IsLeaving, IsNotesFault, IsObserveStop, IsObservedAt, IsObservedIn, IsTimedObservation, IsToldEnd, LeavesAtFault, ObservesToEnd, first_wait, lines_wanted};
 ghost use Rattle.fc_fetch.specs.Observing as spec;
 ghost use Rattle.fc_fetch.specs.declared.observer.NotesError.TheVariants as notes_error;
 
@@ -139,7 +139,7 @@ pub fn observe_by<C: Connector, W: Write, E: Write>(
 ) -> Status
     ensures { HasEnded (IsObservedIn C.connected C.drawn C.Server.went C.Server.came C.Server.is_moment C.Server.called observing.now
         (W.contents out.old) (W.contents out.new))
-        (IsObserveStop C.connected C.drawn C.Server.came C.Server.tried C.Server.is_error C.Server.called observing.now) result }
+        (IsObserveStop C.connected C.drawn C.Server.went C.Server.came C.Server.tried C.Server.is_moment C.Server.is_error C.Server.called observing.now) result }
 {
     match observe_to_end(connector, alloc, out, observing) {
         Ok(end) => finish(err, end),
@@ -171,7 +171,7 @@ fn observe_to_end<'a, C: Connector, W: Write>(
 ) -> Result<ObservationEnd, FetchStop<'a>>
     ensures ended { IfOk result (IsObservedIn C.connected C.drawn C.Server.went C.Server.came C.Server.is_moment C.Server.called observing.now
         (W.contents out.old) (W.contents out.new)) }
-    ensures stop { IfErr result (IsObserveStop C.connected C.drawn C.Server.came C.Server.tried C.Server.is_error C.Server.called observing.now) }
+    ensures stop { IfErr result (IsObserveStop C.connected C.drawn C.Server.went C.Server.came C.Server.tried C.Server.is_moment C.Server.is_error C.Server.called observing.now) }
 {
     let address = address_of(alloc, observing.target, observing.port)?;
     let target = resource_at(alloc, &address)?;
@@ -192,7 +192,7 @@ fn observe_errand<'a, C: Connector, W: Write>(
 ) -> Result<ObservationEnd, FetchStop<'a>>
     ensures ended { IfOk result (IsObservedAt C.connected C.drawn C.Server.went C.Server.came C.Server.is_moment C.Server.called observing.now
         errand.now address (W.contents out.old) (W.contents out.new)) }
-    ensures stop { IfErr result (IsErrandStop C.connected C.drawn C.Server.came C.Server.tried C.Server.is_error C.Server.called observing.now
+    ensures stop { IfErr result (IsErrandStop C.connected C.drawn C.Server.went C.Server.came C.Server.tried C.Server.is_moment C.Server.is_error C.Server.called observing.now
         errand.now address) }
 {
     let mut token = [0; TOKEN];
@@ -242,7 +242,7 @@ pub fn print_to_end<P: Peer, W: Write>(
     ensures left { IfOk result (HasLeft P.went P.came observer.now) }
     ensures called { IfOk result (λ end. MakesCalls (P.called peer.old) (P.called peer.new)
         (ObservesToEnd observer.now extent.seconds end)) }
-    ensures fault { IfErr result (IsEndFault P.came P.is_error (MakesCalls (P.called peer.old) (P.called peer.new))
+    ensures fault { IfErr result (IsEndFault P.went P.came P.is_moment P.is_error P.called peer.old peer.new
         observer.now extent.seconds) }
     ensures leaves { OnErr result (LeavesAtFault P.called P.is_error P.tried peer.old peer.new observer.now) }
 {
@@ -315,7 +315,8 @@ pub fn print_notes<P: Peer, W: Write>(
         (lines_wanted extent.count) (W.contents out.old) (W.contents out.new)) }
     ensures called { IfOk result (λ end. MakesCalls (P.called peer.old) (P.called peer.new)
         (IsTimedObservation observer.now extent.seconds end)) }
-    ensures fault { IfErr result (IsNotesFault P.came P.is_error (MakesCalls (P.called peer.old) (P.called peer.new)) observer.now) }
+    ensures fault { IfErr result (IsNotesFault P.went P.came P.is_moment P.is_error (MakesCalls (P.called peer.old) (P.called peer.new))
+        observer.now extent.seconds) }
 {
     let mut watch = match print_first(alloc, peer, out, observer, shown, buffer)? {
         First::State(watch) => watch,
@@ -378,7 +379,7 @@ fn print_first<P: Peer, W: Write>(
 ) -> Result<First, NotesError>
     ensures shown { IfOk result (IsFirstShown P.went P.came P.is_moment observer.now shown (W.contents out.old) (W.contents out.new)) }
     ensures called { OnOk result (MakesCalls (P.called peer.old) (P.called peer.new) (IsDatedRegistration observer.now)) }
-    ensures fault { IfErr result (IsNotesFault P.came P.is_error (MakesCalls (P.called peer.old) (P.called peer.new)) observer.now) }
+    ensures fault { IfErr result (IsFirstFault P.came P.is_error (MakesCalls (P.called peer.old) (P.called peer.new)) observer.now) }
 {
     let count = observer.register(alloc, peer, buffer)?;
     let Ok(message) = read(&buffer[..count]) else {
@@ -420,7 +421,8 @@ fn await_note<P: Peer>(
     ensures watched { IfOk result (Watches P.went P.came P.is_moment observer.now.token buffer.new watch.old watch.new) }
     ensures called { IfOk result (λ noted. MakesCalls (P.called peer.old) (P.called peer.new)
         (AwaitsNote observer.now.token ends (is_none noted))) }
-    ensures fault { IfErr result (IsAwaitFault P.came P.is_error observer.now) }
+    ensures fault { IfErr result (IsAwaitFault P.came P.is_moment P.is_error (MakesCalls (P.called peer.old) (P.called peer.new))
+        observer.now ends watch.old) }
 {
     for _ in 0..u64::MAX {
         match watch.next(peer, &observer.token, buffer)? {

@@ -1,6 +1,8 @@
 //! The digest of an image, to compare two images.
-ghost use Rattle.std.specs.Prelude.{◌≡◌, IfOk, string_bytes};
-ghost use Rattle.fc_tools.specs.Digests.{digest_text};
+ghost use Rattle.std.specs.Io.KnownBytes.{Appends};
+ghost use Rattle.std.specs.Prelude.{◌≡◌, ◌++◌, ◌∷◌, [], IfErr, IfOk, OnOk, string_bytes};
+ghost use Rattle.fc_tools.specs.declared.digest.DigestError.TheVariants.{Memory};
+ghost use Rattle.fc_tools.specs.Digests.{IsDigestEnd, IsDigestFault, IsDigested, digest_text, error_status};
 
 use crate::tools::{LONGEST_IMAGE, image_bytes};
 use fc_cli::status::{Status, tell};
@@ -24,11 +26,21 @@ enum DigestError {
     Output(io::Error),
     /// Memory couldn't be allocated.
     #[error("{0}")]
-    Memory(#[from] AllocError),
+    Memory(#[source] AllocError),
+}
+
+impl From<AllocError> for DigestError {
+    ghost from_gives = { λ error fault. fault ≡ Memory error };
+
+    fn from(error: AllocError) -> DigestError {
+        DigestError::Memory(error)
+    }
 }
 
 impl DigestError {
-    fn status(&self) -> Status {
+    fn status(&self) -> Status
+        ensures { result ≡ error_status self.now }
+    {
         match self {
             DigestError::Long => Status::Refused,
             DigestError::Input(_) | DigestError::Output(_) | DigestError::Memory(_) =>
@@ -51,10 +63,12 @@ pub fn digest_of(alloc: Global, image: &[u8]) -> Result<String, AllocError>
 
 /// Reads an image and writes its digest in a line.
 ///
-/// The digest is that of [`digest_of`]. Returns:
+/// The digest is that of [`digest_of`]. At most 524,297 bytes are read, one more than an image has.
+/// Returns:
 ///
 /// - `Done` if the line is written;
-/// - `Refused` if the input has more than 524,296 bytes, which no image has;
+/// - `Refused` if the input has more than 524,296 bytes, which no image has; nothing is written to
+///   `out`;
 /// - `Failed` if reading or writing fails, or if memory can't be allocated.
 ///
 /// Writes the reason to `err`.
@@ -63,23 +77,42 @@ pub fn digest<R: Read, W: Write, E: Write>(
     input: &mut R,
     out: &mut W,
     err: &mut E,
-) -> Status {
+) -> Status
+    ensures { IsDigestEnd (R.remaining input.old) (W.contents out.old) (W.contents out.new) result }
+{
     match write_digest(alloc, input, out) {
         Ok(()) => Status::Done,
         Err(error) => tell(err, &error, error.status()),
     }
 }
 
+// Reads an image and writes its digest in a line.
 fn write_digest<R: Read, W: Write>(
     alloc: Global,
     input: &mut R,
     out: &mut W,
-) -> Result<(), DigestError> {
-    let image = image_bytes(alloc, input).map_err(DigestError::Input)?;
+) -> Result<(), DigestError>
+    ensures written { OnOk result (IsDigested (R.remaining input.old) (W.contents out.old) (W.contents out.new)) }
+    ensures fault { IfErr result (IsDigestFault (R.remaining input.old) (W.contents out.old) (W.contents out.new)) }
+{
+    let image = match image_bytes(alloc, input) {
+        Ok(image) => image,
+        Err(error) => return Err(DigestError::Input(error)),
+    };
     if image.len() as u64 > LONGEST_IMAGE {
         return Err(DigestError::Long);
     }
     let text = digest_of(alloc, &image)?;
-    writeln!(out, "{text}").map_err(DigestError::Output)?;
-    out.flush().map_err(DigestError::Output)
+    match write_line(out, &text) {
+        Ok(()) => Ok(()),
+        Err(error) => Err(DigestError::Output(error)),
+    }
+}
+
+// Writes a text as a line.
+fn write_line<W: Write>(out: &mut W, text: &str) -> io::Result<()>
+    ensures { OnOk result (Appends (W.contents out.old) (W.contents out.new) (text.now ++ 10 ∷ [])) }
+{
+    writeln!(out, "{text}")?;
+    out.flush()
 }

@@ -14,9 +14,12 @@
 //!   instruction's preconditions hold.
 //! - A run's report is that of the meaning of the program, request, readings and variables.
 //! - A digest is the SHA-256 (FIPS 180-4) of all bytes of the image, in 64 lowercase hex digits.
+//!   `fcasm digest` prints it in a line for an input of at most 524,296 bytes. It refuses a longer
+//!   one, of which 524,297 bytes are read, and prints nothing.
 //!
 //! By the contracts of `tools::image_of`, `priced_image_of`, `listing_of`, `numbered_listing_of`,
-//! `diagnosis::diagnose`, `runner::report`, `digest::digest_of`, `laws`.
+//! `diagnosis::diagnose`, `runner::report`, `digest::digest_of`, `digest`, `tools::image_bytes`,
+//! `laws`.
 #![tactic(auto)]
 
 pub mod budget;

@@ -1,11 +1,12 @@
 //! The commands of `fcasm`: assemble, expand, disassemble, verify and run.
-ghost use Rattle.std.specs.Prelude.{IfOk, IsTrue, None, string_bytes, true, ◌++◌, ◌≡◌};
+ghost use Rattle.std.specs.Prelude.{IfOk, IfSome, IsTrue, None, string_bytes, true, ◌++◌, ◌≡◌};
 ghost use Rattle.fc_asm.specs.Assembled.{IsAssembled};
 ghost use Rattle.fc_asm.specs.Syntax.{lines_of};
 ghost use Rattle.fc_image.specs.Written.{head_bytes, limit_fault};
 ghost use Rattle.fc_image.specs.Paths.{IsLongest};
 ghost use Rattle.fc_isa.specs.Encoding.{encoded};
 ghost use Rattle.fc_isa.specs.Program.{is_program};
+ghost use Rattle.fc_tools.specs.Digests.{read_of};
 ghost use Rattle.fc_tools.specs.Diagnosed.{IsDiagnosisOf, IsUnacceptable};
 ghost use Rattle.fc_tools.specs.Tools.{IsImageOf, IsListingOf, IsNumberedListingOf, IsPricedImageOf, program_head};
 
@@ -299,9 +300,11 @@ fn read_image<R: Read>(alloc: Global, input: &mut R) -> Result<Vec<u8>, ToolErro
 ///
 /// # Errors
 /// Returns an error if reading fails, or if memory can't be allocated.
-pub fn image_bytes<R: Read>(alloc: Global, input: &mut R) -> io::Result<Vec<u8>> {
+pub fn image_bytes<R: Read>(alloc: Global, input: &mut R) -> io::Result<Vec<u8>>
+    ensures { IfOk result (λ v. IfSome (R.remaining input.old) (λ bytes. v.items ≡ read_of bytes)) }
+{
     let mut image = Vec::new(alloc);
-    let mut input = input.by_ref().take(LONGEST_IMAGE + 1);
+    let mut input = input.take(LONGEST_IMAGE + 1);
     input.read_to_end(&mut image)?;
     Ok(image)
 }
@@ -309,7 +312,7 @@ pub fn image_bytes<R: Read>(alloc: Global, input: &mut R) -> io::Result<Vec<u8>>
 // Reads a source; of one that is too long, one byte more than the maximum.
 fn read_text<R: Read>(alloc: Global, input: &mut R) -> Result<Vec<u8>, ToolError> {
     let mut text = Vec::new(alloc);
-    let mut input = input.by_ref().take(LONGEST_TEXT + 1);
+    let mut input = input.take(LONGEST_TEXT + 1);
     input.read_to_end(&mut text).map_err(ToolError::Input)?;
     if text.len() as u64 > LONGEST_TEXT {
         return Err(ToolError::LongText);

@@ -11,7 +11,9 @@ returns-in_err-target-clause-stop g c =
     raised c.from_residual-in_err-target.result c.in_err-target.field-0.0
     (IsFetchStop g.C.Connector.connected g.C.Connector.drawn g.C.Server.Peer.went g.C.Server.Peer.came g.C.Server.Peer.is_error g.C.Server.Peer.called c.args.asking.now
     (g.I.Read.remaining c.args.input.now)) c.from_residual-in_err-target.ensures.1
-    (target_stop _ _ _ _ _ _ _ _ _ (nothing_named _ _ c.in_ok-address.address c.in_err-target.field-0.0 c.in_ok-address.ensures.address c.in_err-target.ensures.stop))
+    (target_stop g.C.Connector.connected g.C.Connector.drawn g.C.Server.Peer.went g.C.Server.Peer.came g.C.Server.Peer.is_error g.C.Server.Peer.called c.args.asking.now
+    (g.I.Read.remaining c.args.input.now) c.in_err-target.field-0.0
+    (nothing_named c.args.asking.now.target.now c.args.asking.now.port c.in_ok-address.address c.in_err-target.field-0.0 c.in_ok-address.ensures.address c.in_err-target.ensures.stop))
 
 pub returns-in_err-payload-clause-stop : goal.returns-in_err-payload-clause-stop
 returns-in_err-payload-clause-stop g c =

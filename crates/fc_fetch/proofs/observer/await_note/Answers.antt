@@ -2,6 +2,9 @@ use Rattle.std.proofs.Common.{None, false, true, refl, subst, ◌∙◌, arith}
 use Rattle.coap_client.specs.Notes.{Watches}
 use Rattle.coap_client.specs.ObserverCalls.{AwaitsNotification, IsPassedOverWatching, noted_in}
 use Rattle.coap_client.specs.Transmissions.{MakesCalls}
+use Rattle.coap_client.proofs.Failing.{raised}
+use Rattle.fc_fetch.specs.Observing.{IsAwaitFault}
+use Rattle.fc_fetch.proofs.Failures.{no_note}
 use Rattle.fc_fetch.proofs.Timing.{awaited_to_the_end, awaits_nothing, note_awaited, one_more_day}
 use Rattle.fc_fetch.proofs.observer.await_note.Goals as goal
 
@@ -41,3 +44,13 @@ pub returns-clause-called : goal.returns-clause-called
 returns-clause-called g c =
     awaited_to_the_end c.args.observer.now.token c.args.ends c.loop.counter (g.P.Peer.called c.args.peer.now) (g.P.Peer.called c.loop.peer)
     (let end = c.loop-test.false in omega (arith, end)) c.loop.invariant.1
+
+pub returns-in_err-noted-clause-fault : goal.returns-in_err-noted-clause-fault
+returns-in_err-noted-clause-fault g c =
+    let o = c.args.observer.now in
+    let before = g.P.Peer.called c.args.peer.now in
+    let between = g.P.Peer.called c.loop.peer in
+    let after = g.P.Peer.called c.next.new.peer in
+    raised c.from_residual.result c.in_err-noted.field-0.0 (IsAwaitFault g.P.Peer.came g.P.Peer.is_moment g.P.Peer.is_error (MakesCalls before after) o c.args.ends c.args.watch.now) c.from_residual.ensures.1
+    (subst (λ w. IsAwaitFault g.P.Peer.came g.P.Peer.is_moment g.P.Peer.is_error (MakesCalls before after) o c.args.ends w c.in_err-noted.field-0.0) c.loop.invariant.0
+    (no_note g.P.Peer.came g.P.Peer.is_moment g.P.Peer.is_error before between after o c.args.ends c.loop.counter c.loop.watch c.in_err-noted.field-0.0 c.loop.invariant.1 c.in_err-noted.ensures.fault))

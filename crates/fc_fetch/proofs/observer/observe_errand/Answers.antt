@@ -34,15 +34,15 @@ returns-clause-stop g c = record {
 pub returns-in_err-first_id-clause-stop : goal.returns-in_err-first_id-clause-stop
 returns-in_err-first_id-clause-stop g c =
     raised c.from_residual.result c.in_err-first_id.field-0.0
-    (IsErrandStop g.C.Connector.connected g.C.Connector.drawn g.C.Server.Peer.came g.C.Server.Peer.tried g.C.Server.Peer.is_error g.C.Server.Peer.called c.args.observing.now c.args.errand.now
+    (IsErrandStop g.C.Connector.connected g.C.Connector.drawn g.C.Server.Peer.went g.C.Server.Peer.came g.C.Server.Peer.tried g.C.Server.Peer.is_moment g.C.Server.Peer.is_error g.C.Server.Peer.called c.args.observing.now c.args.errand.now
     c.args.address) c.from_residual.ensures.1
-    (observed_without_words g.C.Connector.connected g.C.Connector.drawn g.C.Server.Peer.came g.C.Server.Peer.tried g.C.Server.Peer.is_error g.C.Server.Peer.called c.args.observing.now
+    (observed_without_words g.C.Connector.connected g.C.Connector.drawn g.C.Server.Peer.went g.C.Server.Peer.came g.C.Server.Peer.tried g.C.Server.Peer.is_moment g.C.Server.Peer.is_error g.C.Server.Peer.called c.args.observing.now
     c.args.errand.now c.args.address c.in_err-first_id.field-0.0 c.in_err-first_id.ensures.stop)
 
 pub returns-in_err-server-clause-stop : goal.returns-in_err-server-clause-stop
 returns-in_err-server-clause-stop g c =
     raised c.from_residual-in_err-server.result c.in_err-server.field-0.0
-    (IsErrandStop g.C.Connector.connected g.C.Connector.drawn g.C.Server.Peer.came g.C.Server.Peer.tried g.C.Server.Peer.is_error g.C.Server.Peer.called c.args.observing.now c.args.errand.now
+    (IsErrandStop g.C.Connector.connected g.C.Connector.drawn g.C.Server.Peer.went g.C.Server.Peer.came g.C.Server.Peer.tried g.C.Server.Peer.is_moment g.C.Server.Peer.is_error g.C.Server.Peer.called c.args.observing.now c.args.errand.now
     c.args.address) c.from_residual-in_err-server.ensures.1
-    (observed_nobody g.C.Connector.connected g.C.Connector.drawn g.C.Server.Peer.came g.C.Server.Peer.tried g.C.Server.Peer.is_error g.C.Server.Peer.called c.args.observing.now
+    (observed_nobody g.C.Connector.connected g.C.Connector.drawn g.C.Server.Peer.went g.C.Server.Peer.came g.C.Server.Peer.tried g.C.Server.Peer.is_moment g.C.Server.Peer.is_error g.C.Server.Peer.called c.args.observing.now
     c.args.errand.now c.args.address c.in_err-server.field-0.0 c.in_err-server.ensures.stop)

@@ -27,24 +27,24 @@ returns-in-Some-clause-stop g c =
     let address = c.in_ok-address.address in
     let errand = c.in-Some.errand in
     err_of c.observe_errand.result
-    (IsErrandStop g.C.Connector.connected g.C.Connector.drawn g.C.Server.Peer.came g.C.Server.Peer.tried g.C.Server.Peer.is_error g.C.Server.Peer.called c.args.observing.now errand address.server)
-    (IsObserveStop g.C.Connector.connected g.C.Connector.drawn g.C.Server.Peer.came g.C.Server.Peer.tried g.C.Server.Peer.is_error g.C.Server.Peer.called c.args.observing.now)
-    (λ s h. observed_errand _ _ _ _ _ _ _ address errand s c.in_ok-address.ensures.address
+    (IsErrandStop g.C.Connector.connected g.C.Connector.drawn g.C.Server.Peer.went g.C.Server.Peer.came g.C.Server.Peer.tried g.C.Server.Peer.is_moment g.C.Server.Peer.is_error g.C.Server.Peer.called c.args.observing.now errand address.server)
+    (IsObserveStop g.C.Connector.connected g.C.Connector.drawn g.C.Server.Peer.went g.C.Server.Peer.came g.C.Server.Peer.tried g.C.Server.Peer.is_moment g.C.Server.Peer.is_error g.C.Server.Peer.called c.args.observing.now)
+    (λ s h. observed_errand g.C.Connector.connected g.C.Connector.drawn g.C.Server.Peer.went g.C.Server.Peer.came g.C.Server.Peer.tried g.C.Server.Peer.is_moment g.C.Server.Peer.is_error g.C.Server.Peer.called c.args.observing.now address errand s c.in_ok-address.ensures.address
     (subst (IsResourceOf address) (sym c.in-Some.ensures.errand.2) c.in_ok-target.ensures.resource) h) c.observe_errand.ensures.stop
 
 pub returns-in_err-address-clause-stop : goal.returns-in_err-address-clause-stop
 returns-in_err-address-clause-stop g c =
     raised c.from_residual.result c.in_err-address.field-0.0
-    (IsObserveStop g.C.Connector.connected g.C.Connector.drawn g.C.Server.Peer.came g.C.Server.Peer.tried g.C.Server.Peer.is_error g.C.Server.Peer.called c.args.observing.now)
-    c.from_residual.ensures.1 (observed_nothing _ _ _ _ _ _ _ c.in_err-address.field-0.0 c.in_err-address.ensures.stop)
+    (IsObserveStop g.C.Connector.connected g.C.Connector.drawn g.C.Server.Peer.went g.C.Server.Peer.came g.C.Server.Peer.tried g.C.Server.Peer.is_moment g.C.Server.Peer.is_error g.C.Server.Peer.called c.args.observing.now)
+    c.from_residual.ensures.1 (observed_nothing g.C.Connector.connected g.C.Connector.drawn g.C.Server.Peer.went g.C.Server.Peer.came g.C.Server.Peer.tried g.C.Server.Peer.is_moment g.C.Server.Peer.is_error g.C.Server.Peer.called c.args.observing.now c.in_err-address.field-0.0 c.in_err-address.ensures.stop)
 
 pub returns-in_err-target-clause-stop : goal.returns-in_err-target-clause-stop
 returns-in_err-target-clause-stop g c =
     raised c.from_residual-in_err-target.result c.in_err-target.field-0.0
-    (IsObserveStop g.C.Connector.connected g.C.Connector.drawn g.C.Server.Peer.came g.C.Server.Peer.tried g.C.Server.Peer.is_error g.C.Server.Peer.called c.args.observing.now)
+    (IsObserveStop g.C.Connector.connected g.C.Connector.drawn g.C.Server.Peer.went g.C.Server.Peer.came g.C.Server.Peer.tried g.C.Server.Peer.is_moment g.C.Server.Peer.is_error g.C.Server.Peer.called c.args.observing.now)
     c.from_residual-in_err-target.ensures.1
-    (observed_nothing _ _ _ _ _ _ _ c.in_err-target.field-0.0
-    (nothing_named _ _ c.in_ok-address.address c.in_err-target.field-0.0 c.in_ok-address.ensures.address c.in_err-target.ensures.stop))
+    (observed_nothing g.C.Connector.connected g.C.Connector.drawn g.C.Server.Peer.went g.C.Server.Peer.came g.C.Server.Peer.tried g.C.Server.Peer.is_moment g.C.Server.Peer.is_error g.C.Server.Peer.called c.args.observing.now c.in_err-target.field-0.0
+    (nothing_named c.args.observing.now.target.now c.args.observing.now.port c.in_ok-address.address c.in_err-target.field-0.0 c.in_ok-address.ensures.address c.in_err-target.ensures.stop))
 
 pub returns-clause-stop : goal.returns-clause-stop
 returns-clause-stop g c = record {

@@ -1,7 +1,10 @@
 use Rattle.std.proofs.Common.{ap, take, subst, sym, ◌∙◌}
 use Rattle.coap_client.specs.declared.notice.Notice.TheVariants as notice
-use Rattle.fc_fetch.specs.Observing.{IsFirstShown}
-use Rattle.fc_fetch.proofs.Failures.{unfit_first}
+use Rattle.coap_client.proofs.Failing.{raised}
+use Rattle.coap_client.specs.Transmissions.{MakesCalls}
+use Rattle.fc_fetch.specs.declared.observer.NotesError.TheVariants as notes_error
+use Rattle.fc_fetch.specs.Observing.{IsFirstFault, IsFirstShown}
+use Rattle.fc_fetch.proofs.Failures.{unfit_first, unmarked}
 use Rattle.fc_fetch.proofs.Lines.{first_shown, only_shown}
 use Rattle.fc_fetch.proofs.Timing.{dated}
 use Rattle.fc_fetch.proofs.observer.print_first.Goals as goal
@@ -23,11 +26,34 @@ returns-clause-shown g c =
     ]
 
 pub returns-in-Older-clause-fault : goal.returns-in-Older-clause-fault
-returns-in-Older-clause-fault g c =
-    unfit_first g.P.Peer.went g.P.Peer.came c.args.observer.now _ c.in-Ok.message c.notice_of.result c.in_ok-count.ensures.registered.1 (sym c.read.ensures.function ∙ c.in-Ok.is)
-    c.notice_of.ensures c.in-Older.is
+returns-in-Older-clause-fault g c = (
+  unfit_first g.P.Peer.went g.P.Peer.came c.args.observer.now _ c.in-Ok.message c.notice_of.result c.in_ok-count.ensures.registered.1 (sym c.read.ensures.function ∙ c.in-Ok.is)
+      c.notice_of.ensures c.in-Older.is,
+  dated c.args.observer.now (take c.in_ok-count.count c.register.new.buffer) c.in_ok-at.at (g.P.Peer.called c.args.peer.now) (g.P.Peer.called c.register.new.peer)
+      (g.P.Peer.called c.moment.new.peer) c.in_ok-count.ensures.called c.in_ok-at.ensures.called,
+)
 
 pub returns-clause-called : goal.returns-clause-called
 returns-clause-called g c =
     dated c.args.observer.now (take c.in_ok-count.count c.register.new.buffer) c.in_ok-at.at (g.P.Peer.called c.args.peer.now) (g.P.Peer.called c.register.new.peer)
     (g.P.Peer.called c.moment.new.peer) c.in_ok-count.ensures.called c.in_ok-at.ensures.called
+
+pub returns-in_err-first-in-State-clause-fault : goal.returns-in_err-first-in-State-clause-fault
+returns-in_err-first-in-State-clause-fault g c =
+    let before = g.P.Peer.called c.args.peer.now in
+    let after = g.P.Peer.called c.moment.new.peer in
+    raised c.from_residual-in_err-first-in-State.result (notes_error.Memory c.in_err-first-in-State.field-0.0)
+    (IsFirstFault g.P.Peer.came g.P.Peer.is_error (MakesCalls before after) c.args.observer.now) c.from_residual-in_err-first-in-State.ensures.1
+    (unmarked g.P.Peer.went g.P.Peer.came before after c.args.observer.now _ c.in-Ok.message _ c.in_ok-count.ensures.registered.1 (sym c.read.ensures.function ∙ c.in-Ok.is)
+    (sym c.notice_of.ensures ∙ c.in-State.is)
+    (dated c.args.observer.now (take c.in_ok-count.count c.register.new.buffer) c.in_ok-at.at before (g.P.Peer.called c.register.new.peer) after c.in_ok-count.ensures.called
+    c.in_ok-at.ensures.called))
+
+pub returns-in_err-write_note-clause-fault : goal.returns-in_err-write_note-clause-fault
+returns-in_err-write_note-clause-fault g c =
+    let before = g.P.Peer.called c.args.peer.now in
+    let after = g.P.Peer.called c.moment.new.peer in
+    raised c.from_residual-in_err-write_note.result (notes_error.Print c.in_err-write_note.field-0.0)
+    (IsFirstFault g.P.Peer.came g.P.Peer.is_error (MakesCalls before after) c.args.observer.now) c.from_residual-in_err-write_note.ensures.1
+    (dated c.args.observer.now (take c.in_ok-count.count c.register.new.buffer) c.in_ok-at.at before (g.P.Peer.called c.register.new.peer) after c.in_ok-count.ensures.called
+    c.in_ok-at.ensures.called)

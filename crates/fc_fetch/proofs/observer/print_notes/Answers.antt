@@ -1,7 +1,10 @@
-use Rattle.std.proofs.Common.{◌≡◌, ◌<◌, ℕ, is_none, subst, sym, ◌∙◌, arith}
+use Rattle.std.proofs.Common.{◌≡◌, ◌<◌, ℕ, inr, is_none, subst, sym, ◌∙◌, arith}
 use Rattle.coap_client.specs.Notes.{Watches}
 use Rattle.coap_client.specs.Transmissions.{MakesCalls}
-use Rattle.fc_fetch.specs.Observing.{AwaitsNote, IsFirstShown, lines_wanted}
+use Rattle.coap_client.proofs.Failing.{raised}
+use Rattle.fc_fetch.specs.declared.observer.NotesError.TheVariants as notes_error
+use Rattle.fc_fetch.specs.Observing.{AwaitsNote, IsFirstShown, IsNotesFault, lines_wanted}
+use Rattle.fc_fetch.proofs.Failures.{stopped}
 use Rattle.fc_fetch.specs.declared.observer.ObservationEnd.TheVariants.{Counted, Last}
 use Rattle.fc_fetch.proofs.Timing.{ends_at_first, ends_in_time, ends_over, observes_on, waits_first}
 use Rattle.fc_fetch.proofs.Lines.{all_shown, last_shown, next_shown, over_shown, some_line}
@@ -68,3 +71,25 @@ returns-then-noted-clause-called g c =
 pub returns-clause-called : goal.returns-clause-called
 returns-clause-called g c =
     ends_in_time c.args.observer.now c.args.extent.seconds Counted (g.P.Peer.called c.args.peer.now) (g.P.Peer.called c.loop.peer) c.loop.invariant.1 (λ calls. tt)
+
+pub returns-in_err-noted-clause-fault : goal.returns-in_err-noted-clause-fault
+returns-in_err-noted-clause-fault g c =
+    let o = c.args.observer.now in
+    let before = g.P.Peer.called c.args.peer.now in
+    let between = g.P.Peer.called c.loop.peer in
+    let after = g.P.Peer.called c.await_note.new.peer in
+    raised c.from_residual-in_err-noted.result (notes_error.Fault c.in_err-noted.field-0.0)
+    (IsNotesFault g.P.Peer.went g.P.Peer.came g.P.Peer.is_moment g.P.Peer.is_error (MakesCalls before after) o c.args.extent.seconds) c.from_residual-in_err-noted.ensures.1
+    (inr (stopped g.P.Peer.went g.P.Peer.came g.P.Peer.is_moment g.P.Peer.is_error before between after o c.args.shown _ _ _ c.args.extent.seconds c.is_some-ends.result c.loop.watch
+    c.in_err-noted.field-0.0 c.is_some-ends.ensures c.loop.invariant.0 c.loop.invariant.1 c.in_err-noted.ensures.fault))
+
+pub returns-in_err-write_note-clause-fault : goal.returns-in_err-write_note-clause-fault
+returns-in_err-write_note-clause-fault g c =
+    let o = c.args.observer.now in
+    let before = g.P.Peer.called c.args.peer.now in
+    let between = g.P.Peer.called c.loop.peer in
+    let after = g.P.Peer.called c.await_note.new.peer in
+    raised c.from_residual-in_err-write_note.result (notes_error.Print c.in_err-write_note.field-0.0)
+    (IsNotesFault g.P.Peer.went g.P.Peer.came g.P.Peer.is_moment g.P.Peer.is_error (MakesCalls before after) o c.args.extent.seconds) c.from_residual-in_err-write_note.ensures.1
+    (inr (ends_in_time o c.args.extent.seconds Counted before after
+    (observes_on o c.args.extent.seconds c.is_some-ends.result _ before between after c.is_some-ends.ensures c.loop.invariant.1 c.in_ok-noted.ensures.called) (λ calls. tt)))
