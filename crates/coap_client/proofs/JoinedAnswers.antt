@@ -17,6 +17,8 @@ use Rattle.coap_client.specs.Fetching.{State, Out, Ended, Outdated, Lost, after_
 use Rattle.coap_client.specs.Joined.{AreBlocksInOrder, BeginsAt, IsLastBlock, IsOneAnswer, payloads}
 use Rattle.coap_client.specs.Parts.{first_part, has_more}
 use Rattle.coap_client.specs.Replies.{block1_of, block2_of, by_more, by_option, by_part, etag_of, is_continue, is_final, fits_place, is_success, is_understood, next_by_code, next_block, next_number, next_of_answer, next_of_body, next_of_whole, next_size}
+use Rattle.coap_client.specs.Representations.{joined}
+use Rattle.coap_client.specs.Representations.{begun as begun_by}
 use Rattle.coap_client.proofs.NextParts.{either, place_is}
 
 -- the response so far: these bytes, of this version, from the latest replies.
@@ -152,25 +154,25 @@ grown m ms body etag next.Refused so same j = absurd j
 grown m ms body etag next.Stale so same j = tt
 grown m ms body etag next.Misfit so same j = tt
 
-part_joins : (e : Errand) (part : Part) (body etag : List ℕ) (m : Message) (ms : List Message) → HasJoined ms (Out part body etag) →
-    Joins m ms (moved_on (by_part (length e.payload.now) part etag m) body etag m)
-part_joins e Whole body etag m ms so = begun m ms body etag _ so (whole_joins 0 m)
-part_joins e (Body n szx) body etag m ms so =
-    begun m ms body etag _ so (either (JoinsAt 0 (length m.payload) (block2_of m)) (has_more (length e.payload.now) n szx) (next_of_body n szx (next_size n szx (is_continue m) (block1_of m))) (next_of_whole n m)
+part_joins : (count : ℕ) (part : Part) (body etag : List ℕ) (m : Message) (ms : List Message) → HasJoined ms (Out part body etag) →
+    Joins m ms (moved_on (by_part count part etag m) body etag m)
+part_joins count Whole body etag m ms so = begun m ms body etag _ so (whole_joins 0 m)
+part_joins count (Body n szx) body etag m ms so =
+    begun m ms body etag _ so (either (JoinsAt 0 (length m.payload) (block2_of m)) (has_more count n szx) (next_of_body n szx (next_size n szx (is_continue m) (block1_of m))) (next_of_whole n m)
     (λ _. body_joins n szx (length m.payload) (block2_of m) _) (λ _. whole_joins n m))
-part_joins e (Answer n szx) body etag m ms so =
+part_joins count (Answer n szx) body etag m ms so =
     either (λ x. Joins m ms (moved_on x body etag m)) (bytes_eq (etag_of m) etag) _ next.Stale
     (λ equal. grown m ms body etag _ so.0 ((bytes_eq-Decides (etag_of m) etag).0 equal)
     (either (JoinsAt (length body) (length m.payload) (block2_of m)) (is_continue m) next.Misfit (next_of_answer n szx m) (λ _. tt) (λ _. option_joins n szx (length m.payload) (length body) (block2_of m) so.1)))
     (λ _. tt)
 
-reply_joins : (e : Errand) (part : Part) (body etag : List ℕ) (m : Message) (ms : List Message) → HasJoined ms (Out part body etag) →
-    Joins m ms (after_reply (length e.payload.now) m (Out part body etag))
-reply_joins e part body etag m ms so =
+reply_joins : (count : ℕ) (part : Part) (body etag : List ℕ) (m : Message) (ms : List Message) → HasJoined ms (Out part body etag) →
+    Joins m ms (after_reply count m (Out part body etag))
+reply_joins count part body etag m ms so =
     let P : Next → Type 0 = λ n. Joins m ms (moved_on n body etag m) in
-    either P (is_understood m) (next_by_code (length e.payload.now) part etag m) next.Misfit
-    (λ _. either P (is_success m.code) (by_part (length e.payload.now) part etag m) next.Refused
-    (λ _. part_joins e part body etag m ms so)
+    either P (is_understood m) (next_by_code count part etag m) next.Misfit
+    (λ _. either P (is_success m.code) (by_part count part etag m) next.Refused
+    (λ _. part_joins count part body etag m ms so)
     (λ failed success. absurd (cc (failed, success))))
     (λ _. tt)
 
@@ -180,11 +182,11 @@ weaker m ms (Ended code body) j = tt
 weaker m ms Outdated j = tt
 weaker m ms Lost j = tt
 
-step_joins : (e : Errand) (m : Message) (ms : List Message) (s : State) → HasJoined ms s → HasJoined (m ∷ ms) (after_reply (length e.payload.now) m s)
-step_joins e m ms (Out part body etag) so = weaker m ms (after_reply (length e.payload.now) m (Out part body etag)) (reply_joins e part body etag m ms so)
-step_joins e m ms (Ended code body) so = tt
-step_joins e m ms Outdated so = tt
-step_joins e m ms Lost so = tt
+step_joins : (count : ℕ) (m : Message) (ms : List Message) (s : State) → HasJoined ms s → HasJoined (m ∷ ms) (after_reply count m s)
+step_joins count m ms (Out part body etag) so = weaker m ms (after_reply count m (Out part body etag)) (reply_joins count part body etag m ms so)
+step_joins count m ms (Ended code body) so = tt
+step_joins count m ms Outdated so = tt
+step_joins count m ms Lost so = tt
 
 first_joins : (method : Method) (count : ℕ) → HasJoined [] (Out (first_part method count) [] [])
 first_joins Get count = refl
@@ -194,11 +196,32 @@ first_joins Put count = either (λ p. HasJoined [] (Out p [] [])) (nat_lt 1024 c
 
 pub has_joined : (e : Errand) (ms : List Message) → HasJoined ms (state_after e ms)
 has_joined e [] = first_joins e.method (length e.payload.now)
-has_joined e (m ∷ ms) = step_joins e m ms (state_after e ms) (has_joined e ms)
+has_joined e (m ∷ ms) = step_joins (length e.payload.now) m ms (state_after e ms) (has_joined e ms)
 
 pub one_answer : (e : Errand) (m : Message) (ms : List Message) (part : Part) (body etag answer : List ℕ) (code : ℕ) → state_after e ms ≡ Out part body etag →
     after_reply (length e.payload.now) m (state_after e ms) ≡ Ended code answer → is_success code ≡ true → IsOneAnswer answer m ms
 one_answer e m ms part body etag answer code out ends success =
     let so = subst (HasJoined ms) out (has_joined e ms) in
     let is = sym (ap (after_reply (length e.payload.now) m) out) ∙ ends in
-    subst (Joins m ms) is (reply_joins e part body etag m ms so) success
+    subst (Joins m ms) is (reply_joins (length e.payload.now) part body etag m ms so) success
+
+-- ---- a state of an observed resource
+
+first_of : (m : Message) → Joins m [] (begun_by m)
+first_of m = begun m [] [] [] (next_of_answer 0 6 m) refl (option_joins 0 6 (length m.payload) 0 (block2_of m) (omega arith))
+
+state_joins : (m : Message) (rs : List Message) → HasJoined (rs ++ m ∷ []) (joined m rs)
+state_joins m [] = weaker m [] (begun_by m) (first_of m)
+state_joins m (r ∷ rs) = step_joins 0 r (rs ++ m ∷ []) (joined m rs) (state_joins m rs)
+
+ended_by : (r : Message) (ms : List Message) (s : State) (code : ℕ) (body : List ℕ) → HasJoined ms s → after_reply 0 r s ≡ Ended code body → is_success code ≡ true → ((c : ℕ) (b : List ℕ) → s ≡ Ended c b → ⊥)
+    → IsOneAnswer body r ms
+ended_by r ms (Out part so_far etag) code body h ends success out = subst (Joins r ms) ends (reply_joins 0 part so_far etag r ms h) success
+ended_by r ms (Ended c b) code body h ends success out = absurd (out c b refl)
+ended_by r ms Outdated code body h ends success out = absurd (cc ends)
+ended_by r ms Lost code body h ends success out = absurd (cc ends)
+
+-- the whole state is joined from blocks of one version.
+pub one_body : (m r : Message) (rs : List Message) (code : ℕ) (body : List ℕ) → ((c : ℕ) (b : List ℕ) → joined m rs ≡ Ended c b → ⊥) → joined m (r ∷ rs) ≡ Ended code body → is_success code ≡ true
+    → IsOneAnswer body r (rs ++ m ∷ [])
+one_body m r rs code body out ends success = ended_by r (rs ++ m ∷ []) (joined m rs) code body (state_joins m rs) ends success out

@@ -14,3 +14,4 @@ pub mod Pinging
 pub mod Observes
 pub mod ObserverCalls
 pub mod Watching
+pub mod Joinings

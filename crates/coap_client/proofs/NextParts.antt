@@ -11,8 +11,8 @@ use Rattle.coap_client.specs.declared.part.Part.TheVariants.{Whole, Body, Answer
 use Rattle.coap_client.specs.declared.reply.Next.{Next}
 use Rattle.coap_client.specs.declared.reply.Next.TheVariants.{Ask, Last, Refused, Stale, Misfit}
 use Rattle.coap_client.specs.Parts.{has_more}
-use Rattle.coap_client.specs.Replies.{block1_of, block2_of, by_more, by_option, by_part, etag_of, is_continue, is_final, fits_place, is_success, is_understood, next_block, next_by_code, next_number, next_of, next_of_answer, next_of_body, next_of_whole, next_size, size_by_block}
-use Rattle.coap_client.specs.Requests.{IsBlock, IsBodyBlock, IsPartOf}
+use Rattle.coap_client.specs.Replies.{block1_of, block2_of, by_more, by_option, by_part, etag_of, is_continue, is_final, fits_place, is_success, is_understood, next_block, next_by_code, next_number, next_of, next_of_answer, next_of_body, next_of_further, next_of_whole, next_size, size_by_block}
+use Rattle.coap_client.specs.Requests.{IsBlock, IsBodyBlock, IsFurther, IsPartOf}
 
 -- a property of both branches.
 pub either : {X : Type 0} (P : X → Type 0) (b : Bool) (x y : X) → (b ≡ true → P x) → (b ≡ false → P y) → P (if b then x else y)
@@ -66,27 +66,53 @@ next_smaller n szx continued None smaller =
 next_smaller n szx continued (Some value) smaller =
     either (λ o. o ≡ Some smaller → smaller ≤ szx) (nat_le (length value) 3) (size_by_block n szx (place_in value)) None (λ _. size_smaller n szx (place_in value) smaller) (λ _ e. absurd (cc e))
 
+-- the next part is a further block.
+abbrev pub IsFurtherAsk : Next → Type 0
+IsFurtherAsk (Ask part) = IsFurther part
+IsFurtherAsk other = Unit {0}
+
+block_next : (b : Place) → b.szx ≤ 6 → IsFurtherAsk (next_block b)
+block_next b small =
+    either IsFurtherAsk (nat_lt (b.number + 1) 1048576) (Ask (Answer (b.number + 1) b.szx)) Misfit (λ below. record { number = ltb-true _ _ below; size = small }) (λ _. tt)
+
+more_next : (b : Place) (count : ℕ) → b.szx ≤ 6 → IsFurtherAsk (by_more b count)
+more_next b count small =
+    either IsFurtherAsk b.more _ _
+    (λ _. either IsFurtherAsk (count == block_size b.szx) (next_block b) Misfit (λ _. block_next b small) (λ _. tt))
+    (λ _. either IsFurtherAsk (nat_le count (block_size b.szx)) Last Misfit (λ _. tt) (λ _. tt))
+
+pub further_next : (n szx count : ℕ) (value : Option (List ℕ)) → szx ≤ 6 → IsFurtherAsk (by_option n szx count value)
+further_next n szx count None small = either IsFurtherAsk (n == 0) Last Misfit (λ _. tt) (λ _. tt)
+further_next n szx count (Some value) small =
+    either IsFurtherAsk (nat_le (length value) 3) _ Misfit
+    (λ _. either IsFurtherAsk (fits_place n szx (place_in value)) (by_more (place_in value) count) Misfit
+    (λ is. let place = place_is n szx (place_in value) is in more_next (place_in value) count (omega (arith, place.smaller, small))) (λ _. tt))
+    (λ _. tt)
+
+-- after the response to a request for a further block.
+pub block_further : (n szx : ℕ) (etag : List ℕ) (m : Message) → szx ≤ 6 → IsFurtherAsk (next_of_further n szx etag m)
+block_further n szx etag m small =
+    either IsFurtherAsk (bytes_eq (etag_of m) etag) _ Stale
+    (λ _. either IsFurtherAsk (is_continue m) Misfit (next_of_answer n szx m) (λ _. tt) (λ _. further_next n szx (length m.payload) (block2_of m) small)) (λ _. tt)
+
+pub is_further : (n : Next) (next : Next) (part : Part) → n ≡ next → IsFurtherAsk next → n ≡ Ask part → IsFurther part
+is_further n next part same h is = subst IsFurtherAsk (sym same ∙ is) h
+
 abbrev pub IsAskOf : Errand → Next → Type 0
 IsAskOf e (Ask part) = IsPartOf e part
 IsAskOf e other = Unit {0}
 
-block_next : (e : Errand) (b : Place) → b.szx ≤ 6 → IsAskOf e (next_block b)
-block_next e b small =
-    either (IsAskOf e) (nat_lt (b.number + 1) 1048576) (Ask (Answer (b.number + 1) b.szx)) Misfit (λ below. record { number = ltb-true _ _ below; size = small }) (λ _. tt)
-
-more_next : (e : Errand) (b : Place) (count : ℕ) → b.szx ≤ 6 → IsAskOf e (by_more b count)
-more_next e b count small =
-    either (IsAskOf e) b.more _ _
-    (λ _. either (IsAskOf e) (count == block_size b.szx) (next_block b) Misfit (λ _. block_next e b small) (λ _. tt))
-    (λ _. either (IsAskOf e) (nat_le count (block_size b.szx)) Last Misfit (λ _. tt) (λ _. tt))
+further_of : (e : Errand) (n : Next) → IsFurtherAsk n → IsAskOf e n
+further_of e (Ask Whole) h = absurd h
+further_of e (Ask (Body n szx)) h = absurd h
+further_of e (Ask (Answer n szx)) h = h
+further_of e Last h = tt
+further_of e Refused h = tt
+further_of e Stale h = tt
+further_of e Misfit h = tt
 
 option_next : (e : Errand) (n szx count : ℕ) (value : Option (List ℕ)) → szx ≤ 6 → IsAskOf e (by_option n szx count value)
-option_next e n szx count None small = either (IsAskOf e) (n == 0) Last Misfit (λ _. tt) (λ _. tt)
-option_next e n szx count (Some value) small =
-    either (IsAskOf e) (nat_le (length value) 3) _ Misfit
-    (λ _. either (IsAskOf e) (fits_place n szx (place_in value)) (by_more (place_in value) count) Misfit
-    (λ is. let place = place_is n szx (place_in value) is in more_next e (place_in value) count (omega (arith, place.smaller, small))) (λ _. tt))
-    (λ _. tt)
+option_next e n szx count value small = further_of e (by_option n szx count value) (further_next n szx count value small)
 
 whole_next : (e : Errand) (n : ℕ) (m : Message) → IsAskOf e (next_of_whole n m)
 whole_next e n m = either (IsAskOf e) (is_final n m) (next_of_answer 0 6 m) Misfit (λ _. option_next e 0 6 (length m.payload) (block2_of m) (omega arith)) (λ _. tt)

@@ -9,7 +9,7 @@ use Rattle.coap_client.specs.declared.transmission.Reception.TheVariants.{Reply,
 use Rattle.coap_client.specs.declared.watch.Watch.{Watch}
 use Rattle.coap_client.specs.Heard.{IsReadAs}
 use Rattle.coap_client.specs.Listening.{ArePassedOver, EndsOn, IsOver, IsPassedOver, acknowledges, is_passed_over}
-use Rattle.coap_client.specs.Notes.{HasArrived, HasOwnResponse, IsAcknowledgementOf, IsResponseWith, TellsObserver}
+use Rattle.coap_client.specs.Notes.{HasArrived, HasOwnResponse, IsAcknowledgementOf, IsAwaitedBy, IsResponseWith, TellsRequest}
 use Rattle.coap_client.specs.Notices.{IsOwnResponse, notice_after}
 use Rattle.coap_client.specs.ObserverCalls.{AcknowledgesNotification, AreObserverSteps, AwaitsNotification, Dated, IsDatedRegistration, IsAcknowledgedLeaving, IsNoNotification, IsNoticed, IsObservation, IsObserverStep, IsObserving, IsOlderNotification, IsPassedOverLeaving, IsPassedOverWatching, dates}
 use Rattle.coap_client.specs.PeerCalls.{Adds, PeerCall, Reads, Receives, Waits}
@@ -21,26 +21,31 @@ use Rattle.coap_client.proofs.Transmitting.{Calls, Passes, does, does_both, does
 suc_left : (k j : ℕ) → suc (k + j) ≡ suc k + j
 suc_left k j = omega arith
 
--- nothing is sent after a datagram that is skipped while a registration is outstanding.
-pub passed_quietly : (token : List ℕ) (id : ℕ) (awaited : Bool) (bytes : List ℕ) (heard : Reception) (now : Calls) → TellsObserver token id bytes heard → is_passed_over awaited heard ≡ true
-    → MakesCalls now now (IsPassedOver (TellsObserver token id) awaited bytes)
-passed_quietly token id awaited bytes Reply now told over = absurd (cc over)
-passed_quietly token id awaited bytes Separate now told over = absurd told.holds
-passed_quietly token id awaited bytes Repeat now told over = absurd told.holds
-passed_quietly token id awaited bytes Acknowledged now told over = passed (TellsObserver token id) awaited bytes Acknowledged now now told over (λ calls h. h)
-passed_quietly token id awaited bytes Rejected now told over = absurd (cc over)
-passed_quietly token id awaited bytes Other now told over = passed (TellsObserver token id) awaited bytes Other now now told over (λ calls h. h)
+-- nothing is sent after a datagram that is skipped while a request is outstanding.
+pub passed_quietly : (token own : List ℕ) (id : ℕ) (awaited : Bool) (bytes : List ℕ) (heard : Reception) (now : Calls) → TellsRequest token own id bytes heard → is_passed_over awaited heard ≡ true
+    → MakesCalls now now (IsPassedOver (TellsRequest token own id) awaited bytes)
+passed_quietly token own id awaited bytes Reply now told over = absurd (cc over)
+passed_quietly token own id awaited bytes Separate now told over = absurd told.holds
+passed_quietly token own id awaited bytes Repeat now told over = absurd told.holds
+passed_quietly token own id awaited bytes Acknowledged now told over = passed (TellsRequest token own id) awaited bytes Acknowledged now now told over (λ calls h. h)
+passed_quietly token own id awaited bytes Rejected now told over = absurd (cc over)
+passed_quietly token own id awaited bytes Other now told over = passed (TellsRequest token own id) awaited bytes Other now now told over (λ calls h. h)
 
 -- a datagram that ends the wait for the response, and is no acknowledgement or rejection, is a
 -- response.
-pub arrived : (came : List ℕ → Type 0) (token : List ℕ) (id : ℕ) (awaited : Bool) (bytes : List ℕ) (heard : Reception) → came bytes → TellsObserver token id bytes heard
-    → is_passed_over awaited heard ≡ false → (heard ≡ Acknowledged → ⊥) → (heard ≡ Rejected → ⊥) → HasArrived came (IsResponseWith token id) bytes
-arrived came token id awaited bytes Reply came_is told ends acknowledged rejected = record { message = told.message; came_is = came_is; read_is = told.read_is; holds = told.holds }
-arrived came token id awaited bytes Separate came_is told ends acknowledged rejected = absurd told.holds
-arrived came token id awaited bytes Repeat came_is told ends acknowledged rejected = absurd told.holds
-arrived came token id awaited bytes Acknowledged came_is told ends acknowledged rejected = absurd (acknowledged refl)
-arrived came token id awaited bytes Rejected came_is told ends acknowledged rejected = absurd (rejected refl)
-arrived came token id awaited bytes Other came_is told ends acknowledged rejected = absurd (cc ends)
+pub arrived : (came : List ℕ → Type 0) (token own : List ℕ) (id : ℕ) (awaited : Bool) (bytes : List ℕ) (heard : Reception) → came bytes → TellsRequest token own id bytes heard
+    → is_passed_over awaited heard ≡ false → (heard ≡ Acknowledged → ⊥) → (heard ≡ Rejected → ⊥) → HasArrived came (IsAwaitedBy token own id) bytes
+arrived came token own id awaited bytes Reply came_is told ends acknowledged rejected = record { message = told.message; came_is = came_is; read_is = told.read_is; holds = told.holds }
+arrived came token own id awaited bytes Separate came_is told ends acknowledged rejected = absurd told.holds
+arrived came token own id awaited bytes Repeat came_is told ends acknowledged rejected = absurd told.holds
+arrived came token own id awaited bytes Acknowledged came_is told ends acknowledged rejected = absurd (acknowledged refl)
+arrived came token own id awaited bytes Rejected came_is told ends acknowledged rejected = absurd (rejected refl)
+arrived came token own id awaited bytes Other came_is told ends acknowledged rejected = absurd (cc ends)
+
+-- a response to the registration has the observer's token.
+pub own_response : (token : List ℕ) (id : ℕ) (m : Message) → IsAwaitedBy token token id m → IsResponseWith token id m
+own_response token id m (inl response) = response
+own_response token id m (inr notification) = inr notification
 
 -- a notification is acknowledged, and another datagram isn't.
 pub acknowledged : (token bytes : List ℕ) (before after : Calls) → IsReadAs bytes (IsOwnResponse token) → Adds before after (acknowledges bytes)

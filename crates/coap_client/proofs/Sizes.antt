@@ -187,6 +187,20 @@ request_fits e part id code kind format options payload below own c is o p =
     (subst (λ x. 0 + length (options_bytes 0 (request_options segments (option_in format) query ++ rest)) + length x + 5 ≤ 1280) (sym p)
     (omega (arith, request_size segments format query rest is (λ b. part_size e part (length e.payload.now) b own), payload_size e part own, e.fits.room))))
 
+-- the request of a further block, with a token of two bytes, fits a datagram.
+pub block_fits : (e : Errand) (n szx id code : ℕ) (token : List ℕ) (kind : MessageType) (options : List (ℕ × List ℕ)) → id < 65536 → IsBlock n szx → code ≡ 1 → length token ≡ 2
+    → options ≡ request_options (slices_in e.target.path.segments.items) [] (slices_in e.target.query.items) ++ part_options (Answer n szx) 0
+    → IsMessage (record { kind = kind; code = code; id = id; token = token; options = options; payload = [] })
+block_fits e n szx id code token kind options below own c two o =
+    let segments = slices_in e.target.path.segments.items in
+    let query = slices_in e.target.query.items in
+    let rest = part_options (Answer n szx) 0 in
+    message_fits (record { kind = kind; code = code; id = id; token = token; options = options; payload = [] })
+    (omega (arith, c)) (omega (arith, c)) below (omega (arith, two))
+    (subst (AreOptions 0) (sym o) (request_are segments None query rest tt (omega (arith, e.fits.room)) (omega (arith, e.fits.room)) (part_are (Answer n szx) 0)))
+    (subst (λ x. length token + length (options_bytes 0 x) + 0 + 5 ≤ 1280) (sym o)
+    (omega (arith, two, request_size segments None query rest tt (λ b. part_size e (Answer n szx) 0 b own), e.fits.room)))
+
 rest_is : (k : ℕ) (payload : List ℕ) → take (length payload - k) (drop k payload) ≡ drop k payload
 rest_is k payload = take_all _ _ (omega (arith, length-drop k payload))
 

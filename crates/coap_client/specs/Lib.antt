@@ -16,3 +16,4 @@ pub mod ObserverCalls
 pub mod Schedules
 pub mod Faults
 pub mod Pings
+pub mod Representations

@@ -29,25 +29,35 @@ use Rattle.coap_client.specs.Requests.{acknowledgement}
 abbrev pub IsResponseWith : List ℕ → ℕ → Message → Type 0
 IsResponseWith token id m = IsReplyWith token id m ⊎ IsOwnResponse token m
 
--- the message isn't a response with the token, and neither acknowledges nor rejects the request.
-pub record IsNoneOf (token : List ℕ) (id : ℕ) (m : Message) : Type 0 where
-  pub reply : IsReplyWith token id m → ⊥
+-- a response to the request with this message ID and its own token, or a notification, which has
+-- the observer's token. The registration's own token is the observer's.
+abbrev pub IsAwaitedBy : List ℕ → List ℕ → ℕ → Message → Type 0
+IsAwaitedBy token own id m = IsResponseWith own id m ⊎ IsOwnResponse token m
+
+-- the message is neither of these, and neither acknowledges nor rejects the request.
+pub record IsNoneOf (token own : List ℕ) (id : ℕ) (m : Message) : Type 0 where
+  pub reply : IsReplyWith own id m → ⊥
+  pub separate : IsOwnResponse own m → ⊥
   pub notification : IsOwnResponse token m → ⊥
   pub acknowledged : IsEmptyAcknowledgement id m → ⊥
   pub rejected : IsReset id m → ⊥
 
--- the classification of a message for an observer whose request with this message ID is
--- outstanding; a datagram that encodes no message is `Other`.
-abbrev pub IsHeardBy : List ℕ → ℕ → Message → Reception → Type 0
-IsHeardBy token id m Reply = IsResponseWith token id m
-IsHeardBy token id m Acknowledged = IsEmptyAcknowledgement id m
-IsHeardBy token id m Rejected = IsReset id m
-IsHeardBy token id m Other = IsNoneOf token id m
-IsHeardBy token id m heard = ⊥
+-- the classification of a message for an observer whose request with this message ID and own token
+-- is outstanding; a datagram that encodes no message is `Other`.
+abbrev pub IsToldAs : List ℕ → List ℕ → ℕ → Message → Reception → Type 0
+IsToldAs token own id m Reply = IsAwaitedBy token own id m
+IsToldAs token own id m Acknowledged = IsEmptyAcknowledgement id m
+IsToldAs token own id m Rejected = IsReset id m
+IsToldAs token own id m Other = IsNoneOf token own id m
+IsToldAs token own id m heard = ⊥
 
+abbrev pub TellsRequest : List ℕ → List ℕ → ℕ → List ℕ → Reception → Type 0
+TellsRequest token own id bytes Other = (m : Message) → reading_of bytes ≡ Ok m → IsNoneOf token own id m
+TellsRequest token own id bytes heard = IsReadAs bytes (λ m. IsToldAs token own id m heard)
+
+-- the classification while the registration is outstanding.
 abbrev pub TellsObserver : List ℕ → ℕ → List ℕ → Reception → Type 0
-TellsObserver token id bytes Other = (m : Message) → reading_of bytes ≡ Ok m → IsNoneOf token id m
-TellsObserver token id bytes heard = IsReadAs bytes (λ m. IsHeardBy token id m heard)
+TellsObserver token id = TellsRequest token token id
 
 -- a datagram arrived that encodes a message with this property.
 pub record HasArrived (came : List ℕ → Type 0) (P : Message → Type 0) (bytes : List ℕ) : Type 0 where
@@ -57,10 +67,10 @@ pub record HasArrived (came : List ℕ → Type 0) (P : Message → Type 0) (byt
   pub holds : P message
 
 -- the outcome of the wait for the response.
-abbrev pub HearsAnswer : (List ℕ → Type 0) → List ℕ → ℕ → List ℕ → Listened → Type 0
-HearsAnswer came token id buffer (listened.Answer count) = (count ≤ length buffer) × HasArrived came (IsResponseWith token id) (take count buffer)
-HearsAnswer came token id buffer listened.Acknowledged = CameAcknowledgement came id
-HearsAnswer came token id buffer listened.Nothing = Unit {0}
+abbrev pub HearsAnswer : (List ℕ → Type 0) → List ℕ → List ℕ → ℕ → List ℕ → Listened → Type 0
+HearsAnswer came token own id buffer (listened.Answer count) = (count ≤ length buffer) × HasArrived came (IsAwaitedBy token own id) (take count buffer)
+HearsAnswer came token own id buffer listened.Acknowledged = CameAcknowledgement came id
+HearsAnswer came token own id buffer listened.Nothing = Unit {0}
 
 -- ---- the messages that it shows
 

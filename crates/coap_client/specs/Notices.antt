@@ -74,6 +74,11 @@ abbrev pub is_last_part : Next → Bool
 is_last_part next.Last = true
 is_last_part other = false
 
+-- more blocks follow.
+abbrev pub is_first_part : Next → Bool
+is_first_part (next.Ask part) = true
+is_first_part other = false
+
 -- the message can be shown. No critical option is unknown, and it is whole by itself, like the
 -- response to the first request of a fetch (RFC 7959, section 2.4).
 abbrev pub can_be_shown : Message → Bool

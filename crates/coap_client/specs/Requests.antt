@@ -1,8 +1,9 @@
 -- The requests of a client, and its acknowledgement of a response.
-use Rattle.std.specs.Prelude.{◌≡◌, ℕ, ◌*◌, ◌<◌, ◌≤◌, ◌^◌, [], ◌++◌, length}
+use Rattle.std.specs.Prelude.{◌≡◌, ℕ, ◌*◌, ◌<◌, ◌≤◌, ◌^◌, List, [], ◌++◌, length}
 use Rattle.coap_msg.specs.Wire.{Message}
-use Rattle.coap_msg.specs.declared.types.MessageType.TheVariants.{Acknowledgement}
-use Rattle.coap_opts.specs.declared.request.Method.TheVariants.{Put}
+use Rattle.std.specs.Int.{to_be_bytes, w16}
+use Rattle.coap_msg.specs.declared.types.MessageType.TheVariants.{Acknowledgement, Confirmable}
+use Rattle.coap_opts.specs.declared.request.Method.TheVariants.{Get, Put}
 use Rattle.coap_opts.specs.Fields.{method_code}
 use Rattle.coap_opts.specs.Values.{block_size}
 use Rattle.coap_client.specs.declared.errand.Errand.{Errand}
@@ -28,6 +29,11 @@ IsPartOf e Whole = most_at_once e.method (length e.payload.now) ≡ length e.pay
 IsPartOf e (Body n szx) = IsBodyBlock e n szx
 IsPartOf e (Answer n szx) = IsBlock n szx
 
+-- the part is a further block of the response.
+abbrev pub IsFurther : Part → Type 0
+IsFurther (Answer n szx) = IsBlock n szx
+IsFurther other = ⊥
+
 -- the request of a part, with this message ID and no token.
 abbrev pub part_request : Errand → Part → ℕ → Message
 part_request e part id = record {
@@ -39,6 +45,23 @@ part_request e part id = record {
       request_options (slices_in e.target.path.segments.items) (format_options e.method part e.content_format) (slices_in e.target.query.items)
       ++ part_options part (length e.payload.now);
   payload = part_payload e.method e.payload.now part;
+}
+
+-- ---- an observer's request for a further block (RFC 7959, section 2.6)
+
+-- the token of the request is its message ID, in two bytes.
+abbrev pub block_token : ℕ → List ℕ
+block_token id = to_be_bytes w16 id
+
+-- the GET of block n of this size, without Observe.
+abbrev pub block_request : Errand → ℕ → ℕ → ℕ → Message
+block_request e n szx id = record {
+  kind = Confirmable;
+  code = method_code Get;
+  id = id;
+  token = block_token id;
+  options = request_options (slices_in e.target.path.segments.items) [] (slices_in e.target.query.items) ++ part_options (Answer n szx) 0;
+  payload = [];
 }
 
 -- the acknowledgement of a message, which has only its message ID (RFC 7252, section 4.2).

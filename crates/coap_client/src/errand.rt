@@ -59,7 +59,7 @@ pub struct Errand<'a> {
 
 impl<'a> Errand<'a> {
     ghost use Rattle.coap_client.specs.Parts.{first_part, has_more, part_options, part_payload};
-    ghost use Rattle.coap_client.specs.Requests.{IsBlock, IsPartOf, part_request};
+    ghost use Rattle.coap_client.specs.Requests.{IsBlock, IsPartOf, block_request, part_request};
 
     /// Builds the errand, or returns `None` if its requests don't fit a datagram.
     ///
@@ -172,6 +172,39 @@ impl<'a> Errand<'a> {
             token: &[],
             options: &options,
             payload: self.payload_of(part),
+        };
+        write(&request, datagram);
+        Ok(())
+    }
+
+    /// Writes the GET of a block of the resource, with this message ID, which is its token too.
+    ///
+    /// It has no body. The request replaces the contents of `datagram`.
+    ///
+    /// # Errors
+    /// Returns `AllocError` if memory can't be allocated for the list of options.
+    pub(crate) fn write_block(
+        &self,
+        alloc: Global,
+        number: u32,
+        szx: u8,
+        id: u16,
+        datagram: &mut Datagram,
+    ) -> Result<(), AllocError>
+        requires { IsBlock number szx }
+        ensures { OnOk result (datagram.new.items ≡ message_bytes (block_request self.now number szx id)) }
+    {
+        let format = None;
+        let block = Some((BLOCK2, Block::new(number, false, szx).value()));
+        let options = options_with(alloc, &self.target, &format, &block)?;
+        let token = id.to_be_bytes();
+        let request = Outgoing {
+            kind: MessageType::Confirmable,
+            code: Code::GET,
+            id,
+            token: &token,
+            options: &options,
+            payload: &[],
         };
         write(&request, datagram);
         Ok(())

@@ -1,5 +1,5 @@
 //! Laws about the definitions. Each law is the contract of an empty function.
-ghost use Rattle.std.specs.Prelude.{◌≡◌, ◌+◌, ◌*◌, ◌%◌, ◌<◌, ◌≤◌, ◌⊎◌, ℕ, Bool, List, [], ◌∷◌, Option, Some, None, codes, drop, false, length, take, true};
+ghost use Rattle.std.specs.Prelude.{◌≡◌, ◌+◌, ◌*◌, ◌%◌, ◌<◌, ◌≤◌, ◌⊎◌, ◌++◌, ℕ, Bool, List, [], ◌∷◌, Option, Some, None, codes, drop, false, length, take, true};
 ghost use Rattle.coap_msg.specs.Wire.{Message, SpellsMessage, message_bytes};
 ghost use Rattle.coap_opts.specs.Values.{block_bytes};
 ghost use Rattle.coap_opts.specs.declared.request.Method.TheVariants.{Get, Post, Put};
@@ -25,7 +25,11 @@ ghost use Rattle.coap_client.specs.ObserverCalls.{IsDeregistration, IsPassedOver
 ghost use Rattle.coap_client.specs.Transmissions.{AreInVain, IsLastSending, IsTransmission};
 ghost use Rattle.coap_client.specs.Fetching.{Ended, Out, after_reply, state_after};
 ghost use Rattle.coap_client.specs.Joined.{IsOneAnswer, SaysTaken};
-ghost use Rattle.coap_client.specs.Replies.{first_or_none, is_success};
+ghost use Rattle.coap_client.specs.Replies.{first_or_none, is_success, next_of_answer};
+ghost use Rattle.coap_client.specs.Representations.{joined};
+ghost use Rattle.coap_client.specs.Requests.{block_request};
+ghost use Rattle.coap_client.specs.Paths.{slices_in};
+ghost use Rattle.coap_client.specs.declared.reply.Next.TheVariants as next;
 ghost use Rattle.coap_msg.specs.Values.{values_in};
 ghost use Rattle.coap_client.specs.PathErrors.{IsPathFault};
 ghost use Rattle.coap_client.specs.declared.path.PathError.TheVariants.{Empty};
@@ -51,6 +55,27 @@ pub fn the_answer_is_of_one_version()
         state_after e replies ≡ Out part body etag →
         state_after e (m ∷ replies) ≡ Ended code answer → is_success code ≡ true →
         IsOneAnswer answer m replies }
+{}
+
+/// The body of an observed state is joined from blocks of one ETag.
+///
+/// A notification that is whole is the body. Otherwise it is the first block, and the last reply has
+/// the last block. Each block begins at the end of those before it, and all have one ETag, or none
+/// (RFC 7959, section 2.4).
+pub fn an_observed_state_is_of_one_version()
+    ensures whole { (m : Message) (code : ℕ) (body : List ℕ) → joined m [] ≡ Ended code body → next_of_answer 0 6 m ≡ next.Last → body ≡ m.payload }
+    ensures blocks { (m reply : Message) (replies : List Message) (code : ℕ) (body : List ℕ) → ((c : ℕ) (b : List ℕ) → joined m replies ≡ Ended c b → ⊥) →
+        joined m (reply ∷ replies) ≡ Ended code body → is_success code ≡ true → IsOneAnswer body reply (replies ++ m ∷ []) }
+{}
+
+/// The request of a further block is a GET without Observe, whose token is its message ID.
+///
+/// It has the path, the query and Block2, option 23: block 1 of 1,024 bytes has the value 22. With
+/// message ID 258 its token is the bytes 1 and 2 (RFC 7959, sections 2.2 and 2.6).
+pub fn further_blocks_are_requested_without_observe()
+    ensures options { (e : Errand) (id : ℕ) → slices_in e.target.path.segments.items ≡ codes "r" ∷ [] → slices_in e.target.query.items ≡ []
+        → (block_request e 1 6 id).options ≡ (11, codes "r") ∷ (23, 22 ∷ []) ∷ [] }
+    ensures token { (e : Errand) (n szx : ℕ) → (block_request e n szx 258).token ≡ 1 ∷ 2 ∷ [] }
 {}
 
 /// After the greatest sequence number, 0 is newer.

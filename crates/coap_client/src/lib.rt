@@ -45,6 +45,17 @@
 //!   the end of those before it, and none follows the last.
 //! - The fetch starts again at most once, and only for a GET.
 //!
+//! *A state of several blocks that an observer is notified of:*
+//!
+//! - Each further block is requested by a GET without Observe, whose token is its message ID, by the
+//!   schedule of a confirmable request. Its response, or a notification, ends the wait.
+//! - The body consists of the payloads of the notification and of the responses to these requests,
+//!   joined. All have one ETag, or none, each begins at the end of those before it, and none follows
+//!   the last (RFC 7959, sections 2.4 and 2.6).
+//! - A newer notification ends the joining, and is recorded as shown. An older one, and a duplicate,
+//!   change nothing.
+//! - `fcreq observe` doesn't call it yet: a notification that isn't whole ends its observation.
+//!
 //! *A fetch that fails, in terms of its calls:*
 //!
 //! - *No answer*: earlier requests have their responses, and the last one was sent by the whole
@@ -116,7 +127,7 @@
 //!
 //! By the contracts of `Path::parse`, `Errand::new`, `Errand::write`, `is_reply`, `is_separate`,
 //! `next_of`, `fetch`, `laws`; `Observer::register`, `deregister`, `deregister_by`, `notice_of`,
-//! `is_newer`, `Watch::notice_of`, `keep`, `next`; `ping`; `UdpPeer`.
+//! `is_newer`, `Watch::notice_of`, `keep`, `next`, `complete`; `Joining`; `ask_block`; `ping`; `UdpPeer`.
 //!
 //! No public clause of [`UdpPeer`] says which bytes its socket sends and receives, or that a
 //! receive ends with its wait. Tests try that over a socket.
@@ -124,6 +135,7 @@
 
 pub mod errand;
 pub mod fetcher;
+pub mod joining;
 pub mod laws;
 pub mod notice;
 pub mod observing;
@@ -138,6 +150,7 @@ pub mod watch;
 
 pub use errand::{Errand, RequestTarget};
 pub use fetcher::{FetchFault, Fetched, fetch};
+pub use joining::{Completion, Joining, Unfetched};
 pub use notice::Notice;
 pub use observing::{NotedMessage, Observer};
 pub use part::Part;

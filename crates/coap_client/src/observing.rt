@@ -4,7 +4,7 @@ ghost use Rattle.coap_msg.specs.Wire.{message_bytes};
 ghost use Rattle.coap_msg.specs.Writing.{options_in};
 ghost use Rattle.coap_client.specs.Faults.{IsDeregistrationFault, IsLeavingFault, IsNotificationFault, IsOfPeer, IsRegistrationFault, IsRejectedBy, IsRejectedLeaving, IsRejection, deregistration_of};
 ghost use Rattle.coap_client.specs.Heard.{IsReadAs};
-ghost use Rattle.coap_client.specs.Notes.{HasAcknowledgement, HasArrived, HasDeregistered, HearsAnswer, IsAcknowledgementOf, IsHeardBy, HasOwnResponse, IsRegistered, IsResponseWith, TellsObserver, Watches};
+ghost use Rattle.coap_client.specs.Notes.{HasAcknowledgement, HasArrived, HasDeregistered, HearsAnswer, IsAcknowledgementOf, IsAwaitedBy, IsToldAs, HasOwnResponse, IsRegistered, TellsRequest, Watches};
 ghost use Rattle.coap_client.specs.Notices.{IsOwnResponse, observe_request, observe_value};
 ghost use Rattle.coap_client.specs.Replies.{IsReset};
 ghost use Rattle.coap_opts.specs.Values.{uint_bytes};
@@ -14,6 +14,8 @@ ghost use Rattle.coap_client.specs.ObserverCalls.{AcknowledgesNotification, Awai
 ghost use Rattle.coap_client.specs.Transmissions.{MakesCalls, IsAskedAgain, EndsAwaited};
 ghost use Rattle.std.specs.Bool.{OnTrue};
 ghost use Rattle.coap_client.specs.Parts.{resource_options};
+ghost use Rattle.coap_client.specs.Representations.{IsBlockAnswer, IsBlockFault, IsBlockTransmission};
+ghost use Rattle.coap_client.specs.Requests.{IsBlock};
 ghost use Rattle.coap_client.specs.Paths.{slices_in};
 
 use crate::errand::{Errand, push_options};
@@ -95,34 +97,37 @@ impl<'a> Observer<'a> {
             self.id,
             &mut datagram,
         )?;
-        let Some(count) = self.ask(peer, &datagram, buffer)? else {
+        let Some(count) = self.ask(&self.token, self.id, peer, &datagram, buffer)? else {
             return Err(FetchFault::Silence);
         };
         acknowledge(peer, &buffer[..count])?;
         Ok(count)
     }
 
-    // Sends the registration until there is a response.
+    // Sends a request with this own token and message ID until it has a response, or a notification
+    // arrives.
     fn ask<P: Peer>(
         &self,
+        own: &[u8],
+        id: u16,
         peer: &mut P,
         datagram: &Datagram,
         buffer: &mut Buffer,
     ) -> Result<Option<usize>, FetchFault>
         ensures answer { IfOk result (λ r. IfSome r (λ count. (count ≤ length buffer.new) × P.went datagram.now.items
-            × HasArrived P.came (IsResponseWith self.now.token self.now.id) (take count buffer.new))) }
+            × HasArrived P.came (IsAwaitedBy self.now.token own.now id) (take count buffer.new))) }
         ensures called { IfOk result (λ r. MakesCalls (P.called peer.old) (P.called peer.new)
-            (IsAskedAgain (TellsObserver self.now.token self.now.id) datagram.now.items (received_bytes buffer.new r))) }
+            (IsAskedAgain (TellsRequest self.now.token own.now id) datagram.now.items (received_bytes buffer.new r))) }
         ensures fault { IfErr result (IsOfPeer P.is_error (MakesCalls (P.called peer.old) (P.called peer.new)
-            (IsRejection true (TellsObserver self.now.token self.now.id) datagram.now.items))) }
+            (IsRejection true (TellsRequest self.now.token own.now id) datagram.now.items))) }
     {
         for sendings in 0..SENDINGS {
             send(peer, datagram, ack_timeout(sendings))?;
-            match self.listen(peer, false, buffer)? {
+            match self.listen(own, id, peer, false, buffer)? {
                 Listened::Answer(count) => return Ok(Some(count)),
                 Listened::Acknowledged => {
                     peer.begin_wait(SEPARATE_WAIT)?;
-                    return self.await_answer(peer, buffer);
+                    return self.await_answer(own, id, peer, buffer);
                 }
                 Listened::Nothing => {}
             }
@@ -130,20 +135,22 @@ impl<'a> Observer<'a> {
         Ok(None)
     }
 
-    // Waits for the response to an acknowledged registration.
+    // Waits for the response to an acknowledged request.
     fn await_answer<P: Peer>(
         &self,
+        own: &[u8],
+        id: u16,
         peer: &mut P,
         buffer: &mut Buffer,
     ) -> Result<Option<usize>, FetchFault>
         ensures answer { IfOk result (λ r. IfSome r (λ count. (count ≤ length buffer.new)
-            × HasArrived P.came (IsResponseWith self.now.token self.now.id) (take count buffer.new))) }
+            × HasArrived P.came (IsAwaitedBy self.now.token own.now id) (take count buffer.new))) }
         ensures called { IfOk result (λ r. MakesCalls (P.called peer.old) (P.called peer.new)
-            (EndsAwaited (TellsObserver self.now.token self.now.id) (received_bytes buffer.new r))) }
+            (EndsAwaited (TellsRequest self.now.token own.now id) (received_bytes buffer.new r))) }
         ensures fault { IfErr result (IsOfPeer P.is_error (MakesCalls (P.called peer.old) (P.called peer.new)
-            (IsRejectedBy (TellsObserver self.now.token self.now.id) true))) }
+            (IsRejectedBy (TellsRequest self.now.token own.now id) true))) }
     {
-        match self.listen(peer, true, buffer)? {
+        match self.listen(own, id, peer, true, buffer)? {
             Listened::Answer(count) => Ok(Some(count)),
             Listened::Acknowledged | Listened::Nothing => Ok(None),
         }
@@ -152,21 +159,23 @@ impl<'a> Observer<'a> {
     // Receives datagrams until one ends the wait or the wait is over; skips the others.
     fn listen<P: Peer>(
         &self,
+        own: &[u8],
+        id: u16,
         peer: &mut P,
         awaited: bool,
         buffer: &mut Buffer,
     ) -> Result<Listened, FetchFault>
-        ensures listened { IfOk result (HearsAnswer P.came self.now.token self.now.id buffer.new) }
+        ensures listened { IfOk result (HearsAnswer P.came self.now.token own.now id buffer.new) }
         ensures called { IfOk result (λ x. MakesCalls (P.called peer.old) (P.called peer.new)
-            (IsHeard (TellsObserver self.now.token self.now.id) awaited buffer.new x)) }
+            (IsHeard (TellsRequest self.now.token own.now id) awaited buffer.new x)) }
         ensures fault { IfErr result (IsOfPeer P.is_error (MakesCalls (P.called peer.old) (P.called peer.new)
-            (IsRejectedBy (TellsObserver self.now.token self.now.id) awaited))) }
+            (IsRejectedBy (TellsRequest self.now.token own.now id) awaited))) }
     {
         for received in 0..u64::MAX {
             let Some(count) = peer.receive(buffer)? else {
                 return Ok(Listened::Nothing);
             };
-            let heard = hear_datagram(&self.token, self.id, &buffer[..count]);
+            let heard = hear_datagram(&self.token, own, id, &buffer[..count]);
             match heard {
                 _ if is_passed_over(awaited, heard) => {}
                 Reception::Acknowledged => return Ok(Listened::Acknowledged),
@@ -175,6 +184,42 @@ impl<'a> Observer<'a> {
             }
         }
         Ok(Listened::Nothing)
+    }
+
+    /// Requests a block of the observed resource, and returns the length of what arrived, in bytes.
+    ///
+    /// Sends a confirmable GET without Observe, and retransmits it as a fetch does. The response, or
+    /// a notification that arrives before it, is at the start of `buffer`. It is acknowledged if it
+    /// is confirmable. Returns `None` if neither arrives.
+    ///
+    /// # Errors
+    /// Returns an error if the request is rejected, or if sending, receiving or allocating memory
+    /// fails.
+    pub fn ask_block<P: Peer>(
+        &self,
+        alloc: Global,
+        peer: &mut P,
+        number: u32,
+        szx: u8,
+        id: u16,
+        buffer: &mut Buffer,
+    ) -> Result<Option<usize>, FetchFault>
+        requires { IsBlock number szx }
+        ensures answer { IfOk result (λ r. IfSome r (λ count. (count ≤ length buffer.new)
+            × IsBlockAnswer P.went P.came self.now number szx id (take count buffer.new))) }
+        ensures called { IfOk result (λ r. MakesCalls (P.called peer.old) (P.called peer.new)
+            (IsBlockTransmission self.now number szx id (received_bytes buffer.new r))) }
+        ensures fault { IfErr result (IsBlockFault P.is_error (MakesCalls (P.called peer.old) (P.called peer.new)) self.now number szx id) }
+    {
+        let mut datagram = Datagram::new();
+        self.errand
+            .write_block(alloc, number, szx, id, &mut datagram)?;
+        let own = id.to_be_bytes();
+        let Some(count) = self.ask(&own, id, peer, &datagram, buffer)? else {
+            return Ok(None);
+        };
+        acknowledge(peer, &buffer[..count])?;
+        Ok(Some(count))
     }
 
     /// Deregisters the observer.
@@ -338,20 +383,23 @@ fn tells_notification(token: &[u8], bytes: &[u8]) -> bool
     }
 }
 
-// Classifies a datagram for an observer whose registration has this message ID.
-fn hear_datagram(token: &[u8], id: u16, bytes: &[u8]) -> Reception
-    ensures { TellsObserver token.now id bytes.now result }
+// Classifies a datagram for an observer whose request has this own token and message ID.
+fn hear_datagram(token: &[u8], own: &[u8], id: u16, bytes: &[u8]) -> Reception
+    ensures { TellsRequest token.now own.now id bytes.now result }
 {
     match read(bytes) {
-        Ok(message) => hear_message(token, id, &message),
+        Ok(message) => hear_message(token, own, id, &message),
         Err(_) => Reception::Other,
     }
 }
 
-fn hear_message(token: &[u8], id: u16, message: &Message<'_>) -> Reception
-    ensures { IsHeardBy token.now id message.now result }
+fn hear_message(token: &[u8], own: &[u8], id: u16, message: &Message<'_>) -> Reception
+    ensures { IsToldAs token.now own.now id message.now result }
 {
-    if is_reply_with(token, id, message) || is_notification(token, message) {
+    if is_reply_with(own, id, message)
+        || is_notification(own, message)
+        || is_notification(token, message)
+    {
         Reception::Reply
     } else if is_empty_acknowledgement(id, message) {
         Reception::Acknowledged

@@ -1,7 +1,10 @@
 //! Replies: the messages that answer a request, and the next step of a fetch.
 ghost use Rattle.std.specs.Prelude.{◌≡◌, ◌≤◌, ◌↔◌, IfSome, IsTrue, Some, [], length, true};
 ghost use Rattle.std.specs.List.{list_all};
-ghost use Rattle.coap_client.specs.Requests.{IsBlock, IsPartOf};
+ghost use Rattle.coap_client.specs.Requests.{IsBlock, IsFurther, IsPartOf};
+ghost use Rattle.coap_client.specs.declared.part.Part.TheVariants.{Answer};
+ghost use Rattle.coap_client.specs.declared.part.Part.{Part as Piece};
+ghost use Rattle.coap_client.specs.declared.reply.Next.TheVariants.{Ask};
 ghost use Rattle.coap_client.specs.Replies.{IsEmptyAcknowledgement, IsReply, IsReset, IsSeparate};
 ghost use Rattle.coap_client.specs.Replies as spec;
 
@@ -128,6 +131,21 @@ pub fn next_of(errand: &Errand<'_>, part: Part, etag: &[u8], message: &Message<'
         }
         Part::Body { number, .. } => next_of_whole(number, message),
         Part::Answer { number, szx } => next_of_further(number, szx, etag, message),
+    }
+}
+
+// Returns the next step after the response to a request for a further block.
+pub(crate) fn next_of_block(number: u32, szx: u8, etag: &[u8], message: &Message<'_>) -> Next
+    requires { IsBlock number szx }
+    ensures next { result ≡ spec.next_of 0 (Answer number szx) etag.now message.now }
+    ensures further { (part : Piece) → result ≡ Ask part → IsFurther part }
+{
+    if !is_understood(message) {
+        Next::Misfit
+    } else if message.code().class() != SUCCESS {
+        Next::Refused
+    } else {
+        next_of_further(number, szx, etag, message)
     }
 }
 
@@ -266,7 +284,8 @@ fn next_of_further(number: u32, szx: u8, etag: &[u8], message: &Message<'_>) -> 
 // Returns the next step after a success that answers a request for this block.
 pub(crate) fn next_of_answer(number: u32, szx: u8, message: &Message<'_>) -> Next
     requires { IsBlock number szx }
-    ensures { result ≡ spec.next_of_answer number szx message.now }
+    ensures next { result ≡ spec.next_of_answer number szx message.now }
+    ensures further { (part : Piece) → result ≡ Ask part → IsFurther part }
 {
     match message.values(BLOCK2).next() {
         None if number == 0 => Next::Last,

@@ -2,11 +2,14 @@
 //!
 //! The datagrams are worked out by hand.
 use crate::faulty::{Full, Unflushed};
-use crate::scripted::{Scripted, check_sent, comes, comes_at, follows};
+use crate::scripted::{Scripted, check_sent, comes, comes_at, follows, joined};
 use crate::socket_tests::free_port;
 use coap_client::notice::{is_newer, notice_of};
 use coap_client::peer::BUFFER;
-use coap_client::{Errand, FetchFault, Notice, Observer, Path, RequestTarget};
+use coap_client::{
+    Completion, Errand, FetchFault, Joining, Notice, Observer, Path, RequestTarget, Unfetched,
+    Watch,
+};
 use coap_msg::read;
 use coap_opts::Method;
 use fc_cli::Status;
@@ -242,6 +245,110 @@ fn an_observer_prints_so_many_lines(rt: HostRuntime) -> Result<(), Fail> {
     comes_with(&mut server, 1, b"\x54\x45\x10\x01", b"\x61\x04")?;
     let out = watched(rt.alloc(), &mut server, 2)?;
     assert!(rt; out.as_slice() == b"2.05 a\n2.05\n".as_slice());
+    Ok(())
+}
+
+// Joins a state of slot 1, whose first block is in this notification, by requests with message IDs
+// from 256 on.
+fn completed(
+    alloc: Global,
+    server: &mut Scripted,
+    first: &[u8],
+) -> Result<(Completion, u32), Fail> {
+    let errand = slot_one(alloc)?;
+    let observer = Observer {
+        errand: &errand,
+        token: TOKEN,
+        id: 7,
+    };
+    let Ok(message) = read(first) else {
+        return Err(Fail::new("no message"));
+    };
+    let mut watch = Watch::first(alloc, 2, 0, &message)?;
+    let Some(joining) = Joining::begin(alloc, &message)? else {
+        return Err(Fail::new("no first block"));
+    };
+    let mut ids = 256;
+    let mut buffer = [0; BUFFER];
+    let completion = watch.complete(alloc, server, &observer, joining, &mut ids, &mut buffer)?;
+    Ok((completion, watch.sequence))
+}
+
+// A notification of the first of two blocks: Observe 2, ETag 9, Block2 with number 0, more, 1,024
+// bytes (RFC 7959, section 2.2).
+fn first_of_two(alloc: Global) -> Result<Vec<u8>, AllocError> {
+    joined(
+        alloc,
+        b"\x54\x45\x10\x00\x01\x02\x03\x04\x41\x09\x21\x02\xd1\x04\x0e\xff",
+        &[7; 1024],
+    )
+}
+
+// The second block has the same ETag. Its request is a GET of block 1 without Observe: Uri-Path `r`
+// and `1`, and Block2. Before it a notification with the same message ID arrives again.
+#[test]
+fn a_state_of_two_blocks_is_joined(rt: HostRuntime) -> Result<(), Fail> {
+    let alloc = rt.alloc();
+    let first = first_of_two(alloc)?;
+    let mut server = follows(alloc);
+    comes(&mut server, &first, &[])?;
+    comes(
+        &mut server,
+        b"\x62\x45\x01\x01\x01\x01\x41\x09\xd1\x06\x16\xff",
+        b"end",
+    )?;
+    let (completion, sequence) = completed(alloc, &mut server, &first)?;
+    let body = joined(alloc, &[7; 1024], b"end")?;
+    assert!(rt;
+        matches!(&completion, Completion::Whole(code, bytes) if code.byte == 0x45 && bytes.as_slice() == body.as_slice())
+    );
+    assert!(rt; sequence == 2 && server.sent.len() == 2);
+    check_sent(
+        &rt,
+        &server,
+        0,
+        b"\x42\x01\x01\x00\x01\x00\xb1\x72\x01\x31\xc1\x16",
+        &[],
+    );
+    check_sent(
+        &rt,
+        &server,
+        1,
+        b"\x42\x01\x01\x01\x01\x01\xb1\x72\x01\x31\xc1\x16",
+        &[],
+    );
+    Ok(())
+}
+
+// A further block with another ETag, a newer notification, an error, and no answer.
+#[test]
+fn a_state_that_changes_is_not_joined(rt: HostRuntime) -> Result<(), Fail> {
+    let alloc = rt.alloc();
+    let first = first_of_two(alloc)?;
+    let mut server = follows(alloc);
+    comes(
+        &mut server,
+        b"\x62\x45\x01\x00\x01\x00\x41\x08\xd1\x06\x16\xff",
+        b"end",
+    )?;
+    let (completion, _) = completed(alloc, &mut server, &first)?;
+    assert!(rt; matches!(&completion, Completion::Unfetched(Unfetched::Changed)));
+    let mut server = follows(alloc);
+    comes_with(&mut server, 0, b"\x54\x45\x10\x01", b"\x61\x03\xff\x62")?;
+    let (completion, sequence) = completed(alloc, &mut server, &first)?;
+    assert!(rt;
+        matches!(&completion, Completion::Newer(noted) if !noted.last && noted.count == 12)
+            && sequence == 3
+    );
+    let mut server = follows(alloc);
+    comes(&mut server, b"\x62\x84\x01\x00\x01\x00", &[])?;
+    let (completion, _) = completed(alloc, &mut server, &first)?;
+    assert!(rt;
+        matches!(&completion, Completion::Unfetched(Unfetched::Refused(code)) if code.byte == 0x84)
+    );
+    let mut server = follows(alloc);
+    let (completion, _) = completed(alloc, &mut server, &first)?;
+    assert!(rt; matches!(&completion, Completion::Unfetched(Unfetched::Silence)));
     Ok(())
 }
 

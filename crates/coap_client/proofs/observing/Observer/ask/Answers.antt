@@ -1,6 +1,6 @@
 use Rattle.std.proofs.Common.{false, true, take, arith, subst}
 use Rattle.coap_client.specs.Faults.{IsOfPeer, IsRejectedBy, IsRejection}
-use Rattle.coap_client.specs.Notes.{TellsObserver}
+use Rattle.coap_client.specs.Notes.{TellsRequest}
 use Rattle.coap_client.specs.Listening.{IsHeard, IsPassedOver}
 use Rattle.coap_client.specs.Transmissions.{MakesCalls}
 use Rattle.coap_client.proofs.Failing.{of_peer, of_peer_result, raised, rejected, rejected_later}
@@ -9,7 +9,7 @@ use Rattle.coap_client.proofs.observing.Observer.ask.Goals as goal
 
 pub loop-sendings-preserved : goal.loop-sendings-preserved
 loop-sendings-preserved g c =
-    let tells = TellsObserver c.args.self.now.token c.args.self.now.id in
+    let tells = TellsRequest c.args.self.now.token c.args.own.now c.args.id in
     let sent = g.P.Peer.called c.send.new.peer in
     let after = g.P.Peer.called c.listen.new.peer in
     in_vain (IsPassedOver tells false) c.args.datagram.now.items c.loop-sendings.sendings (g.P.Peer.called c.args.peer.now) (g.P.Peer.called c.loop-sendings.peer) after
@@ -19,7 +19,7 @@ loop-sendings-preserved g c =
 
 pub returns-in-Answer-clause-called : goal.returns-in-Answer-clause-called
 returns-in-Answer-clause-called g c =
-    let tells = TellsObserver c.args.self.now.token c.args.self.now.id in
+    let tells = TellsRequest c.args.self.now.token c.args.own.now c.args.id in
     let sent = g.P.Peer.called c.send.new.peer in
     let after = g.P.Peer.called c.listen.new.peer in
     answered tells c.args.datagram.now.items c.loop-sendings.sendings (take c.in-Answer.count c.listen.new.buffer) (g.P.Peer.called c.args.peer.now)
@@ -29,7 +29,7 @@ returns-in-Answer-clause-called g c =
 
 pub returns-in-Acknowledged-clause-called : goal.returns-in-Acknowledged-clause-called
 returns-in-Acknowledged-clause-called g c =
-    let tells = TellsObserver c.args.self.now.token c.args.self.now.id in
+    let tells = TellsRequest c.args.self.now.token c.args.own.now c.args.id in
     let sent = g.P.Peer.called c.send.new.peer in
     let heard = g.P.Peer.called c.listen.new.peer in
     awaited tells c.args.datagram.now.items c.loop-sendings.sendings c.ack_timeout.result c.await_answer.new.buffer (g.P.Peer.called c.args.peer.now)
@@ -40,12 +40,12 @@ returns-in-Acknowledged-clause-called g c =
 
 pub returns-clause-called : goal.returns-clause-called
 returns-clause-called g c =
-    in_vain_to_the_end (TellsObserver c.args.self.now.token c.args.self.now.id) c.args.datagram.now.items c.loop-sendings.sendings (g.P.Peer.called c.args.peer.now) (g.P.Peer.called c.loop-sendings.peer)
+    in_vain_to_the_end (TellsRequest c.args.self.now.token c.args.own.now c.args.id) c.args.datagram.now.items c.loop-sendings.sendings (g.P.Peer.called c.args.peer.now) (g.P.Peer.called c.loop-sendings.peer)
     (let end = c.loop-sendings-test.false in let bound = c.loop-sendings.auto.sendings-end in omega (arith, end, bound)) c.loop-sendings.invariant
 
 pub returns-in_err-count-clause-fault : goal.returns-in_err-count-clause-fault
 returns-in_err-count-clause-fault g c =
-    let tells = TellsObserver c.args.self.now.token c.args.self.now.id in
+    let tells = TellsRequest c.args.self.now.token c.args.own.now c.args.id in
     let before = g.P.Peer.called c.args.peer.now in
     let sent = g.P.Peer.called c.send.new.peer in
     let after = g.P.Peer.called c.listen.new.peer in
@@ -57,7 +57,7 @@ returns-in_err-count-clause-fault g c =
 
 pub returns-in-Acknowledged-clause-fault : goal.returns-in-Acknowledged-clause-fault
 returns-in-Acknowledged-clause-fault g c =
-    let tells = TellsObserver c.args.self.now.token c.args.self.now.id in
+    let tells = TellsRequest c.args.self.now.token c.args.own.now c.args.id in
     let sent = g.P.Peer.called c.send.new.peer in
     let heard = g.P.Peer.called c.listen.new.peer in
     let begun = g.P.Peer.called c.begin_wait.new.self in

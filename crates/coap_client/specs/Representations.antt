@@ -1,0 +1,179 @@
+-- The representation of an observed resource in a notification of several blocks: its further blocks
+-- are requested without Observe (RFC 7959, sections 2.6 and 3.4).
+use Rattle.std.specs.Prelude.{◌≡◌, ℕ, zero, suc, ◌≤◌, ◌⊎◌, max, Bool, true, false, List, [], ◌∷◌, ◌++◌, length, take, Option, Some, None}
+use Rattle.coap_msg.specs.Wire.{Message, message_bytes}
+use Rattle.coap_client.specs.declared.fetcher.FetchFault.{FetchFault}
+use Rattle.coap_client.specs.declared.fetcher.FetchFault.TheVariants as fault
+use Rattle.coap_client.specs.declared.fetcher.Step.{Step}
+use Rattle.coap_client.specs.declared.fetcher.Step.TheVariants as step
+use Rattle.coap_client.specs.declared.joining.BlockHeard.{BlockHeard}
+use Rattle.coap_client.specs.declared.joining.BlockHeard.TheVariants as heard
+use Rattle.coap_client.specs.declared.joining.Completion.{Completion}
+use Rattle.coap_client.specs.declared.joining.Completion.TheVariants as completion
+use Rattle.coap_client.specs.declared.joining.Joining.{Joining}
+use Rattle.coap_client.specs.declared.notice.Notice.{Notice}
+use Rattle.coap_client.specs.declared.notice.Notice.TheVariants as notice
+use Rattle.coap_client.specs.declared.observing.DatedMessage.{DatedMessage}
+use Rattle.coap_client.specs.declared.observing.NotedMessage.{NotedMessage}
+use Rattle.coap_client.specs.declared.observing.Observer.{Observer}
+use Rattle.coap_client.specs.declared.part.Part.TheVariants.{Answer}
+use Rattle.coap_client.specs.declared.watch.Watch.{Watch}
+use Rattle.coap_client.specs.Faults.{IsOfPeer, IsRejection, UnfitCame}
+use Rattle.coap_client.specs.Fetching.{State, Out, Ended, Outdated, Lost, after_reply, moved_on}
+use Rattle.coap_client.specs.Notes.{IsAwaitedBy, IsHeardFrom, IsNextNote, IsResponseWith, IsShownAs, TellsRequest}
+use Rattle.coap_client.specs.Notices.{is_first_part}
+use Rattle.coap_client.specs.Parts.{largest_szx}
+use Rattle.coap_client.specs.PeerCalls.{PeerCall, PeerError, Reads}
+use Rattle.coap_client.specs.Replies.{is_success, next_of_answer}
+use Rattle.coap_client.specs.Requests.{IsBlock, block_request, block_token}
+use Rattle.coap_client.specs.Transmissions.{IsTransmission}
+
+-- ---- the request of a further block
+
+-- the request is transmitted; its response, or a notification, ends the wait.
+abbrev pub IsBlockTransmission : Observer → ℕ → ℕ → ℕ → Option (List ℕ) → List PeerCall → Type 0
+IsBlockTransmission o n szx id answer calls =
+    IsTransmission true (TellsRequest o.token (block_token id) id) (message_bytes (block_request o.errand.now n szx id)) answer calls
+
+-- the request was sent, and its response or a notification arrived.
+pub record IsBlockAnswer (went came : List ℕ → Type 0) (o : Observer) (n szx id : ℕ) (bytes : List ℕ) : Type 0 where
+  pub asked : went (message_bytes (block_request o.errand.now n szx id))
+  pub message : Message
+  pub heard : IsHeardFrom went came bytes message
+  pub own : IsAwaitedBy o.token (block_token id) id message
+
+-- the request is sent until it is rejected.
+abbrev pub IsBlockRejection : Observer → ℕ → ℕ → ℕ → List PeerCall → Type 0
+IsBlockRejection o n szx id = IsRejection true (TellsRequest o.token (block_token id) id) (message_bytes (block_request o.errand.now n szx id))
+
+-- its errors; if there was no memory for it, no call was made.
+abbrev pub IsBlockFault : (PeerError → Type 0) → ((List PeerCall → Type 0) → Type 0) → Observer → ℕ → ℕ → ℕ → FetchFault → Type 0
+IsBlockFault is_error Makes o n szx id (fault.Memory error) = Makes (λ calls. calls ≡ [])
+IsBlockFault is_error Makes o n szx id f =
+    IsOfPeer is_error (Makes (IsBlockRejection o n szx id)) f
+
+-- ---- the blocks that are joined
+
+-- after the notification: it is whole, or the first of several blocks.
+abbrev pub begun : Message → State
+begun m = moved_on (next_of_answer 0 largest_szx m) [] [] m
+
+-- after replies to the requests for further blocks too, newest first.
+abbrev pub joined : Message → List Message → State
+joined m [] = begun m
+joined m (r ∷ rs) = after_reply 0 r (joined m rs)
+
+-- the message is the response to the request for this block.
+pub record IsBlockReply (went came : List ℕ → Type 0) (o : Observer) (n szx id : ℕ) (r : Message) : Type 0 where
+  pub asked : went (message_bytes (block_request o.errand.now n szx id))
+  pub bytes : List ℕ
+  pub heard : IsHeardFrom went came bytes r
+  pub own : IsResponseWith (block_token id) id r
+
+-- the message is the response to the request for the block that follows.
+abbrev pub AnswersBlock : (List ℕ → Type 0) → (List ℕ → Type 0) → Observer → ℕ → State → Message → Type 0
+AnswersBlock went came o id (Out (Answer n szx) body etag) r = IsBlockReply went came o n szx id r
+AnswersBlock went came o id other r = ⊥
+
+-- each message is the response to the request for the block that follows those before it.
+abbrev pub AreBlockReplies : (List ℕ → Type 0) → (List ℕ → Type 0) → Observer → Message → List Message → Type 0
+AreBlockReplies went came o m [] = Unit {0}
+AreBlockReplies went came o m (r ∷ rs) = AreBlockReplies went came o m rs × ((id : ℕ) × AnswersBlock went came o id (joined m rs) r)
+
+-- such replies lead to this state.
+pub record HasBlocks (went came : List ℕ → Type 0) (o : Observer) (m : Message) (state : State) : Type 0 where
+  pub replies : List Message
+  pub are : AreBlockReplies went came o m replies
+  pub leads : joined m replies ≡ state
+
+-- the body of a state, which a notification begins: all of its blocks, joined.
+abbrev pub HasBody : (List ℕ → Type 0) → (List ℕ → Type 0) → Observer → Message → ℕ → List ℕ → Type 0
+HasBody went came o m code body = HasBlocks went came o m (Ended code body)
+
+-- ---- block after block
+
+abbrev pub state_of : Joining → State
+state_of j = Out (Answer j.number j.szx) j.body.items j.etag.items
+
+-- the joining that a message begins, unless it is no first block of several.
+abbrev pub IsBegun : Message → Option Joining → Type 0
+IsBegun m None = is_first_part (next_of_answer 0 largest_szx m) ≡ false
+IsBegun m (Some j) = (begun m ≡ state_of j) × IsBlock j.number j.szx
+
+-- the effect of a response to the request for the next block.
+abbrev pub IsStateBy : State → Joining → Step → Type 0
+IsStateBy state j step.GoesOn = state ≡ state_of j
+IsStateBy state j (step.Ended code) = state ≡ Ended code.byte j.body.items
+IsStateBy state j step.Outdated = state ≡ Outdated
+IsStateBy state j step.Misfit = state ≡ Lost
+
+-- one more block is joined, or the last.
+pub record IsGrownBy (went came : List ℕ → Type 0) (o : Observer) (id : ℕ) (old : Joining) (state : State) : Type 0 where
+  pub reply : Message
+  pub is : IsBlockReply went came o old.number old.szx id reply
+  pub leads : after_reply 0 reply (state_of old) ≡ state
+
+-- a notification, by its classification: no newer one leaves the watch unchanged.
+abbrev pub IsNotedAs : DatedMessage → Message → Watch → Watch → Option NotedMessage → Type 0
+IsNotedAs came m old new None = new ≡ old
+IsNotedAs came m old new (Some noted) = (noted.count ≡ came.count) × ((noted.moment ≡ came.moment) × IsShownAs noted.last old new (max old.at came.moment) m)
+
+-- a notification of this classification can't be shown, or memory for its mark can't be allocated.
+abbrev pub IsNoteFault : Notice → FetchFault → Type 0
+IsNoteFault n fault.Part = n ≡ notice.Misfit
+IsNoteFault n (fault.Memory error) = Unit {0}
+IsNoteFault n other = ⊥
+
+-- what arrived while a block was requested: the block, or a notification. One that isn't newer
+-- changes nothing.
+abbrev pub IsBlockHeard : (List ℕ → Type 0) → (List ℕ → Type 0) → (ℕ → Type 0) → Observer → ℕ → Joining → Joining → Watch → Watch → List ℕ → ℕ → BlockHeard → Type 0
+IsBlockHeard went came told o id old new before after bytes count heard.GoesOn =
+    (after ≡ before) × (IsBlock new.number new.szx × ((new ≡ old) ⊎ IsGrownBy went came o id old (state_of new)))
+IsBlockHeard went came told o id old new before after bytes count (heard.Ended code) =
+    (after ≡ before) × ((is_success code.byte ≡ true) × IsGrownBy went came o id old (Ended code.byte new.body.items))
+IsBlockHeard went came told o id old new before after bytes count (heard.Newer noted) =
+    (noted.count ≡ count) × IsNextNote went came told o.token bytes noted.moment before after noted.last
+IsBlockHeard went came told o id old new before after bytes count (heard.Unfetched cause) = after ≡ before
+
+-- nothing is called, or the clock is read.
+abbrev pub ReadsAtMost : List PeerCall → Type 0
+ReadsAtMost calls = (calls ≡ []) ⊎ ((moment : ℕ) × (calls ≡ Reads moment ∷ []))
+
+-- ---- a whole state
+
+-- the result of the requests for the further blocks: the body; or a newer notification arrived; or
+-- they can't be fetched. Only a newer notification changes the watch.
+abbrev pub IsCompletion : (List ℕ → Type 0) → (List ℕ → Type 0) → (ℕ → Type 0) → Observer → Joining → Watch → Watch → List ℕ → Completion → Type 0
+IsCompletion went came told o j old new buffer (completion.Whole code body) =
+    (new ≡ old) × ((is_success code.byte ≡ true) × ((m : Message) → begun m ≡ state_of j → HasBody went came o m code.byte body.items))
+IsCompletion went came told o j old new buffer (completion.Newer noted) =
+    (noted.count ≤ length buffer) × IsNextNote went came told o.token (take noted.count buffer) noted.moment old new noted.last
+IsCompletion went came told o j old new buffer (completion.Unfetched cause) = new ≡ old
+
+-- a request for a block is transmitted, or sent until it is rejected, or the clock is read.
+abbrev pub IsFollowingStep : Observer → List PeerCall → Type 0
+IsFollowingStep o calls =
+    ((n szx id : ℕ) × (answer : Option (List ℕ)) × IsBlockTransmission o n szx id answer calls)
+    ⊎ (((n szx id : ℕ) × IsBlockRejection o n szx id calls) ⊎ ReadsAtMost calls)
+
+pub record IsOneMoreOf (Step Before : List PeerCall → Type 0) (calls : List PeerCall) : Type 0 where
+  pub older : List PeerCall
+  pub before : Before older
+  pub newer : List PeerCall
+  pub step : Step newer
+  pub is : calls ≡ newer ++ older
+
+abbrev pub AreFollowingSteps : Observer → ℕ → List PeerCall → Type 0
+AreFollowingSteps o zero calls = calls ≡ []
+AreFollowingSteps o (suc n) calls = IsOneMoreOf (IsFollowingStep o) (AreFollowingSteps o n) calls
+
+-- the further blocks are requested, one after the other.
+abbrev pub IsFollowing : Observer → List PeerCall → Type 0
+IsFollowing o calls = (n : ℕ) × AreFollowingSteps o n calls
+
+-- the errors: an error of the peer, memory, or a notification that can't be shown.
+abbrev pub IsFollowingFault : (List ℕ → Type 0) → (PeerError → Type 0) → List ℕ → FetchFault → Type 0
+IsFollowingFault came is_error token fault.Part = (id : ℕ) → UnfitCame came token id
+IsFollowingFault came is_error token (fault.Socket error) = is_error error
+IsFollowingFault came is_error token (fault.Memory error) = Unit {0}
+IsFollowingFault came is_error token other = ⊥

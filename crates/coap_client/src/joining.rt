@@ -1,0 +1,270 @@
+//! The joining of a state's blocks: its notification has the first of them (RFC 7959, section 2.6).
+ghost use Rattle.std.specs.Prelude.{◌≡◌, ◌≤◌, IfErr, IfOk, OnOk, length, max, take};
+ghost use Rattle.coap_client.specs.Notices.{notice_after};
+ghost use Rattle.coap_client.specs.Fetching.{after_reply, going_on};
+ghost use Rattle.coap_client.specs.Representations.{IsBegun, IsBlockAnswer, IsBlockHeard, IsCompletion, IsFollowing, IsFollowingFault, IsNoteFault, IsNotedAs, IsStateBy, ReadsAtMost, state_of};
+ghost use Rattle.coap_client.specs.Requests.{IsBlock, IsFurther};
+ghost use Rattle.coap_client.specs.Transmissions.{MakesCalls};
+
+use crate::errand::LARGEST_SZX;
+use crate::fetcher::{FetchFault, Step};
+use crate::notice::{Notice, is_notification};
+use crate::observing::{DatedMessage, NotedMessage, Observer};
+use crate::part::Part;
+use crate::peer::{Buffer, Peer};
+use crate::reply::{Next, etag_of, next_of_answer, next_of_block};
+use crate::watch::Watch;
+use coap_msg::{Code, Message, read};
+use std::alloc::{AllocError, Global};
+use thiserror::Error;
+
+/// Class of the success codes (RFC 7252, section 5.9.1).
+const SUCCESS: u8 = 2;
+
+/// Maximum number of requests for the further blocks of a state.
+const REQUESTS: u32 = 1 << 22;
+
+/// A state whose blocks are joined, up to some block.
+///
+/// It has the number and the size of the next block, the bytes of the blocks before that, and their
+/// ETag.
+#[derive(Drop)]
+pub struct Joining {
+    pub number: u32,
+    pub szx: u8,
+    pub body: Vec<u8>,
+    pub etag: Vec<u8>,
+}
+
+/// The reason why the further blocks of a state can't be fetched.
+#[derive(Clone, Copy, Debug, PartialEq, Eq, Error)]
+pub enum Unfetched {
+    /// No response arrived, not even to the last transmission of a request.
+    #[error("no answer to a request for a further block")]
+    Silence,
+    /// The server rejected a request by a Reset message.
+    #[error("a request for a further block was rejected")]
+    Rejected,
+    /// The server has an error of this code.
+    #[error("a further block was refused by {0}")]
+    Refused(Code),
+    /// A further block is of another version.
+    #[error("it changed while its blocks were fetched")]
+    Changed,
+    /// A response isn't the requested block, or has an unknown critical option.
+    #[error("a further block doesn't fit the request")]
+    Misfit,
+}
+
+/// The result of the requests for the further blocks of a state.
+#[derive(Drop)]
+pub enum Completion {
+    /// All blocks of the state, joined, and the code of the last response.
+    Whole(Code, Vec<u8>),
+    /// A newer notification arrived meanwhile; the state is given up.
+    Newer(NotedMessage),
+    /// The further blocks can't be fetched.
+    Unfetched(Unfetched),
+}
+
+/// The effect of a datagram that ends the wait for a block.
+#[derive(Clone, Copy, PartialEq, Eq)]
+pub enum BlockHeard {
+    /// The next request follows.
+    GoesOn,
+    /// The state is whole; the last response has this code.
+    Ended(Code),
+    /// A newer notification arrived.
+    Newer(NotedMessage),
+    /// The further blocks can't be fetched.
+    Unfetched(Unfetched),
+}
+
+impl Joining {
+    /// Begins with a message that is the first of several blocks.
+    ///
+    /// Returns `None` if it isn't.
+    ///
+    /// # Errors
+    /// Returns `AllocError` if memory can't be allocated for the block.
+    pub fn begin(alloc: Global, message: &Message<'_>) -> Result<Option<Joining>, AllocError>
+        ensures { IfOk result (IsBegun message.now) }
+    {
+        let Next::Ask(part) = next_of_answer(0, LARGEST_SZX, message) else {
+            return Ok(None);
+        };
+        let Part::Answer { number, szx } = part else {
+            unreachable!();
+        };
+        let mut body = Vec::new(alloc);
+        body.extend_from_slice(message.payload())?;
+        let mut etag = Vec::new(alloc);
+        etag.extend_from_slice(etag_of(message))?;
+        Ok(Some(Joining {
+            number,
+            szx,
+            body,
+            etag,
+        }))
+    }
+
+    // Receives the response to the request for the next block, and returns its effect.
+    fn hear(&mut self, message: &Message<'_>) -> Result<Step, AllocError>
+        requires { IsBlock self.old.number self.old.szx }
+        ensures own { OnOk result (IsBlock self.new.number self.new.szx) }
+        ensures step { IfOk result (IsStateBy (after_reply 0 message.now (state_of self.old)) self.new) }
+    {
+        match next_of_block(self.number, self.szx, &self.etag, message) {
+            Next::Ask(part) => {
+                self.go_on(part, message)?;
+                Ok(Step::GoesOn)
+            }
+            Next::Last => {
+                self.body.extend_from_slice(message.payload())?;
+                Ok(Step::Ended(message.code()))
+            }
+            Next::Refused => {
+                self.body.clear();
+                self.body.extend_from_slice(message.payload())?;
+                Ok(Step::Ended(message.code()))
+            }
+            Next::Stale => Ok(Step::Outdated),
+            Next::Misfit => Ok(Step::Misfit),
+        }
+    }
+
+    // Sets the next block, and adds the payload of this response.
+    fn go_on(&mut self, part: Part, message: &Message<'_>) -> Result<(), AllocError>
+        requires { IsFurther part }
+        ensures own { OnOk result (IsBlock self.new.number self.new.szx) }
+        ensures after { OnOk result (going_on part self.old.body.items self.old.etag.items message.now ≡ state_of self.new) }
+    {
+        let Part::Answer { number, szx } = part else {
+            unreachable!();
+        };
+        self.body.extend_from_slice(message.payload())?;
+        self.etag.clear();
+        self.etag.extend_from_slice(etag_of(message))?;
+        self.number = number;
+        self.szx = szx;
+        Ok(())
+    }
+}
+
+impl Watch {
+    /// Requests the further blocks of a state, one after the other, and joins them.
+    ///
+    /// The requests have message IDs from `ids` on. Confirmable notifications that arrive meanwhile
+    /// are acknowledged. A newer one ends the joining; it is at the start of `buffer`, and is
+    /// recorded as shown.
+    ///
+    /// # Errors
+    /// Returns an error if a notification can't be shown, or if sending, receiving or allocating
+    /// memory fails.
+    pub fn complete<P: Peer>(
+        &mut self,
+        alloc: Global,
+        peer: &mut P,
+        observer: &Observer<'_>,
+        joining: Joining,
+        ids: &mut u16,
+        buffer: &mut Buffer,
+    ) -> Result<Completion, FetchFault>
+        requires { IsBlock joining.number joining.szx }
+        ensures completed { IfOk result (IsCompletion P.went P.came P.is_moment observer.now joining self.old self.new buffer.new) }
+        ensures called { OnOk result (MakesCalls (P.called peer.old) (P.called peer.new) (IsFollowing observer.now)) }
+        ensures fault { IfErr result (IsFollowingFault P.came P.is_error observer.now.token) }
+    {
+        let mut joining = joining;
+        for requested in 0..REQUESTS {
+            let id = *ids;
+            *ids = id.wrapping_add(1);
+            let (number, szx) = (joining.number, joining.szx);
+            let count = match observer.ask_block(alloc, peer, number, szx, id, buffer) {
+                Ok(Some(count)) => count,
+                Ok(None) => return Ok(Completion::Unfetched(Unfetched::Silence)),
+                Err(FetchFault::Rejected) => return Ok(Completion::Unfetched(Unfetched::Rejected)),
+                Err(fault) => return Err(fault),
+            };
+            match self.hear_block(peer, observer, id, &mut joining, count, buffer)? {
+                BlockHeard::GoesOn => {}
+                BlockHeard::Ended(code) => {
+                    let Joining { body, .. } = joining;
+                    return Ok(Completion::Whole(code, body));
+                }
+                BlockHeard::Newer(noted) => return Ok(Completion::Newer(noted)),
+                BlockHeard::Unfetched(cause) => return Ok(Completion::Unfetched(cause)),
+            }
+        }
+        Ok(Completion::Unfetched(Unfetched::Misfit))
+    }
+
+    // Takes in what arrived while a block was requested with this message ID: the block, or a
+    // notification, of `count` bytes.
+    fn hear_block<P: Peer>(
+        &mut self,
+        peer: &mut P,
+        observer: &Observer<'_>,
+        id: u16,
+        joining: &mut Joining,
+        count: usize,
+        buffer: &Buffer,
+    ) -> Result<BlockHeard, FetchFault>
+        requires block { IsBlock joining.old.number joining.old.szx }
+        requires long { count ≤ length buffer.now }
+        requires arrived { IsBlockAnswer P.went P.came observer.now joining.old.number joining.old.szx id (take count buffer.now) }
+        ensures heard { IfOk result (IsBlockHeard P.went P.came P.is_moment observer.now id joining.old joining.new self.old self.new
+            (take count buffer.now) count) }
+        ensures called { OnOk result (MakesCalls (P.called peer.old) (P.called peer.new) ReadsAtMost) }
+        ensures fault { IfErr result (IsFollowingFault P.came P.is_error observer.now.token) }
+    {
+        let Ok(message) = read(&buffer[..count]) else {
+            unreachable!();
+        };
+        if is_notification(&observer.token, &message) {
+            let moment = peer.now()?;
+            match self.note(DatedMessage { count, moment }, &message)? {
+                Some(noted) => Ok(BlockHeard::Newer(noted)),
+                None => Ok(BlockHeard::GoesOn),
+            }
+        } else {
+            match joining.hear(&message)? {
+                Step::GoesOn => Ok(BlockHeard::GoesOn),
+                Step::Ended(code) if code.class() == SUCCESS => Ok(BlockHeard::Ended(code)),
+                Step::Ended(code) => Ok(BlockHeard::Unfetched(Unfetched::Refused(code))),
+                Step::Outdated => Ok(BlockHeard::Unfetched(Unfetched::Changed)),
+                Step::Misfit => Ok(BlockHeard::Unfetched(Unfetched::Misfit)),
+            }
+        }
+    }
+
+    // Records a notification as shown if it is newer; otherwise returns `None`.
+    fn note(
+        &mut self,
+        came: DatedMessage,
+        message: &Message<'_>,
+    ) -> Result<Option<NotedMessage>, FetchFault>
+        ensures noted { IfOk result (IsNotedAs came message.now self.old self.new) }
+        ensures fault { IfErr result (IsNoteFault (notice_after self.old (max self.old.at came.moment) message.now)) }
+    {
+        let at = self.at.max(came.moment);
+        let (count, moment) = (came.count, came.moment);
+        match self.notice_of(at, message) {
+            Notice::State(sequence) => {
+                self.keep(sequence, at, message.id())?;
+                Ok(Some(NotedMessage {
+                    count,
+                    moment,
+                    last: false,
+                }))
+            }
+            Notice::Last => Ok(Some(NotedMessage {
+                count,
+                moment,
+                last: true,
+            })),
+            Notice::Misfit => Err(FetchFault::Part),
+            Notice::Older => Ok(None),
+        }
+    }
+}
