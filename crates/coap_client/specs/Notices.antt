@@ -1,5 +1,5 @@
 -- The requests of an observer, and the classification of responses to it (RFC 7641).
-use Rattle.std.specs.Prelude.{◌≡◌, ℕ, ◌+◌, ◌-◌, ◌&&◌, ◌||◌, Bool, true, false, nat_eq, nat_lt, nat_le, filter, if◌then◌else◌, List, [], ◌∷◌, ◌++◌, length, Option, Some, None}
+use Rattle.std.specs.Prelude.{◌≡◌, ℕ, ◌+◌, ◌-◌, ◌&&◌, ◌||◌, Bool, true, false, is_some, not, nat_eq, nat_lt, nat_le, filter, if◌then◌else◌, List, [], ◌∷◌, ◌++◌, length, Option, Some, None}
 use Rattle.std.specs.List.{list_any}
 use Rattle.coap_msg.specs.Windows.{within_window}
 use Rattle.coap_msg.specs.Wire.{Message}
@@ -83,6 +83,11 @@ is_first_part other = false
 -- response to the first request of a fetch (RFC 7959, section 2.4).
 abbrev pub can_be_shown : Message → Bool
 can_be_shown m = is_understood m && is_last_part (next_of_answer 0 largest_szx m)
+
+-- a success without a sequence number that is the first of several blocks: the server doesn't notify
+-- (RFC 7641, section 4.1; RFC 7959, section 2.6).
+abbrev pub is_unobserved : Message → Bool
+is_unobserved m = is_understood m && (is_first_part (next_of_answer 0 largest_szx m) && (is_success m.code && not (is_some (sequence_of m))))
 
 -- a success with a sequence number is a state, and more may follow. A success without one is the
 -- last response, and so is an error (RFC 7641, sections 3.2 and 4.2).

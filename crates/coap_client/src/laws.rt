@@ -15,7 +15,7 @@ ghost use Rattle.coap_client.specs.declared.notice.Notice.TheVariants.{Last, Sta
 ghost use Rattle.coap_client.specs.declared.notice.Interest.TheVariants.{Deregister, Register};
 ghost use Rattle.coap_client.specs.declared.observing.Observer.{Observer};
 ghost use Rattle.coap_client.specs.Heard.{Tells};
-ghost use Rattle.coap_client.specs.Notices.{can_be_shown, is_newer, notice_of, observe_request};
+ghost use Rattle.coap_client.specs.Notices.{can_be_shown, is_newer, is_unobserved, notice_of, observe_request};
 ghost use Rattle.coap_client.specs.Parts.{first_part, format_option, format_options, part_options, part_payload, request_options};
 ghost use Rattle.coap_client.specs.PeerCalls.{PeerCall, Sends, Waits};
 ghost use Rattle.coap_client.specs.Faults.{IsRejectedLeaving, IsRejection, IsSilence, deregistration_of, leaving_id, registration_of};
@@ -25,7 +25,7 @@ ghost use Rattle.coap_client.specs.ObserverCalls.{IsDeregistration, IsPassedOver
 ghost use Rattle.coap_client.specs.Transmissions.{AreInVain, IsLastSending, IsTransmission};
 ghost use Rattle.coap_client.specs.Fetching.{Ended, Out, after_reply, state_after};
 ghost use Rattle.coap_client.specs.Joined.{IsOneAnswer, SaysTaken};
-ghost use Rattle.coap_client.specs.Replies.{first_or_none, is_success, next_of_answer};
+ghost use Rattle.coap_client.specs.Replies.{first_or_none, is_success, is_understood, next_of_answer};
 ghost use Rattle.coap_client.specs.Representations.{joined};
 ghost use Rattle.coap_client.specs.Requests.{block_request};
 ghost use Rattle.coap_client.specs.Paths.{slices_in};
@@ -123,6 +123,15 @@ pub fn at_most_one_is_newer()
 /// Its server doesn't notify.
 pub fn without_observe_it_is_the_last()
     ensures { (m : Message) → can_be_shown m ≡ true → first_or_none (values_in 6 m.options) ≡ None → notice_of m ≡ Last }
+{}
+
+/// A response of several blocks without Observe can't be shown: its server doesn't notify.
+///
+/// Block2 with the value 14 is block 0 of 1,024 bytes, and more follow.
+pub fn several_blocks_without_observe_are_unobserved()
+    ensures unobserved { (m : Message) → is_understood m ≡ true → m.code ≡ 69 → length m.payload ≡ 1024 → first_or_none (values_in 23 m.options) ≡ Some (14 ∷ [])
+        → first_or_none (values_in 6 m.options) ≡ None → is_unobserved m ≡ true }
+    ensures unshown { (m : Message) → is_unobserved m ≡ true → can_be_shown m ≡ false }
 {}
 
 /// A success that can be shown and has an Observe of three bytes is a state.

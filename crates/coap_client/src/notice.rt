@@ -110,6 +110,19 @@ pub fn notice_of(message: &Message<'_>) -> Notice
     }
 }
 
+/// Returns whether a response is a success of several blocks, without a sequence number.
+///
+/// Its server doesn't notify of changes, or has no place for another observer (RFC 7641, section
+/// 4.1).
+pub fn is_unobserved(message: &Message<'_>) -> bool
+    ensures { result ≡ spec.is_unobserved message.now }
+{
+    is_understood(message)
+        && matches!(next_of_answer(0, LARGEST_SZX, message), Next::Ask(_))
+        && message.code().class() == SUCCESS
+        && sequence_of(message).is_none()
+}
+
 // Returns the sequence number of a state.
 fn sequence_of(message: &Message<'_>) -> Option<u32>
     ensures { result ≡ spec.sequence_of message.now }

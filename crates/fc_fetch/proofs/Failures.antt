@@ -1,9 +1,9 @@
 -- Failures of an observer.
-use Rattle.std.proofs.Common.{◌≡◌, ◌⊎◌, ℕ, Bool, false, true, List, Option, Some, None, Result, Ok, Err, IfErr, OnErr, OnOk, is_some, inl, inr, sym, subst, ◌∙◌, if◌then◌else◌}
+use Rattle.std.proofs.Common.{◌≡◌, ◌⊎◌, ℕ, Bool, false, true, List, Option, Some, None, Result, Ok, Err, IfErr, OnErr, OnOk, is_some, inl, inr, refl, ap, sym, subst, ◌∙◌, if◌then◌else◌}
 use Rattle.coap_client.specs.Faults.{EndsOnNotification, IsLeavingFault, IsNewState, IsNotificationFault, IsOfPeer, IsRegistrationFault, UnfitCame, deregistration_of}
 use Rattle.coap_client.specs.ObserverCalls.{IsDatedRegistration, IsDeregistration}
 use Rattle.coap_client.specs.Notes.{IsRegistered, IsResponseWith}
-use Rattle.coap_client.specs.Notices.{by_sequence, by_success, can_be_shown, notice_of, sequence_of}
+use Rattle.coap_client.specs.Notices.{by_sequence, by_success, can_be_shown, is_unobserved, notice_of, sequence_of}
 use Rattle.coap_client.specs.Replies.{is_success}
 use Rattle.coap_client.specs.PeerCalls.{PeerCall, PeerError}
 use Rattle.coap_client.specs.Transmissions.{MakesCalls}
@@ -21,7 +21,7 @@ use Rattle.fc_fetch.specs.declared.observer.NotesError.{NotesError}
 use Rattle.fc_fetch.specs.declared.observer.NotesError.TheVariants as notes_error
 use Rattle.fc_fetch.specs.declared.observer.ObservationEnd.{ObservationEnd}
 use Rattle.fc_fetch.specs.declared.printer.Shown.{Shown}
-use Rattle.fc_fetch.specs.Observing.{AwaitsNote, AwaitsUntil, IsAwaitFault, IsFirstFault, IsLaterFault, IsLeftInVain, IsNotesFault, IsShowing, IsState, IsStoppedByFirst, IsTimedObservation, LeavesAtFault, may_notify}
+use Rattle.fc_fetch.specs.Observing.{AwaitsNote, AwaitsUntil, IsAwaitFault, IsFirstFault, IsLaterFault, IsLeftInVain, IsNotesFault, IsShowing, IsState, IsStoppedByFirst, IsTimedObservation, LeavesAtFault, may_notify, unfit_error}
 use Rattle.fc_fetch.proofs.Timing.{HasAwaited, HasObserved, observed_until}
 
 -- the registration failed
@@ -117,18 +117,29 @@ never_older m h = elim (can_be_shown m) as (λ b. (if b then by_success m else n
 
 -- the response to the registration can't be shown
 pub unfit_first : (went came : List ℕ → Type 0) (o : Observer) (bytes : List ℕ) (m : Message) (n : Notice) → IsRegistered went came o bytes → reading_of bytes ≡ Ok m
-    → n ≡ notice_of m → (n ≡ notice.Older) ⊎ (n ≡ notice.Misfit) → UnfitCame came o.token o.id
+    → n ≡ notice_of m → (n ≡ notice.Older) ⊎ (n ≡ notice.Misfit) → (u : UnfitCame came o.token o.id) × (u.message ≡ m)
 unfit_first went came o bytes m n registered read is (inl older) = absurd (never_older m (sym is ∙ older))
 unfit_first went came o bytes m n registered read is (inr so) =
-    let same : registered.message ≡ m = cc (registered.heard.read_is, read) in
-    record {
-      bytes = bytes;
-      message = m;
-      came_is = registered.heard.came_is;
-      read_is = read;
-      own = subst (IsResponseWith o.token o.id) same registered.own;
-      unfit = unfit_notice m (sym is ∙ so);
-    }
+    let same : registered.message ≡ m = cc (registered.heard.read_is, read) in (
+      record {
+        bytes = bytes;
+        message = m;
+        came_is = registered.heard.came_is;
+        read_is = read;
+        own = subst (IsResponseWith o.token o.id) same registered.own;
+        unfit = unfit_notice m (sym is ∙ so);
+      },
+      refl,
+    )
+
+-- the error says why it can't be shown
+pub stopped_unfit : (came : List ℕ → Type 0) (is_error : PeerError → Type 0) (Makes : (List PeerCall → Type 0) → Type 0) (o : Observer) (u : UnfitCame came o.token o.id) (error : NotesError)
+    → error ≡ unfit_error u.message → Makes (IsDatedRegistration o) → IsFirstFault came is_error Makes o error
+stopped_unfit came is_error Makes o u error is one = subst (IsFirstFault came is_error Makes o) (sym is) (by (is_unobserved u.message) refl)
+  where
+    by : (b : Bool) → is_unobserved u.message ≡ b → IsFirstFault came is_error Makes o (if b then notes_error.Unobserved else notes_error.Fault fault.Part)
+    by true so = record { unfit = u; error_is = ap (λ (b : Bool). if b then notes_error.Unobserved else notes_error.Fault fault.Part) so; called = one }
+    by false so = record { unfit = u; error_is = ap (λ (b : Bool). if b then notes_error.Unobserved else notes_error.Fault fault.Part) so; called = one }
 
 -- the response is a state, and there is no memory for its mark
 pub unmarked : (went came : List ℕ → Type 0) (before after : Calls) (o : Observer) (bytes : List ℕ) (m : Message) (v : ℕ) → IsRegistered went came o bytes → reading_of bytes ≡ Ok m
@@ -159,6 +170,7 @@ unregistered called tried went came told is_error before after o seconds (notes_
 unregistered called tried went came told is_error before after o seconds (notes_error.Fault fault.Part) is h = absurd (cc is)
 unregistered called tried went came told is_error before after o seconds (notes_error.Fault (fault.Socket error)) is h = absurd (cc is)
 unregistered called tried went came told is_error before after o seconds (notes_error.Fault (fault.Memory error)) is h = absurd (cc is)
+unregistered called tried went came told is_error before after o seconds notes_error.Unobserved is h = absurd (cc is)
 unregistered called tried went came told is_error before after o seconds (notes_error.Print error) is h = absurd (cc is)
 unregistered called tried went came told is_error before after o seconds (notes_error.Memory error) is h = absurd (cc is)
 

@@ -1,10 +1,10 @@
 -- The output of an observer, and its status.
-use Rattle.std.specs.Prelude.{◌≡◌, ℕ, ◌+◌, ◌/◌, ◌<◌, ◌≤◌, ◌^◌, ◌⊎◌, ◌++◌, max, Bool, true, false, List, [], ◌∷◌, length, Option, Some, None, is_some, codes}
+use Rattle.std.specs.Prelude.{◌≡◌, ℕ, ◌+◌, ◌/◌, ◌<◌, ◌≤◌, ◌^◌, ◌⊎◌, ◌++◌, max, Bool, true, false, List, [], ◌∷◌, length, Option, Some, None, is_some, if◌then◌else◌, codes}
 use Rattle.std.specs.List.{All}
 use Rattle.std.specs.Io.KnownBytes.{Appends}
 use Rattle.coap_client.specs.Faults.{EndsOnNotification, IsLeavingFault, IsNewState, IsRegistrationFault, IsRejection, IsSilence, UnfitCame, deregistration_of, registration_of}
 use Rattle.coap_client.specs.Notes.{AreNotes, HasArrived, HasDeregistered, IsResponseWith, IsWatching, Note, TellsObserver}
-use Rattle.coap_client.specs.Notices.{notice_of, observe_request}
+use Rattle.coap_client.specs.Notices.{is_unobserved, notice_of, observe_request}
 use Rattle.coap_client.specs.ObserverCalls.{IsDatedRegistration, IsDeregistration, IsObserving}
 use Rattle.coap_client.specs.PeerCalls.{PeerCall, PeerError, Receives, Waits}
 use Rattle.coap_client.specs.Schedules.{schedule}
@@ -15,7 +15,7 @@ use Rattle.coap_client.specs.declared.notice.Notice.TheVariants as notice
 use Rattle.coap_client.specs.declared.observing.Observer.{Observer}
 use Rattle.coap_client.specs.declared.watch.Watch.{Watch}
 use Rattle.coap_msg.specs.Codes.{code_text}
-use Rattle.coap_msg.specs.Wire.{message_bytes}
+use Rattle.coap_msg.specs.Wire.{Message, message_bytes}
 use Rattle.fc_cli.specs.declared.status.Status.{Status}
 use Rattle.fc_cli.specs.declared.status.Status.TheVariants.{Done, Refused, Failed}
 use Rattle.coap_client.specs.Parts.{FitsDatagrams}
@@ -248,12 +248,24 @@ pub record IsStoppedByFirst (came : List ℕ → Type 0) (Makes : (List PeerCall
   pub came_is : HasArrived came (λ m. IsResponseWith o.token o.id m × IsState (notice_of m)) bytes
   pub called : Makes (IsDatedRegistration o)
 
+-- the error for a response to the registration that can't be shown: one of several blocks without a
+-- sequence number has its own.
+abbrev pub unfit_error : Message → NotesError
+unfit_error m = if is_unobserved m then notes_error.Unobserved else notes_error.Fault fault.Part
+
+-- the response to the registration came last, and it can't be shown, for this reason.
+pub record IsStoppedByUnfit (came : List ℕ → Type 0) (Makes : (List PeerCall → Type 0) → Type 0) (o : Observer) (error : NotesError) : Type 0 where
+  pub unfit : UnfitCame came o.token o.id
+  pub error_is : unfit_error unfit.message ≡ error
+  pub called : Makes (IsDatedRegistration o)
+
 -- the first line failed: the registration failed, the response can't be shown, memory for its mark
 -- can't be allocated, its line can't be printed, or the peer returned an error. If memory for the
 -- registration can't be allocated, nothing was called.
 abbrev pub IsFirstFault : (List ℕ → Type 0) → (PeerError → Type 0) → ((List PeerCall → Type 0) → Type 0) → Observer → NotesError → Type 0
-IsFirstFault came is_error Makes o (notes_error.Fault fault.Part) = UnfitCame came o.token o.id × Makes (IsDatedRegistration o)
+IsFirstFault came is_error Makes o (notes_error.Fault fault.Part) = IsStoppedByUnfit came Makes o (notes_error.Fault fault.Part)
 IsFirstFault came is_error Makes o (notes_error.Fault f) = IsRegistrationFault is_error Makes o f
+IsFirstFault came is_error Makes o notes_error.Unobserved = IsStoppedByUnfit came Makes o notes_error.Unobserved
 IsFirstFault came is_error Makes o (notes_error.Print error) = Makes (IsDatedRegistration o)
 IsFirstFault came is_error Makes o (notes_error.Memory error) = IsStoppedByFirst came Makes o
 
@@ -264,6 +276,7 @@ IsLaterFault went came told is_error Makes o seconds (notes_error.Fault fault.Pa
 IsLaterFault went came told is_error Makes o seconds (notes_error.Fault (fault.Memory error)) = IsStoppedBy went came told Makes o seconds IsNewState
 IsLaterFault went came told is_error Makes o seconds (notes_error.Fault (fault.Socket error)) = is_error error
 IsLaterFault went came told is_error Makes o seconds (notes_error.Fault other) = ⊥
+IsLaterFault went came told is_error Makes o seconds notes_error.Unobserved = ⊥
 IsLaterFault went came told is_error Makes o seconds (notes_error.Print error) = Makes (IsObservedSoFar o seconds)
 IsLaterFault went came told is_error Makes o seconds (notes_error.Memory error) = ⊥
 
@@ -286,6 +299,7 @@ pub record IsFailedIn {S : Type 0} (went came : List ℕ → Type 0) (told : ℕ
 abbrev pub IsLeavingError : (PeerError → Type 0) → ((List PeerCall → Type 0) → Type 0) → Observer → Option ℕ → NotesError → Type 0
 IsLeavingError is_error Makes o seconds (notes_error.Fault f) = IsLeftInVain is_error Makes o seconds f
 IsLeavingError is_error Makes o seconds (notes_error.Memory error) = Makes (λ calls. calls ≡ [])
+IsLeavingError is_error Makes o seconds notes_error.Unobserved = ⊥
 IsLeavingError is_error Makes o seconds (notes_error.Print error) = ⊥
 
 abbrev pub IsEndFault : {S : Type 0} → (List ℕ → Type 0) → (List ℕ → Type 0) → (ℕ → Type 0) → (PeerError → Type 0) → (S → List PeerCall → Type 0) → S → S → Observer → Option ℕ → NotesError → Type 0

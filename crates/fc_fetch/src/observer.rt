@@ -7,18 +7,18 @@ ghost use Rattle.coap_client.specs.Notes.{Watches};
 ghost use Rattle.coap_client.specs.ObserverCalls.{IsDatedRegistration};
 ghost use Rattle.coap_client.specs.PeerCalls.{Adds, Reads, Waits};
 ghost use Rattle.coap_client.specs.Transmissions.{MakesCalls};
-ghost use Rattle.fc_fetch.specs.Observing.{AwaitsNote, HasEnded, HasLeft, HasShown, IsAwaitFault, IsEndFault, IsErrandStop, IsFirstFault, IsFirstShown, IsLeaving, IsNotesFault, IsObserveStop, IsObservedAt, IsObservedIn, IsTimedObservation, IsToldEnd, LeavesAtFault, ObservesToEnd, first_wait, lines_wanted};
+ghost use Rattle.fc_fetch.specs.Observing.{AwaitsNote, HasEnded, HasLeft, HasShown, IsAwaitFault, IsEndFault, IsErrandStop, IsFirstFault, IsFirstShown, IsLeaving, IsNotesFault, IsObserveStop, IsObservedAt, IsObservedIn, IsTimedObservation, IsToldEnd, LeavesAtFault, ObservesToEnd, first_wait, lines_wanted, unfit_error};
 ghost use Rattle.fc_fetch.specs.Observing as spec;
 ghost use Rattle.fc_fetch.specs.declared.observer.NotesError.TheVariants as notes_error;
 
 use crate::client::{FetchStop, address_of, connect, first_id, resource_at};
 use crate::connector::{Connector, System};
 use crate::printer::{PrintError, Shown, write_note};
-use coap_client::notice::notice_of;
+use coap_client::notice::{is_unobserved, notice_of};
 use coap_client::observing::TOKEN;
 use coap_client::peer::{BUFFER, Buffer};
 use coap_client::{Errand, FetchFault, NotedMessage, Notice, Observer, Peer, Watch};
-use coap_msg::{Code, Datagram, read};
+use coap_msg::{Code, Datagram, Message, read};
 use coap_opts::Method;
 use fc_cli::status::{Status, tell};
 use std::alloc::{AllocError, Global};
@@ -72,6 +72,9 @@ pub enum NotesError {
     /// No response came, sending or receiving failed, or a message can't be shown.
     #[error("{0}")]
     Fault(#[source] FetchFault),
+    /// The response to the registration has several blocks and no sequence number.
+    #[error("the answer has more than one block and no Observe: the server doesn't notify of changes, or has no place for another observer; `fcreq get` fetches all of it")]
+    Unobserved,
     /// A line can't be printed.
     #[error("{0}")]
     Print(#[source] PrintError),
@@ -389,10 +392,21 @@ fn print_first<P: Peer, W: Write>(
     let first = match notice_of(&message) {
         Notice::State(sequence) => First::State(Watch::first(alloc, sequence, at, &message)?),
         Notice::Last => First::Only(message.code()),
-        Notice::Older | Notice::Misfit => return Err(NotesError::Fault(FetchFault::Part)),
+        Notice::Older | Notice::Misfit => return Err(unfit(&message)),
     };
     write_note(alloc, out, shown, &message)?;
     Ok(first)
+}
+
+// Returns the error for a response to the registration that can't be shown.
+fn unfit(message: &Message<'_>) -> NotesError
+    ensures { result ≡ unfit_error message.now }
+{
+    if is_unobserved(message) {
+        NotesError::Unobserved
+    } else {
+        NotesError::Fault(FetchFault::Part)
+    }
 }
 
 fn moment<P: Peer>(peer: &mut P) -> Result<u64, FetchFault>

@@ -352,6 +352,18 @@ fn a_state_that_changes_is_not_joined(rt: HostRuntime) -> Result<(), Fail> {
     Ok(())
 }
 
+// The first of two blocks without Observe: the server doesn't notify of changes.
+#[test]
+fn a_large_answer_without_observe_has_its_own_error(rt: HostRuntime) -> Result<(), Fail> {
+    let mut server = follows(rt.alloc());
+    let rest = joined(rt.alloc(), b"\xd1\x0a\x0e\xff", &[7; 1024])?;
+    comes_with(&mut server, 0, b"\x64\x45\x00\x07", &rest)?;
+    let errand = slot_one(rt.alloc())?;
+    let shown = printed(rt.alloc(), &mut server, &errand, 2);
+    assert!(rt; matches!(&shown, Err(NotesError::Unobserved)));
+    Ok(())
+}
+
 // Returns the result of an observer's deregistration, whose message ID is 0.
 fn ended(alloc: Global, server: &mut Scripted, errand: &Errand<'_>) -> Result<(), FetchFault> {
     let observer = Observer {

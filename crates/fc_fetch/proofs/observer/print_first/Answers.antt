@@ -3,8 +3,8 @@ use Rattle.coap_client.specs.declared.notice.Notice.TheVariants as notice
 use Rattle.coap_client.proofs.Failing.{raised}
 use Rattle.coap_client.specs.Transmissions.{MakesCalls}
 use Rattle.fc_fetch.specs.declared.observer.NotesError.TheVariants as notes_error
-use Rattle.fc_fetch.specs.Observing.{IsFirstFault, IsFirstShown}
-use Rattle.fc_fetch.proofs.Failures.{unfit_first, unmarked}
+use Rattle.fc_fetch.specs.Observing.{IsFirstFault, IsFirstShown, unfit_error}
+use Rattle.fc_fetch.proofs.Failures.{stopped_unfit, unfit_first, unmarked}
 use Rattle.fc_fetch.proofs.Lines.{first_shown, only_shown}
 use Rattle.fc_fetch.proofs.Timing.{dated}
 use Rattle.fc_fetch.proofs.observer.print_first.Goals as goal
@@ -26,12 +26,14 @@ returns-clause-shown g c =
     ]
 
 pub returns-in-Older-clause-fault : goal.returns-in-Older-clause-fault
-returns-in-Older-clause-fault g c = (
-  unfit_first g.P.Peer.went g.P.Peer.came c.args.observer.now _ c.in-Ok.message c.notice_of.result c.in_ok-count.ensures.registered.1 (sym c.read.ensures.function ∙ c.in-Ok.is)
-      c.notice_of.ensures c.in-Older.is,
-  dated c.args.observer.now (take c.in_ok-count.count c.register.new.buffer) c.in_ok-at.at (g.P.Peer.called c.args.peer.now) (g.P.Peer.called c.register.new.peer)
-      (g.P.Peer.called c.moment.new.peer) c.in_ok-count.ensures.called c.in_ok-at.ensures.called,
-)
+returns-in-Older-clause-fault g c =
+    let before = g.P.Peer.called c.args.peer.now in
+    let after = g.P.Peer.called c.moment.new.peer in
+    let unfit = unfit_first g.P.Peer.went g.P.Peer.came c.args.observer.now _ c.in-Ok.message c.notice_of.result c.in_ok-count.ensures.registered.1 (sym c.read.ensures.function ∙ c.in-Ok.is)
+    c.notice_of.ensures c.in-Older.is in
+    stopped_unfit g.P.Peer.came g.P.Peer.is_error (MakesCalls before after) c.args.observer.now unfit.0 c.unfit.result (c.unfit.ensures ∙ ap unfit_error (sym unfit.1))
+    (dated c.args.observer.now (take c.in_ok-count.count c.register.new.buffer) c.in_ok-at.at before (g.P.Peer.called c.register.new.peer) after c.in_ok-count.ensures.called
+    c.in_ok-at.ensures.called)
 
 pub returns-clause-called : goal.returns-clause-called
 returns-clause-called g c =
