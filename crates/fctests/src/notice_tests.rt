@@ -256,8 +256,17 @@ fn completed(
     first: &[u8],
 ) -> Result<(Completion, u32), Fail> {
     let errand = slot_one(alloc)?;
+    completed_by(alloc, server, &errand, first)
+}
+
+fn completed_by(
+    alloc: Global,
+    server: &mut Scripted,
+    errand: &Errand<'_>,
+    first: &[u8],
+) -> Result<(Completion, u32), Fail> {
     let observer = Observer {
-        errand: &errand,
+        errand,
         token: TOKEN,
         id: 7,
     };

@@ -176,11 +176,17 @@ fn nothing_is_reported_before_it_is_due(rt: HostRuntime) -> Result<(), Fail> {
     Ok(())
 }
 
+// Reports these counts, after a datagram that couldn't be sent.
+fn report_after_a_failure<L: Log>(logger: &L, report: &Report) {
+    let reporter = LoggedReports::new(logger);
+    reporter.count_failure();
+    reporter.report(report, &mut CallLog::new());
+}
+
 #[test]
 fn a_report_has_each_of_its_numbers(rt: HostRuntime) -> Result<(), Fail> {
     let lines = Locked::new(&rt, Vec::new(rt.alloc()));
     let logger = Logged::new(&rt, LevelFilter::Info, &lines);
-    let reporter = LoggedReports::new(&logger);
     let report = Report {
         received: 1204,
         forbidden: 1,
@@ -189,8 +195,7 @@ fn a_report_has_each_of_its_numbers(rt: HostRuntime) -> Result<(), Fail> {
         resent: 2,
         removed: 5,
     };
-    reporter.count_failure();
-    reporter.report(&report, &mut CallLog::new());
+    report_after_a_failure(&logger, &report);
     let text =
         "[INFO  fcd] report received=1204 forbidden=1 unavailable=3 notified=40 resent=2 removed=5 failed=1\n";
     assert!(rt; lines.into_inner().as_slice() == text.as_bytes());
