@@ -25,6 +25,8 @@ from pathlib import Path
 TOP = Path(__file__).resolve().parent.parent.parent
 PAGE = TOP / "docs/DEVICE.md"
 FCD, FCREQ = (TOP / f"crates/{it}/out/{it}" for it in ("fcd", "fcreq"))
+# The version of an install, by the time of the start: each agrees with the page.
+VERSION = re.compile(r"\bversion=\d{17}\b")
 END = "try.py: the command has ended"
 
 # version 2: replies its 64 readings
@@ -95,7 +97,8 @@ def run_page():
                         break
                     said.append(line.rstrip("\n"))
                 said = said[:-1] if said and not said[-1] else said
-                wrong += row(command, said == right, f"{said}")
+                same = [VERSION.sub("version=0", it) for it in said] == [VERSION.sub("version=0", it) for it in right]
+                wrong += row(command, same, f"{said}")
                 if "fcd serve" in command:
                     until_it_answers(5683)
         finally:
