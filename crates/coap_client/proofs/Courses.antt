@@ -3,21 +3,21 @@ use Rattle.std.proofs.Common.{◌≡◌, ℕ, ◌+◌, ◌%◌, ◌<◌, ◌≤�
 use Rattle.coap_msg.specs.Wire.{Message, message_bytes}
 use Rattle.coap_msg.specs.Reading.{reading_of}
 use Rattle.coap_opts.specs.declared.request.Method.TheVariants.{Get}
-use Rattle.coap_client.specs.declared.errand.Errand.{Errand}
-use Rattle.coap_client.specs.declared.fetcher.Course.{Course}
+use Rattle.coap_client.specs.declared.client_request.ClientRequest.{ClientRequest}
+use Rattle.coap_client.specs.declared.fetcher.FetchState.{FetchState}
 use Rattle.coap_client.specs.declared.fetcher.Step.{Step}
 use Rattle.coap_client.specs.declared.transmission.SentRequest.{SentRequest}
 use Rattle.coap_client.specs.declared.part.Part.{Part}
 use Rattle.coap_client.specs.Parts.{first_part}
 use Rattle.coap_client.specs.PeerCalls.{PeerCall, received_bytes}
 use Rattle.coap_client.specs.Requests.{IsPartOf, part_request}
-use Rattle.coap_client.specs.Heard.{HasTakenResponse, IsTakenResponse, Tells, TellsSent}
+use Rattle.coap_client.specs.Handled.{HasTakenResponse, IsTakenResponse, Tells, TellsSent}
 use Rattle.coap_client.specs.Transmissions.{IsTransmission, MakesCalls}
 use Rattle.coap_client.specs.Fetching.{State, Out, Outdated, AnswersInState, AreReplies, ArePartRequests, IsAnswerToPart, IsStepOf, IsFetching, RepliesLeadTo, RepliesLeadToAgain, after_reply, state_after, taken_ids, with_taken_id}
 use Rattle.coap_client.proofs.Transmitting.{both, does_both, does_nothing, some_of}
 
 -- the request of a part was transmitted, and the message is its response.
-pub record IsExchanged (went came : List ℕ → Type 0) (between after : List PeerCall → Type 0) (e : Errand) (id : ℕ) (earlier : List ℕ) (part : Part) (m : Message) : Type 0 where
+pub record IsExchanged (went came : List ℕ → Type 0) (between after : List PeerCall → Type 0) (e : ClientRequest) (id : ℕ) (earlier : List ℕ) (part : Part) (m : Message) : Type 0 where
   pub answers : IsAnswerToPart went came e id earlier part m
   pub own : IsPartOf e part
   pub bytes : List ℕ
@@ -25,7 +25,7 @@ pub record IsExchanged (went came : List ℕ → Type 0) (between after : List P
   pub called : MakesCalls between after (IsTransmission e.confirmable (Tells e.confirmable id earlier) (message_bytes (part_request e part id)) (Some bytes))
 
 -- the message that arrived is a response to the request of a part.
-answers_part : (went came : List ℕ → Type 0) (e : Errand) (part : Part) (id : ℕ) (earlier : List ℕ) (r : SentRequest) (bytes : List ℕ) (m : Message) →
+answers_part : (went came : List ℕ → Type 0) (e : ClientRequest) (part : Part) (id : ℕ) (earlier : List ℕ) (r : SentRequest) (bytes : List ℕ) (m : Message) →
     HasTakenResponse went came r bytes → reading_of bytes ≡ Ok m →
     r.confirmable ≡ e.confirmable → r.id ≡ id → r.earlier.now ≡ earlier → r.datagram.now.items ≡ message_bytes (part_request e part id) →
     IsAnswerToPart went came e id earlier part m
@@ -41,7 +41,7 @@ answers_part went came e part id earlier r bytes m a read c i k d =
     }
 
 -- the request of that part was transmitted.
-transmits_part : (between after : List PeerCall → Type 0) (e : Errand) (part : Part) (id : ℕ) (earlier : List ℕ) (r : SentRequest) (answer : List ℕ) →
+transmits_part : (between after : List PeerCall → Type 0) (e : ClientRequest) (part : Part) (id : ℕ) (earlier : List ℕ) (r : SentRequest) (answer : List ℕ) →
     MakesCalls between after (IsTransmission r.confirmable (TellsSent r) r.datagram.now.items (Some answer)) →
     r.confirmable ≡ e.confirmable → r.id ≡ id → r.earlier.now ≡ earlier → r.datagram.now.items ≡ message_bytes (part_request e part id) →
     MakesCalls between after (IsTransmission e.confirmable (Tells e.confirmable id earlier) (message_bytes (part_request e part id)) (Some answer))
@@ -51,7 +51,7 @@ transmits_part between after e part id earlier r answer called c i k d =
     (subst (λ x. MakesCalls between after (IsTransmission e.confirmable (Tells e.confirmable x r.earlier.now) r.datagram.now.items (Some answer))) i
     (subst (λ x. MakesCalls between after (IsTransmission x (Tells x r.id r.earlier.now) r.datagram.now.items (Some answer))) c called)))
 
-pub exchanged : (went came : List ℕ → Type 0) (between after : List PeerCall → Type 0) (e : Errand) (part : Part) (id : ℕ) (earlier : List ℕ) (r : SentRequest) (count : ℕ) (buffer : List ℕ)
+pub exchanged : (went came : List ℕ → Type 0) (between after : List PeerCall → Type 0) (e : ClientRequest) (part : Part) (id : ℕ) (earlier : List ℕ) (r : SentRequest) (count : ℕ) (buffer : List ℕ)
     (o : Option ℕ) (m : Message) → o ≡ Some count → IfSome o (λ n. (n ≤ length buffer) × HasTakenResponse went came r (take n buffer)) →
     MakesCalls between after (IsTransmission r.confirmable (TellsSent r) r.datagram.now.items (received_bytes buffer o)) → reading_of (take count buffer) ≡ Ok m → IsPartOf e part →
     r.confirmable ≡ e.confirmable → r.id ≡ id → r.earlier.now ≡ earlier → r.datagram.now.items ≡ message_bytes (part_request e part id) →
@@ -67,7 +67,7 @@ exchanged went came between after e part id earlier r count buffer o m some resp
           (subst (λ x. MakesCalls between after (IsTransmission r.confirmable (TellsSent r) r.datagram.now.items (received_bytes buffer x))) some called) c i k d;
     }
 
-pub begins : (went came : List ℕ → Type 0) (now : List PeerCall → Type 0) (e : Errand) (first : ℕ) (known : List ℕ) (part : Part) (body etag : List ℕ) →
+pub begins : (went came : List ℕ → Type 0) (now : List PeerCall → Type 0) (e : ClientRequest) (first : ℕ) (known : List ℕ) (part : Part) (body etag : List ℕ) →
     first < 65536 → part ≡ first_part e.method (length e.payload.now) → body ≡ [] → etag ≡ [] →
     IsFetching went came now now e first known first known (Out part body etag)
 begins went came now e first known part body etag below p b t = record {
@@ -80,7 +80,7 @@ begins went came now e first known part body etag below p b t = record {
 }
 
 -- one more request.
-requested : (went came : List ℕ → Type 0) (before between after : List PeerCall → Type 0) (e : Errand) (first : ℕ) (known : List ℕ) (id : ℕ) (earlier : List ℕ) (part : Part) (body etag : List ℕ)
+requested : (went came : List ℕ → Type 0) (before between after : List PeerCall → Type 0) (e : ClientRequest) (first : ℕ) (known : List ℕ) (id : ℕ) (earlier : List ℕ) (part : Part) (body etag : List ℕ)
     (m : Message) (ms : List Message) → state_after e ms ≡ Out part body etag → id ≡ (first + length ms) % 65536 → earlier ≡ taken_ids known ms →
     MakesCalls before between (ArePartRequests e first known ms) → IsExchanged went came between after e id earlier part m → MakesCalls before after (ArePartRequests e first known (m ∷ ms))
 requested went came before between after e first known id earlier part body etag m ms leads i k one x =
@@ -104,7 +104,7 @@ requested went came before between after e first known id earlier part body etag
       is = refl;
     })
 
-pub one_more : (went came : List ℕ → Type 0) (before between after : List PeerCall → Type 0) (e : Errand) (first : ℕ) (known : List ℕ) (id : ℕ) (earlier : List ℕ) (part : Part) (body etag : List ℕ)
+pub one_more : (went came : List ℕ → Type 0) (before between after : List PeerCall → Type 0) (e : ClientRequest) (first : ℕ) (known : List ℕ) (id : ℕ) (earlier : List ℕ) (part : Part) (body etag : List ℕ)
     (m : Message) (id' : ℕ) (earlier' : List ℕ) (next : State) →
     IsFetching went came before between e first known id earlier (Out part body etag) → IsExchanged went came between after e id earlier part m →
     after_reply (length e.payload.now) m (Out part body etag) ≡ next → id' ≡ (id + 1) % 65536 → earlier' ≡ with_taken_id m earlier →
@@ -123,12 +123,12 @@ one_more went came before between after e first known id earlier part body etag 
   called = requested went came before between after e first known id earlier part body etag m u.replies u.leads u.id_is u.earlier_is u.called a;
 }
 
-pub leads_to : (went came : List ℕ → Type 0) (before after : List PeerCall → Type 0) (e : Errand) (first : ℕ) (known : List ℕ) (id : ℕ) (earlier : List ℕ) (state : State) →
+pub leads_to : (went came : List ℕ → Type 0) (before after : List PeerCall → Type 0) (e : ClientRequest) (first : ℕ) (known : List ℕ) (id : ℕ) (earlier : List ℕ) (state : State) →
     IsFetching went came before after e first known id earlier state → RepliesLeadTo went came e first known (λ replies. MakesCalls before after (ArePartRequests e first known replies)) state
 leads_to went came before after e first known id earlier state u = record { replies = u.replies; are = u.are; leads = u.leads; called = u.called }
 
 -- the state after the response.
-pub leads_on : (went came : List ℕ → Type 0) (before between after : List PeerCall → Type 0) (e : Errand) (first : ℕ) (known : List ℕ) (old new : Course) (m : Message) (step : Step) (state : State) →
+pub leads_on : (went came : List ℕ → Type 0) (before between after : List PeerCall → Type 0) (e : ClientRequest) (first : ℕ) (known : List ℕ) (old new : FetchState) (m : Message) (step : Step) (state : State) →
     IsFetching went came before between e first known old.id old.earlier.items (Out old.part old.body.items old.etag.items) →
     IsExchanged went came between after e old.id old.earlier.items old.part m → IsStepOf (length e.payload.now) m old new step →
     after_reply (length e.payload.now) m (Out old.part old.body.items old.etag.items) ≡ state →
@@ -137,10 +137,10 @@ leads_on went came before between after e first known old new m step state u a s
     one_more went came before between after e first known old.id old.earlier.items old.part old.body.items old.etag.items m new.id new.earlier.items state u a is s.id s.earlier
 
 -- the same, with the number of replies.
-abbrev pub HasCounted : (List ℕ → Type 0) → (List ℕ → Type 0) → (List PeerCall → Type 0) → (List PeerCall → Type 0) → Errand → ℕ → List ℕ → ℕ → List ℕ → State → ℕ → Type 0
+abbrev pub HasCounted : (List ℕ → Type 0) → (List ℕ → Type 0) → (List PeerCall → Type 0) → (List PeerCall → Type 0) → ClientRequest → ℕ → List ℕ → ℕ → List ℕ → State → ℕ → Type 0
 HasCounted went came before now e first known id earlier state n = (u : IsFetching went came before now e first known id earlier state) × (n ≤ length u.replies)
 
-longer : (went came : List ℕ → Type 0) (before between after : List PeerCall → Type 0) (e : Errand) (first : ℕ) (known : List ℕ) (old new : Course) (m : Message) (step : Step) (state : State) →
+longer : (went came : List ℕ → Type 0) (before between after : List PeerCall → Type 0) (e : ClientRequest) (first : ℕ) (known : List ℕ) (old new : FetchState) (m : Message) (step : Step) (state : State) →
     (u : IsFetching went came before between e first known old.id old.earlier.items (Out old.part old.body.items old.etag.items)) →
     (a : IsExchanged went came between after e old.id old.earlier.items old.part m) → (s : IsStepOf (length e.payload.now) m old new step) →
     (is : after_reply (length e.payload.now) m (Out old.part old.body.items old.etag.items) ≡ state) →
@@ -148,7 +148,7 @@ longer : (went came : List ℕ → Type 0) (before between after : List PeerCall
 unfolding leads_on one_more
 longer went came before between after e first known old new m step state u a s is = refl
 
-pub counts_on : (went came : List ℕ → Type 0) (before between after : List PeerCall → Type 0) (e : Errand) (first : ℕ) (known : List ℕ) (old new : Course) (m : Message) (step : Step) (state : State) (n : ℕ) →
+pub counts_on : (went came : List ℕ → Type 0) (before between after : List PeerCall → Type 0) (e : ClientRequest) (first : ℕ) (known : List ℕ) (old new : FetchState) (m : Message) (step : Step) (state : State) (n : ℕ) →
     HasCounted went came before between e first known old.id old.earlier.items (Out old.part old.body.items old.etag.items) n →
     IsExchanged went came between after e old.id old.earlier.items old.part m → IsStepOf (length e.payload.now) m old new step →
     after_reply (length e.payload.now) m (Out old.part old.body.items old.etag.items) ≡ state →
@@ -158,13 +158,13 @@ counts_on went came before between after e first known old new m step state n h 
     let one = ap length (longer went came before between after e first known old new m step state h.0 a s is) in
     (leads_on went came before between after e first known old new m step state h.0 a s is, omega (arith, many, one))
 
-pub begins_counted : (went came : List ℕ → Type 0) (now : List PeerCall → Type 0) (e : Errand) (first : ℕ) (known : List ℕ) (part : Part) (body etag : List ℕ) →
+pub begins_counted : (went came : List ℕ → Type 0) (now : List PeerCall → Type 0) (e : ClientRequest) (first : ℕ) (known : List ℕ) (part : Part) (body etag : List ℕ) →
     first < 65536 → part ≡ first_part e.method (length e.payload.now) → body ≡ [] → etag ≡ [] →
     HasCounted went came now now e first known first known (Out part body etag) 0
 begins_counted went came now e first known part body etag below p b t = (begins went came now e first known part body etag below p b t, omega arith)
 
 -- replies after those that ended in `Outdated`.
-pub leads_again : (went came : List ℕ → Type 0) (before between after : List PeerCall → Type 0) (e : Errand) (first next : ℕ) (known : List ℕ) (state : State) → e.method ≡ Get →
+pub leads_again : (went came : List ℕ → Type 0) (before between after : List PeerCall → Type 0) (e : ClientRequest) (first next : ℕ) (known : List ℕ) (state : State) → e.method ≡ Get →
     IsFetching went came before between e first [] next known Outdated →
     RepliesLeadTo went came e next known (λ replies. MakesCalls between after (ArePartRequests e next known replies)) state → RepliesLeadToAgain went came before after e first state
 leads_again went came before between after e first next known state method u l =

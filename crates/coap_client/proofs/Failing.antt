@@ -2,17 +2,17 @@
 use Rattle.std.proofs.Common.{◌≡◌, ℕ, ◌<◌, max, inl, inr, Bool, true, false, List, [], ◌∷◌, ◌++◌, Some, refl, sym, subst, append_assoc, Result, Ok, Err, IfErr, IsErrAnd, Option, None, ◌∙◌, if◌then◌else◌}
 use Rattle.coap_msg.specs.Reading.{reading_of}
 use Rattle.coap_msg.specs.Wire.{Message}
-use Rattle.coap_client.specs.declared.notice.Notice.{Notice}
-use Rattle.coap_client.specs.declared.notice.Notice.TheVariants as notice
+use Rattle.coap_client.specs.declared.notice.NotificationClass.{NotificationClass}
+use Rattle.coap_client.specs.declared.notice.NotificationClass.TheVariants as notice
 use Rattle.coap_client.specs.declared.observing.Observer.{Observer}
-use Rattle.coap_client.specs.declared.watch.Watch.{Watch}
+use Rattle.coap_client.specs.declared.watch.Observation.{Observation}
 use Rattle.coap_client.specs.declared.fetcher.FetchFault.{FetchFault}
 use Rattle.coap_client.specs.declared.fetcher.FetchFault.TheVariants as fault
-use Rattle.coap_client.specs.declared.transmission.Reception.{Reception}
-use Rattle.coap_client.specs.declared.transmission.Reception.TheVariants.{Rejected}
+use Rattle.coap_client.specs.declared.transmission.ReplyClass.{ReplyClass}
+use Rattle.coap_client.specs.declared.transmission.ReplyClass.TheVariants.{Rejected}
 use Rattle.coap_client.specs.Faults.{EndsOnNotification, EndsRejected, IsDeregistrationFault, IsLeavingFault, IsNotificationFault, IsOfPeer, IsRegistrationFault, IsRejectedBy, IsRejectedLater, IsRejectedLeaving, IsRejection, deregistration_of, leaving_id, registration_of, UnfitCame}
 use Rattle.coap_client.specs.Listening.{EndsOn, IsAcknowledgedBy, IsPassedOver}
-use Rattle.coap_client.specs.Heard.{IsReadAs}
+use Rattle.coap_client.specs.Handled.{IsReadAs}
 use Rattle.coap_client.specs.Notes.{HasOwnResponse, TellsObserver}
 use Rattle.coap_client.specs.Notices.{IsOwnResponse, by_age, by_sequence, by_success, can_be_shown, is_newer, is_shown_again, notice_after, notice_of, sequence_of}
 use Rattle.coap_client.specs.ObserverCalls.{AwaitsNotification, IsPassedOverLeaving, IsPassedOverWatching}
@@ -22,7 +22,7 @@ use Rattle.coap_client.specs.Transmissions.{ack_timeout, most_sendings, non_wait
 use Rattle.coap_client.proofs.Transmitting.{Calls, again, does_of, last_sending, sending}
 
 abbrev Told : Type 1
-Told = List ℕ → Reception → Type 0
+Told = List ℕ → ReplyClass → Type 0
 
 -- an error that `?` returns.
 pub raised : {A B : Type 0} (r : Result A B) (f : B) (P : B → Type 0) → IsErrAnd r (λ y. y ≡ f) → P f → IfErr r P
@@ -33,7 +33,7 @@ raised (Err y) f P is h = subst P (sym is) h
 pub of_peer : (is_error : PeerError → Type 0) (P Q : Type 0) (f : FetchFault) → (P → Q) → IsOfPeer is_error P f → IsOfPeer is_error Q f
 of_peer is_error P Q fault.Silence turns h = absurd h
 of_peer is_error P Q fault.Rejected turns h = turns h
-of_peer is_error P Q fault.Misfit turns h = absurd h
+of_peer is_error P Q fault.Malformed turns h = absurd h
 of_peer is_error P Q fault.Changed turns h = absurd h
 of_peer is_error P Q fault.Part turns h = absurd h
 of_peer is_error P Q (fault.Socket error) turns h = h
@@ -48,9 +48,9 @@ of_peer_result is_error P Q (Ok x) turns h = h
 of_peer_result is_error P Q (Err f) turns h = of_peer is_error P Q f turns h
 
 -- a Reset ended the wait.
-pub rejection_came : (tells : Told) (awaited : Bool) (bytes : List ℕ) (heard : Reception) (before after : Calls) → tells bytes heard → heard ≡ Rejected
+pub rejection_came : (tells : Told) (awaited : Bool) (bytes : List ℕ) (handled : ReplyClass) (before after : Calls) → tells bytes handled → handled ≡ Rejected
     → MakesCalls before after (EndsOn (IsPassedOver tells awaited) bytes) → MakesCalls before after (IsRejectedBy tells awaited)
-rejection_came tells awaited bytes heard before after told is one =
+rejection_came tells awaited bytes handled before after told is one =
     does_of before after (EndsOn (IsPassedOver tells awaited) bytes) (IsRejectedBy tells awaited) one (λ calls h. (bytes, subst (tells bytes) is told, h))
 
 -- a confirmable request is rejected.
@@ -74,15 +74,15 @@ later tells before between begun after one adds other calls h =
       is = subst after (sym (append_assoc b.more (Waits separate_wait ∷ a.more) calls)) b.is;
     }
 
-pub rejected_later : (tells : Told) (request : List ℕ) (n seconds : ℕ) (before between sent heard begun after : Calls) → n < most_sendings
+pub rejected_later : (tells : Told) (request : List ℕ) (n seconds : ℕ) (before between sent handled begun after : Calls) → n < most_sendings
     → MakesCalls before between (AreInVain (IsPassedOver tells false) request n) → seconds ≡ ack_timeout n → Adds between sent (Waits seconds ∷ Sends request ∷ [])
-    → MakesCalls sent heard (λ calls. (false ≡ false) × IsAcknowledgedBy tells calls) → Adds heard begun (Waits separate_wait ∷ [])
+    → MakesCalls sent handled (λ calls. (false ≡ false) × IsAcknowledgedBy tells calls) → Adds handled begun (Waits separate_wait ∷ [])
     → MakesCalls begun after (IsRejectedBy tells true) → MakesCalls before after (IsRejection true tells request)
-rejected_later tells request n seconds before between sent heard begun after few one twice adds came waits other =
+rejected_later tells request n seconds before between sent handled begun after few one twice adds came waits other =
     last_sending (IsPassedOver tells false) request n before between after (EndsRejected tells) few one
     (again request n seconds between sent after (EndsRejected tells) twice adds
     (does_of sent after (IsRejectedLater tells) (EndsRejected tells)
-    (later tells sent heard begun after (does_of sent heard (λ calls. (false ≡ false) × IsAcknowledgedBy tells calls) (IsAcknowledgedBy tells) came (λ calls h. h.1)) waits other)
+    (later tells sent handled begun after (does_of sent handled (λ calls. (false ≡ false) × IsAcknowledgedBy tells calls) (IsAcknowledgedBy tells) came (λ calls h. h.1)) waits other)
     (λ calls h. inr h)))
 
 -- a non-confirmable request is rejected.
@@ -96,7 +96,7 @@ pub registration_fault : (is_error : PeerError → Type 0) (Makes : Calls → Ty
     → IsOfPeer is_error (Makes (IsRejection true (TellsObserver o.token o.id) (registration_of o))) f → IsRegistrationFault is_error Makes o f
 registration_fault is_error Makes o fault.Silence h = absurd h
 registration_fault is_error Makes o fault.Rejected h = h
-registration_fault is_error Makes o fault.Misfit h = absurd h
+registration_fault is_error Makes o fault.Malformed h = absurd h
 registration_fault is_error Makes o fault.Changed h = absurd h
 registration_fault is_error Makes o fault.Part h = absurd h
 registration_fault is_error Makes o (fault.Socket error) h = h
@@ -127,7 +127,7 @@ pub leaving_of : (is_error : PeerError → Type 0) (Makes : Calls → Type 0) (o
     → IsLeavingFault is_error Makes o f
 leaving_of is_error Makes o Rejects fault.Silence turns h = absurd h
 leaving_of is_error Makes o Rejects fault.Rejected turns h = turns h
-leaving_of is_error Makes o Rejects fault.Misfit turns h = absurd h
+leaving_of is_error Makes o Rejects fault.Malformed turns h = absurd h
 leaving_of is_error Makes o Rejects fault.Changed turns h = absurd h
 leaving_of is_error Makes o Rejects fault.Part turns h = absurd h
 leaving_of is_error Makes o Rejects (fault.Socket error) turns h = h
@@ -138,35 +138,35 @@ pub leaving_fault : (is_error : PeerError → Type 0) (Makes : Calls → Type 0)
 leaving_fault is_error Makes o (Ok x) h = h
 leaving_fault is_error Makes o (Err fault.Silence) h = h
 leaving_fault is_error Makes o (Err fault.Rejected) h = h
-leaving_fault is_error Makes o (Err fault.Misfit) h = h
+leaving_fault is_error Makes o (Err fault.Malformed) h = h
 leaving_fault is_error Makes o (Err fault.Changed) h = h
 leaving_fault is_error Makes o (Err fault.Part) h = h
 leaving_fault is_error Makes o (Err (fault.Socket error)) h = h
 leaving_fault is_error Makes o (Err (fault.Memory error)) h = absurd h
 
 -- a success is a state or the last response, and is shown.
-shown_sequence : (o : Option ℕ) → by_sequence o ≡ notice.Misfit → ⊥
+shown_sequence : (o : Option ℕ) → by_sequence o ≡ notice.Malformed → ⊥
 shown_sequence None h = cc h
 shown_sequence (Some v) h = cc h
 
-shown : (m : Message) → by_success m ≡ notice.Misfit → ⊥
-shown m h = elim (is_success m.code) as (λ b. (if b then by_sequence (sequence_of m) else notice.Last) ≡ notice.Misfit → ⊥) [
+shown : (m : Message) → by_success m ≡ notice.Malformed → ⊥
+shown m h = elim (is_success m.code) as (λ b. (if b then by_sequence (sequence_of m) else notice.Last) ≡ notice.Malformed → ⊥) [
   | true ↦ λ x. shown_sequence (sequence_of m) x
   | false ↦ λ x. cc x
 ] h
 
 -- neither its age nor a duplicate makes a response one that can't be shown.
-unfit_by_age : (w : Watch) (at : ℕ) (n : Notice) → by_age w at n ≡ notice.Misfit → n ≡ notice.Misfit
-unfit_by_age w at (notice.State v) h = absurd (elim (is_newer w.sequence w.at v at) as (λ b. (if b then notice.State v else notice.Older) ≡ notice.Misfit → ⊥) [
+unfit_by_age : (w : Observation) (at : ℕ) (n : NotificationClass) → by_age w at n ≡ notice.Malformed → n ≡ notice.Malformed
+unfit_by_age w at (notice.State v) h = absurd (elim (is_newer w.sequence w.at v at) as (λ b. (if b then notice.State v else notice.Older) ≡ notice.Malformed → ⊥) [
   | true ↦ λ x. cc x
   | false ↦ λ x. cc x
 ] h)
 unfit_by_age w at notice.Older h = h
 unfit_by_age w at notice.Last h = h
-unfit_by_age w at notice.Misfit h = h
+unfit_by_age w at notice.Malformed h = h
 
-unfit_after : (w : Watch) (at : ℕ) (m : Message) → notice_after w at m ≡ notice.Misfit → notice_of m ≡ notice.Misfit
-unfit_after w at m h = elim (is_shown_again w.marks.items m.id at) as (λ b. (if b then notice.Older else by_age w at (notice_of m)) ≡ notice.Misfit → notice_of m ≡ notice.Misfit) [
+unfit_after : (w : Observation) (at : ℕ) (m : Message) → notice_after w at m ≡ notice.Malformed → notice_of m ≡ notice.Malformed
+unfit_after w at m h = elim (is_shown_again w.marks.items m.id at) as (λ b. (if b then notice.Older else by_age w at (notice_of m)) ≡ notice.Malformed → notice_of m ≡ notice.Malformed) [
   | true ↦ λ x. absurd (cc x)
   | false ↦ λ x. unfit_by_age w at (notice_of m) x
 ] h
@@ -174,46 +174,46 @@ unfit_after w at m h = elim (is_shown_again w.marks.items m.id at) as (λ b. (if
 spelled : (bytes : List ℕ) (x m : Message) → reading_of bytes ≡ Ok x → reading_of bytes ≡ Ok m → x ≡ m
 spelled bytes x m a b = cc (a, b)
 
--- `Misfit` means that the message can't be shown.
-pub unfit_notice : (m : Message) → notice_of m ≡ notice.Misfit → can_be_shown m ≡ false
-unfit_notice m is = elim (can_be_shown m) as (λ b. (if b then by_success m else notice.Misfit) ≡ notice.Misfit → b ≡ false) [
+-- `Malformed` means that the message can't be shown.
+pub unfit_notice : (m : Message) → notice_of m ≡ notice.Malformed → can_be_shown m ≡ false
+unfit_notice m is = elim (can_be_shown m) as (λ b. (if b then by_success m else notice.Malformed) ≡ notice.Malformed → b ≡ false) [
   | true ↦ λ h. absurd (shown m h)
   | false ↦ λ h. refl
 ] is
 
-pub unfit_came : (went came : List ℕ → Type 0) (token bytes : List ℕ) (now : Watch) (m : Message) (at : ℕ) (n : Notice) (id : ℕ) → HasOwnResponse went came token bytes
-    → reading_of bytes ≡ Ok m → n ≡ notice_after now at m → n ≡ notice.Misfit → UnfitCame came token id
+pub unfit_came : (went came : List ℕ → Type 0) (token bytes : List ℕ) (now : Observation) (m : Message) (at : ℕ) (n : NotificationClass) (id : ℕ) → HasOwnResponse went came token bytes
+    → reading_of bytes ≡ Ok m → n ≡ notice_after now at m → n ≡ notice.Malformed → UnfitCame came token id
 unfit_came went came token bytes now m at n id own read is so = record {
   bytes = bytes;
   message = m;
-  came_is = own.heard.came_is;
+  came_is = own.handled.came_is;
   read_is = read;
-  own = inr (subst (IsOwnResponse token) (spelled bytes own.message m own.heard.read_is read) own.own);
+  own = inr (subst (IsOwnResponse token) (spelled bytes own.message m own.handled.read_is read) own.own);
   unfit = unfit_notice m (unfit_after now at m (sym is ∙ so));
 }
 
 -- a notification ends the wait.
-pub ends_on : (went came : List ℕ → Type 0) (told : ℕ → Type 0) (token bytes : List ℕ) (w now : Watch) (m : Message) (moment at : ℕ) (n : Notice) (P : Notice → Type 0) (before after : Calls)
-    → HasOwnResponse went came token bytes → reading_of bytes ≡ Ok m → told moment → now ≡ w → at ≡ max now.at moment → n ≡ notice_after now at m → P n
-    → MakesCalls before after (AwaitsNotification token (IsPassedOverWatching told token w) (Some (bytes, moment))) → MakesCalls before after (EndsOnNotification told token w P)
-ends_on went came told token bytes w now m moment at n P before after own read told_is same is_at is so one =
-    does_of before after (AwaitsNotification token (IsPassedOverWatching told token w) (Some (bytes, moment))) (EndsOnNotification told token w P) one
+pub ends_on : (went came : List ℕ → Type 0) (told : ℕ → Type 0) (token bytes : List ℕ) (w now : Observation) (m : Message) (time at : ℕ) (n : NotificationClass) (P : NotificationClass → Type 0) (before after : Calls)
+    → HasOwnResponse went came token bytes → reading_of bytes ≡ Ok m → told time → now ≡ w → at ≡ max now.at time → n ≡ notice_after now at m → P n
+    → MakesCalls before after (AwaitsNotification token (IsPassedOverWatching told token w) (Some (bytes, time))) → MakesCalls before after (EndsOnNotification told token w P)
+ends_on went came told token bytes w now m time at n P before after own read told_is same is_at is so one =
+    does_of before after (AwaitsNotification token (IsPassedOverWatching told token w) (Some (bytes, time))) (EndsOnNotification told token w P) one
     (λ calls h. record {
       bytes = bytes;
       message = m;
       read_is = read;
-      own = subst (IsOwnResponse token) (spelled bytes own.message m own.heard.read_is read) own.own;
-      moment = moment;
+      own = subst (IsOwnResponse token) (spelled bytes own.message m own.handled.read_is read) own.own;
+      time = time;
       told_is = told_is;
-      so = subst (λ (x : Watch). P (notice_after x (max x.at moment) m)) same (subst (λ (x : ℕ). P (notice_after now x m)) is_at (subst P is so));
+      so = subst (λ (x : Observation). P (notice_after x (max x.at time) m)) same (subst (λ (x : ℕ). P (notice_after now x m)) is_at (subst P is so));
       noticed = h;
     })
 
-pub notification_fault : (came : List ℕ → Type 0) (is_error : PeerError → Type 0) (Makes : Calls → Type 0) (told : ℕ → Type 0) (token : List ℕ) (w : Watch) (f : FetchFault) → IsOfPeer is_error ⊥ f
+pub notification_fault : (came : List ℕ → Type 0) (is_error : PeerError → Type 0) (Makes : Calls → Type 0) (told : ℕ → Type 0) (token : List ℕ) (w : Observation) (f : FetchFault) → IsOfPeer is_error ⊥ f
     → IsNotificationFault came is_error Makes told token w f
 notification_fault came is_error Makes told token w fault.Silence h = absurd h
 notification_fault came is_error Makes told token w fault.Rejected h = absurd h
-notification_fault came is_error Makes told token w fault.Misfit h = absurd h
+notification_fault came is_error Makes told token w fault.Malformed h = absurd h
 notification_fault came is_error Makes told token w fault.Changed h = absurd h
 notification_fault came is_error Makes told token w fault.Part h = absurd h
 notification_fault came is_error Makes told token w (fault.Socket error) h = h

@@ -8,7 +8,7 @@ use Rattle.coap_msg.specs.Wire.{Message}
 use Rattle.coap_opts.specs.Values.{block_size, place_in}
 use Rattle.coap_opts.specs.declared.request.Method.{Method}
 use Rattle.coap_opts.specs.declared.request.Method.TheVariants.{Get, Post, Put, Delete}
-use Rattle.coap_client.specs.declared.errand.Errand.{Errand}
+use Rattle.coap_client.specs.declared.client_request.ClientRequest.{ClientRequest}
 use Rattle.coap_client.specs.declared.part.Part.{Part}
 use Rattle.coap_client.specs.declared.part.Part.TheVariants.{Whole, Body, Answer}
 use Rattle.coap_client.specs.declared.reply.Next.{Next}
@@ -47,31 +47,31 @@ JoinsAt offset count value other = Unit {0}
 
 option_joins : (n szx count offset : ℕ) (value : Option (List ℕ)) → block_size szx * n ≡ offset → JoinsAt offset count value (by_option n szx count value)
 option_joins n szx count offset None at =
-    either (JoinsAt offset count None) (n == 0) next.Last next.Misfit
+    either (JoinsAt offset count None) (n == 0) next.Last next.Malformed
     (λ zero. let none : n ≡ 0 = eqb-true _ _ zero in (sym at ∙ (ap (λ k. block_size szx * k) none ∙ omega arith), tt)) (λ _. tt)
 option_joins n szx count offset (Some value) at =
     let b = place_in value in
     let P = JoinsAt offset count (Some value) in
-    either P (nat_le (length value) 3) _ next.Misfit
-    (λ _. either P (fits_place n szx b) (by_more b count) next.Misfit
+    either P (nat_le (length value) 3) _ next.Malformed
+    (λ _. either P (fits_place n szx b) (by_more b count) next.Malformed
     (λ is. let begins = (place_is n szx b is).begins ∙ at in
     either P b.more _ _
-    (λ _. either P (count == block_size b.szx) (next_block b) next.Misfit
-    (λ whole. either P (nat_lt (b.number + 1) 1048576) (next.Ask (Answer (b.number + 1) b.szx)) next.Misfit
+    (λ _. either P (count == block_size b.szx) (next_block b) next.Malformed
+    (λ whole. either P (nat_lt (b.number + 1) 1048576) (next.Ask (Answer (b.number + 1) b.szx)) next.Malformed
     (λ _. (begins, let size : count ≡ block_size b.szx = eqb-true _ _ whole in omega (arith, begins, size))) (λ _. tt))
     (λ _. tt))
-    (λ last. either P (nat_le count (block_size b.szx)) next.Last next.Misfit (λ _. (begins, last)) (λ _. tt)))
+    (λ last. either P (nat_le count (block_size b.szx)) next.Last next.Malformed (λ _. (begins, last)) (λ _. tt)))
     (λ _. tt))
     (λ _. tt)
 
 whole_joins : (n : ℕ) (m : Message) → JoinsAt 0 (length m.payload) (block2_of m) (next_of_whole n m)
 whole_joins n m =
-    either (JoinsAt 0 (length m.payload) (block2_of m)) (is_final n m) (next_of_answer 0 6 m) next.Misfit (λ _. option_joins 0 6 (length m.payload) 0 (block2_of m) (omega arith)) (λ _. tt)
+    either (JoinsAt 0 (length m.payload) (block2_of m)) (is_final n m) (next_of_answer 0 6 m) next.Malformed (λ _. option_joins 0 6 (length m.payload) 0 (block2_of m) (omega arith)) (λ _. tt)
 
 body_joins : (n szx count : ℕ) (value : Option (List ℕ)) (size : Option ℕ) → JoinsAt 0 count value (next_of_body n szx size)
 body_joins n szx count value None = tt
 body_joins n szx count value (Some smaller) =
-    either (JoinsAt 0 count value) (nat_lt (next_number n szx smaller) 1048576) (next.Ask (Body (next_number n szx smaller) smaller)) next.Misfit (λ _. refl) (λ _. tt)
+    either (JoinsAt 0 count value) (nat_lt (next_number n szx smaller) 1048576) (next.Ask (Body (next_number n szx smaller) smaller)) next.Malformed (λ _. refl) (λ _. tt)
 
 one : (m : Message) (ms : List Message) → BeginsAt 0 (block2_of m) → IsJoined m.payload (etag_of m) (m ∷ ms)
 one m ms begins = record {
@@ -133,7 +133,7 @@ begun m ms body etag (next.Ask (Answer n szx)) none j =
 begun m ms body etag next.Last none j = λ _. answer_alone m ms (body ++ m.payload) (ap (λ x. x ++ m.payload) none) j.0 j.1
 begun m ms body etag next.Refused none j = absurd j
 begun m ms body etag next.Stale none j = tt
-begun m ms body etag next.Misfit none j = tt
+begun m ms body etag next.Malformed none j = tt
 
 -- a further block is joined.
 grown : (m : Message) (ms : List Message) (body etag : List ℕ) (n : Next) → IsJoined body etag ms → etag_of m ≡ etag → JoinsAt (length body) (length m.payload) (block2_of m) n →
@@ -152,7 +152,7 @@ grown m ms body etag (next.Ask (Answer n szx)) so same j = (more m ms body etag 
 grown m ms body etag next.Last so same j = λ _. answer_of m ms (body ++ m.payload) body etag so refl j.0 j.1 same
 grown m ms body etag next.Refused so same j = absurd j
 grown m ms body etag next.Stale so same j = tt
-grown m ms body etag next.Misfit so same j = tt
+grown m ms body etag next.Malformed so same j = tt
 
 part_joins : (count : ℕ) (part : Part) (body etag : List ℕ) (m : Message) (ms : List Message) → HasJoined ms (Out part body etag) →
     Joins m ms (moved_on (by_part count part etag m) body etag m)
@@ -163,14 +163,14 @@ part_joins count (Body n szx) body etag m ms so =
 part_joins count (Answer n szx) body etag m ms so =
     either (λ x. Joins m ms (moved_on x body etag m)) (bytes_eq (etag_of m) etag) _ next.Stale
     (λ equal. grown m ms body etag _ so.0 ((bytes_eq-Decides (etag_of m) etag).0 equal)
-    (either (JoinsAt (length body) (length m.payload) (block2_of m)) (is_continue m) next.Misfit (next_of_answer n szx m) (λ _. tt) (λ _. option_joins n szx (length m.payload) (length body) (block2_of m) so.1)))
+    (either (JoinsAt (length body) (length m.payload) (block2_of m)) (is_continue m) next.Malformed (next_of_answer n szx m) (λ _. tt) (λ _. option_joins n szx (length m.payload) (length body) (block2_of m) so.1)))
     (λ _. tt)
 
 reply_joins : (count : ℕ) (part : Part) (body etag : List ℕ) (m : Message) (ms : List Message) → HasJoined ms (Out part body etag) →
     Joins m ms (after_reply count m (Out part body etag))
 reply_joins count part body etag m ms so =
     let P : Next → Type 0 = λ n. Joins m ms (moved_on n body etag m) in
-    either P (is_understood m) (next_by_code count part etag m) next.Misfit
+    either P (is_understood m) (next_by_code count part etag m) next.Malformed
     (λ _. either P (is_success m.code) (by_part count part etag m) next.Refused
     (λ _. part_joins count part body etag m ms so)
     (λ failed success. absurd (cc (failed, success))))
@@ -194,11 +194,11 @@ first_joins Post count = refl
 first_joins Delete count = refl
 first_joins Put count = either (λ p. HasJoined [] (Out p [] [])) (nat_lt 1024 count) (Body 0 6) Whole (λ _. refl) (λ _. refl)
 
-pub has_joined : (e : Errand) (ms : List Message) → HasJoined ms (state_after e ms)
+pub has_joined : (e : ClientRequest) (ms : List Message) → HasJoined ms (state_after e ms)
 has_joined e [] = first_joins e.method (length e.payload.now)
 has_joined e (m ∷ ms) = step_joins (length e.payload.now) m ms (state_after e ms) (has_joined e ms)
 
-pub one_answer : (e : Errand) (m : Message) (ms : List Message) (part : Part) (body etag answer : List ℕ) (code : ℕ) → state_after e ms ≡ Out part body etag →
+pub one_answer : (e : ClientRequest) (m : Message) (ms : List Message) (part : Part) (body etag answer : List ℕ) (code : ℕ) → state_after e ms ≡ Out part body etag →
     after_reply (length e.payload.now) m (state_after e ms) ≡ Ended code answer → is_success code ≡ true → IsOneAnswer answer m ms
 one_answer e m ms part body etag answer code out ends success =
     let so = subst (HasJoined ms) out (has_joined e ms) in

@@ -6,7 +6,7 @@ use Rattle.coap_client.specs.declared.fetcher.FetchFault.{FetchFault}
 use Rattle.coap_client.specs.declared.fetcher.FetchFault.TheVariants as fault
 use Rattle.coap_client.specs.declared.joining.Joining.{Joining}
 use Rattle.coap_client.specs.declared.observing.Observer.{Observer}
-use Rattle.coap_client.specs.declared.watch.Watch.{Watch}
+use Rattle.coap_client.specs.declared.watch.Observation.{Observation}
 use Rattle.coap_client.specs.Fetching.{State, after_reply}
 use Rattle.coap_client.specs.Notes.{HasOwnResponse}
 use Rattle.coap_client.specs.Notices.{IsOwnResponse, notice_after}
@@ -17,21 +17,21 @@ use Rattle.coap_client.proofs.Failing.{unfit_came}
 use Rattle.coap_client.proofs.Transmitting.{Calls, does, does_both, does_nothing}
 
 -- a notification that arrived while a block was requested can't be shown.
-pub unfit_block : (went came : List ℕ → Type 0) (is_error : PeerError → Type 0) (o : Observer) (n szx id : ℕ) (bytes : List ℕ) (w : Watch) (m : Message) (moment : ℕ) (f : FetchFault)
-    → IsBlockAnswer went came o n szx id bytes → reading_of bytes ≡ Ok m → IsOwnResponse o.token m → IsNoteFault (notice_after w (max w.at moment) m) f → IsFollowingFault came is_error o.token f
-unfit_block went came is_error o n szx id bytes w m moment fault.Silence a read own h = absurd h
-unfit_block went came is_error o n szx id bytes w m moment fault.Rejected a read own h = absurd h
-unfit_block went came is_error o n szx id bytes w m moment fault.Misfit a read own h = absurd h
-unfit_block went came is_error o n szx id bytes w m moment fault.Changed a read own h = absurd h
-unfit_block went came is_error o n szx id bytes w m moment fault.Part a read own h =
-    let same : m ≡ a.message = cc (read, a.heard.read_is) in
-    λ other. unfit_came went came o.token bytes w m (max w.at moment) _ other (record { message = a.message; heard = a.heard; own = subst (IsOwnResponse o.token) same own }) read refl h
-unfit_block went came is_error o n szx id bytes w m moment (fault.Socket error) a read own h = absurd h
-unfit_block went came is_error o n szx id bytes w m moment (fault.Memory error) a read own h = tt
+pub unfit_block : (went came : List ℕ → Type 0) (is_error : PeerError → Type 0) (o : Observer) (n szx id : ℕ) (bytes : List ℕ) (w : Observation) (m : Message) (time : ℕ) (f : FetchFault)
+    → IsBlockAnswer went came o n szx id bytes → reading_of bytes ≡ Ok m → IsOwnResponse o.token m → IsNoteFault (notice_after w (max w.at time) m) f → IsFollowingFault came is_error o.token f
+unfit_block went came is_error o n szx id bytes w m time fault.Silence a read own h = absurd h
+unfit_block went came is_error o n szx id bytes w m time fault.Rejected a read own h = absurd h
+unfit_block went came is_error o n szx id bytes w m time fault.Malformed a read own h = absurd h
+unfit_block went came is_error o n szx id bytes w m time fault.Changed a read own h = absurd h
+unfit_block went came is_error o n szx id bytes w m time fault.Part a read own h =
+    let same : m ≡ a.message = cc (read, a.handled.read_is) in
+    λ other. unfit_came went came o.token bytes w m (max w.at time) _ other (record { message = a.message; handled = a.handled; own = subst (IsOwnResponse o.token) same own }) read refl h
+unfit_block went came is_error o n szx id bytes w m time (fault.Socket error) a read own h = absurd h
+unfit_block went came is_error o n szx id bytes w m time (fault.Memory error) a read own h = tt
 
 -- the clock is read.
-pub read_once : (moment : ℕ) (before after : Calls) → Adds before after (Reads moment ∷ []) → MakesCalls before after ReadsAtMost
-read_once moment before after adds = does before after ReadsAtMost (Reads moment ∷ []) adds (inr (moment, refl))
+pub read_once : (time : ℕ) (before after : Calls) → Adds before after (Reads time ∷ []) → MakesCalls before after ReadsAtMost
+read_once time before after adds = does before after ReadsAtMost (Reads time ∷ []) adds (inr (time, refl))
 
 -- no request so far.
 pub follows_nothing : (o : Observer) (now : Calls) → MakesCalls now now (IsFollowing o)

@@ -1,15 +1,15 @@
--- The next part of a fetch is a part of its errand.
+-- The next part of a fetch is a part of its client request.
 use Rattle.std.proofs.Common.{◌≡◌, ℕ, ◌+◌, ◌-◌, ◌*◌, ◌<◌, ◌≤◌, ◌^◌, ◌%◌, ◌==◌, ◌&&◌, nat_lt, nat_le, bytes_eq, Bool, true, false, if◌then◌else◌, List, length, Option, Some, None, refl, sym, ap, subst, ◌∙◌, arith}
 use Rattle.std.proofs.lemmas.Bool.{and_parts, eqb-true, leb-true, lt-ltb, ltb-true}
 use Rattle.std.proofs.lemmas.Nat.{mul-le, pow-add}
 use Rattle.std.proofs.Math.Pow.{pow_mono}
 use Rattle.coap_msg.specs.Wire.{Message}
 use Rattle.coap_opts.specs.Values.{Place, block_size, place_in}
-use Rattle.coap_client.specs.declared.errand.Errand.{Errand}
+use Rattle.coap_client.specs.declared.client_request.ClientRequest.{ClientRequest}
 use Rattle.coap_client.specs.declared.part.Part.{Part}
 use Rattle.coap_client.specs.declared.part.Part.TheVariants.{Whole, Body, Answer}
 use Rattle.coap_client.specs.declared.reply.Next.{Next}
-use Rattle.coap_client.specs.declared.reply.Next.TheVariants.{Ask, Last, Refused, Stale, Misfit}
+use Rattle.coap_client.specs.declared.reply.Next.TheVariants.{Ask, Last, Refused, Stale, Malformed}
 use Rattle.coap_client.specs.Parts.{has_more}
 use Rattle.coap_client.specs.Replies.{block1_of, block2_of, by_more, by_option, by_part, etag_of, is_continue, is_final, fits_place, is_success, is_understood, next_block, next_by_code, next_number, next_of, next_of_answer, next_of_body, next_of_further, next_of_whole, next_size, size_by_block}
 use Rattle.coap_client.specs.Requests.{IsBlock, IsBodyBlock, IsFurther, IsPartOf}
@@ -51,7 +51,7 @@ pub next_body_is : (n szx smaller r : ℕ) → IsBlock n szx → r ≡ next_numb
 next_body_is n szx smaller r block e below =
     let whole : r ≡ next_number n szx smaller = e ∙ no_wrap n szx smaller block in
     let under : next_number n szx smaller < 1048576 = omega (arith, whole, below) in
-    ap (λ k. Ask (Body k smaller)) whole ∙ sym (ap (λ (b : Bool). if b then Ask (Body (next_number n szx smaller) smaller) else Misfit) (lt-ltb _ _ under))
+    ap (λ k. Ask (Body k smaller)) whole ∙ sym (ap (λ (b : Bool). if b then Ask (Body (next_number n szx smaller) smaller) else Malformed) (lt-ltb _ _ under))
 
 -- the size of the next block is no greater.
 pub size_smaller : (n szx : ℕ) (b : Place) → (smaller : ℕ) → size_by_block n szx b ≡ Some smaller → smaller ≤ szx
@@ -73,19 +73,19 @@ IsFurtherAsk other = Unit {0}
 
 block_next : (b : Place) → b.szx ≤ 6 → IsFurtherAsk (next_block b)
 block_next b small =
-    either IsFurtherAsk (nat_lt (b.number + 1) 1048576) (Ask (Answer (b.number + 1) b.szx)) Misfit (λ below. record { number = ltb-true _ _ below; size = small }) (λ _. tt)
+    either IsFurtherAsk (nat_lt (b.number + 1) 1048576) (Ask (Answer (b.number + 1) b.szx)) Malformed (λ below. record { number = ltb-true _ _ below; size = small }) (λ _. tt)
 
 more_next : (b : Place) (count : ℕ) → b.szx ≤ 6 → IsFurtherAsk (by_more b count)
 more_next b count small =
     either IsFurtherAsk b.more _ _
-    (λ _. either IsFurtherAsk (count == block_size b.szx) (next_block b) Misfit (λ _. block_next b small) (λ _. tt))
-    (λ _. either IsFurtherAsk (nat_le count (block_size b.szx)) Last Misfit (λ _. tt) (λ _. tt))
+    (λ _. either IsFurtherAsk (count == block_size b.szx) (next_block b) Malformed (λ _. block_next b small) (λ _. tt))
+    (λ _. either IsFurtherAsk (nat_le count (block_size b.szx)) Last Malformed (λ _. tt) (λ _. tt))
 
 pub further_next : (n szx count : ℕ) (value : Option (List ℕ)) → szx ≤ 6 → IsFurtherAsk (by_option n szx count value)
-further_next n szx count None small = either IsFurtherAsk (n == 0) Last Misfit (λ _. tt) (λ _. tt)
+further_next n szx count None small = either IsFurtherAsk (n == 0) Last Malformed (λ _. tt) (λ _. tt)
 further_next n szx count (Some value) small =
-    either IsFurtherAsk (nat_le (length value) 3) _ Misfit
-    (λ _. either IsFurtherAsk (fits_place n szx (place_in value)) (by_more (place_in value) count) Misfit
+    either IsFurtherAsk (nat_le (length value) 3) _ Malformed
+    (λ _. either IsFurtherAsk (fits_place n szx (place_in value)) (by_more (place_in value) count) Malformed
     (λ is. let place = place_is n szx (place_in value) is in more_next (place_in value) count (omega (arith, place.smaller, small))) (λ _. tt))
     (λ _. tt)
 
@@ -93,37 +93,37 @@ further_next n szx count (Some value) small =
 pub block_further : (n szx : ℕ) (etag : List ℕ) (m : Message) → szx ≤ 6 → IsFurtherAsk (next_of_further n szx etag m)
 block_further n szx etag m small =
     either IsFurtherAsk (bytes_eq (etag_of m) etag) _ Stale
-    (λ _. either IsFurtherAsk (is_continue m) Misfit (next_of_answer n szx m) (λ _. tt) (λ _. further_next n szx (length m.payload) (block2_of m) small)) (λ _. tt)
+    (λ _. either IsFurtherAsk (is_continue m) Malformed (next_of_answer n szx m) (λ _. tt) (λ _. further_next n szx (length m.payload) (block2_of m) small)) (λ _. tt)
 
 pub is_further : (n : Next) (next : Next) (part : Part) → n ≡ next → IsFurtherAsk next → n ≡ Ask part → IsFurther part
 is_further n next part same h is = subst IsFurtherAsk (sym same ∙ is) h
 
-abbrev pub IsAskOf : Errand → Next → Type 0
+abbrev pub IsAskOf : ClientRequest → Next → Type 0
 IsAskOf e (Ask part) = IsPartOf e part
 IsAskOf e other = Unit {0}
 
-further_of : (e : Errand) (n : Next) → IsFurtherAsk n → IsAskOf e n
+further_of : (e : ClientRequest) (n : Next) → IsFurtherAsk n → IsAskOf e n
 further_of e (Ask Whole) h = absurd h
 further_of e (Ask (Body n szx)) h = absurd h
 further_of e (Ask (Answer n szx)) h = h
 further_of e Last h = tt
 further_of e Refused h = tt
 further_of e Stale h = tt
-further_of e Misfit h = tt
+further_of e Malformed h = tt
 
-option_next : (e : Errand) (n szx count : ℕ) (value : Option (List ℕ)) → szx ≤ 6 → IsAskOf e (by_option n szx count value)
+option_next : (e : ClientRequest) (n szx count : ℕ) (value : Option (List ℕ)) → szx ≤ 6 → IsAskOf e (by_option n szx count value)
 option_next e n szx count value small = further_of e (by_option n szx count value) (further_next n szx count value small)
 
-whole_next : (e : Errand) (n : ℕ) (m : Message) → IsAskOf e (next_of_whole n m)
-whole_next e n m = either (IsAskOf e) (is_final n m) (next_of_answer 0 6 m) Misfit (λ _. option_next e 0 6 (length m.payload) (block2_of m) (omega arith)) (λ _. tt)
+whole_next : (e : ClientRequest) (n : ℕ) (m : Message) → IsAskOf e (next_of_whole n m)
+whole_next e n m = either (IsAskOf e) (is_final n m) (next_of_answer 0 6 m) Malformed (λ _. option_next e 0 6 (length m.payload) (block2_of m) (omega arith)) (λ _. tt)
 
-body_next : (e : Errand) (n szx : ℕ) (next : Option ℕ) → IsBodyBlock e n szx → has_more (length e.payload.now) n szx ≡ true → ((smaller : ℕ) → next ≡ Some smaller → smaller ≤ szx) →
+body_next : (e : ClientRequest) (n szx : ℕ) (next : Option ℕ) → IsBodyBlock e n szx → has_more (length e.payload.now) n szx ≡ true → ((smaller : ℕ) → next ≡ Some smaller → smaller ≤ szx) →
     IsAskOf e (next_of_body n szx next)
 body_next e n szx None own more small = tt
 body_next e n szx (Some smaller) own more small =
     let le = small smaller refl in
     let behind = ltb-true _ _ more in
-    either (IsAskOf e) (nat_lt (next_number n szx smaller) 1048576) (Ask (Body (next_number n szx smaller) smaller)) Misfit
+    either (IsAskOf e) (nat_lt (next_number n szx smaller) 1048576) (Ask (Body (next_number n szx smaller) smaller)) Malformed
     (λ below. record {
       block = record { number = ltb-true _ _ below; size = omega (arith, le, own.block.size) };
       method = own.method;
@@ -131,17 +131,17 @@ body_next e n szx (Some smaller) own more small =
     })
     (λ _. tt)
 
-part_next : (e : Errand) (part : Part) (etag : List ℕ) (m : Message) → IsPartOf e part → IsAskOf e (by_part (length e.payload.now) part etag m)
+part_next : (e : ClientRequest) (part : Part) (etag : List ℕ) (m : Message) → IsPartOf e part → IsAskOf e (by_part (length e.payload.now) part etag m)
 part_next e Whole etag m own = whole_next e 0 m
 part_next e (Body n szx) etag m own =
     either (IsAskOf e) (has_more (length e.payload.now) n szx) (next_of_body n szx (next_size n szx (is_continue m) (block1_of m))) (next_of_whole n m)
     (λ more. body_next e n szx _ own more (next_smaller n szx (is_continue m) (block1_of m))) (λ _. whole_next e n m)
 part_next e (Answer n szx) etag m own =
     either (IsAskOf e) (bytes_eq (etag_of m) etag) _ Stale
-    (λ _. either (IsAskOf e) (is_continue m) Misfit (next_of_answer n szx m) (λ _. tt) (λ _. option_next e n szx (length m.payload) (block2_of m) own.size)) (λ _. tt)
+    (λ _. either (IsAskOf e) (is_continue m) Malformed (next_of_answer n szx m) (λ _. tt) (λ _. option_next e n szx (length m.payload) (block2_of m) own.size)) (λ _. tt)
 
--- after a response to a part of the errand, the next part is one of it.
-pub next_is_part : (e : Errand) (part next : Part) (etag : List ℕ) (m : Message) → IsPartOf e part → next_of (length e.payload.now) part etag m ≡ Ask next → IsPartOf e next
+-- after a response to a part of the client request, the next part is one of it.
+pub next_is_part : (e : ClientRequest) (part next : Part) (etag : List ℕ) (m : Message) → IsPartOf e part → next_of (length e.payload.now) part etag m ≡ Ask next → IsPartOf e next
 next_is_part e part next etag m own is =
-    subst (IsAskOf e) is (either (IsAskOf e) (is_understood m) (next_by_code (length e.payload.now) part etag m) Misfit
+    subst (IsAskOf e) is (either (IsAskOf e) (is_understood m) (next_by_code (length e.payload.now) part etag m) Malformed
     (λ _. either (IsAskOf e) (is_success m.code) (by_part (length e.payload.now) part etag m) Refused (λ _. part_next e part etag m own) (λ _. tt)) (λ _. tt))

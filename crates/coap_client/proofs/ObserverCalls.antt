@@ -2,12 +2,12 @@
 use Rattle.std.proofs.Common.{◌≡◌, ◌≤◌, ◌⊎◌, ◌+◌, ◌^◌, ℕ, zero, suc, max, inl, inr, Bool, true, false, List, [], ◌∷◌, ◌++◌, Ok, Option, Some, None, refl, sym, subst, ap, ◌∙◌, append_assoc, arith}
 use Rattle.coap_msg.specs.Reading.{reading_of}
 use Rattle.coap_msg.specs.Wire.{Message}
-use Rattle.coap_client.specs.declared.notice.Notice.{Notice}
-use Rattle.coap_client.specs.declared.notice.Notice.TheVariants.{Older}
-use Rattle.coap_client.specs.declared.transmission.Reception.{Reception}
-use Rattle.coap_client.specs.declared.transmission.Reception.TheVariants.{Reply, Separate, Repeat, Acknowledged, Rejected, Other}
-use Rattle.coap_client.specs.declared.watch.Watch.{Watch}
-use Rattle.coap_client.specs.Heard.{IsReadAs}
+use Rattle.coap_client.specs.declared.notice.NotificationClass.{NotificationClass}
+use Rattle.coap_client.specs.declared.notice.NotificationClass.TheVariants.{Older}
+use Rattle.coap_client.specs.declared.transmission.ReplyClass.{ReplyClass}
+use Rattle.coap_client.specs.declared.transmission.ReplyClass.TheVariants.{Reply, Separate, Repeat, Acknowledged, Rejected, Other}
+use Rattle.coap_client.specs.declared.watch.Observation.{Observation}
+use Rattle.coap_client.specs.Handled.{IsReadAs}
 use Rattle.coap_client.specs.Listening.{ArePassedOver, EndsOn, IsOver, IsPassedOver, acknowledges, is_passed_over}
 use Rattle.coap_client.specs.Notes.{HasArrived, HasOwnResponse, IsAcknowledgementOf, IsAwaitedBy, IsResponseWith, TellsRequest}
 use Rattle.coap_client.specs.Notices.{IsOwnResponse, notice_after}
@@ -22,7 +22,7 @@ suc_left : (k j : ℕ) → suc (k + j) ≡ suc k + j
 suc_left k j = omega arith
 
 -- nothing is sent after a datagram that is skipped while a request is outstanding.
-pub passed_quietly : (token own : List ℕ) (id : ℕ) (awaited : Bool) (bytes : List ℕ) (heard : Reception) (now : Calls) → TellsRequest token own id bytes heard → is_passed_over awaited heard ≡ true
+pub passed_quietly : (token own : List ℕ) (id : ℕ) (awaited : Bool) (bytes : List ℕ) (handled : ReplyClass) (now : Calls) → TellsRequest token own id bytes handled → is_passed_over awaited handled ≡ true
     → MakesCalls now now (IsPassedOver (TellsRequest token own id) awaited bytes)
 passed_quietly token own id awaited bytes Reply now told over = absurd (cc over)
 passed_quietly token own id awaited bytes Separate now told over = absurd told.holds
@@ -33,8 +33,8 @@ passed_quietly token own id awaited bytes Other now told over = passed (TellsReq
 
 -- a datagram that ends the wait for the response, and is no acknowledgement or rejection, is a
 -- response.
-pub arrived : (came : List ℕ → Type 0) (token own : List ℕ) (id : ℕ) (awaited : Bool) (bytes : List ℕ) (heard : Reception) → came bytes → TellsRequest token own id bytes heard
-    → is_passed_over awaited heard ≡ false → (heard ≡ Acknowledged → ⊥) → (heard ≡ Rejected → ⊥) → HasArrived came (IsAwaitedBy token own id) bytes
+pub arrived : (came : List ℕ → Type 0) (token own : List ℕ) (id : ℕ) (awaited : Bool) (bytes : List ℕ) (handled : ReplyClass) → came bytes → TellsRequest token own id bytes handled
+    → is_passed_over awaited handled ≡ false → (handled ≡ Acknowledged → ⊥) → (handled ≡ Rejected → ⊥) → HasArrived came (IsAwaitedBy token own id) bytes
 arrived came token own id awaited bytes Reply came_is told ends acknowledged rejected = record { message = told.message; came_is = came_is; read_is = told.read_is; holds = told.holds }
 arrived came token own id awaited bytes Separate came_is told ends acknowledged rejected = absurd told.holds
 arrived came token own id awaited bytes Repeat came_is told ends acknowledged rejected = absurd told.holds
@@ -74,18 +74,18 @@ no_notification token bytes now other = does now now (IsNoNotification token byt
 
 -- a notification arrived and was acknowledged.
 pub record EndsAcknowledged (passes : Passes) (bytes : List ℕ) (calls : List PeerCall) : Type 0 where
-  pub heard : List PeerCall
-  pub ends : EndsOn passes bytes heard
-  pub is : calls ≡ acknowledges bytes ++ heard
+  pub handled : List PeerCall
+  pub ends : EndsOn passes bytes handled
+  pub is : calls ≡ acknowledges bytes ++ handled
 
 -- a notification arrived, and then the clock was read.
-pub noticed : (token : List ℕ) (passes : Passes) (bytes : List ℕ) (moment : ℕ) (before between acknowledged after : Calls) → IsReadAs bytes (IsOwnResponse token)
-    → MakesCalls before between (EndsOn passes bytes) → Adds between acknowledged (acknowledges bytes) → Adds acknowledged after (Reads moment ∷ [])
-    → MakesCalls before after (IsNoticed token passes bytes moment)
-noticed token passes bytes moment before between acknowledged after own one adds reads =
-    does_then before acknowledged after (EndsAcknowledged passes bytes) (IsNoticed token passes bytes moment) (Reads moment ∷ [])
-    (does_then before between acknowledged (EndsOn passes bytes) (EndsAcknowledged passes bytes) (acknowledges bytes) one adds (λ heard h. record { heard = heard; ends = h; is = refl })) reads
-    (λ calls h. record { own = own; heard = h.heard; ends = h.ends; is = ap (λ (x : List PeerCall). Reads moment ∷ x) h.is })
+pub noticed : (token : List ℕ) (passes : Passes) (bytes : List ℕ) (time : ℕ) (before between acknowledged after : Calls) → IsReadAs bytes (IsOwnResponse token)
+    → MakesCalls before between (EndsOn passes bytes) → Adds between acknowledged (acknowledges bytes) → Adds acknowledged after (Reads time ∷ [])
+    → MakesCalls before after (IsNoticed token passes bytes time)
+noticed token passes bytes time before between acknowledged after own one adds reads =
+    does_then before acknowledged after (EndsAcknowledged passes bytes) (IsNoticed token passes bytes time) (Reads time ∷ [])
+    (does_then before between acknowledged (EndsOn passes bytes) (EndsAcknowledged passes bytes) (acknowledges bytes) one adds (λ handled h. record { handled = handled; ends = h; is = refl })) reads
+    (λ calls h. record { own = own; handled = h.handled; ends = h.ends; is = ap (λ (x : List PeerCall). Reads time ∷ x) h.is })
 
 -- more datagrams are skipped after these.
 passed_behind : (other passes : Passes) → ((bytes : List ℕ) (sent : List PeerCall) → other bytes sent → passes bytes sent) → (m n : ℕ) (newer older : List PeerCall)
@@ -114,7 +114,7 @@ none_passed passes now = does_nothing now (HasPassed passes 0) (record { n = 0; 
 pub enough_passed : (passes : Passes) (least : ℕ) (before after : Calls) → 2 ^ 64 ≤ least + 1 → MakesCalls before after (HasPassed passes least) → MakesCalls before after (IsOver passes)
 enough_passed passes least before after full one =
     does_of before after (HasPassed passes least) (IsOver passes) one
-    (λ heard h. record { n = h.n; older = heard; before = h.are; is = inr (refl, (let m = h.many in omega (arith, m, full))) })
+    (λ handled h. record { n = h.n; older = handled; before = h.are; is = inr (refl, (let m = h.many in omega (arith, m, full))) })
 
 awaits_behind : (token : List ℕ) (other passes : Passes) → ((bytes : List ℕ) (sent : List PeerCall) → other bytes sent → passes bytes sent) → (least : ℕ) (older newer : List PeerCall) (answer : Option Dated)
     → HasPassed passes least older → AwaitsNotification token other answer newer → AwaitsNotification token passes answer (newer ++ older)
@@ -127,25 +127,25 @@ awaits_behind token other passes turns least older newer None a b = record {
     | inr full ↦ inr (ap (λ (x : List PeerCall). x ++ older) full.0, (let m = full.1 in omega (arith, m)))
   ];
 }
-awaits_behind token other passes turns least older newer (Some (bytes, moment)) a b =
+awaits_behind token other passes turns least older newer (Some (bytes, time)) a b =
     let ends = b.ends in
     record {
       own = b.own;
-      heard = b.heard ++ older;
+      handled = b.handled ++ older;
       ends = record {
         n = ends.n + a.n;
         older = ends.older ++ older;
         before = passed_behind other passes turns ends.n a.n ends.older older ends.before a.are;
         is = ap (λ (x : List PeerCall). x ++ older) ends.is;
       };
-      is = ap (λ (x : List PeerCall). x ++ older) b.is ∙ append_assoc (dates bytes moment) b.heard older;
+      is = ap (λ (x : List PeerCall). x ++ older) b.is ∙ append_assoc (dates bytes time) b.handled older;
     }
 
-watching : (told : ℕ → Type 0) (token : List ℕ) (w : Watch) (bytes : List ℕ) (sent : List PeerCall) → IsNoNotification token bytes sent → IsPassedOverWatching told token w bytes sent
+watching : (told : ℕ → Type 0) (token : List ℕ) (w : Observation) (bytes : List ℕ) (sent : List PeerCall) → IsNoNotification token bytes sent → IsPassedOverWatching told token w bytes sent
 watching told token w bytes sent none = inr none
 
 -- the next notification is shown, or the wait is over.
-pub awaits_next : (told : ℕ → Type 0) (token : List ℕ) (w : Watch) (least : ℕ) (answer : Option Dated) (before between after : Calls)
+pub awaits_next : (told : ℕ → Type 0) (token : List ℕ) (w : Observation) (least : ℕ) (answer : Option Dated) (before between after : Calls)
     → MakesCalls before between (HasPassed (IsPassedOverWatching told token w) least) → MakesCalls between after (AwaitsNotification token (IsNoNotification token) answer)
     → MakesCalls before after (AwaitsNotification token (IsPassedOverWatching told token w) answer)
 awaits_next told token w least answer before between after one other =
@@ -154,13 +154,13 @@ awaits_next told token w least answer before between after one other =
     (λ older newer a b. awaits_behind token (IsNoNotification token) passes (watching told token w) least older newer answer a b)
 
 -- the next notification is skipped.
-pub older_passed : (told : ℕ → Type 0) (token : List ℕ) (w : Watch) (least : ℕ) (bytes : List ℕ) (moment : ℕ) (before between after : Calls)
-    → IsOlderNotification told token w bytes (dates bytes moment) → MakesCalls before between (HasPassed (IsPassedOverWatching told token w) least)
-    → MakesCalls between after (AwaitsNotification token (IsNoNotification token) (Some (bytes, moment)))
+pub older_passed : (told : ℕ → Type 0) (token : List ℕ) (w : Observation) (least : ℕ) (bytes : List ℕ) (time : ℕ) (before between after : Calls)
+    → IsOlderNotification told token w bytes (dates bytes time) → MakesCalls before between (HasPassed (IsPassedOverWatching told token w) least)
+    → MakesCalls between after (AwaitsNotification token (IsNoNotification token) (Some (bytes, time)))
     → MakesCalls before after (HasPassed (IsPassedOverWatching told token w) (least + 1))
-older_passed told token w least bytes moment before between after is_older one other =
+older_passed told token w least bytes time before between after is_older one other =
     let passes = IsPassedOverWatching told token w in
-    does_both before between after (HasPassed passes least) (IsNoticed token (IsNoNotification token) bytes moment) (HasPassed passes (least + 1)) one other
+    does_both before between after (HasPassed passes least) (IsNoticed token (IsNoNotification token) bytes time) (HasPassed passes (least + 1)) one other
     (λ older newer a b.
     let ends = b.ends in
     let many : least ≤ a.n = a.many in
@@ -171,24 +171,24 @@ older_passed told token w least bytes moment before between after is_older one o
         older = ends.older ++ older;
         before = passed_behind (IsNoNotification token) passes (watching told token w) ends.n a.n ends.older older ends.before a.are;
         bytes = bytes;
-        sent = dates bytes moment;
+        sent = dates bytes time;
         passed = inl is_older;
-        is = ap (λ (x : List PeerCall). x ++ older) b.is ∙ append_assoc (dates bytes moment) b.heard older ∙ ap (λ (x : List PeerCall). dates bytes moment ++ (x ++ older)) ends.is;
+        is = ap (λ (x : List PeerCall). x ++ older) b.is ∙ append_assoc (dates bytes time) b.handled older ∙ ap (λ (x : List PeerCall). dates bytes time ++ (x ++ older)) ends.is;
       };
     })
 
 -- a notification classified as `Older` is an older one.
-pub is_older : (went came : List ℕ → Type 0) (told : ℕ → Type 0) (token bytes : List ℕ) (w now : Watch) (m : Message) (moment at : ℕ) (notice : Notice) → HasOwnResponse went came token bytes
-    → reading_of bytes ≡ Ok m → told moment → now ≡ w → at ≡ max now.at moment → notice ≡ notice_after now at m → notice ≡ Older → IsOlderNotification told token w bytes (dates bytes moment)
-is_older went came told token bytes w now m moment at notice own read told_is same is_at is older =
-    let spelled : own.message ≡ m = cc (own.heard.read_is, read) in
+pub is_older : (went came : List ℕ → Type 0) (told : ℕ → Type 0) (token bytes : List ℕ) (w now : Observation) (m : Message) (time at : ℕ) (notice : NotificationClass) → HasOwnResponse went came token bytes
+    → reading_of bytes ≡ Ok m → told time → now ≡ w → at ≡ max now.at time → notice ≡ notice_after now at m → notice ≡ Older → IsOlderNotification told token w bytes (dates bytes time)
+is_older went came told token bytes w now m time at notice own read told_is same is_at is older =
+    let spelled : own.message ≡ m = cc (own.handled.read_is, read) in
     record {
       message = m;
       read_is = read;
       own = subst (IsOwnResponse token) spelled own.own;
-      moment = moment;
+      time = time;
       told_is = told_is;
-      older = subst (λ (x : Watch). notice_after x (max x.at moment) m ≡ Older) same (subst (λ (x : ℕ). notice_after now x m ≡ Older) is_at (sym is ∙ older));
+      older = subst (λ (x : Observation). notice_after x (max x.at time) m ≡ Older) same (subst (λ (x : ℕ). notice_after now x m ≡ Older) is_at (sym is ∙ older));
       sent_is = refl;
     }
 
@@ -202,8 +202,8 @@ pub waiting_step : (token : List ℕ) (seconds : ℕ) (older : List PeerCall) �
 waiting_step token seconds older steps = one_more_step token older (Waits seconds ∷ []) (inl (seconds, refl)) steps
 
 -- the clock is read.
-pub reading_step : (token : List ℕ) (moment : ℕ) (older : List PeerCall) → IsObserving token older → IsObserving token (Reads moment ∷ older)
-reading_step token moment older steps = one_more_step token older (Reads moment ∷ []) (inr (inr (inl (moment, refl)))) steps
+pub reading_step : (token : List ℕ) (time : ℕ) (older : List PeerCall) → IsObserving token older → IsObserving token (Reads time ∷ older)
+reading_step token time older steps = one_more_step token older (Reads time ∷ []) (inr (inr (inl (time, refl)))) steps
 
 -- a datagram arrived.
 step_of : (token bytes : List ℕ) (sent older : List PeerCall) → AcknowledgesNotification token bytes sent → IsObserving token older → IsObserving token (sent ++ Receives (Some bytes) ∷ older)
@@ -212,23 +212,23 @@ step_of token bytes sent older acknowledged steps =
     (one_more_step token older (sent ++ Receives (Some bytes) ∷ []) (inr (inr (inr (record { bytes = bytes; sent = sent; acknowledged = acknowledged; is = refl })))) steps)
 
 -- the datagram was a notification, and the clock is read.
-dated_step : (token bytes : List ℕ) (moment : ℕ) (older : List PeerCall) → IsReadAs bytes (IsOwnResponse token) → IsObserving token older
-    → IsObserving token (dates bytes moment ++ Receives (Some bytes) ∷ older)
-dated_step token bytes moment older own steps = reading_step token moment (acknowledges bytes ++ Receives (Some bytes) ∷ older) (step_of token bytes (acknowledges bytes) older (inl (own, refl)) steps)
+dated_step : (token bytes : List ℕ) (time : ℕ) (older : List PeerCall) → IsReadAs bytes (IsOwnResponse token) → IsObserving token older
+    → IsObserving token (dates bytes time ++ Receives (Some bytes) ∷ older)
+dated_step token bytes time older own steps = reading_step token time (acknowledges bytes ++ Receives (Some bytes) ∷ older) (step_of token bytes (acknowledges bytes) older (inl (own, refl)) steps)
 
-watched : (told : ℕ → Type 0) (token : List ℕ) (w : Watch) (bytes : List ℕ) (sent older : List PeerCall) → IsPassedOverWatching told token w bytes sent → IsObserving token older
+watched : (told : ℕ → Type 0) (token : List ℕ) (w : Observation) (bytes : List ℕ) (sent older : List PeerCall) → IsPassedOverWatching told token w bytes sent → IsObserving token older
     → IsObserving token (sent ++ Receives (Some bytes) ∷ older)
 watched told token w bytes sent older (inl n) steps =
     subst (λ (x : List PeerCall). IsObserving token (x ++ Receives (Some bytes) ∷ older)) (sym n.sent_is)
-    (dated_step token bytes n.moment older (record { message = n.message; read_is = n.read_is; holds = n.own }) steps)
+    (dated_step token bytes n.time older (record { message = n.message; read_is = n.read_is; holds = n.own }) steps)
 watched told token w bytes sent older (inr none) steps = step_of token bytes sent older (inr none) steps
 
-passed_steps : (told : ℕ → Type 0) (token : List ℕ) (w : Watch) (n : ℕ) (calls : List PeerCall) → ArePassedOver (IsPassedOverWatching told token w) n calls → IsObserving token calls
+passed_steps : (told : ℕ → Type 0) (token : List ℕ) (w : Observation) (n : ℕ) (calls : List PeerCall) → ArePassedOver (IsPassedOverWatching told token w) n calls → IsObserving token calls
 passed_steps told token w zero calls none = (0, none)
 passed_steps told token w (suc n) calls one =
     subst (IsObserving token) (sym one.is) (watched told token w one.bytes one.sent one.older one.passed (passed_steps told token w n one.older one.before))
 
-pub awaited_steps : (told : ℕ → Type 0) (token : List ℕ) (w : Watch) (answer : Option Dated) (calls : List PeerCall) → AwaitsNotification token (IsPassedOverWatching told token w) answer calls
+pub awaited_steps : (told : ℕ → Type 0) (token : List ℕ) (w : Observation) (answer : Option Dated) (calls : List PeerCall) → AwaitsNotification token (IsPassedOverWatching told token w) answer calls
     → IsObserving token calls
 awaited_steps told token w None calls o =
     let steps = passed_steps told token w o.n o.older o.before in
@@ -236,10 +236,10 @@ awaited_steps told token w None calls o =
       | inl timed ↦ subst (IsObserving token) (sym timed) (one_more_step token o.older (Receives None ∷ []) (inr (inl refl)) steps)
       | inr full ↦ subst (IsObserving token) (sym full.0) steps
     ]
-awaited_steps told token w (Some (bytes, moment)) calls x =
+awaited_steps told token w (Some (bytes, time)) calls x =
     let ends = x.ends in
     let steps = passed_steps told token w ends.n ends.older ends.before in
-    subst (IsObserving token) (sym (x.is ∙ ap (λ (l : List PeerCall). dates bytes moment ++ l) ends.is)) (dated_step token bytes moment ends.older x.own steps)
+    subst (IsObserving token) (sym (x.is ∙ ap (λ (l : List PeerCall). dates bytes time ++ l) ends.is)) (dated_step token bytes time ends.older x.own steps)
 
 steps_behind : (token : List ℕ) (m n : ℕ) (newer older : List PeerCall) → AreObserverSteps token m newer → AreObserverSteps token n older → AreObserverSteps token (m + n) (newer ++ older)
 steps_behind token zero n newer older none are =
@@ -261,7 +261,7 @@ pub observes_nothing : (token : List ℕ) (now : Calls) → MakesCalls now now (
 observes_nothing token now = does_nothing now (IsObserving token) (0, refl)
 
 -- a notification is awaited, as the watch does.
-pub awaits_observing : (told : ℕ → Type 0) (token : List ℕ) (w : Watch) (answer : Option Dated) (before between after : Calls) → MakesCalls before between (IsObserving token)
+pub awaits_observing : (told : ℕ → Type 0) (token : List ℕ) (w : Observation) (answer : Option Dated) (before between after : Calls) → MakesCalls before between (IsObserving token)
     → MakesCalls between after (AwaitsNotification token (IsPassedOverWatching told token w) answer) → MakesCalls before after (IsObserving token)
 awaits_observing told token w answer before between after one other =
     does_both before between after (IsObserving token) (AwaitsNotification token (IsPassedOverWatching told token w) answer) (IsObserving token) one other

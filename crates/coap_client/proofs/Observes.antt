@@ -6,15 +6,15 @@ use Rattle.coap_msg.proofs.Sizes.{option_size, message_fits}
 use Rattle.coap_msg.specs.declared.types.MessageType.{MessageType}
 use Rattle.coap_opts.specs.declared.number.TheConstants.{OBSERVE, URI_PATH, URI_QUERY}
 use Rattle.coap_opts.specs.Values.{uint_bytes}
-use Rattle.coap_client.specs.declared.errand.Errand.{Errand}
-use Rattle.coap_client.specs.declared.notice.Interest.{Interest}
-use Rattle.coap_client.specs.declared.notice.Interest.TheVariants.{Register, Deregister}
+use Rattle.coap_client.specs.declared.client_request.ClientRequest.{ClientRequest}
+use Rattle.coap_client.specs.declared.notice.ObserveOption.{ObserveOption}
+use Rattle.coap_client.specs.declared.notice.ObserveOption.TheVariants.{Register, Deregister}
 use Rattle.coap_client.specs.Notices.{observe_value}
 use Rattle.coap_client.specs.Parts.{numbered, option_room, resource_options}
 use Rattle.coap_client.specs.Paths.{slices_in}
 use Rattle.coap_client.proofs.Sizes.{values_are, values_size}
 
-value_short : (interest : Interest) → length (uint_bytes (observe_value interest)) ≤ 1
+value_short : (interest : ObserveOption) → length (uint_bytes (observe_value interest)) ≤ 1
 unfolding uint_bytes
 value_short Register = omega arith
 value_short Deregister = omega arith
@@ -29,8 +29,8 @@ query_are query before at short =
     subst (AreOptions before) (append-nil (numbered URI_QUERY query))
     (values_are URI_QUERY before query [] (omega (arith, at)) (omega arith) short (λ b _. tt))
 
--- a GET with Observe, an errand's resource and a token of four bytes is a message.
-pub observe_fits : (e : Errand) (interest : Interest) (id code : ℕ) (token : List ℕ) (kind : MessageType) (options : List (ℕ × List ℕ)) → id < 65536 → length token ≤ 4 → code ≡ 1 →
+-- a GET with Observe, a client request's resource and a token of four bytes is a message.
+pub observe_fits : (e : ClientRequest) (interest : ObserveOption) (id code : ℕ) (token : List ℕ) (kind : MessageType) (options : List (ℕ × List ℕ)) → id < 65536 → length token ≤ 4 → code ≡ 1 →
     options ≡ (OBSERVE, uint_bytes (observe_value interest)) ∷ resource_options (slices_in e.target.path.segments.items) (slices_in e.target.query.items) →
     IsMessage (record { kind = kind; code = code; id = id; token = token; options = options; payload = [] })
 observe_fits e interest id code token kind options below few c o =

@@ -3,7 +3,7 @@ use Rattle.std.proofs.Common.{◌≡◌, ℕ, zero, suc, ◌+◌, ◌*◌, ◌-�
 use Rattle.coap_client.specs.declared.fetcher.FetchFault.{FetchFault}
 use Rattle.coap_client.specs.declared.fetcher.FetchFault.TheVariants as fault
 use Rattle.coap_client.specs.Faults.{IsOfPeer}
-use Rattle.coap_client.specs.Heard.{IsReadAs}
+use Rattle.coap_client.specs.Handled.{IsReadAs}
 use Rattle.coap_client.specs.Listening.{ArePassedOver, EndsOn, IsOver}
 use Rattle.coap_client.specs.PeerCalls.{PeerCall, PeerError, Receives, Sends, Waits}
 use Rattle.coap_client.specs.Pings.{EndsOnPong, IsNoPong, IsPingFault, IsPinged, IsPingedInVain, is_own_call, own_calls, ping_bytes}
@@ -29,7 +29,7 @@ in_vain_to_the_end id request n before after five is one =
 pub ping_fault : (is_error : PeerError → Type 0) (Makes : Calls → Type 0) (id : ℕ) (f : FetchFault) → IsOfPeer is_error ⊥ f → IsPingFault is_error Makes id f
 ping_fault is_error Makes id fault.Silence h = absurd h
 ping_fault is_error Makes id fault.Rejected h = absurd h
-ping_fault is_error Makes id fault.Misfit h = absurd h
+ping_fault is_error Makes id fault.Malformed h = absurd h
 ping_fault is_error Makes id fault.Changed h = absurd h
 ping_fault is_error Makes id fault.Part h = absurd h
 ping_fault is_error Makes id (fault.Socket error) h = h
@@ -51,8 +51,8 @@ passed id zero calls none = ap own_calls none
 passed id (suc n) calls one =
     ap own_calls one.is ∙ (ap (λ (sent : List PeerCall). own_calls (sent ++ Receives (Some one.bytes) ∷ one.older)) one.passed.1 ∙ passed id n one.older one.before)
 
-over : (id : ℕ) (heard : List PeerCall) → IsOver (IsNoPong id) heard → own_calls heard ≡ []
-over id heard o = elim o.is as (λ _. own_calls heard ≡ []) [
+over : (id : ℕ) (handled : List PeerCall) → IsOver (IsNoPong id) handled → own_calls handled ≡ []
+over id handled o = elim o.is as (λ _. own_calls handled ≡ []) [
   | inl timed ↦ ap own_calls timed ∙ passed id o.n o.older o.before
   | inr full ↦ ap own_calls full.0 ∙ passed id o.n o.older o.before
 ]
@@ -70,20 +70,20 @@ one_more request (suc (suc (suc (suc zero)))) few = refl
 one_more request (suc (suc (suc (suc (suc n))))) few = absurd (omega (arith, few))
 
 once_more : (request : List ℕ) (n : ℕ) (P : List PeerCall → Type 0) (calls older last : List PeerCall) → n < 5 → own_calls older ≡ first_of request n
-    → (s : IsSending request (ack_timeout n) P last) → own_calls s.heard ≡ [] → calls ≡ last ++ older → own_calls calls ≡ first_of request (n + 1)
-once_more request n P calls older last few before s heard is =
+    → (s : IsSending request (ack_timeout n) P last) → own_calls s.handled ≡ [] → calls ≡ last ++ older → own_calls calls ≡ first_of request (n + 1)
+once_more request n P calls older last few before s handled is =
     ap own_calls is
     ∙ (joined last older
     ∙ (ap (λ (l : List PeerCall). own_calls l ++ own_calls older) s.is
-    ∙ (ap (λ (l : List PeerCall). l ++ own_calls older) (joined s.heard (Waits (ack_timeout n) ∷ Sends request ∷ []))
-    ∙ (ap (λ (l : List PeerCall). (l ++ Waits (ack_timeout n) ∷ Sends request ∷ []) ++ own_calls older) heard
+    ∙ (ap (λ (l : List PeerCall). l ++ own_calls older) (joined s.handled (Waits (ack_timeout n) ∷ Sends request ∷ []))
+    ∙ (ap (λ (l : List PeerCall). (l ++ Waits (ack_timeout n) ∷ Sends request ∷ []) ++ own_calls older) handled
     ∙ (ap (λ (l : List PeerCall). Waits (ack_timeout n) ∷ Sends request ∷ l) before ∙ one_more request n few)))))
 
 pub all_in_vain : (id n : ℕ) (calls : List PeerCall) → n < 6 → AreInVain (IsNoPong id) (ping_bytes id) n calls → own_calls calls ≡ first_of (ping_bytes id) n
 all_in_vain id zero calls few none = ap own_calls none
 all_in_vain id (suc n) calls few again =
     once_more (ping_bytes id) n (IsOver (IsNoPong id)) calls again.older again.last (omega (arith, few)) (all_in_vain id n again.older (omega (arith, few)) again.before) again.in_vain
-    (over id again.in_vain.heard again.in_vain.ends) again.is
+    (over id again.in_vain.handled again.in_vain.ends) again.is
     ∙ ap (first_of (ping_bytes id)) (omega arith)
 
 pub answered : (id : ℕ) (calls : List PeerCall) → IsPinged id calls → BeginsSchedule (ping_bytes id) (own_calls calls)

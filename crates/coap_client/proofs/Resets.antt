@@ -1,9 +1,9 @@
 -- The rejections of a request.
 use Rattle.std.proofs.Common.{◌≡◌, ℕ, Bool, true, false, List, ◌++◌, inl, inr, ap, ◌∙◌}
-use Rattle.coap_client.specs.declared.transmission.Reception.{Reception}
-use Rattle.coap_client.specs.declared.transmission.Reception.TheVariants.{Rejected}
+use Rattle.coap_client.specs.declared.transmission.ReplyClass.{ReplyClass}
+use Rattle.coap_client.specs.declared.transmission.ReplyClass.TheVariants.{Rejected}
 use Rattle.coap_client.specs.Faults.{EndsRejected, IsRejectedBy, IsRejectedLeaving, IsRejection}
-use Rattle.coap_client.specs.Heard.{IsReadAs, Tells}
+use Rattle.coap_client.specs.Handled.{IsReadAs, Tells}
 use Rattle.coap_client.specs.Listening.{EndsOn}
 use Rattle.coap_client.specs.Notes.{TellsObserver}
 use Rattle.coap_client.specs.ObserverCalls.{IsPassedOverLeaving}
@@ -14,8 +14,8 @@ use Rattle.coap_client.specs.Schedules.{EndsByReset}
 use Rattle.coap_client.specs.Transmissions.{IsLastSending}
 
 -- the datagram that ends a wait is the newest call, after any earlier calls.
-ended_by_reset : (passes : List ℕ → List PeerCall → Type 0) (id : ℕ) (bytes : List ℕ) (heard : List PeerCall) → IsReadAs bytes (IsReset id) → EndsOn passes bytes heard → EndsByReset id heard
-ended_by_reset passes id bytes heard rejects e = record {
+ended_by_reset : (passes : List ℕ → List PeerCall → Type 0) (id : ℕ) (bytes : List ℕ) (handled : List PeerCall) → IsReadAs bytes (IsReset id) → EndsOn passes bytes handled → EndsByReset id handled
+ended_by_reset passes id bytes handled rejects e = record {
   bytes = bytes;
   older = e.older;
   is = e.is;
@@ -35,17 +35,17 @@ behind id newer older calls r is = record {
 }
 
 -- for a classification by which a rejection is a Reset with this message ID.
-module _ (tells : List ℕ → Reception → Type 0) (id : ℕ) (resets : (bytes : List ℕ) → tells bytes Rejected → IsReadAs bytes (IsReset id)) where
-  rejected_by : (awaited : Bool) (heard : List PeerCall) → IsRejectedBy tells awaited heard → EndsByReset id heard
-  rejected_by awaited heard r = ended_by_reset _ id r.0 heard (resets r.0 r.1) r.2
+module _ (tells : List ℕ → ReplyClass → Type 0) (id : ℕ) (resets : (bytes : List ℕ) → tells bytes Rejected → IsReadAs bytes (IsReset id)) where
+  rejected_by : (awaited : Bool) (handled : List PeerCall) → IsRejectedBy tells awaited handled → EndsByReset id handled
+  rejected_by awaited handled r = ended_by_reset _ id r.0 handled (resets r.0 r.1) r.2
 
-  ends_rejected : (heard : List PeerCall) → EndsRejected tells heard → EndsByReset id heard
-  ends_rejected heard (inl at_once) = rejected_by false heard at_once
-  ends_rejected heard (inr later) = behind id later.more _ heard (rejected_by true later.more later.rejected) later.is
+  ends_rejected : (handled : List PeerCall) → EndsRejected tells handled → EndsByReset id handled
+  ends_rejected handled (inl at_once) = rejected_by false handled at_once
+  ends_rejected handled (inr later) = behind id later.more _ handled (rejected_by true later.more later.rejected) later.is
 
   pub reset_of : (confirmable : Bool) (request : List ℕ) (calls : List PeerCall) → IsRejection confirmable tells request calls → EndsByReset id calls
-  reset_of true request calls s = behind id s.last s.older calls (behind id s.sending.heard _ s.last (ends_rejected s.sending.heard s.sending.ends) s.sending.is) s.is
-  reset_of false request calls s = behind id s.heard _ calls (rejected_by true s.heard s.ends) s.is
+  reset_of true request calls s = behind id s.last s.older calls (behind id s.sending.handled _ s.last (ends_rejected s.sending.handled s.sending.ends) s.sending.is) s.is
+  reset_of false request calls s = behind id s.handled _ calls (rejected_by true s.handled s.ends) s.is
 
 pub reset_requesting : (confirmable : Bool) (id : ℕ) (earlier request : List ℕ) (calls : List PeerCall) → IsRejection confirmable (Tells confirmable id earlier) request calls → EndsByReset id calls
 reset_requesting confirmable id earlier request calls s = reset_of (Tells confirmable id earlier) id (λ bytes told. told) confirmable request calls s
@@ -56,9 +56,9 @@ reset_registering token id request calls s = reset_of (TellsObserver token id) i
 pub reset_leaving : (token : List ℕ) (id : ℕ) (request : List ℕ) (calls : List PeerCall) → IsLastSending (IsPassedOverLeaving token id) request (IsRejectedLeaving token id) calls → EndsByReset id calls
 reset_leaving token id request calls s =
     let ends = s.sending.ends in
-    behind id s.last s.older calls (behind id s.sending.heard _ s.last (ended_by_reset _ id ends.bytes s.sending.heard ends.rejects ends.ends) s.sending.is) s.is
+    behind id s.last s.older calls (behind id s.sending.handled _ s.last (ended_by_reset _ id ends.bytes s.sending.handled ends.rejects ends.ends) s.sending.is) s.is
 
 pub reset_ponging : (id : ℕ) (calls : List PeerCall) → IsPinged id calls → EndsByReset id calls
 reset_ponging id calls s =
     let ends = s.sending.ends in
-    behind id s.last s.older calls (behind id s.sending.heard _ s.last (ended_by_reset _ id ends.bytes s.sending.heard ends.rejects ends.ends) s.sending.is) s.is
+    behind id s.last s.older calls (behind id s.sending.handled _ s.last (ended_by_reset _ id ends.bytes s.sending.handled ends.rejects ends.ends) s.sending.is) s.is

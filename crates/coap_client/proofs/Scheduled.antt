@@ -9,12 +9,12 @@ use Rattle.coap_msg.specs.Wire.{Message, message_bytes}
 use Rattle.coap_msg.specs.declared.types.Bad.{Bad}
 use Rattle.coap_msg.specs.declared.types.MessageType.{MessageType}
 use Rattle.coap_msg.specs.declared.types.MessageType.TheVariants.{Acknowledgement, Confirmable, NonConfirmable, Reset}
-use Rattle.coap_client.specs.declared.transmission.Reception.{Reception}
-use Rattle.coap_client.specs.declared.transmission.Reception.TheVariants.{Reply, Separate, Repeat, Acknowledged, Rejected, Other}
+use Rattle.coap_client.specs.declared.transmission.ReplyClass.{ReplyClass}
+use Rattle.coap_client.specs.declared.transmission.ReplyClass.TheVariants.{Reply, Separate, Repeat, Acknowledged, Rejected, Other}
 use Rattle.coap_client.specs.Listening.{ArePassedOver, EndsOn, IsOver, IsPassedOver, acknowledges, acknowledges_kind, acknowledges_read, sent_behind}
 use Rattle.coap_client.specs.PeerCalls.{PeerCall, Sends, Waits, Receives}
 use Rattle.coap_client.specs.ObserverCalls.{AwaitsNotification, IsAcknowledgedLeaving, IsPassedOverLeaving, IsPassedOverWatching, Dated, dates}
-use Rattle.coap_client.specs.declared.watch.Watch.{Watch}
+use Rattle.coap_client.specs.declared.watch.Observation.{Observation}
 use Rattle.coap_client.specs.Faults.{EndsRejected, IsRejectedLeaving, IsRejection}
 use Rattle.coap_client.specs.Schedules.{AwaitsResponse, BeginsSchedule, full_schedule, has_code, is_scheduled, schedule, seconds_in, seconds_of}
 use Rattle.coap_client.specs.Transmissions.{ack_timeout, acknowledges_answer, AreInVain, EndsAnswered, EndsAwaited, IsAcknowledgedFirst, IsLastSending, IsSending, IsTransmission}
@@ -37,7 +37,7 @@ acknowledgement_read (Err bad) = refl
 acknowledgement : (bytes : List ℕ) → schedule (acknowledges bytes) ≡ []
 acknowledgement bytes = acknowledgement_read (reading_of bytes)
 
-acknowledgement_behind : (heard : Reception) (bytes : List ℕ) → schedule (sent_behind heard bytes) ≡ []
+acknowledgement_behind : (handled : ReplyClass) (bytes : List ℕ) → schedule (sent_behind handled bytes) ≡ []
 acknowledgement_behind Reply bytes = refl
 acknowledgement_behind Separate bytes = refl
 acknowledgement_behind Repeat bytes = acknowledgement bytes
@@ -53,8 +53,8 @@ acknowledgement_of_answer (Some answer) = acknowledgement answer
 abbrev IsQuiet : (List ℕ → List PeerCall → Type 0) → Type 0
 IsQuiet passes = (bytes : List ℕ) (sent : List PeerCall) → passes bytes sent → schedule sent ≡ []
 
-request_is_quiet : (tells : List ℕ → Reception → Type 0) (awaited : Bool) → IsQuiet (IsPassedOver tells awaited)
-request_is_quiet tells awaited bytes sent p = ap schedule p.sent_is ∙ acknowledgement_behind p.heard bytes
+request_is_quiet : (tells : List ℕ → ReplyClass → Type 0) (awaited : Bool) → IsQuiet (IsPassedOver tells awaited)
+request_is_quiet tells awaited bytes sent p = ap schedule p.sent_is ∙ acknowledgement_behind p.handled bytes
 
 leaving_is_quiet : (token : List ℕ) (id : ℕ) → IsQuiet (IsPassedOverLeaving token id)
 leaving_is_quiet token id bytes sent p = elim p.notification as (λ _. schedule sent ≡ []) [
@@ -62,7 +62,7 @@ leaving_is_quiet token id bytes sent p = elim p.notification as (λ _. schedule 
   | inr other ↦ ap schedule other.1
 ]
 
-watching_is_quiet : (told : ℕ → Type 0) (token : List ℕ) (w : Watch) → IsQuiet (IsPassedOverWatching told token w)
+watching_is_quiet : (told : ℕ → Type 0) (token : List ℕ) (w : Observation) → IsQuiet (IsPassedOverWatching told token w)
 watching_is_quiet told token w bytes sent (inl older) = ap schedule older.sent_is ∙ acknowledgement bytes
 watching_is_quiet told token w bytes sent (inr none) = ap schedule none.1
 
@@ -83,27 +83,27 @@ ended : (passes : List ℕ → List PeerCall → Type 0) → IsQuiet passes → 
 ended passes quiet bytes calls e = ap schedule e.is ∙ passed passes quiet e.n e.older e.before
 
 -- nothing is scheduled during the wait for the next notification.
-pub noted_quietly : (told : ℕ → Type 0) (token : List ℕ) (w : Watch) (answer : Option Dated) (calls : List PeerCall) → AwaitsNotification token (IsPassedOverWatching told token w) answer calls
+pub noted_quietly : (told : ℕ → Type 0) (token : List ℕ) (w : Observation) (answer : Option Dated) (calls : List PeerCall) → AwaitsNotification token (IsPassedOverWatching told token w) answer calls
     → schedule calls ≡ []
 noted_quietly told token w None calls o = over (IsPassedOverWatching told token w) (watching_is_quiet told token w) calls o
-noted_quietly told token w (Some (bytes, moment)) calls x =
+noted_quietly told token w (Some (bytes, time)) calls x =
     ap schedule x.is
-    ∙ both (dates bytes moment) x.heard [] [] (acknowledgement bytes) (ended (IsPassedOverWatching told token w) (watching_is_quiet told token w) bytes x.heard x.ends)
+    ∙ both (dates bytes time) x.handled [] [] (acknowledgement bytes) (ended (IsPassedOverWatching told token w) (watching_is_quiet told token w) bytes x.handled x.ends)
 
 -- a response is awaited.
-awaited : (tells : List ℕ → Reception → Type 0) (answer : Option (List ℕ)) (heard : List PeerCall) → EndsAwaited tells answer heard → schedule heard ≡ []
-awaited tells None heard ends = over (IsPassedOver tells true) (request_is_quiet tells true) heard ends
-awaited tells (Some answer) heard ends = ended (IsPassedOver tells true) (request_is_quiet tells true) answer heard ends.1
+awaited : (tells : List ℕ → ReplyClass → Type 0) (answer : Option (List ℕ)) (handled : List PeerCall) → EndsAwaited tells answer handled → schedule handled ≡ []
+awaited tells None handled ends = over (IsPassedOver tells true) (request_is_quiet tells true) handled ends
+awaited tells (Some answer) handled ends = ended (IsPassedOver tells true) (request_is_quiet tells true) answer handled ends.1
 
 -- after an acknowledgement, the wait for the response is longer.
-acknowledged : (tells : List ℕ → Reception → Type 0) (answer : Option (List ℕ)) (heard : List PeerCall) → IsAcknowledgedFirst tells answer heard → schedule heard ≡ Waits 93 ∷ []
-acknowledged tells answer heard a =
+acknowledged : (tells : List ℕ → ReplyClass → Type 0) (answer : Option (List ℕ)) (handled : List PeerCall) → IsAcknowledgedFirst tells answer handled → schedule handled ≡ Waits 93 ∷ []
+acknowledged tells answer handled a =
     ap schedule a.is
     ∙ both a.more (Waits 93 ∷ a.first) [] (Waits 93 ∷ []) (awaited tells answer a.more a.ends)
     (ap (λ (l : List PeerCall). Waits 93 ∷ l) (ended (IsPassedOver tells false) (request_is_quiet tells false) a.acknowledged.0 a.first a.acknowledged.2))
 
 -- the response is acknowledged if it is confirmable.
-taken : (confirmable : Bool) (tells : List ℕ → Reception → Type 0) (request : List ℕ) (answer : Option (List ℕ)) (calls : List PeerCall) (t : IsTransmission confirmable tells request answer calls)
+taken : (confirmable : Bool) (tells : List ℕ → ReplyClass → Type 0) (request : List ℕ) (answer : Option (List ℕ)) (calls : List PeerCall) (t : IsTransmission confirmable tells request answer calls)
     → schedule calls ≡ schedule t.asked
 taken confirmable tells request answer calls t =
     ap schedule t.is ∙ both (acknowledges_answer answer) t.asked [] (schedule t.asked) (acknowledgement_of_answer answer) refl
@@ -117,10 +117,10 @@ module _ (m : Message) (coded : m.code ≡ 0 → ⊥) where
   has_own_code = ap not (false_from_ne_true (m.code == 0) (λ e. coded (eqb-true m.code 0 e)))
 
   -- the message is sent, and a wait begins.
-  sent : (seconds : ℕ) (P : List PeerCall → Type 0) (calls newer : List PeerCall) (s : IsSending request seconds P calls) → schedule s.heard ≡ newer → schedule calls ≡ newer ++ Waits seconds ∷ Sends request ∷ []
-  sent seconds P calls newer s heard =
+  sent : (seconds : ℕ) (P : List PeerCall → Type 0) (calls newer : List PeerCall) (s : IsSending request seconds P calls) → schedule s.handled ≡ newer → schedule calls ≡ newer ++ Waits seconds ∷ Sends request ∷ []
+  sent seconds P calls newer s handled =
       ap schedule s.is
-      ∙ both s.heard (Waits seconds ∷ Sends request ∷ []) newer (Waits seconds ∷ Sends request ∷ []) heard (ap (λ (b : Bool). Waits seconds ∷ cond b (Sends request ∷ []) []) has_own_code)
+      ∙ both s.handled (Waits seconds ∷ Sends request ∷ []) newer (Waits seconds ∷ Sends request ∷ []) handled (ap (λ (b : Bool). Waits seconds ∷ cond b (Sends request ∷ []) []) has_own_code)
 
   -- the first n of the five transmissions.
   abbrev first_of : ℕ → List PeerCall
@@ -135,10 +135,10 @@ module _ (m : Message) (coded : m.code ≡ 0 → ⊥) where
   one_more (suc (suc (suc (suc (suc n))))) few = absurd (omega (arith, few))
 
   once_more : (n : ℕ) (P : List PeerCall → Type 0) (calls older last newer : List PeerCall) → n < 5 → schedule older ≡ first_of n → (s : IsSending request (ack_timeout n) P last)
-      → schedule s.heard ≡ newer → calls ≡ last ++ older → schedule calls ≡ newer ++ first_of (n + 1)
-  once_more n P calls older last newer few before s heard is =
+      → schedule s.handled ≡ newer → calls ≡ last ++ older → schedule calls ≡ newer ++ first_of (n + 1)
+  once_more n P calls older last newer few before s handled is =
       ap schedule is
-      ∙ both last older (newer ++ Waits (ack_timeout n) ∷ Sends request ∷ []) (first_of n) (sent (ack_timeout n) P last newer s heard) before
+      ∙ both last older (newer ++ Waits (ack_timeout n) ∷ Sends request ∷ []) (first_of n) (sent (ack_timeout n) P last newer s handled) before
       ∙ append_assoc newer (Waits (ack_timeout n) ∷ Sends request ∷ []) (first_of n)
       ∙ ap (λ (l : List PeerCall). newer ++ l) (one_more n few)
 
@@ -146,31 +146,31 @@ module _ (m : Message) (coded : m.code ≡ 0 → ⊥) where
   in_vain passes quiet zero calls few none = ap schedule none
   in_vain passes quiet (suc n) calls few again =
       once_more n (IsOver passes) calls again.older again.last [] (omega (arith, few)) (in_vain passes quiet n again.older (omega (arith, few)) again.before) again.in_vain
-      (over passes quiet again.in_vain.heard again.in_vain.ends) again.is
+      (over passes quiet again.in_vain.handled again.in_vain.ends) again.is
       ∙ ap first_of (omega arith)
 
   -- the same, and no more.
   last : (passes : List ℕ → List PeerCall → Type 0) → IsQuiet passes → (P : List PeerCall → Type 0) (calls newer : List PeerCall) (s : IsLastSending passes request P calls)
-      → schedule s.sending.heard ≡ newer → schedule calls ≡ newer ++ first_of (s.n + 1)
-  last passes quiet P calls newer s heard =
+      → schedule s.sending.handled ≡ newer → schedule calls ≡ newer ++ first_of (s.n + 1)
+  last passes quiet P calls newer s handled =
       let few = s.few in
-      once_more s.n P calls s.older s.last newer few (in_vain passes quiet s.n s.older (omega (arith, few)) s.before) s.sending heard s.is
+      once_more s.n P calls s.older s.last newer few (in_vain passes quiet s.n s.older (omega (arith, few)) s.before) s.sending handled s.is
 
   begins : (n : ℕ) → n < 5 → BeginsSchedule request (first_of (n + 1))
   begins n few = (5 - (n + 1), omega (arith, few), refl)
 
   -- the response arrives after an acknowledgement or without one.
   begun : (passes : List ℕ → List PeerCall → Type 0) → IsQuiet passes → (P : List PeerCall → Type 0) (calls : List PeerCall) (s : IsLastSending passes request P calls)
-      → schedule s.sending.heard ≡ [] → BeginsSchedule request (schedule calls)
-  begun passes quiet P calls s heard = subst (BeginsSchedule request) (sym (last passes quiet P calls [] s heard)) (begins s.n s.few)
+      → schedule s.sending.handled ≡ [] → BeginsSchedule request (schedule calls)
+  begun passes quiet P calls s handled = subst (BeginsSchedule request) (sym (last passes quiet P calls [] s handled)) (begins s.n s.few)
 
   begun_later : (passes : List ℕ → List PeerCall → Type 0) → IsQuiet passes → (P : List PeerCall → Type 0) (calls : List PeerCall) (s : IsLastSending passes request P calls)
-      → schedule s.sending.heard ≡ Waits 93 ∷ [] → AwaitsResponse request (schedule calls)
-  begun_later passes quiet P calls s heard = (first_of (s.n + 1), begins s.n s.few, last passes quiet P calls (Waits 93 ∷ []) s heard)
+      → schedule s.sending.handled ≡ Waits 93 ∷ [] → AwaitsResponse request (schedule calls)
+  begun_later passes quiet P calls s handled = (first_of (s.n + 1), begins s.n s.few, last passes quiet P calls (Waits 93 ∷ []) s handled)
 
   -- ---- transmissions
 
-  pub unanswered : (tells : List ℕ → Reception → Type 0) (calls : List PeerCall) → IsTransmission true tells request None calls
+  pub unanswered : (tells : List ℕ → ReplyClass → Type 0) (calls : List PeerCall) → IsTransmission true tells request None calls
       → (schedule calls ≡ full_schedule request) ⊎ AwaitsResponse request (schedule calls)
   unanswered tells calls t =
       let passes = IsPassedOver tells false in
@@ -178,10 +178,10 @@ module _ (m : Message) (coded : m.code ≡ 0 → ⊥) where
       let own = sym (taken true tells request None calls t) in
       subst (λ (l : List PeerCall). (l ≡ full_schedule request) ⊎ AwaitsResponse request l) own (elim t.is_asked as (λ _. (schedule t.asked ≡ full_schedule request) ⊎ AwaitsResponse request (schedule t.asked)) [
         | inl all ↦ inl (in_vain passes quiet 5 t.asked (omega arith) all)
-        | inr s ↦ inr (begun_later passes quiet (IsAcknowledgedFirst tells None) t.asked s (acknowledged tells None s.sending.heard s.sending.ends))
+        | inr s ↦ inr (begun_later passes quiet (IsAcknowledgedFirst tells None) t.asked s (acknowledged tells None s.sending.handled s.sending.ends))
       ])
 
-  pub answered : (tells : List ℕ → Reception → Type 0) (answer : List ℕ) (calls : List PeerCall) → IsTransmission true tells request (Some answer) calls
+  pub answered : (tells : List ℕ → ReplyClass → Type 0) (answer : List ℕ) (calls : List PeerCall) → IsTransmission true tells request (Some answer) calls
       → BeginsSchedule request (schedule calls) ⊎ AwaitsResponse request (schedule calls)
   answered tells answer calls t =
       let passes = IsPassedOver tells false in
@@ -189,38 +189,38 @@ module _ (m : Message) (coded : m.code ≡ 0 → ⊥) where
       let own = sym (taken true tells request (Some answer) calls t) in
       let s = t.is_asked in
       subst (λ (l : List PeerCall). BeginsSchedule request l ⊎ AwaitsResponse request l) own (elim s.sending.ends as (λ _. BeginsSchedule request (schedule t.asked) ⊎ AwaitsResponse request (schedule t.asked)) [
-        | inl at_once ↦ inl (begun passes quiet (EndsAnswered tells answer) t.asked s (ended passes quiet answer s.sending.heard at_once.1))
-        | inr later ↦ inr (begun_later passes quiet (EndsAnswered tells answer) t.asked s (acknowledged tells (Some answer) s.sending.heard later))
+        | inl at_once ↦ inl (begun passes quiet (EndsAnswered tells answer) t.asked s (ended passes quiet answer s.sending.handled at_once.1))
+        | inr later ↦ inr (begun_later passes quiet (EndsAnswered tells answer) t.asked s (acknowledged tells (Some answer) s.sending.handled later))
       ])
 
-  pub sent_once : (tells : List ℕ → Reception → Type 0) (answer : Option (List ℕ)) (calls : List PeerCall) → IsTransmission false tells request answer calls
+  pub sent_once : (tells : List ℕ → ReplyClass → Type 0) (answer : Option (List ℕ)) (calls : List PeerCall) → IsTransmission false tells request answer calls
       → schedule calls ≡ Waits 32 ∷ Sends request ∷ []
   sent_once tells answer calls t =
-      taken false tells request answer calls t ∙ sent 32 (EndsAwaited tells answer) t.asked [] t.is_asked (awaited tells answer t.is_asked.heard t.is_asked.ends)
+      taken false tells request answer calls t ∙ sent 32 (EndsAwaited tells answer) t.asked [] t.is_asked (awaited tells answer t.is_asked.handled t.is_asked.ends)
 
   pub acknowledged_at_last : (token : List ℕ) (id : ℕ) (calls : List PeerCall) → IsLastSending (IsPassedOverLeaving token id) request (IsAcknowledgedLeaving token id) calls
       → BeginsSchedule request (schedule calls)
   acknowledged_at_last token id calls s =
       let passes = IsPassedOverLeaving token id in
       let quiet = leaving_is_quiet token id in
-      begun passes quiet (IsAcknowledgedLeaving token id) calls s (ended passes quiet s.sending.ends.bytes s.sending.heard s.sending.ends.ends)
+      begun passes quiet (IsAcknowledgedLeaving token id) calls s (ended passes quiet s.sending.ends.bytes s.sending.handled s.sending.ends.ends)
 
   -- ---- rejections, and requests without a response
 
-  rejected_at : (tells : List ℕ → Reception → Type 0) (heard : List PeerCall) → EndsRejected tells heard → (schedule heard ≡ []) ⊎ (schedule heard ≡ Waits 93 ∷ [])
-  rejected_at tells heard (inl at_once) = inl (ended (IsPassedOver tells false) (request_is_quiet tells false) at_once.0 heard at_once.2)
-  rejected_at tells heard (inr later) = inr (
+  rejected_at : (tells : List ℕ → ReplyClass → Type 0) (handled : List PeerCall) → EndsRejected tells handled → (schedule handled ≡ []) ⊎ (schedule handled ≡ Waits 93 ∷ [])
+  rejected_at tells handled (inl at_once) = inl (ended (IsPassedOver tells false) (request_is_quiet tells false) at_once.0 handled at_once.2)
+  rejected_at tells handled (inr later) = inr (
       ap schedule later.is
       ∙ both later.more (Waits 93 ∷ later.first) [] (Waits 93 ∷ [])
       (ended (IsPassedOver tells true) (request_is_quiet tells true) later.rejected.0 later.more later.rejected.2)
       (ap (λ (l : List PeerCall). Waits 93 ∷ l) (ended (IsPassedOver tells false) (request_is_quiet tells false) later.acknowledged.0 later.first later.acknowledged.2)))
 
-  pub rejected : (tells : List ℕ → Reception → Type 0) (calls : List PeerCall) → IsRejection true tells request calls
+  pub rejected : (tells : List ℕ → ReplyClass → Type 0) (calls : List PeerCall) → IsRejection true tells request calls
       → BeginsSchedule request (schedule calls) ⊎ AwaitsResponse request (schedule calls)
   rejected tells calls s =
       let passes = IsPassedOver tells false in
       let quiet = request_is_quiet tells false in
-      elim (rejected_at tells s.sending.heard s.sending.ends) as (λ _. BeginsSchedule request (schedule calls) ⊎ AwaitsResponse request (schedule calls)) [
+      elim (rejected_at tells s.sending.handled s.sending.ends) as (λ _. BeginsSchedule request (schedule calls) ⊎ AwaitsResponse request (schedule calls)) [
         | inl at_once ↦ inl (begun passes quiet (EndsRejected tells) calls s at_once)
         | inr later ↦ inr (begun_later passes quiet (EndsRejected tells) calls s later)
       ]
@@ -233,7 +233,7 @@ module _ (m : Message) (coded : m.code ≡ 0 → ⊥) where
   rejected_leaving token id calls s =
       let passes = IsPassedOverLeaving token id in
       let quiet = leaving_is_quiet token id in
-      begun passes quiet (IsRejectedLeaving token id) calls s (ended passes quiet s.sending.ends.bytes s.sending.heard s.sending.ends.ends)
+      begun passes quiet (IsRejectedLeaving token id) calls s (ended passes quiet s.sending.ends.bytes s.sending.handled s.sending.ends.ends)
 
   -- 62 seconds, or 93 after an acknowledgement.
   pub waited_for : (calls : List PeerCall) → (schedule calls ≡ full_schedule request) ⊎ AwaitsResponse request (schedule calls) → 62 ≤ seconds_in calls

@@ -7,7 +7,7 @@ use Rattle.coap_msg.specs.Wire.{Message, message_bytes}
 use Rattle.coap_opts.specs.Values.{block_size, place_in}
 use Rattle.coap_opts.specs.declared.request.Method.{Method}
 use Rattle.coap_opts.specs.declared.request.Method.TheVariants.{Get, Post, Put, Delete}
-use Rattle.coap_client.specs.declared.errand.Errand.{Errand}
+use Rattle.coap_client.specs.declared.client_request.ClientRequest.{ClientRequest}
 use Rattle.coap_client.specs.declared.part.Part.{Part}
 use Rattle.coap_client.specs.declared.part.Part.TheVariants.{Whole, Body, Answer}
 use Rattle.coap_client.specs.declared.reply.Next.{Next}
@@ -23,18 +23,18 @@ use Rattle.coap_client.proofs.NextParts.{begins_alike, either, next_smaller}
 
 -- the bytes of the body in the outstanding request; a request for a further block of the response
 -- has no new ones.
-abbrev pub body_of_request : Errand → State → List ℕ
+abbrev pub body_of_request : ClientRequest → State → List ℕ
 body_of_request e (Out (Answer n szx) body etag) = []
 body_of_request e (Out part body etag) = part_payload e.method e.payload.now part
 body_of_request e other = []
 
 -- the bytes of the body in the requests that these replies answer, in order.
-abbrev pub body_sent : Errand → List Message → List ℕ
+abbrev pub body_sent : ClientRequest → List Message → List ℕ
 body_sent e [] = []
 body_sent e (m ∷ ms) = body_sent e ms ++ body_of_request e (state_after e ms)
 
 -- the bytes sent in a state: none, the blocks before the outstanding one, or all.
-abbrev pub HasSent : Errand → List ℕ → State → Type 0
+abbrev pub HasSent : ClientRequest → List ℕ → State → Type 0
 HasSent e sent (Out Whole body etag) = sent ≡ []
 HasSent e sent (Out (Body n szx) body etag) = sent ≡ take (block_size szx * n) e.payload.now
 HasSent e sent (Out (Answer n szx) body etag) = sent ≡ e.payload.now
@@ -42,7 +42,7 @@ HasSent e sent (Ended code body) = is_success code ≡ true → sent ≡ e.paylo
 HasSent e sent other = Unit {0}
 
 -- the possible next steps after a successful response, if these bytes were sent.
-abbrev pub GoesTo : Errand → List ℕ → Next → Type 0
+abbrev pub GoesTo : ClientRequest → List ℕ → Next → Type 0
 GoesTo e sent (next.Ask Whole) = ⊥
 GoesTo e sent (next.Ask (Body n szx)) = sent ≡ take (block_size szx * n) e.payload.now
 GoesTo e sent (next.Ask (Answer n szx)) = sent ≡ e.payload.now
@@ -50,29 +50,29 @@ GoesTo e sent next.Last = sent ≡ e.payload.now
 GoesTo e sent next.Refused = ⊥
 GoesTo e sent other = Unit {0}
 
-option_goes : (e : Errand) (sent : List ℕ) (n szx count : ℕ) (value : Option (List ℕ)) → sent ≡ e.payload.now → GoesTo e sent (by_option n szx count value)
-option_goes e sent n szx count None all = either (GoesTo e sent) (n == 0) next.Last next.Misfit (λ _. all) (λ _. tt)
+option_goes : (e : ClientRequest) (sent : List ℕ) (n szx count : ℕ) (value : Option (List ℕ)) → sent ≡ e.payload.now → GoesTo e sent (by_option n szx count value)
+option_goes e sent n szx count None all = either (GoesTo e sent) (n == 0) next.Last next.Malformed (λ _. all) (λ _. tt)
 option_goes e sent n szx count (Some value) all =
     let b = place_in value in
-    either (GoesTo e sent) (nat_le (length value) 3) _ next.Misfit
-    (λ _. either (GoesTo e sent) (fits_place n szx b) (by_more b count) next.Misfit
+    either (GoesTo e sent) (nat_le (length value) 3) _ next.Malformed
+    (λ _. either (GoesTo e sent) (fits_place n szx b) (by_more b count) next.Malformed
     (λ _. either (GoesTo e sent) b.more _ _
-    (λ _. either (GoesTo e sent) (count == block_size b.szx) (next_block b) next.Misfit
-    (λ _. either (GoesTo e sent) (nat_lt (b.number + 1) 1048576) (next.Ask (Answer (b.number + 1) b.szx)) next.Misfit (λ _. all) (λ _. tt))
+    (λ _. either (GoesTo e sent) (count == block_size b.szx) (next_block b) next.Malformed
+    (λ _. either (GoesTo e sent) (nat_lt (b.number + 1) 1048576) (next.Ask (Answer (b.number + 1) b.szx)) next.Malformed (λ _. all) (λ _. tt))
     (λ _. tt))
-    (λ _. either (GoesTo e sent) (nat_le count (block_size b.szx)) next.Last next.Misfit (λ _. all) (λ _. tt)))
+    (λ _. either (GoesTo e sent) (nat_le count (block_size b.szx)) next.Last next.Malformed (λ _. all) (λ _. tt)))
     (λ _. tt))
     (λ _. tt)
 
-whole_goes : (e : Errand) (sent : List ℕ) (n : ℕ) (m : Message) → sent ≡ e.payload.now → GoesTo e sent (next_of_whole n m)
+whole_goes : (e : ClientRequest) (sent : List ℕ) (n : ℕ) (m : Message) → sent ≡ e.payload.now → GoesTo e sent (next_of_whole n m)
 whole_goes e sent n m all =
-    either (GoesTo e sent) (is_final n m) (next_of_answer 0 6 m) next.Misfit (λ _. option_goes e sent 0 6 (length m.payload) (block2_of m) all) (λ _. tt)
+    either (GoesTo e sent) (is_final n m) (next_of_answer 0 6 m) next.Malformed (λ _. option_goes e sent 0 6 (length m.payload) (block2_of m) all) (λ _. tt)
 
-body_goes : (e : Errand) (sent : List ℕ) (n szx : ℕ) (size : Option ℕ) → ((smaller : ℕ) → size ≡ Some smaller → smaller ≤ szx) →
+body_goes : (e : ClientRequest) (sent : List ℕ) (n szx : ℕ) (size : Option ℕ) → ((smaller : ℕ) → size ≡ Some smaller → smaller ≤ szx) →
     sent ≡ take (block_size szx * (n + 1)) e.payload.now → GoesTo e sent (next_of_body n szx size)
 body_goes e sent n szx None small so = tt
 body_goes e sent n szx (Some smaller) small so =
-    either (GoesTo e sent) (nat_lt (next_number n szx smaller) 1048576) (next.Ask (Body (next_number n szx smaller) smaller)) next.Misfit
+    either (GoesTo e sent) (nat_lt (next_number n szx smaller) 1048576) (next.Ask (Body (next_number n szx smaller) smaller)) next.Malformed
     (λ _. so ∙ ap (λ k. take k e.payload.now) (sym (begins_alike n szx smaller (small smaller refl)))) (λ _. tt)
 
 -- the blocks before one, and that one.
@@ -82,7 +82,7 @@ one_block_more payload n szx =
     let k : size * n + size ≡ size * (n + 1) = omega arith in
     sym (take-add (size * n) size payload) ∙ ap (λ k. take k payload) k
 
-part_goes : (e : Errand) (part : Part) (sent body etag : List ℕ) (m : Message) → HasSent e sent (Out part body etag) →
+part_goes : (e : ClientRequest) (part : Part) (sent body etag : List ℕ) (m : Message) → HasSent e sent (Out part body etag) →
     GoesTo e (sent ++ body_of_request e (Out part body etag)) (by_part (length e.payload.now) part etag m)
 part_goes e Whole sent body etag m so = whole_goes e _ 0 m (ap (λ s. s ++ e.payload.now) so)
 part_goes e (Body n szx) sent body etag m so =
@@ -93,23 +93,23 @@ part_goes e (Body n szx) sent body etag m so =
 part_goes e (Answer n szx) sent body etag m so =
     let now = append-nil sent ∙ so in
     either (GoesTo e _) (bytes_eq (etag_of m) etag) _ next.Stale
-    (λ _. either (GoesTo e _) (is_continue m) next.Misfit (next_of_answer n szx m) (λ _. tt) (λ _. option_goes e _ n szx (length m.payload) (block2_of m) now))
+    (λ _. either (GoesTo e _) (is_continue m) next.Malformed (next_of_answer n szx m) (λ _. tt) (λ _. option_goes e _ n szx (length m.payload) (block2_of m) now))
     (λ _. tt)
 
-moved_has : (e : Errand) (sent body etag : List ℕ) (m : Message) (n : Next) → GoesTo e sent n → HasSent e sent (moved_on n body etag m)
+moved_has : (e : ClientRequest) (sent body etag : List ℕ) (m : Message) (n : Next) → GoesTo e sent n → HasSent e sent (moved_on n body etag m)
 moved_has e sent body etag m (next.Ask Whole) g = absurd g
 moved_has e sent body etag m (next.Ask (Body n szx)) g = g
 moved_has e sent body etag m (next.Ask (Answer n szx)) g = g
 moved_has e sent body etag m next.Last g = λ _. g
 moved_has e sent body etag m next.Refused g = absurd g
 moved_has e sent body etag m next.Stale g = tt
-moved_has e sent body etag m next.Misfit g = tt
+moved_has e sent body etag m next.Malformed g = tt
 
-reply_has : (e : Errand) (sent : List ℕ) (m : Message) (s : State) → HasSent e sent s → HasSent e (sent ++ body_of_request e s) (after_reply (length e.payload.now) m s)
+reply_has : (e : ClientRequest) (sent : List ℕ) (m : Message) (s : State) → HasSent e sent s → HasSent e (sent ++ body_of_request e s) (after_reply (length e.payload.now) m s)
 reply_has e sent m (Out part body etag) so =
     let after = sent ++ body_of_request e (Out part body etag) in
     let P : Next → Type 0 = λ n. HasSent e after (moved_on n body etag m) in
-    either P (is_understood m) (next_by_code (length e.payload.now) part etag m) next.Misfit
+    either P (is_understood m) (next_by_code (length e.payload.now) part etag m) next.Malformed
     (λ _. either P (is_success m.code) (by_part (length e.payload.now) part etag m) next.Refused
     (λ _. moved_has e after body etag m _ (part_goes e part sent body etag m so))
     (λ failed success. absurd (cc (failed, success))))
@@ -118,30 +118,30 @@ reply_has e sent m (Ended code body) so = λ success. append-nil sent ∙ so suc
 reply_has e sent m Outdated so = tt
 reply_has e sent m Lost so = tt
 
-first_has : (e : Errand) (method : Method) (count : ℕ) → HasSent e [] (Out (first_part method count) [] [])
+first_has : (e : ClientRequest) (method : Method) (count : ℕ) → HasSent e [] (Out (first_part method count) [] [])
 first_has e Get count = refl
 first_has e Post count = refl
 first_has e Delete count = refl
 first_has e Put count = either (λ p. HasSent e [] (Out p [] [])) (nat_lt 1024 count) (Body 0 6) Whole (λ _. refl) (λ _. refl)
 
-pub has_sent : (e : Errand) (ms : List Message) → HasSent e (body_sent e ms) (state_after e ms)
+pub has_sent : (e : ClientRequest) (ms : List Message) → HasSent e (body_sent e ms) (state_after e ms)
 has_sent e [] = first_has e e.method (length e.payload.now)
 has_sent e (m ∷ ms) = reply_has e (body_sent e ms) m (state_after e ms) (has_sent e ms)
 
-pub whole_sent : (e : Errand) (ms : List Message) (code : ℕ) (answer : List ℕ) → state_after e ms ≡ Ended code answer → is_success code ≡ true → body_sent e ms ≡ e.payload.now
+pub whole_sent : (e : ClientRequest) (ms : List Message) (code : ℕ) (answer : List ℕ) → state_after e ms ≡ Ended code answer → is_success code ≡ true → body_sent e ms ≡ e.payload.now
 whole_sent e ms code answer ends success = subst (HasSent e (body_sent e ms)) ends (has_sent e ms) success
 
 -- the requests that had the body.
-abbrev pub with_request : Errand → ℕ → State → List Message → List Message
+abbrev pub with_request : ClientRequest → ℕ → State → List Message → List Message
 with_request e id (Out (Answer n szx) body etag) rs = rs
 with_request e id (Out part body etag) rs = part_request e part id ∷ rs
 with_request e id other rs = rs
 
-abbrev pub requests_of : Errand → ℕ → List Message → List Message
+abbrev pub requests_of : ClientRequest → ℕ → List Message → List Message
 requests_of e first [] = []
 requests_of e first (m ∷ ms) = with_request e ((first + length ms) % 65536) (state_after e ms) (requests_of e first ms)
 
-one_joins : (e : Errand) (id : ℕ) (s : State) (rs : List Message) → payloads (with_request e id s rs) ≡ payloads rs ++ body_of_request e s
+one_joins : (e : ClientRequest) (id : ℕ) (s : State) (rs : List Message) → payloads (with_request e id s rs) ≡ payloads rs ++ body_of_request e s
 one_joins e id (Out Whole body etag) rs = refl
 one_joins e id (Out (Body n szx) body etag) rs = refl
 one_joins e id (Out (Answer n szx) body etag) rs = sym (append-nil (payloads rs))
@@ -149,12 +149,12 @@ one_joins e id (Ended code body) rs = sym (append-nil (payloads rs))
 one_joins e id Outdated rs = sym (append-nil (payloads rs))
 one_joins e id Lost rs = sym (append-nil (payloads rs))
 
-requests_join : (e : Errand) (first : ℕ) (ms : List Message) → payloads (requests_of e first ms) ≡ body_sent e ms
+requests_join : (e : ClientRequest) (first : ℕ) (ms : List Message) → payloads (requests_of e first ms) ≡ body_sent e ms
 requests_join e first [] = refl
 requests_join e first (m ∷ ms) =
     one_joins e _ (state_after e ms) (requests_of e first ms) ∙ ap (λ x. x ++ body_of_request e (state_after e ms)) (requests_join e first ms)
 
-one_went : (went came : List ℕ → Type 0) (e : Errand) (id : ℕ) (earlier : List ℕ) (s : State) (m : Message) (rs : List Message) →
+one_went : (went came : List ℕ → Type 0) (e : ClientRequest) (id : ℕ) (earlier : List ℕ) (s : State) (m : Message) (rs : List Message) →
     AnswersInState went came e id earlier s m → All (λ r. went (message_bytes r)) rs → All (λ r. went (message_bytes r)) (with_request e id s rs)
 one_went went came e id earlier (Out Whole body etag) m rs a all = All-cons (λ r. went (message_bytes r)) _ rs a.is.asked.asked all
 one_went went came e id earlier (Out (Body n szx) body etag) m rs a all = All-cons (λ r. went (message_bytes r)) _ rs a.is.asked.asked all
@@ -163,14 +163,14 @@ one_went went came e id earlier (Ended code body) m rs a all = all
 one_went went came e id earlier Outdated m rs a all = all
 one_went went came e id earlier Lost m rs a all = all
 
-requests_went : (went came : List ℕ → Type 0) (e : Errand) (first : ℕ) (known : List ℕ) (ms : List Message) → AreReplies went came e first known ms →
+requests_went : (went came : List ℕ → Type 0) (e : ClientRequest) (first : ℕ) (known : List ℕ) (ms : List Message) → AreReplies went came e first known ms →
     All (λ r. went (message_bytes r)) (requests_of e first ms)
 requests_went went came e first known [] are = All-nil (λ r. went (message_bytes r))
 requests_went went came e first known (m ∷ ms) are =
     one_went went came e ((first + length ms) % 65536) (taken_ids known ms) (state_after e ms) m (requests_of e first ms) are.1 (requests_went went came e first known ms are.0)
 
 -- a fetch that ended by a success has sent the whole body.
-pub went_whole : (went came : List ℕ → Type 0) (e : Errand) (first : ℕ) (known : List ℕ) (Called : List Message → Type 0) (code : ℕ) (answer : List ℕ) →
+pub went_whole : (went came : List ℕ → Type 0) (e : ClientRequest) (first : ℕ) (known : List ℕ) (Called : List Message → Type 0) (code : ℕ) (answer : List ℕ) →
     RepliesLeadTo went came e first known Called (Ended code answer) → SendsWhole went e code
 went_whole went came e first known Called code answer l success = record {
   requests = requests_of e first l.replies;

@@ -1,4 +1,4 @@
--- The requests of an errand fit a datagram.
+-- The requests of a client request fit a datagram.
 use Rattle.std.proofs.Common.{◌≡◌, ℕ, zero, suc, ◌+◌, ◌-◌, ◌*◌, ◌/◌, ◌%◌, ◌<◌, ◌≤◌, nat_lt, Bool, true, false, if◌then◌else◌, Option, Some, None, IfSome, List, [], ◌∷◌, ◌++◌, length, take, drop, sum_by, arith, sym, ◌∙◌, ap, subst, length-append, min}
 use Rattle.std.specs.Int.{byte_at, bytes_high_first}
 use Rattle.std.proofs.lemmas.Bool.{lt-ltb}
@@ -14,7 +14,7 @@ use Rattle.coap_opts.specs.declared.number.TheConstants.{URI_PATH, URI_QUERY}
 use Rattle.coap_opts.specs.Values.{block_size, uint_bytes, without_zeros}
 use Rattle.coap_opts.specs.declared.request.Method.{Method}
 use Rattle.coap_opts.specs.declared.request.Method.TheVariants.{Get, Post, Put, Delete}
-use Rattle.coap_client.specs.declared.errand.Errand.{Errand}
+use Rattle.coap_client.specs.declared.client_request.ClientRequest.{ClientRequest}
 use Rattle.coap_client.specs.declared.part.Part.{Part}
 use Rattle.coap_client.specs.declared.part.Part.TheVariants.{Whole, Body, Answer}
 use Rattle.coap_client.specs.Paths.{slices_in}
@@ -133,7 +133,7 @@ request_are segments o query rest is short also h =
 one_size : (b number : ℕ) (value : List ℕ) → length value ≤ 3 → length (options_bytes b ((number, value) ∷ [])) ≤ 6
 one_size b number value short = omega (arith, short_size (number - b) 3 value (omega arith) short, length-append (option_bytes (number - b) value) [])
 
-pub part_size : (e : Errand) (part : Part) (count b : ℕ) → IsPartOf e part → length (options_bytes b (part_options part count)) ≤ 6
+pub part_size : (e : ClientRequest) (part : Part) (count b : ℕ) → IsPartOf e part → length (options_bytes b (part_options part count)) ≤ 6
 part_size e Whole count b own = omega arith
 part_size e (Body n szx) count b own = one_size b 27 _ (block_short n szx (has_more count n szx) own.block)
 part_size e (Answer n szx) count b own = one_size b 23 _ (block_short n szx false own)
@@ -163,7 +163,7 @@ pub size_below : (szx : ℕ) → szx ≤ 6 → block_size szx ≤ 1024
 size_below szx small = let most : szx + 4 ≤ 10 = omega (arith, small) in pow_mono most
 
 -- no request has more of a body than the maximum for one request.
-payload_size : (e : Errand) (part : Part) → IsPartOf e part → length (part_payload e.method e.payload.now part) ≤ most_at_once e.method (length e.payload.now)
+payload_size : (e : ClientRequest) (part : Part) → IsPartOf e part → length (part_payload e.method e.payload.now part) ≤ most_at_once e.method (length e.payload.now)
 payload_size e Whole own = omega (arith, own)
 payload_size e (Body n szx) own =
     let at = block_size szx * n in
@@ -171,7 +171,7 @@ payload_size e (Body n szx) own =
 payload_size e (Answer n szx) own = answer_size e.method e.payload.now
 
 -- the request of a part fits a datagram.
-pub request_fits : (e : Errand) (part : Part) (id code : ℕ) (kind : MessageType) (o : Option (ℕ × ArrayVec ℕ)) (options : List (ℕ × List ℕ)) (payload : List ℕ) → id < 65536 → IsPartOf e part
+pub request_fits : (e : ClientRequest) (part : Part) (id code : ℕ) (kind : MessageType) (o : Option (ℕ × ArrayVec ℕ)) (options : List (ℕ × List ℕ)) (payload : List ℕ) → id < 65536 → IsPartOf e part
     → code ≡ method_code e.method → IsFormat o
     → options ≡ request_options (slices_in e.target.path.segments.items) (option_in o) (slices_in e.target.query.items) ++ part_options part (length e.payload.now)
     → payload ≡ part_payload e.method e.payload.now part → IsMessage (record { kind = kind; code = code; id = id; token = []; options = options; payload = payload })
@@ -188,7 +188,7 @@ request_fits e part id code kind format options payload below own c is o p =
     (omega (arith, request_size segments format query rest is (λ b. part_size e part (length e.payload.now) b own), payload_size e part own, e.fits.room))))
 
 -- the request of a further block, with a token of two bytes, fits a datagram.
-pub block_fits : (e : Errand) (n szx id code : ℕ) (token : List ℕ) (kind : MessageType) (options : List (ℕ × List ℕ)) → id < 65536 → IsBlock n szx → code ≡ 1 → length token ≡ 2
+pub block_fits : (e : ClientRequest) (n szx id code : ℕ) (token : List ℕ) (kind : MessageType) (options : List (ℕ × List ℕ)) → id < 65536 → IsBlock n szx → code ≡ 1 → length token ≡ 2
     → options ≡ request_options (slices_in e.target.path.segments.items) [] (slices_in e.target.query.items) ++ part_options (Answer n szx) 0
     → IsMessage (record { kind = kind; code = code; id = id; token = token; options = options; payload = [] })
 block_fits e n szx id code token kind options below own c two o =

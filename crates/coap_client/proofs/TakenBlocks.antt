@@ -20,20 +20,20 @@ OnlyIf P other = Unit {0}
 
 -- no response results in a block of the body.
 option_never : (n szx count : ℕ) (value : Option (List ℕ)) → OnlyIf ⊥ (by_option n szx count value)
-option_never n szx count None = either (OnlyIf ⊥) (n == 0) next.Last next.Misfit (λ _. tt) (λ _. tt)
+option_never n szx count None = either (OnlyIf ⊥) (n == 0) next.Last next.Malformed (λ _. tt) (λ _. tt)
 option_never n szx count (Some value) =
     let b = place_in value in
-    either (OnlyIf ⊥) (nat_le (length value) 3) _ next.Misfit
-    (λ _. either (OnlyIf ⊥) (fits_place n szx b) (by_more b count) next.Misfit
+    either (OnlyIf ⊥) (nat_le (length value) 3) _ next.Malformed
+    (λ _. either (OnlyIf ⊥) (fits_place n szx b) (by_more b count) next.Malformed
     (λ _. either (OnlyIf ⊥) b.more _ _
-    (λ _. either (OnlyIf ⊥) (count == _) (next_block b) next.Misfit
-    (λ _. either (OnlyIf ⊥) (nat_lt (b.number + 1) 1048576) (next.Ask (Answer (b.number + 1) b.szx)) next.Misfit (λ _. tt) (λ _. tt)) (λ _. tt))
-    (λ _. either (OnlyIf ⊥) (nat_le count _) next.Last next.Misfit (λ _. tt) (λ _. tt)))
+    (λ _. either (OnlyIf ⊥) (count == _) (next_block b) next.Malformed
+    (λ _. either (OnlyIf ⊥) (nat_lt (b.number + 1) 1048576) (next.Ask (Answer (b.number + 1) b.szx)) next.Malformed (λ _. tt) (λ _. tt)) (λ _. tt))
+    (λ _. either (OnlyIf ⊥) (nat_le count _) next.Last next.Malformed (λ _. tt) (λ _. tt)))
     (λ _. tt))
     (λ _. tt)
 
 whole_never : (n : ℕ) (m : Message) → OnlyIf ⊥ (next_of_whole n m)
-whole_never n m = either (OnlyIf ⊥) (is_final n m) (next_of_answer 0 6 m) next.Misfit (λ _. option_never 0 6 (length m.payload) (block2_of m)) (λ _. tt)
+whole_never n m = either (OnlyIf ⊥) (is_final n m) (next_of_answer 0 6 m) next.Malformed (λ _. option_never 0 6 (length m.payload) (block2_of m)) (λ _. tt)
 
 -- there is a size for the rest of the body only if the server took the block.
 size_names : (n szx : ℕ) (m : Message) (value : Option (List ℕ)) (smaller : ℕ) → next_size n szx (is_continue m) value ≡ Some smaller → NamesTaken n szx m value
@@ -50,7 +50,7 @@ body_only : (n szx : ℕ) (m : Message) (size : Option ℕ) → is_success m.cod
     OnlyIf (SaysTaken n szx m) (next_of_body n szx size)
 body_only n szx m None success names = tt
 body_only n szx m (Some smaller) success names =
-    either (OnlyIf (SaysTaken n szx m)) (nat_lt (next_number n szx smaller) 1048576) (next.Ask (Body (next_number n szx smaller) smaller)) next.Misfit
+    either (OnlyIf (SaysTaken n szx m)) (nat_lt (next_number n szx smaller) 1048576) (next.Ask (Body (next_number n szx smaller) smaller)) next.Malformed
     (λ _. record { success = success; names = names smaller refl }) (λ _. tt)
 
 -- a condition that never holds implies any other.
@@ -61,7 +61,7 @@ any P (next.Ask other) o = tt
 any P next.Last o = tt
 any P next.Refused o = tt
 any P next.Stale o = tt
-any P next.Misfit o = tt
+any P next.Malformed o = tt
 
 code_only : (count n szx : ℕ) (etag : List ℕ) (m : Message) → OnlyIf (SaysTaken n szx m) (next_by_code count (Body n szx) etag m)
 code_only count n szx etag m =
@@ -79,10 +79,10 @@ moved_only P (next.Ask other) body etag m n szx body' etag' o e = absurd (cc e)
 moved_only P next.Last body etag m n szx body' etag' o e = absurd (cc e)
 moved_only P next.Refused body etag m n szx body' etag' o e = absurd (cc e)
 moved_only P next.Stale body etag m n szx body' etag' o e = absurd (cc e)
-moved_only P next.Misfit body etag m n szx body' etag' o e = absurd (cc e)
+moved_only P next.Malformed body etag m n szx body' etag' o e = absurd (cc e)
 
 pub goes_behind : (count n szx next' smaller : ℕ) (m : Message) (body etag body' etag' : List ℕ) →
     after_reply count m (Out (Body n szx) body etag) ≡ Out (Body next' smaller) body' etag' → SaysTaken n szx m
 goes_behind count n szx next' smaller m body etag body' etag' e =
     moved_only (SaysTaken n szx m) _ body etag m next' smaller body' etag'
-    (either (OnlyIf (SaysTaken n szx m)) (is_understood m) (next_by_code count (Body n szx) etag m) next.Misfit (λ _. code_only count n szx etag m) (λ _. tt)) e
+    (either (OnlyIf (SaysTaken n szx m)) (is_understood m) (next_by_code count (Body n szx) etag m) next.Malformed (λ _. code_only count n szx etag m) (λ _. tt)) e

@@ -1,10 +1,10 @@
 -- The calls on a peer, one after the other.
 use Rattle.std.proofs.Common.{◌≡◌, ℕ, suc, IfOk, IfSome, Result, Ok, Err, ◌+◌, ◌<◌, ◌≤◌, ◌^◌, inl, inr, Bool, true, false, List, [], ◌∷◌, ◌++◌, Option, Some, None, refl, sym, ◌∙◌, ap, subst, append_assoc, take, add-one}
 use Rattle.coap_client.specs.declared.fetcher.FetchFault.{FetchFault}
-use Rattle.coap_client.specs.declared.transmission.Reception.{Reception}
-use Rattle.coap_client.specs.declared.transmission.Reception.TheVariants.{Reply, Separate, Repeat, Acknowledged, Rejected, Other}
+use Rattle.coap_client.specs.declared.transmission.ReplyClass.{ReplyClass}
+use Rattle.coap_client.specs.declared.transmission.ReplyClass.TheVariants.{Reply, Separate, Repeat, Acknowledged, Rejected, Other}
 use Rattle.coap_client.specs.declared.transmission.SentRequest.{SentRequest}
-use Rattle.coap_client.specs.Heard.{IsAwaitedAnswer, TellsSent}
+use Rattle.coap_client.specs.Handled.{IsAwaitedAnswer, TellsSent}
 use Rattle.coap_client.specs.Listening.{ArePassedOver, EndsOn, IsAcknowledgedBy, IsAnsweredBy, IsOver, IsPassedOver, acknowledges, is_answering, is_passed_over, sent_behind}
 use Rattle.coap_client.specs.PeerCalls.{Adds, PeerCall, Sends, Waits, Receives, received_bytes, receives_in}
 use Rattle.coap_client.specs.Transmissions.{ack_timeout, most_sendings, non_wait, separate_wait, AreBehind, AreInVain, MakesCalls, IsAcknowledgedFirst, EndsAnswered, IsTransmitted, IsAskedAgain, EndsAwaited, IsLastSending, IsSending, IsTransmission}
@@ -16,7 +16,7 @@ abbrev pub Passes : Type 1
 Passes = List ℕ → List PeerCall → Type 0
 
 abbrev Told : Type 1
-Told = List ℕ → Reception → Type 0
+Told = List ℕ → ReplyClass → Type 0
 
 -- no call is made.
 pub does_nothing : (now P : Calls) → P [] → MakesCalls now now P
@@ -95,17 +95,17 @@ over passes n buffer o before between after none one adds =
 -- the maximum number of datagrams arrived.
 pub flooded : (passes : Passes) (n : ℕ) (before after : Calls) → 2 ^ 64 ≤ n + 1 → MakesCalls before after (ArePassedOver passes n) → MakesCalls before after (IsOver passes)
 flooded passes n before after many one =
-    does_of before after (ArePassedOver passes n) (IsOver passes) one (λ heard h. record { n = n; older = heard; before = h; is = inr (refl, many) })
+    does_of before after (ArePassedOver passes n) (IsOver passes) one (λ handled h. record { n = n; older = handled; before = h; is = inr (refl, many) })
 
 -- ---- by the classification of a datagram
 
-pub passed : (tells : Told) (awaited : Bool) (bytes : List ℕ) (heard : Reception) (before after : Calls) → tells bytes heard → is_passed_over awaited heard ≡ true
-    → Adds before after (sent_behind heard bytes) → MakesCalls before after (IsPassedOver tells awaited bytes)
-passed tells awaited bytes heard before after told over adds =
-    does before after (IsPassedOver tells awaited bytes) (sent_behind heard bytes) adds (record { heard = heard; told = told; passed = over; sent_is = refl })
+pub passed : (tells : Told) (awaited : Bool) (bytes : List ℕ) (handled : ReplyClass) (before after : Calls) → tells bytes handled → is_passed_over awaited handled ≡ true
+    → Adds before after (sent_behind handled bytes) → MakesCalls before after (IsPassedOver tells awaited bytes)
+passed tells awaited bytes handled before after told over adds =
+    does before after (IsPassedOver tells awaited bytes) (sent_behind handled bytes) adds (record { handled = handled; told = told; passed = over; sent_is = refl })
 
 -- nothing is sent after a datagram that isn't skipped.
-quiet : (awaited : Bool) (bytes : List ℕ) (heard : Reception) (before after : Calls) → is_passed_over awaited heard ≡ false → Adds before after (sent_behind heard bytes) → Adds before after []
+quiet : (awaited : Bool) (bytes : List ℕ) (handled : ReplyClass) (before after : Calls) → is_passed_over awaited handled ≡ false → Adds before after (sent_behind handled bytes) → Adds before after []
 quiet awaited bytes Reply before after ends adds = adds
 quiet awaited bytes Separate before after ends adds = adds
 quiet awaited bytes Repeat before after ends adds = absurd (cc ends)
@@ -113,16 +113,16 @@ quiet awaited bytes Acknowledged before after ends adds = adds
 quiet awaited bytes Rejected before after ends adds = adds
 quiet awaited bytes Other before after ends adds = adds
 
-pub ended_by : (tells : Told) (awaited : Bool) (n count : ℕ) (buffer : List ℕ) (o : Option ℕ) (heard : Reception) (before between after later : Calls) → o ≡ Some count
-    → MakesCalls before between (ArePassedOver (IsPassedOver tells awaited) n) → Adds between after (receives_in buffer o ∷ []) → is_passed_over awaited heard ≡ false
-    → Adds after later (sent_behind heard (take count buffer)) → MakesCalls before later (EndsOn (IsPassedOver tells awaited) (take count buffer))
-ended_by tells awaited n count buffer o heard before between after later some one adds ends sends =
+pub ended_by : (tells : Told) (awaited : Bool) (n count : ℕ) (buffer : List ℕ) (o : Option ℕ) (handled : ReplyClass) (before between after later : Calls) → o ≡ Some count
+    → MakesCalls before between (ArePassedOver (IsPassedOver tells awaited) n) → Adds between after (receives_in buffer o ∷ []) → is_passed_over awaited handled ≡ false
+    → Adds after later (sent_behind handled (take count buffer)) → MakesCalls before later (EndsOn (IsPassedOver tells awaited) (take count buffer))
+ended_by tells awaited n count buffer o handled before between after later some one adds ends sends =
     let passes = IsPassedOver tells awaited in
     does_then before after later (EndsOn passes (take count buffer)) (EndsOn passes (take count buffer)) [] (ended passes n count buffer o before between after some one adds)
-    (quiet awaited (take count buffer) heard after later ends sends) (λ first h. h)
+    (quiet awaited (take count buffer) handled after later ends sends) (λ first h. h)
 
 -- a datagram that ends a wait, and is no acknowledgement or rejection, is a response.
-answering : (awaited : Bool) (heard : Reception) → is_passed_over awaited heard ≡ false → (heard ≡ Acknowledged → ⊥) → (heard ≡ Rejected → ⊥) → is_answering awaited heard ≡ true
+answering : (awaited : Bool) (handled : ReplyClass) → is_passed_over awaited handled ≡ false → (handled ≡ Acknowledged → ⊥) → (handled ≡ Rejected → ⊥) → is_answering awaited handled ≡ true
 answering awaited Reply ends acknowledged rejected = refl
 answering true Separate ends acknowledged rejected = refl
 answering false Separate ends acknowledged rejected = absurd (cc ends)
@@ -132,8 +132,8 @@ answering awaited Rejected ends acknowledged rejected = absurd (rejected refl)
 answering awaited Other ends acknowledged rejected = absurd (cc ends)
 
 -- the same for an awaited separate response.
-pub awaited_answer : (came : List ℕ → Type 0) (r : SentRequest) (awaited : Bool) (bytes : List ℕ) (heard : Reception) → came bytes → TellsSent r bytes heard
-    → is_passed_over awaited heard ≡ false → (heard ≡ Acknowledged → ⊥) → (heard ≡ Rejected → ⊥) → IsAwaitedAnswer came r awaited bytes
+pub awaited_answer : (came : List ℕ → Type 0) (r : SentRequest) (awaited : Bool) (bytes : List ℕ) (handled : ReplyClass) → came bytes → TellsSent r bytes handled
+    → is_passed_over awaited handled ≡ false → (handled ≡ Acknowledged → ⊥) → (handled ≡ Rejected → ⊥) → IsAwaitedAnswer came r awaited bytes
 awaited_answer came r awaited bytes Reply came_is told ends acknowledged rejected = record { message = told.message; came_is = came_is; read_is = told.read_is; answers = inl told.holds }
 awaited_answer came r true bytes Separate came_is told ends acknowledged rejected = record { message = told.message; came_is = came_is; read_is = told.read_is; answers = inr (refl, told.holds) }
 awaited_answer came r false bytes Separate came_is told ends acknowledged rejected = absurd (cc ends)
@@ -142,15 +142,15 @@ awaited_answer came r awaited bytes Acknowledged came_is told ends acknowledged 
 awaited_answer came r awaited bytes Rejected came_is told ends acknowledged rejected = absurd (rejected refl)
 awaited_answer came r awaited bytes Other came_is told ends acknowledged rejected = absurd (cc ends)
 
-pub answer_came : (tells : Told) (awaited : Bool) (answer : List ℕ) (heard : Reception) (before after : Calls) → tells answer heard → is_passed_over awaited heard ≡ false
-    → (heard ≡ Acknowledged → ⊥) → (heard ≡ Rejected → ⊥) → MakesCalls before after (EndsOn (IsPassedOver tells awaited) answer) → MakesCalls before after (IsAnsweredBy tells awaited answer)
-answer_came tells awaited answer heard before after told ends acknowledged rejected one =
+pub answer_came : (tells : Told) (awaited : Bool) (answer : List ℕ) (handled : ReplyClass) (before after : Calls) → tells answer handled → is_passed_over awaited handled ≡ false
+    → (handled ≡ Acknowledged → ⊥) → (handled ≡ Rejected → ⊥) → MakesCalls before after (EndsOn (IsPassedOver tells awaited) answer) → MakesCalls before after (IsAnsweredBy tells awaited answer)
+answer_came tells awaited answer handled before after told ends acknowledged rejected one =
     does_of before after (EndsOn (IsPassedOver tells awaited) answer) (IsAnsweredBy tells awaited answer) one
-    (λ calls h. (record { heard = heard; told = told; answers = answering awaited heard ends acknowledged rejected }, h))
+    (λ calls h. (record { handled = handled; told = told; answers = answering awaited handled ends acknowledged rejected }, h))
 
-pub acknowledgement_came : (tells : Told) (awaited : Bool) (bytes : List ℕ) (heard : Reception) (before after : Calls) → tells bytes heard → is_passed_over awaited heard ≡ false
-    → heard ≡ Acknowledged → MakesCalls before after (EndsOn (IsPassedOver tells awaited) bytes) → MakesCalls before after (λ calls. (awaited ≡ false) × IsAcknowledgedBy tells calls)
-acknowledgement_came tells awaited bytes heard before after told ends is one =
+pub acknowledgement_came : (tells : Told) (awaited : Bool) (bytes : List ℕ) (handled : ReplyClass) (before after : Calls) → tells bytes handled → is_passed_over awaited handled ≡ false
+    → handled ≡ Acknowledged → MakesCalls before after (EndsOn (IsPassedOver tells awaited) bytes) → MakesCalls before after (λ calls. (awaited ≡ false) × IsAcknowledgedBy tells calls)
+acknowledgement_came tells awaited bytes handled before after told ends is one =
     let not_awaited : awaited ≡ false = sym (ap (is_passed_over awaited) is) ∙ ends in
     does_of before after (EndsOn (IsPassedOver tells awaited) bytes) (λ calls. (awaited ≡ false) × IsAcknowledgedBy tells calls) one
     (λ calls h. (not_awaited, (bytes, subst (tells bytes) is told, subst (λ (b : Bool). EndsOn (IsPassedOver tells b) bytes calls) not_awaited h)))
@@ -163,7 +163,7 @@ pub sending : (request : List ℕ) (seconds : ℕ) (before between after P : Cal
 sending request seconds before between after P adds one =
     does_both before between after (λ calls. calls ≡ Waits seconds ∷ Sends request ∷ []) P (IsSending request seconds P)
     (does before between (λ calls. calls ≡ Waits seconds ∷ Sends request ∷ []) _ adds refl) one
-    (λ first heard is h. record { heard = heard; ends = h; is = ap (λ (x : List PeerCall). heard ++ x) is })
+    (λ first handled is h. record { handled = handled; ends = h; is = ap (λ (x : List PeerCall). handled ++ x) is })
 
 -- once more without a response.
 pub in_vain : (passes : Passes) (request : List ℕ) (n : ℕ) (before between after : Calls) → MakesCalls before between (AreInVain passes request n)
@@ -204,7 +204,7 @@ pub answered : (tells : Told) (request : List ℕ) (n : ℕ) (answer : List ℕ)
 answered tells request n answer before between after few one other =
     last_sending (IsPassedOver tells false) request n before between after (EndsAnswered tells answer) few one
     (does_of between after (IsSending request (ack_timeout n) (IsAnsweredBy tells false answer)) (IsSending request (ack_timeout n) (EndsAnswered tells answer)) other
-    (λ calls s. record { heard = s.heard; ends = inl s.ends; is = s.is }))
+    (λ calls s. record { handled = s.handled; ends = inl s.ends; is = s.is }))
 
 answered_later : (tells : Told) (request : List ℕ) (n : ℕ) (answer : Option (List ℕ)) (before between after : Calls) → n < most_sendings
     → MakesCalls before between (AreInVain (IsPassedOver tells false) request n) → MakesCalls between after (IsSending request (ack_timeout n) (IsAcknowledgedFirst tells answer))
@@ -216,19 +216,19 @@ answered_later tells request n None before between after few one other =
 answered_later tells request n (Some answer) before between after few one other =
     last_sending (IsPassedOver tells false) request n before between after (EndsAnswered tells answer) few one
     (does_of between after (IsSending request (ack_timeout n) (IsAcknowledgedFirst tells (Some answer))) (IsSending request (ack_timeout n) (EndsAnswered tells answer)) other
-    (λ calls s. record { heard = s.heard; ends = inr s.ends; is = s.is }))
+    (λ calls s. record { handled = s.handled; ends = inr s.ends; is = s.is }))
 
 -- the request is acknowledged, and then its response is awaited.
-pub awaited : (tells : Told) (request : List ℕ) (n seconds : ℕ) (buffer : List ℕ) (before between sent heard begun after : Calls) → n < most_sendings
+pub awaited : (tells : Told) (request : List ℕ) (n seconds : ℕ) (buffer : List ℕ) (before between sent handled begun after : Calls) → n < most_sendings
     → MakesCalls before between (AreInVain (IsPassedOver tells false) request n) → seconds ≡ ack_timeout n → Adds between sent (Waits seconds ∷ Sends request ∷ [])
-    → MakesCalls sent heard (λ calls. (false ≡ false) × IsAcknowledgedBy tells calls) → Adds heard begun (Waits separate_wait ∷ []) → (r : Result (Option ℕ) FetchFault)
+    → MakesCalls sent handled (λ calls. (false ≡ false) × IsAcknowledgedBy tells calls) → Adds handled begun (Waits separate_wait ∷ []) → (r : Result (Option ℕ) FetchFault)
     → IfOk r (λ count. MakesCalls begun after (EndsAwaited tells (received_bytes buffer count))) → IfOk r (λ count. MakesCalls before after (IsAskedAgain tells request (received_bytes buffer count)))
-awaited tells request n seconds buffer before between sent heard begun after few one twice adds came waits (Ok count) other =
+awaited tells request n seconds buffer before between sent handled begun after few one twice adds came waits (Ok count) other =
     let answer = received_bytes buffer count in
     answered_later tells request n answer before between after few one
-    (again request n seconds between sent after (IsAcknowledgedFirst tells answer) twice adds (acknowledged tells answer sent heard begun after
-    (does_of sent heard (λ calls. (false ≡ false) × IsAcknowledgedBy tells calls) (IsAcknowledgedBy tells) came (λ calls h. h.1)) waits other))
-awaited tells request n seconds buffer before between sent heard begun after few one twice adds came waits (Err fault) other = tt
+    (again request n seconds between sent after (IsAcknowledgedFirst tells answer) twice adds (acknowledged tells answer sent handled begun after
+    (does_of sent handled (λ calls. (false ≡ false) × IsAcknowledgedBy tells calls) (IsAcknowledgedBy tells) came (λ calls h. h.1)) waits other))
+awaited tells request n seconds buffer before between sent handled begun after few one twice adds came waits (Err fault) other = tt
 
 pub in_vain_to_the_end : (tells : Told) (request : List ℕ) (n : ℕ) (before after : Calls) → n ≡ most_sendings
     → MakesCalls before after (AreInVain (IsPassedOver tells false) request n) → MakesCalls before after (IsAskedAgain tells request None)

@@ -8,13 +8,13 @@ use Rattle.std.proofs.lemmas.List.Folds.{list_any-append}
 use Rattle.coap_msg.specs.Reading.{reading_of}
 use Rattle.coap_msg.specs.Windows.{window, within_window}
 use Rattle.coap_msg.specs.Wire.{Message}
-use Rattle.coap_client.specs.declared.notice.Notice.{Notice}
-use Rattle.coap_client.specs.declared.notice.Notice.TheVariants.{State, Older, Last, Misfit}
+use Rattle.coap_client.specs.declared.notice.NotificationClass.{NotificationClass}
+use Rattle.coap_client.specs.declared.notice.NotificationClass.TheVariants.{State, Older, Last, Malformed}
 use Rattle.coap_client.specs.declared.observing.Observer.{Observer}
 use Rattle.coap_client.specs.declared.watch.ShownMark.{ShownMark}
-use Rattle.coap_client.specs.declared.watch.Watch.{Watch}
+use Rattle.coap_client.specs.declared.watch.Observation.{Observation}
 use Rattle.coap_client.specs.Notices.{IsOwnResponse, by_age, by_success, can_be_shown, first_marks, is_newer, is_shown_again, mark, marked, notice_after, notice_of}
-use Rattle.coap_client.specs.Notes.{AreNotes, IsRemembered, IsWatching, has_mark, is_mark_of, IsApart, IsHeardFrom, IsNewerThan, IsNext, IsNextNote, IsNoteOf, IsRegistered, IsResponseWith, Note}
+use Rattle.coap_client.specs.Notes.{AreNotes, IsRemembered, IsWatching, has_mark, is_mark_of, IsApart, IsHandledFrom, IsNewerThan, IsNext, IsNextNote, IsNoteOf, IsRegistered, IsResponseWith, Note}
 use Rattle.coap_client.specs.Replies.{begins_exchange}
 
 -- ---- marks
@@ -86,19 +86,19 @@ remembered_apart marks was now n p later at r none own same =
 
 -- ---- classifications
 
-not_older : (repeats : Bool) (y x : Notice) → (if repeats then Older else y) ≡ x → (x ≡ Older → ⊥) → (repeats ≡ false) × (y ≡ x)
+not_older : (repeats : Bool) (y x : NotificationClass) → (if repeats then Older else y) ≡ x → (x ≡ Older → ⊥) → (repeats ≡ false) × (y ≡ x)
 not_older true y x e other = absurd (other (sym e))
 not_older false y x e other = (refl, e)
 
-newer_state : (newer : Bool) (v : ℕ) (x : Notice) → (if newer then State v else Older) ≡ x → (x ≡ Older → ⊥) → (State v ≡ x) × (newer ≡ true)
+newer_state : (newer : Bool) (v : ℕ) (x : NotificationClass) → (if newer then State v else Older) ≡ x → (x ≡ Older → ⊥) → (State v ≡ x) × (newer ≡ true)
 newer_state true v x e other = (e, refl)
 newer_state false v x e other = absurd (other (sym e))
 
-aged : (w : Watch) (at : ℕ) (y x : Notice) → by_age w at y ≡ x → (x ≡ Older → ⊥) → (y ≡ x) × IsNewerThan w.sequence w.at y at
+aged : (w : Observation) (at : ℕ) (y x : NotificationClass) → by_age w at y ≡ x → (x ≡ Older → ⊥) → (y ≡ x) × IsNewerThan w.sequence w.at y at
 aged w at (State v) x e other = newer_state (is_newer w.sequence w.at v at) v x e other
 aged w at Older x e other = (e, tt)
 aged w at Last x e other = (e, tt)
-aged w at Misfit x e other = (e, tt)
+aged w at Malformed x e other = (e, tt)
 
 told_later : (told : ℕ → Type 0) (a b : ℕ) → told a → told b → told (max a b)
 told_later told a b ta tb =
@@ -108,7 +108,7 @@ told_later told a b ta tb =
     ]
 
 -- the next message shown, and the watch after it if it is a state.
-pub record HasNext (went came : List ℕ → Type 0) (told : ℕ → Type 0) (token : List ℕ) (id : ℕ) (latest : Note) (older : List Note) (bytes : List ℕ) (new : Watch) (last : Bool) : Type 0 where
+pub record HasNext (went came : List ℕ → Type 0) (told : ℕ → Type 0) (token : List ℕ) (id : ℕ) (latest : Note) (older : List Note) (bytes : List ℕ) (new : Observation) (last : Bool) : Type 0 where
   pub note : Note
   pub read : reading_of bytes ≡ Ok note.message
   pub are : AreNotes went came told token id (note ∷ latest ∷ older)
@@ -116,7 +116,7 @@ pub record HasNext (went came : List ℕ → Type 0) (told : ℕ → Type 0) (to
   pub none : last ≡ true → notice_of note.message ≡ Last
 
 -- a notification that isn't `Older` follows the messages shown.
-follows : (went came : List ℕ → Type 0) (told : ℕ → Type 0) (token : List ℕ) (id : ℕ) (latest : Note) (older : List Note) (w : Watch) (n : Note) (x : Notice) →
+follows : (went came : List ℕ → Type 0) (told : ℕ → Type 0) (token : List ℕ) (id : ℕ) (latest : Note) (older : List Note) (w : Observation) (n : Note) (x : NotificationClass) →
     IsWatching went came told token id latest older w → IsOwnResponse token n.message → w.at ≤ n.at → notice_after w n.at n.message ≡ x → (x ≡ Older → ⊥) → IsNext token latest older n
 follows went came told token id latest older w n x watching own later is other =
     let fresh = not_older (is_shown_again w.marks.items n.message.id n.at) (by_age w n.at (notice_of n.message)) x is other in
@@ -126,48 +126,48 @@ follows went came told token id latest older w n x watching own later is other =
       after = record {
         sequence = w.sequence;
         state = watching.state;
-        moments = omega (arith, watching.moment, later);
-        newer = subst (λ at. IsNewerThan w.sequence at (notice_of n.message) n.at) watching.moment age.1;
+        times = omega (arith, watching.time, later);
+        newer = subst (λ at. IsNewerThan w.sequence at (notice_of n.message) n.at) watching.time age.1;
       };
       once = λ k d below. remembered_apart w.marks.items w.at n.at n (slice_index_or (latest ∷ older) k d) later refl (watching.remembered k d below) fresh.0;
     }
 
-state_is : (w : Watch) (n : Note) (v : ℕ) → notice_after w n.at n.message ≡ State v → notice_of n.message ≡ State v
+state_is : (w : Observation) (n : Note) (v : ℕ) → notice_after w n.at n.message ≡ State v → notice_of n.message ≡ State v
 state_is w n v is =
     let other : State v ≡ Older → ⊥ = λ e. cc e in
     let fresh = not_older (is_shown_again w.marks.items n.message.id n.at) (by_age w n.at (notice_of n.message)) (State v) is other in
     (aged w n.at (notice_of n.message) (State v) fresh.1 other).0
 
-last_is : (w : Watch) (n : Note) → notice_after w n.at n.message ≡ Last → notice_of n.message ≡ Last
+last_is : (w : Observation) (n : Note) → notice_after w n.at n.message ≡ Last → notice_of n.message ≡ Last
 last_is w n is =
     let other : Last ≡ Older → ⊥ = λ e. cc e in
     let fresh = not_older (is_shown_again w.marks.items n.message.id n.at) (by_age w n.at (notice_of n.message)) Last is other in
     (aged w n.at (notice_of n.message) Last fresh.1 other).0
 
--- a classification other than `Misfit`.
-unmisfit : (shown : Bool) (y x : Notice) → (if shown then y else Misfit) ≡ x → (x ≡ Misfit → ⊥) → shown ≡ true
+-- a classification other than `Malformed`.
+unmisfit : (shown : Bool) (y x : NotificationClass) → (if shown then y else Malformed) ≡ x → (x ≡ Malformed → ⊥) → shown ≡ true
 unmisfit true y x e other = refl
 unmisfit false y x e other = absurd (other (sym e))
 
--- a message that isn't classified as `Misfit` can be shown.
-shown_as : (m : Message) (x : Notice) → notice_of m ≡ x → (x ≡ Misfit → ⊥) → can_be_shown m ≡ true
+-- a message that isn't classified as `Malformed` can be shown.
+shown_as : (m : Message) (x : NotificationClass) → notice_of m ≡ x → (x ≡ Malformed → ⊥) → can_be_shown m ≡ true
 shown_as m x e other = unmisfit (can_be_shown m) (by_success m) x e other
 
 -- the same for the next message shown.
-next_shown_as : (w : Watch) (n : Note) (x : Notice) → notice_after w n.at n.message ≡ x → (x ≡ Older → ⊥) → (x ≡ Misfit → ⊥) → can_be_shown n.message ≡ true
+next_shown_as : (w : Observation) (n : Note) (x : NotificationClass) → notice_after w n.at n.message ≡ x → (x ≡ Older → ⊥) → (x ≡ Malformed → ⊥) → can_be_shown n.message ≡ true
 next_shown_as w n x is other fits =
     let fresh = not_older (is_shown_again w.marks.items n.message.id n.at) (by_age w n.at (notice_of n.message)) x is other in
     shown_as n.message x (aged w n.at (notice_of n.message) x fresh.1 other).0 fits
 
-noted : (went came : List ℕ → Type 0) (told : ℕ → Type 0) (token : List ℕ) (id : ℕ) (latest : Note) (older : List Note) (bytes : List ℕ) (moment : ℕ) (old new : Watch) (last : Bool) →
-    IsWatching went came told token id latest older old → (x : IsNextNote went came told token bytes moment old new last) →
-    can_be_shown x.message ≡ true → IsNoteOf went came told token id (record { message = x.message; at = max old.at moment })
-noted went came told token id latest older bytes moment old new last watching x whole = record {
+noted : (went came : List ℕ → Type 0) (told : ℕ → Type 0) (token : List ℕ) (id : ℕ) (latest : Note) (older : List Note) (bytes : List ℕ) (time : ℕ) (old new : Observation) (last : Bool) →
+    IsWatching went came told token id latest older old → (x : IsNextNote went came told token bytes time old new last) →
+    can_be_shown x.message ≡ true → IsNoteOf went came told token id (record { message = x.message; at = max old.at time })
+noted went came told token id latest older bytes time old new last watching x whole = record {
   bytes = bytes;
-  heard = x.heard;
+  handled = x.handled;
   own = inr x.own;
   whole = whole;
-  moment = told_later told old.at moment (subst told (sym watching.moment) watching.are.1.moment) x.told_is;
+  time = told_later told old.at time (subst told (sym watching.time) watching.are.1.time) x.told_is;
 }
 
 remembers : (marks : List ShownMark) (was : ℕ) (n : Note) (ns : List Note) → was ≤ n.at → All (IsRemembered marks was) ns → All (IsRemembered (marked marks n.message.id n.at) n.at) (n ∷ ns)
@@ -176,32 +176,32 @@ remembers marks was n ns later all =
     (λ k d below. remembered_on marks was n.message.id n.at (slice_index_or ns k d) later (all k d below))
 
 -- the next message shown.
-pub next_note : (went came : List ℕ → Type 0) (told : ℕ → Type 0) (token : List ℕ) (id : ℕ) (latest : Note) (older : List Note) (bytes : List ℕ) (moment : ℕ) (old new : Watch) (last : Bool) →
-    IsWatching went came told token id latest older old → IsNextNote went came told token bytes moment old new last → HasNext went came told token id latest older bytes new last
-next_note went came told token id latest older bytes moment old new true watching x =
-    let n : Note = record { message = x.message; at = max old.at moment } in
+pub next_note : (went came : List ℕ → Type 0) (told : ℕ → Type 0) (token : List ℕ) (id : ℕ) (latest : Note) (older : List Note) (bytes : List ℕ) (time : ℕ) (old new : Observation) (last : Bool) →
+    IsWatching went came told token id latest older old → IsNextNote went came told token bytes time old new last → HasNext went came told token id latest older bytes new last
+next_note went came told token id latest older bytes time old new true watching x =
+    let n : Note = record { message = x.message; at = max old.at time } in
     let after = follows went came told token id latest older old n Last watching x.own (omega arith) x.shown (λ e. cc e) in
     record {
       note = n;
-      read = x.heard.read_is;
-      are = (watching.are, noted went came told token id latest older bytes moment old new true watching x (next_shown_as old n Last x.shown (λ e. cc e) (λ e. cc e)), after);
+      read = x.handled.read_is;
+      are = (watching.are, noted went came told token id latest older bytes time old new true watching x (next_shown_as old n Last x.shown (λ e. cc e) (λ e. cc e)), after);
       goes_on = λ e. absurd (cc e);
       none = λ _. last_is old n x.shown;
     }
-next_note went came told token id latest older bytes moment old new false watching x =
-    let n : Note = record { message = x.message; at = max old.at moment } in
+next_note went came told token id latest older bytes time old new false watching x =
+    let n : Note = record { message = x.message; at = max old.at time } in
     let after = follows went came told token id latest older old n (State new.sequence) watching x.own (omega arith) x.shown.notice (λ e. cc e) in
-    let are : AreNotes went came told token id (n ∷ latest ∷ older) = (watching.are, noted went came told token id latest older bytes moment old new false watching x (next_shown_as old n (State new.sequence) x.shown.notice (λ e. cc e) (λ e. cc e)), after) in
+    let are : AreNotes went came told token id (n ∷ latest ∷ older) = (watching.are, noted went came told token id latest older bytes time old new false watching x (next_shown_as old n (State new.sequence) x.shown.notice (λ e. cc e) (λ e. cc e)), after) in
     record {
       note = n;
-      read = x.heard.read_is;
+      read = x.handled.read_is;
       are = are;
       goes_on = λ _. record {
         are = are;
         state = state_is old n new.sequence x.shown.notice;
-        moment = x.shown.moment;
+        time = x.shown.time;
         remembered =
-            subst (λ at. All (IsRemembered new.marks.items at) (n ∷ latest ∷ older)) (sym x.shown.moment)
+            subst (λ at. All (IsRemembered new.marks.items at) (n ∷ latest ∷ older)) (sym x.shown.time)
             (subst (λ marks. All (IsRemembered marks n.at) (n ∷ latest ∷ older)) (sym x.shown.marks)
             (remembers old.marks.items old.at n (latest ∷ older) (omega arith) watching.remembered));
       };
@@ -213,26 +213,26 @@ first_has true id at is = or_left (is_mark_of id at (mark id at)) false (own_mar
 first_has false id at is = absurd (cc is)
 
 -- the first message shown.
-pub first_note : (went came : List ℕ → Type 0) (told : ℕ → Type 0) (o : Observer) (bytes : List ℕ) (w : Watch) (m : Message) (at : ℕ) →
+pub first_note : (went came : List ℕ → Type 0) (told : ℕ → Type 0) (o : Observer) (bytes : List ℕ) (w : Observation) (m : Message) (at : ℕ) →
     IsRegistered went came o bytes → reading_of bytes ≡ Ok m → told at → notice_of m ≡ State w.sequence → w.at ≡ at → w.marks.items ≡ first_marks m at →
     IsWatching went came told o.token o.id (record { message = m; at = at }) [] w
-first_note went came told o bytes w m at registered read moment state same marks =
+first_note went came told o bytes w m at registered read time state same marks =
     let n : Note = record { message = m; at = at } in
-    let spelled : registered.message ≡ m = cc (registered.heard.read_is, read) in
+    let spelled : registered.message ≡ m = cc (registered.handled.read_is, read) in
     record {
       are = (
         tt,
         record {
           bytes = bytes;
-          heard = subst (IsHeardFrom went came bytes) spelled registered.heard;
+          handled = subst (IsHandledFrom went came bytes) spelled registered.handled;
           own = subst (IsResponseWith o.token o.id) spelled registered.own;
           whole = shown_as m (State w.sequence) state (λ e. cc e);
-          moment = moment;
+          time = time;
         },
         tt,
       );
       state = state;
-      moment = same;
+      time = same;
       remembered =
           subst (λ t. All (IsRemembered w.marks.items t) (n ∷ [])) (sym same)
           (subst (λ ks. All (IsRemembered ks at) (n ∷ [])) (sym marks)
@@ -242,15 +242,15 @@ first_note went came told o bytes w m at registered read moment state same marks
 -- the first message shown, if it is the last.
 pub only_note : (went came : List ℕ → Type 0) (told : ℕ → Type 0) (o : Observer) (bytes : List ℕ) (m : Message) (at : ℕ) →
     IsRegistered went came o bytes → reading_of bytes ≡ Ok m → told at → notice_of m ≡ Last → AreNotes went came told o.token o.id (record { message = m; at = at } ∷ [])
-only_note went came told o bytes m at registered read moment last =
-    let spelled : registered.message ≡ m = cc (registered.heard.read_is, read) in (
+only_note went came told o bytes m at registered read time last =
+    let spelled : registered.message ≡ m = cc (registered.handled.read_is, read) in (
       tt,
       record {
         bytes = bytes;
-        heard = subst (IsHeardFrom went came bytes) spelled registered.heard;
+        handled = subst (IsHandledFrom went came bytes) spelled registered.handled;
         own = subst (IsResponseWith o.token o.id) spelled registered.own;
         whole = shown_as m Last last (λ e. cc e);
-        moment = moment;
+        time = time;
       },
       tt,
     )

@@ -35,7 +35,7 @@ pub record IsLeftOf (is_read : Instant → Type 0) (until : Instant) (left : Dur
   pub left_is : as_nanos left ≡ instant_nanos until - instant_nanos now
 
 -- the whole milliseconds from the start to a reading of the clock, and at most 2^64 - 1.
-pub record IsMomentSince (is_read : Instant → Type 0) (start : Instant) (moment : ℕ) : Type 0 where
+pub record IsTimeSince (is_read : Instant → Type 0) (start : Instant) (time : ℕ) : Type 0 where
   pub now : Instant
   pub read_is : is_read now
-  pub moment_is : moment ≡ min ((instant_nanos now - instant_nanos start) / 1_000_000) 18446744073709551615
+  pub time_is : time ≡ min ((instant_nanos now - instant_nanos start) / 1_000_000) 18446744073709551615

@@ -5,19 +5,19 @@ use Rattle.std.specs.Prelude.{◌≡◌, ◌≢◌, ℕ, ◌+◌, ◌≤◌, ◌
 use Rattle.coap_msg.specs.Reading.{reading_of}
 use Rattle.coap_msg.specs.Wire.{Message, message_bytes}
 use Rattle.coap_opts.specs.declared.request.Method.TheVariants.{Get}
-use Rattle.coap_client.specs.declared.errand.Errand.{Errand}
+use Rattle.coap_client.specs.declared.client_request.ClientRequest.{ClientRequest}
 use Rattle.coap_client.specs.declared.fetcher.FetchFault.{FetchFault}
 use Rattle.coap_client.specs.declared.fetcher.FetchFault.TheVariants as fault
-use Rattle.coap_client.specs.declared.notice.Interest.TheVariants.{Register, Deregister}
-use Rattle.coap_client.specs.declared.notice.Notice.{Notice}
-use Rattle.coap_client.specs.declared.notice.Notice.TheVariants as notice
+use Rattle.coap_client.specs.declared.notice.ObserveOption.TheVariants.{Register, Deregister}
+use Rattle.coap_client.specs.declared.notice.NotificationClass.{NotificationClass}
+use Rattle.coap_client.specs.declared.notice.NotificationClass.TheVariants as notice
 use Rattle.coap_client.specs.declared.observing.Observer.{Observer}
 use Rattle.coap_client.specs.declared.part.Part.{Part}
-use Rattle.coap_client.specs.declared.transmission.Reception.{Reception}
-use Rattle.coap_client.specs.declared.transmission.Reception.TheVariants.{Rejected}
-use Rattle.coap_client.specs.declared.watch.Watch.{Watch}
+use Rattle.coap_client.specs.declared.transmission.ReplyClass.{ReplyClass}
+use Rattle.coap_client.specs.declared.transmission.ReplyClass.TheVariants.{Rejected}
+use Rattle.coap_client.specs.declared.watch.Observation.{Observation}
 use Rattle.coap_client.specs.Fetching.{AreReplies, ArePartRequests, Lost, Out, Outdated, RepliesLeadTo, state_after, taken_ids}
-use Rattle.coap_client.specs.Heard.{IsReadAs, Tells}
+use Rattle.coap_client.specs.Handled.{IsReadAs, Tells}
 use Rattle.coap_client.specs.Listening.{EndsOn, IsAcknowledgedBy, IsPassedOver}
 use Rattle.coap_client.specs.Notes.{IsResponseWith, TellsObserver}
 use Rattle.coap_client.specs.Notices.{IsOwnResponse, can_be_shown, notice_after, observe_request}
@@ -30,28 +30,28 @@ use Rattle.coap_client.specs.Transmissions.{most_sendings, non_wait, separate_wa
 -- ---- a rejection (RFC 7252, section 4.2); `tells` classifies a datagram for the request
 
 -- a datagram rejects the request, the first datagram that isn't skipped.
-abbrev pub IsRejectedBy : (List ℕ → Reception → Type 0) → Bool → List PeerCall → Type 0
-IsRejectedBy tells awaited heard = (bytes : List ℕ) × tells bytes Rejected × EndsOn (IsPassedOver tells awaited) bytes heard
+abbrev pub IsRejectedBy : (List ℕ → ReplyClass → Type 0) → Bool → List PeerCall → Type 0
+IsRejectedBy tells awaited handled = (bytes : List ℕ) × tells bytes Rejected × EndsOn (IsPassedOver tells awaited) bytes handled
 
 -- the request was acknowledged, and then rejected.
-pub record IsRejectedLater (tells : List ℕ → Reception → Type 0) (heard : List PeerCall) : Type 0 where
+pub record IsRejectedLater (tells : List ℕ → ReplyClass → Type 0) (handled : List PeerCall) : Type 0 where
   pub first : List PeerCall
   pub acknowledged : IsAcknowledgedBy tells first
   pub more : List PeerCall
   pub rejected : IsRejectedBy tells true more
-  pub is : heard ≡ more ++ Waits separate_wait ∷ first
+  pub is : handled ≡ more ++ Waits separate_wait ∷ first
 
-abbrev pub EndsRejected : (List ℕ → Reception → Type 0) → List PeerCall → Type 0
-EndsRejected tells heard = IsRejectedBy tells false heard ⊎ IsRejectedLater tells heard
+abbrev pub EndsRejected : (List ℕ → ReplyClass → Type 0) → List PeerCall → Type 0
+EndsRejected tells handled = IsRejectedBy tells false handled ⊎ IsRejectedLater tells handled
 
 -- a request is sent until it is rejected; a confirmable one is retransmitted at the end of each
 -- wait.
-abbrev pub IsRejection : Bool → (List ℕ → Reception → Type 0) → List ℕ → List PeerCall → Type 0
+abbrev pub IsRejection : Bool → (List ℕ → ReplyClass → Type 0) → List ℕ → List PeerCall → Type 0
 IsRejection true tells request calls = IsLastSending (IsPassedOver tells false) request (EndsRejected tells) calls
 IsRejection false tells request calls = IsSending request non_wait (IsRejectedBy tells true) calls
 
 -- a request is transmitted, and has no response.
-abbrev pub IsSilence : Bool → (List ℕ → Reception → Type 0) → List ℕ → List PeerCall → Type 0
+abbrev pub IsSilence : Bool → (List ℕ → ReplyClass → Type 0) → List ℕ → List PeerCall → Type 0
 IsSilence confirmable tells request calls = IsTransmission confirmable tells request None calls
 
 -- the peer is the cause of the error: it rejected the request, or returned an error.
@@ -68,7 +68,7 @@ most_requests = 4194304
 
 -- the outstanding request of the fetch ends as `Ends` says, after the requests that have these
 -- replies.
-pub record EndsOnRequest (e : Errand) (first : ℕ) (known : List ℕ) (Ends : Bool → (List ℕ → Reception → Type 0) → List ℕ → List PeerCall → Type 0) (replies : List Message)
+pub record EndsOnRequest (e : ClientRequest) (first : ℕ) (known : List ℕ) (Ends : Bool → (List ℕ → ReplyClass → Type 0) → List ℕ → List PeerCall → Type 0) (replies : List Message)
     (calls : List PeerCall) : Type 0 where
   pub older : List PeerCall
   pub before : ArePartRequests e first known replies older
@@ -83,32 +83,32 @@ pub record EndsOnRequest (e : Errand) (first : ℕ) (known : List ℕ) (Ends : B
   pub is : calls ≡ last ++ older
 
 -- replies to the requests from this message ID on arrived, and the calls for them were made.
-pub record HasReplies (went came : List ℕ → Type 0) (e : Errand) (first : ℕ) (known : List ℕ) (Called : List Message → Type 0) : Type 0 where
+pub record HasReplies (went came : List ℕ → Type 0) (e : ClientRequest) (first : ℕ) (known : List ℕ) (Called : List Message → Type 0) : Type 0 where
   pub replies : List Message
   pub are : AreReplies went came e first known replies
   pub called : Called replies
 
 -- the cause of an error: a request has no response, after those that have one; a response doesn't
 -- match, or the response changed; or there was no memory for a request or a response.
-abbrev pub StopsBy : (List ℕ → Type 0) → (List ℕ → Type 0) → ((List PeerCall → Type 0) → Type 0) → Errand → ℕ → List ℕ → FetchFault → Type 0
+abbrev pub StopsBy : (List ℕ → Type 0) → (List ℕ → Type 0) → ((List PeerCall → Type 0) → Type 0) → ClientRequest → ℕ → List ℕ → FetchFault → Type 0
 StopsBy went came Makes e first known fault.Silence = HasReplies went came e first known (λ replies. Makes (EndsOnRequest e first known IsSilence replies))
 StopsBy went came Makes e first known fault.Rejected = HasReplies went came e first known (λ replies. Makes (EndsOnRequest e first known IsRejection replies))
 StopsBy went came Makes e first known (fault.Memory error) = HasReplies went came e first known (λ replies. Makes (ArePartRequests e first known replies))
-StopsBy went came Makes e first known fault.Misfit =
+StopsBy went came Makes e first known fault.Malformed =
     RepliesLeadTo went came e first known (λ replies. Makes (ArePartRequests e first known replies)) Lost
     ⊎ HasReplies went came e first known (λ replies. (most_requests ≤ length replies) × Makes (ArePartRequests e first known replies))
 StopsBy went came Makes e first known fault.Changed = RepliesLeadTo went came e first known (λ replies. Makes (ArePartRequests e first known replies)) Outdated
 StopsBy went came Makes e first known other = ⊥
 
 -- the errors of an attempt; a changed response isn't one of them.
-abbrev pub IsAttemptFault : (List ℕ → Type 0) → (List ℕ → Type 0) → (PeerError → Type 0) → ((List PeerCall → Type 0) → Type 0) → Errand → ℕ → List ℕ → FetchFault → Type 0
-IsAttemptFault went came is_error Makes e first known (fault.Socket error) = is_error error
-IsAttemptFault went came is_error Makes e first known fault.Changed = ⊥
-IsAttemptFault went came is_error Makes e first known other = StopsBy went came Makes e first known other
+abbrev pub IsFetchOutcomeFault : (List ℕ → Type 0) → (List ℕ → Type 0) → (PeerError → Type 0) → ((List PeerCall → Type 0) → Type 0) → ClientRequest → ℕ → List ℕ → FetchFault → Type 0
+IsFetchOutcomeFault went came is_error Makes e first known (fault.Socket error) = is_error error
+IsFetchOutcomeFault went came is_error Makes e first known fault.Changed = ⊥
+IsFetchOutcomeFault went came is_error Makes e first known other = StopsBy went came Makes e first known other
 
 -- the response to a GET changed, the fetch started again with requests of later message IDs, and
 -- then stopped with this error.
-pub record StopsAgain (went came : List ℕ → Type 0) (Makes : (List PeerCall → Type 0) → Type 0) (e : Errand) (first : ℕ) (fault : FetchFault) : Type 0 where
+pub record StopsAgain (went came : List ℕ → Type 0) (Makes : (List PeerCall → Type 0) → Type 0) (e : ClientRequest) (first : ℕ) (fault : FetchFault) : Type 0 where
   pub outdated : List Message
   pub are : AreReplies went came e first [] outdated
   pub leads : state_after e outdated ≡ Outdated
@@ -119,7 +119,7 @@ pub record StopsAgain (went came : List ℕ → Type 0) (Makes : (List PeerCall 
 
 -- the errors of a fetch: an error of the peer, or one of its attempt, the first or the second. A
 -- changed response is an error if it changed twice, or if the method isn't GET.
-abbrev pub IsFetchFault : (List ℕ → Type 0) → (List ℕ → Type 0) → (PeerError → Type 0) → ((List PeerCall → Type 0) → Type 0) → Errand → ℕ → FetchFault → Type 0
+abbrev pub IsFetchFault : (List ℕ → Type 0) → (List ℕ → Type 0) → (PeerError → Type 0) → ((List PeerCall → Type 0) → Type 0) → ClientRequest → ℕ → FetchFault → Type 0
 IsFetchFault went came is_error Makes e first (fault.Socket error) = is_error error
 IsFetchFault went came is_error Makes e first fault.Changed = ((e.method ≢ Get) × StopsBy went came Makes e first [] fault.Changed) ⊎ StopsAgain went came Makes e first fault.Changed
 IsFetchFault went came is_error Makes e first other = StopsBy went came Makes e first [] other ⊎ StopsAgain went came Makes e first other
@@ -127,14 +127,14 @@ IsFetchFault went came is_error Makes e first other = StopsBy went came Makes e 
 -- ---- an observer
 
 abbrev pub registration_of : Observer → List ℕ
-registration_of o = message_bytes (observe_request o.errand.now Register o.token o.id)
+registration_of o = message_bytes (observe_request o.client_request.now Register o.token o.id)
 
 -- the deregistration has the next message ID.
 abbrev pub leaving_id : Observer → ℕ
 leaving_id o = (o.id + 1) % 65536
 
 abbrev pub deregistration_of : Observer → List ℕ
-deregistration_of o = message_bytes (observe_request o.errand.now Deregister o.token (leaving_id o))
+deregistration_of o = message_bytes (observe_request o.client_request.now Deregister o.token (leaving_id o))
 
 -- the errors of a registration; if there was no memory for it, no call was made.
 abbrev pub IsRegistrationFault : (PeerError → Type 0) → ((List PeerCall → Type 0) → Type 0) → Observer → FetchFault → Type 0
@@ -145,10 +145,10 @@ IsRegistrationFault is_error Makes o (fault.Socket error) = is_error error
 IsRegistrationFault is_error Makes o other = ⊥
 
 -- a Reset of the deregistration with this message ID arrived.
-pub record IsRejectedLeaving (token : List ℕ) (id : ℕ) (heard : List PeerCall) : Type 0 where
+pub record IsRejectedLeaving (token : List ℕ) (id : ℕ) (handled : List PeerCall) : Type 0 where
   pub bytes : List ℕ
   pub rejects : IsReadAs bytes (IsReset id)
-  pub ends : EndsOn (IsPassedOverLeaving token id) bytes heard
+  pub ends : EndsOn (IsPassedOverLeaving token id) bytes handled
 
 -- the errors of a deregistration request: it was sent by the whole schedule without an
 -- acknowledgement, it was rejected, or the peer returned an error.
@@ -166,17 +166,17 @@ IsDeregistrationFault is_error Makes o (fault.Memory error) = Makes (λ calls. c
 IsDeregistrationFault is_error Makes o other = IsLeavingFault is_error Makes o other
 
 -- the last notification received has this classification, at the time that the clock then returned.
-pub record EndsOnNotification (told : ℕ → Type 0) (token : List ℕ) (w : Watch) (P : Notice → Type 0) (calls : List PeerCall) : Type 0 where
+pub record EndsOnNotification (told : ℕ → Type 0) (token : List ℕ) (w : Observation) (P : NotificationClass → Type 0) (calls : List PeerCall) : Type 0 where
   pub bytes : List ℕ
   pub message : Message
   pub read_is : reading_of bytes ≡ Ok message
   pub own : IsOwnResponse token message
-  pub moment : ℕ
-  pub told_is : told moment
-  pub so : P (notice_after w (max w.at moment) message)
-  pub noticed : IsNoticed token (IsPassedOverWatching told token w) bytes moment calls
+  pub time : ℕ
+  pub told_is : told time
+  pub so : P (notice_after w (max w.at time) message)
+  pub noticed : IsNoticed token (IsPassedOverWatching told token w) bytes time calls
 
-abbrev pub IsNewState : Notice → Type 0
+abbrev pub IsNewState : NotificationClass → Type 0
 IsNewState (notice.State sequence) = Unit {0}
 IsNewState other = ⊥
 
@@ -192,9 +192,9 @@ pub record UnfitCame (came : List ℕ → Type 0) (token : List ℕ) (id : ℕ) 
 
 -- the errors of the wait for the next notification: one that can't be shown, a newer one for which
 -- there was no memory, or an error of the peer.
-abbrev pub IsNotificationFault : (List ℕ → Type 0) → (PeerError → Type 0) → ((List PeerCall → Type 0) → Type 0) → (ℕ → Type 0) → List ℕ → Watch → FetchFault → Type 0
+abbrev pub IsNotificationFault : (List ℕ → Type 0) → (PeerError → Type 0) → ((List PeerCall → Type 0) → Type 0) → (ℕ → Type 0) → List ℕ → Observation → FetchFault → Type 0
 IsNotificationFault came is_error Makes told token w fault.Part =
-    Makes (EndsOnNotification told token w (λ n. n ≡ notice.Misfit)) × ((id : ℕ) → UnfitCame came token id)
+    Makes (EndsOnNotification told token w (λ n. n ≡ notice.Malformed)) × ((id : ℕ) → UnfitCame came token id)
 IsNotificationFault came is_error Makes told token w (fault.Memory error) = Makes (EndsOnNotification told token w IsNewState)
 IsNotificationFault came is_error Makes told token w (fault.Socket error) = is_error error
 IsNotificationFault came is_error Makes told token w other = ⊥

@@ -4,10 +4,10 @@ use Rattle.std.specs.Prelude.{◌≡◌, ℕ, ◌+◌, ◌%◌, ◌⊎◌, if◌
 use Rattle.coap_msg.specs.Reading.{reading_of}
 use Rattle.coap_msg.specs.Wire.{Message, message_bytes}
 use Rattle.coap_opts.specs.declared.request.Method.TheVariants.{Get}
-use Rattle.coap_client.specs.declared.errand.Errand.{Errand}
-use Rattle.coap_client.specs.declared.fetcher.Attempt.{Attempt}
-use Rattle.coap_client.specs.declared.fetcher.Attempt.TheVariants as attempt
-use Rattle.coap_client.specs.declared.fetcher.Course.{Course}
+use Rattle.coap_client.specs.declared.client_request.ClientRequest.{ClientRequest}
+use Rattle.coap_client.specs.declared.fetcher.FetchOutcome.{FetchOutcome}
+use Rattle.coap_client.specs.declared.fetcher.FetchOutcome.TheVariants as fetch_outcome
+use Rattle.coap_client.specs.declared.fetcher.FetchState.{FetchState}
 use Rattle.coap_client.specs.declared.fetcher.Step.{Step}
 use Rattle.coap_client.specs.declared.fetcher.Step.TheVariants as step
 use Rattle.coap_client.specs.declared.part.Part.{Part}
@@ -15,7 +15,7 @@ use Rattle.coap_client.specs.declared.part.Part.TheVariants.{Answer}
 use Rattle.coap_client.specs.declared.reply.Next.{Next}
 use Rattle.coap_client.specs.declared.reply.Next.TheVariants as next
 use Rattle.coap_client.specs.Parts.{first_part}
-use Rattle.coap_client.specs.Heard.{IsTakenResponse, Tells}
+use Rattle.coap_client.specs.Handled.{IsTakenResponse, Tells}
 use Rattle.coap_client.specs.PeerCalls.{PeerCall}
 use Rattle.coap_client.specs.Replies.{begins_exchange, etag_of, next_of}
 use Rattle.coap_client.specs.Requests.{IsPartOf, part_request}
@@ -41,14 +41,14 @@ moved_on (next.Ask part) body etag m = going_on part body etag m
 moved_on next.Last body etag m = Ended m.code (body ++ m.payload)
 moved_on next.Refused body etag m = Ended m.code m.payload
 moved_on next.Stale body etag m = Outdated
-moved_on next.Misfit body etag m = Lost
+moved_on next.Malformed body etag m = Lost
 
 abbrev pub after_reply : ℕ → Message → State → State
 after_reply count m (Out part body etag) = moved_on (next_of count part etag m) body etag m
 after_reply count m other = other
 
 -- the state after these replies.
-abbrev pub state_after : Errand → List Message → State
+abbrev pub state_after : ClientRequest → List Message → State
 state_after e [] = Out (first_part e.method (length e.payload.now)) [] []
 state_after e (m ∷ ms) = after_reply (length e.payload.now) m (state_after e ms)
 
@@ -61,25 +61,25 @@ taken_ids known [] = known
 taken_ids known (m ∷ ms) = with_taken_id m (taken_ids known ms)
 
 -- a datagram arrived that encodes the message, a response to the request of a part.
-pub record IsAnswerToPart (went came : List ℕ → Type 0) (e : Errand) (id : ℕ) (earlier : List ℕ) (part : Part) (m : Message) : Type 0 where
+pub record IsAnswerToPart (went came : List ℕ → Type 0) (e : ClientRequest) (id : ℕ) (earlier : List ℕ) (part : Part) (m : Message) : Type 0 where
   pub bytes : List ℕ
   pub is : IsTakenResponse went came e.confirmable id earlier (message_bytes (part_request e part id)) bytes m
 
 -- the message is a response to the outstanding request.
-abbrev pub AnswersInState : (List ℕ → Type 0) → (List ℕ → Type 0) → Errand → ℕ → List ℕ → State → Message → Type 0
+abbrev pub AnswersInState : (List ℕ → Type 0) → (List ℕ → Type 0) → ClientRequest → ℕ → List ℕ → State → Message → Type 0
 AnswersInState went came e id earlier (Out part body etag) m = IsAnswerToPart went came e id earlier part m
 AnswersInState went came e id earlier other m = ⊥
 
 -- each message is a reply to the request before it. The message IDs of the requests count up from
 -- `first`; the `known` IDs are those of responses to other requests.
-abbrev pub AreReplies : (List ℕ → Type 0) → (List ℕ → Type 0) → Errand → ℕ → List ℕ → List Message → Type 0
+abbrev pub AreReplies : (List ℕ → Type 0) → (List ℕ → Type 0) → ClientRequest → ℕ → List ℕ → List Message → Type 0
 AreReplies went came e first known [] = Unit {0}
 AreReplies went came e first known (m ∷ ms) =
     AreReplies went came e first known ms × AnswersInState went came e ((first + length ms) % 65536) (taken_ids known ms) (state_after e ms) m
 
 -- the request of the outstanding part, with this message ID, is transmitted after the earlier ones,
 -- and its response encodes the message.
-pub record IsNextRequest (Before : List PeerCall → Type 0) (e : Errand) (id : ℕ) (earlier : List ℕ) (state : State) (m : Message) (calls : List PeerCall) : Type 0 where
+pub record IsNextRequest (Before : List PeerCall → Type 0) (e : ClientRequest) (id : ℕ) (earlier : List ℕ) (state : State) (m : Message) (calls : List PeerCall) : Type 0 where
   pub older : List PeerCall
   pub before : Before older
   pub part : Part
@@ -94,13 +94,13 @@ pub record IsNextRequest (Before : List PeerCall → Type 0) (e : Errand) (id : 
   pub is : calls ≡ last ++ older
 
 -- the calls for these replies: one request for each of them, and nothing else.
-abbrev pub ArePartRequests : Errand → ℕ → List ℕ → List Message → List PeerCall → Type 0
+abbrev pub ArePartRequests : ClientRequest → ℕ → List ℕ → List Message → List PeerCall → Type 0
 ArePartRequests e first known [] calls = calls ≡ []
 ArePartRequests e first known (m ∷ ms) calls =
     IsNextRequest (ArePartRequests e first known ms) e ((first + length ms) % 65536) (taken_ids known ms) (state_after e ms) m calls
 
 -- replies to the requests from this message ID on result in this state, with these calls.
-pub record RepliesLeadTo (went came : List ℕ → Type 0) (e : Errand) (first : ℕ) (known : List ℕ) (Called : List Message → Type 0) (state : State) : Type 0 where
+pub record RepliesLeadTo (went came : List ℕ → Type 0) (e : ClientRequest) (first : ℕ) (known : List ℕ) (Called : List Message → Type 0) (state : State) : Type 0 where
   pub replies : List Message
   pub are : AreReplies went came e first known replies
   pub leads : state_after e replies ≡ state
@@ -108,7 +108,7 @@ pub record RepliesLeadTo (went came : List ℕ → Type 0) (e : Errand) (first :
 
 -- replies to a GET ended in `Outdated`, and after them others, to requests of later message IDs,
 -- result in this state.
-pub record RepliesLeadToAgain (went came : List ℕ → Type 0) (before after : List PeerCall → Type 0) (e : Errand) (first : ℕ) (state : State) : Type 0 where
+pub record RepliesLeadToAgain (went came : List ℕ → Type 0) (before after : List PeerCall → Type 0) (e : ClientRequest) (first : ℕ) (state : State) : Type 0 where
   pub outdated : List Message
   pub are : AreReplies went came e first [] outdated
   pub leads : state_after e outdated ≡ Outdated
@@ -120,14 +120,14 @@ pub record RepliesLeadToAgain (went came : List ℕ → Type 0) (before after : 
 
 -- the fetch ends with this code and body, in its first attempt or its second, and no other calls
 -- are made.
-abbrev pub IsFetched : (List ℕ → Type 0) → (List ℕ → Type 0) → (List PeerCall → Type 0) → (List PeerCall → Type 0) → Errand → ℕ → ℕ → List ℕ → Type 0
+abbrev pub IsFetched : (List ℕ → Type 0) → (List ℕ → Type 0) → (List PeerCall → Type 0) → (List PeerCall → Type 0) → ClientRequest → ℕ → ℕ → List ℕ → Type 0
 IsFetched went came before after e first code body =
     RepliesLeadTo went came e first [] (λ replies. MakesCalls before after (ArePartRequests e first [] replies)) (Ended code body)
     ⊎ RepliesLeadToAgain went came before after e first (Ended code body)
 
 -- replies have resulted in this state, so that the next request has this message ID, and `earlier`
 -- are the IDs of the separate responses. The calls are those for these replies.
-pub record IsFetching (went came : List ℕ → Type 0) (before now : List PeerCall → Type 0) (e : Errand) (first : ℕ) (known : List ℕ) (id : ℕ) (earlier : List ℕ) (state : State) : Type 0 where
+pub record IsFetching (went came : List ℕ → Type 0) (before now : List PeerCall → Type 0) (e : ClientRequest) (first : ℕ) (known : List ℕ) (id : ℕ) (earlier : List ℕ) (state : State) : Type 0 where
   pub replies : List Message
   pub are : AreReplies went came e first known replies
   pub leads : state_after e replies ≡ state
@@ -136,28 +136,28 @@ pub record IsFetching (went came : List ℕ → Type 0) (before now : List PeerC
   pub called : MakesCalls before now (ArePartRequests e first known replies)
 
 -- the result of an attempt.
-abbrev pub IsAttempt : (List ℕ → Type 0) → (List ℕ → Type 0) → (List PeerCall → Type 0) → (List PeerCall → Type 0) → Errand → ℕ → List ℕ → Attempt → Type 0
-IsAttempt went came before after e first known (attempt.Ended f) =
+abbrev pub IsFetchOutcome : (List ℕ → Type 0) → (List ℕ → Type 0) → (List PeerCall → Type 0) → (List PeerCall → Type 0) → ClientRequest → ℕ → List ℕ → FetchOutcome → Type 0
+IsFetchOutcome went came before after e first known (fetch_outcome.Ended f) =
     RepliesLeadTo went came e first known (λ replies. MakesCalls before after (ArePartRequests e first known replies)) (Ended f.code.byte f.body.items)
-IsAttempt went came before after e first known (attempt.Outdated id earlier) = IsFetching went came before after e first known id earlier.items Outdated
-IsAttempt went came before after e first known attempt.Misfit =
+IsFetchOutcome went came before after e first known (fetch_outcome.Outdated id earlier) = IsFetching went came before after e first known id earlier.items Outdated
+IsFetchOutcome went came before after e first known fetch_outcome.Malformed =
     RepliesLeadTo went came e first known (λ replies. MakesCalls before after (ArePartRequests e first known replies)) Lost
 
 -- the fetch after a response: the next request is outstanding, or it has ended, or the response
 -- changed, or it doesn't match.
-abbrev pub IsNow : State → Course → Step → Type 0
+abbrev pub IsNow : State → FetchState → Step → Type 0
 IsNow state c step.GoesOn = state ≡ Out c.part c.body.items c.etag.items
 IsNow state c (step.Ended code) = state ≡ Ended code.byte c.body.items
 IsNow state c step.Outdated = state ≡ Outdated
-IsNow state c step.Misfit = state ≡ Lost
+IsNow state c step.Malformed = state ≡ Lost
 
-pub record IsStepOf (count : ℕ) (m : Message) (old new : Course) (step : Step) : Type 0 where
+pub record IsStepOf (count : ℕ) (m : Message) (old new : FetchState) (step : Step) : Type 0 where
   pub now : IsNow (after_reply count m (Out old.part old.body.items old.etag.items)) new step
   pub id : new.id ≡ (old.id + 1) % 65536
   pub earlier : new.earlier.items ≡ with_taken_id m old.earlier.items
 
 -- the same request is outstanding, and the response so far is unchanged.
-pub record IsSameAnswer (old new : Course) : Type 0 where
+pub record IsSameAnswer (old new : FetchState) : Type 0 where
   pub part : new.part ≡ old.part
   pub body : new.body.items ≡ old.body.items
   pub etag : new.etag.items ≡ old.etag.items

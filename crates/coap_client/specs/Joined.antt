@@ -4,7 +4,7 @@ use Rattle.std.specs.List.{All}
 use Rattle.coap_msg.specs.Wire.{Message, message_bytes}
 use Rattle.coap_msg.specs.declared.code.TheConstants.Code as registered
 use Rattle.coap_opts.specs.Values.{block_size, place_in}
-use Rattle.coap_client.specs.declared.errand.Errand.{Errand}
+use Rattle.coap_client.specs.declared.client_request.ClientRequest.{ClientRequest}
 use Rattle.coap_client.specs.Replies.{block1_of, block2_of, etag_of, is_success}
 
 -- the payloads of these messages, newest first, joined in order of arrival.
@@ -47,7 +47,7 @@ pub record WentWhole (went : List ℕ → Type 0) (body : List ℕ) : Type 0 whe
   pub joined : payloads requests ≡ body
 
 -- if the fetch ended with a success, requests that were sent have the whole body.
-abbrev pub SendsWhole : (List ℕ → Type 0) → Errand → ℕ → Type 0
+abbrev pub SendsWhole : (List ℕ → Type 0) → ClientRequest → ℕ → Type 0
 SendsWhole went e code = is_success code ≡ true → WentWhole went e.payload.now
 
 -- a success says that the server took block n, after which more follow: by a Block1 that names the

@@ -3,7 +3,7 @@ pub mod PathErrors
 pub mod Parts
 pub mod Requests
 pub mod Replies
-pub mod Heard
+pub mod Handled
 pub mod PeerCalls
 pub mod Clocks
 pub mod Listening

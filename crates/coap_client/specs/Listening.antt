@@ -6,10 +6,10 @@ use Rattle.coap_msg.specs.Wire.{Message, message_bytes}
 use Rattle.coap_msg.specs.declared.types.Bad.{Bad}
 use Rattle.coap_msg.specs.declared.types.MessageType.{MessageType}
 use Rattle.coap_msg.specs.declared.types.MessageType.TheVariants.{Confirmable}
-use Rattle.coap_client.specs.declared.transmission.Listened.{Listened}
-use Rattle.coap_client.specs.declared.transmission.Listened.TheVariants as listened
-use Rattle.coap_client.specs.declared.transmission.Reception.{Reception}
-use Rattle.coap_client.specs.declared.transmission.Reception.TheVariants.{Reply, Separate, Repeat, Acknowledged, Other}
+use Rattle.coap_client.specs.declared.transmission.WaitOutcome.{WaitOutcome}
+use Rattle.coap_client.specs.declared.transmission.WaitOutcome.TheVariants as listened
+use Rattle.coap_client.specs.declared.transmission.ReplyClass.{ReplyClass}
+use Rattle.coap_client.specs.declared.transmission.ReplyClass.TheVariants.{Reply, Separate, Repeat, Acknowledged, Other}
 use Rattle.coap_client.specs.PeerCalls.{PeerCall, Sends, Receives}
 use Rattle.coap_client.specs.Requests.{acknowledgement}
 
@@ -30,18 +30,18 @@ ArePassedOver passes zero calls = calls ≡ []
 ArePassedOver passes (suc n) calls = PassesOneMore passes (ArePassedOver passes n) calls
 
 -- the wait is over, or at least 2^64 - 1 datagrams arrived, which is the maximum.
-pub record IsOver (passes : List ℕ → List PeerCall → Type 0) (heard : List PeerCall) : Type 0 where
+pub record IsOver (passes : List ℕ → List PeerCall → Type 0) (handled : List PeerCall) : Type 0 where
   pub n : ℕ
   pub older : List PeerCall
   pub before : ArePassedOver passes n older
-  pub is : (heard ≡ Receives None ∷ older) ⊎ ((heard ≡ older) × (2 ^ 64 ≤ n + 1))
+  pub is : (handled ≡ Receives None ∷ older) ⊎ ((handled ≡ older) × (2 ^ 64 ≤ n + 1))
 
 -- this datagram ends the wait, the first that isn't skipped.
-pub record EndsOn (passes : List ℕ → List PeerCall → Type 0) (bytes : List ℕ) (heard : List PeerCall) : Type 0 where
+pub record EndsOn (passes : List ℕ → List PeerCall → Type 0) (bytes : List ℕ) (handled : List PeerCall) : Type 0 where
   pub n : ℕ
   pub older : List PeerCall
   pub before : ArePassedOver passes n older
-  pub is : heard ≡ Receives (Some bytes) ∷ older
+  pub is : handled ≡ Receives (Some bytes) ∷ older
 
 -- ---- acknowledgements
 
@@ -62,7 +62,7 @@ acknowledges bytes = acknowledges_read (reading_of bytes)
 
 -- the datagrams that are skipped: a response received before, and any unrelated one; a separate
 -- response if none is awaited, and an acknowledgement if one is.
-abbrev pub is_passed_over : Bool → Reception → Bool
+abbrev pub is_passed_over : Bool → ReplyClass → Bool
 is_passed_over awaited Repeat = true
 is_passed_over awaited Other = true
 is_passed_over awaited Separate = not awaited
@@ -70,40 +70,40 @@ is_passed_over awaited Acknowledged = awaited
 is_passed_over awaited ended = false
 
 -- the datagrams that are responses: a piggybacked one, and a separate one if that is awaited.
-abbrev pub is_answering : Bool → Reception → Bool
+abbrev pub is_answering : Bool → ReplyClass → Bool
 is_answering awaited Reply = true
 is_answering awaited Separate = awaited
-is_answering awaited heard = false
+is_answering awaited handled = false
 
 -- the messages sent after a datagram: the acknowledgement of a response received before.
-abbrev pub sent_behind : Reception → List ℕ → List PeerCall
+abbrev pub sent_behind : ReplyClass → List ℕ → List PeerCall
 sent_behind Repeat bytes = acknowledges bytes
-sent_behind heard bytes = []
+sent_behind handled bytes = []
 
 -- a datagram is skipped because of its classification, which `tells` gives.
-pub record IsPassedOver (tells : List ℕ → Reception → Type 0) (awaited : Bool) (bytes : List ℕ) (sent : List PeerCall) : Type 0 where
-  pub heard : Reception
-  pub told : tells bytes heard
-  pub passed : is_passed_over awaited heard ≡ true
-  pub sent_is : sent ≡ sent_behind heard bytes
+pub record IsPassedOver (tells : List ℕ → ReplyClass → Type 0) (awaited : Bool) (bytes : List ℕ) (sent : List PeerCall) : Type 0 where
+  pub handled : ReplyClass
+  pub told : tells bytes handled
+  pub passed : is_passed_over awaited handled ≡ true
+  pub sent_is : sent ≡ sent_behind handled bytes
 
 -- a datagram is a response because of its classification.
-pub record AnswersAwaited (tells : List ℕ → Reception → Type 0) (awaited : Bool) (bytes : List ℕ) : Type 0 where
-  pub heard : Reception
-  pub told : tells bytes heard
-  pub answers : is_answering awaited heard ≡ true
+pub record AnswersAwaited (tells : List ℕ → ReplyClass → Type 0) (awaited : Bool) (bytes : List ℕ) : Type 0 where
+  pub handled : ReplyClass
+  pub told : tells bytes handled
+  pub answers : is_answering awaited handled ≡ true
 
 -- this response arrived.
-abbrev pub IsAnsweredBy : (List ℕ → Reception → Type 0) → Bool → List ℕ → List PeerCall → Type 0
-IsAnsweredBy tells awaited answer heard = AnswersAwaited tells awaited answer × EndsOn (IsPassedOver tells awaited) answer heard
+abbrev pub IsAnsweredBy : (List ℕ → ReplyClass → Type 0) → Bool → List ℕ → List PeerCall → Type 0
+IsAnsweredBy tells awaited answer handled = AnswersAwaited tells awaited answer × EndsOn (IsPassedOver tells awaited) answer handled
 
 -- an acknowledgement without a response arrived, and none had arrived before.
-abbrev pub IsAcknowledgedBy : (List ℕ → Reception → Type 0) → List PeerCall → Type 0
-IsAcknowledgedBy tells heard = (bytes : List ℕ) × tells bytes Acknowledged × EndsOn (IsPassedOver tells false) bytes heard
+abbrev pub IsAcknowledgedBy : (List ℕ → ReplyClass → Type 0) → List PeerCall → Type 0
+IsAcknowledgedBy tells handled = (bytes : List ℕ) × tells bytes Acknowledged × EndsOn (IsPassedOver tells false) bytes handled
 
 -- the calls during a wait, by its outcome. An acknowledgement ends the wait only if no separate
 -- response is awaited.
-abbrev pub IsHeard : (List ℕ → Reception → Type 0) → Bool → List ℕ → Listened → List PeerCall → Type 0
-IsHeard tells awaited buffer listened.Nothing heard = IsOver (IsPassedOver tells awaited) heard
-IsHeard tells awaited buffer listened.Acknowledged heard = (awaited ≡ false) × IsAcknowledgedBy tells heard
-IsHeard tells awaited buffer (listened.Answer count) heard = IsAnsweredBy tells awaited (take count buffer) heard
+abbrev pub IsHandled : (List ℕ → ReplyClass → Type 0) → Bool → List ℕ → WaitOutcome → List PeerCall → Type 0
+IsHandled tells awaited buffer listened.Nothing handled = IsOver (IsPassedOver tells awaited) handled
+IsHandled tells awaited buffer listened.Acknowledged handled = (awaited ≡ false) × IsAcknowledgedBy tells handled
+IsHandled tells awaited buffer (listened.Answer count) handled = IsAnsweredBy tells awaited (take count buffer) handled

@@ -6,18 +6,18 @@ use Rattle.coap_msg.specs.Reading.{reading_of}
 use Rattle.coap_msg.specs.Windows.{window}
 use Rattle.coap_msg.specs.Wire.{Message, message_bytes}
 use Rattle.coap_msg.specs.declared.types.MessageType.TheVariants.{Acknowledgement, Confirmable}
-use Rattle.coap_client.specs.declared.transmission.Reception.{Reception}
-use Rattle.coap_client.specs.declared.transmission.Reception.TheVariants.{Reply, Acknowledged, Rejected, Other}
-use Rattle.coap_client.specs.declared.transmission.Listened.{Listened}
-use Rattle.coap_client.specs.declared.transmission.Listened.TheVariants as listened
-use Rattle.coap_client.specs.declared.notice.Interest.TheVariants.{Register, Deregister}
-use Rattle.coap_client.specs.declared.notice.Notice.{Notice}
-use Rattle.coap_client.specs.declared.notice.Notice.TheVariants.{State, Last}
+use Rattle.coap_client.specs.declared.transmission.ReplyClass.{ReplyClass}
+use Rattle.coap_client.specs.declared.transmission.ReplyClass.TheVariants.{Reply, Acknowledged, Rejected, Other}
+use Rattle.coap_client.specs.declared.transmission.WaitOutcome.{WaitOutcome}
+use Rattle.coap_client.specs.declared.transmission.WaitOutcome.TheVariants as listened
+use Rattle.coap_client.specs.declared.notice.ObserveOption.TheVariants.{Register, Deregister}
+use Rattle.coap_client.specs.declared.notice.NotificationClass.{NotificationClass}
+use Rattle.coap_client.specs.declared.notice.NotificationClass.TheVariants.{State, Last}
 use Rattle.coap_client.specs.declared.observing.NotedMessage.{NotedMessage}
 use Rattle.coap_client.specs.declared.observing.Observer.{Observer}
 use Rattle.coap_client.specs.declared.watch.ShownMark.{ShownMark}
-use Rattle.coap_client.specs.declared.watch.Watch.{Watch}
-use Rattle.coap_client.specs.Heard.{CameAcknowledgement, IsReadAs}
+use Rattle.coap_client.specs.declared.watch.Observation.{Observation}
+use Rattle.coap_client.specs.Handled.{CameAcknowledgement, IsReadAs}
 use Rattle.coap_client.specs.Notices.{IsOwnResponse, IsReplyWith, can_be_shown, is_newer, marked, notice_after, notice_of, observe_request}
 use Rattle.coap_client.specs.Replies.{IsEmptyAcknowledgement, IsReset, begins_exchange}
 use Rattle.coap_client.specs.Requests.{acknowledgement}
@@ -44,19 +44,19 @@ pub record IsNoneOf (token own : List ℕ) (id : ℕ) (m : Message) : Type 0 whe
 
 -- the classification of a message for an observer whose request with this message ID and own token
 -- is outstanding; a datagram that encodes no message is `Other`.
-abbrev pub IsToldAs : List ℕ → List ℕ → ℕ → Message → Reception → Type 0
+abbrev pub IsToldAs : List ℕ → List ℕ → ℕ → Message → ReplyClass → Type 0
 IsToldAs token own id m Reply = IsAwaitedBy token own id m
 IsToldAs token own id m Acknowledged = IsEmptyAcknowledgement id m
 IsToldAs token own id m Rejected = IsReset id m
 IsToldAs token own id m Other = IsNoneOf token own id m
-IsToldAs token own id m heard = ⊥
+IsToldAs token own id m handled = ⊥
 
-abbrev pub TellsRequest : List ℕ → List ℕ → ℕ → List ℕ → Reception → Type 0
+abbrev pub TellsRequest : List ℕ → List ℕ → ℕ → List ℕ → ReplyClass → Type 0
 TellsRequest token own id bytes Other = (m : Message) → reading_of bytes ≡ Ok m → IsNoneOf token own id m
-TellsRequest token own id bytes heard = IsReadAs bytes (λ m. IsToldAs token own id m heard)
+TellsRequest token own id bytes handled = IsReadAs bytes (λ m. IsToldAs token own id m handled)
 
 -- the classification while the registration is outstanding.
-abbrev pub TellsObserver : List ℕ → ℕ → List ℕ → Reception → Type 0
+abbrev pub TellsObserver : List ℕ → ℕ → List ℕ → ReplyClass → Type 0
 TellsObserver token id = TellsRequest token token id
 
 -- a datagram arrived that encodes a message with this property.
@@ -67,10 +67,10 @@ pub record HasArrived (came : List ℕ → Type 0) (P : Message → Type 0) (byt
   pub holds : P message
 
 -- the outcome of the wait for the response.
-abbrev pub HearsAnswer : (List ℕ → Type 0) → List ℕ → List ℕ → ℕ → List ℕ → Listened → Type 0
-HearsAnswer came token own id buffer (listened.Answer count) = (count ≤ length buffer) × HasArrived came (IsAwaitedBy token own id) (take count buffer)
-HearsAnswer came token own id buffer listened.Acknowledged = CameAcknowledgement came id
-HearsAnswer came token own id buffer listened.Nothing = Unit {0}
+abbrev pub HandlesAnswer : (List ℕ → Type 0) → List ℕ → List ℕ → ℕ → List ℕ → WaitOutcome → Type 0
+HandlesAnswer came token own id buffer (listened.Answer count) = (count ≤ length buffer) × HasArrived came (IsAwaitedBy token own id) (take count buffer)
+HandlesAnswer came token own id buffer listened.Acknowledged = CameAcknowledgement came id
+HandlesAnswer came token own id buffer listened.Nothing = Unit {0}
 
 -- ---- the messages that it shows
 
@@ -81,29 +81,29 @@ pub record Note : Type 0 where
 
 -- a datagram arrived that encodes the message, and the message was acknowledged if it is
 -- confirmable (RFC 7252, section 4.2).
-pub record IsHeardFrom (went came : List ℕ → Type 0) (bytes : List ℕ) (m : Message) : Type 0 where
+pub record IsHandledFrom (went came : List ℕ → Type 0) (bytes : List ℕ) (m : Message) : Type 0 where
   pub came_is : came bytes
   pub read_is : reading_of bytes ≡ Ok m
   pub acknowledged : m.kind ≡ Confirmable → went (message_bytes (acknowledgement m.id))
 
 -- the registration was sent, and this is the response to it.
 pub record IsRegistered (went came : List ℕ → Type 0) (o : Observer) (bytes : List ℕ) : Type 0 where
-  pub asked : went (message_bytes (observe_request o.errand.now Register o.token o.id))
+  pub asked : went (message_bytes (observe_request o.client_request.now Register o.token o.id))
   pub message : Message
-  pub heard : IsHeardFrom went came bytes message
+  pub handled : IsHandledFrom went came bytes message
   pub own : IsResponseWith o.token o.id message
 
 -- the message is a response with the token of the registration, which had this message ID. It can
 -- be shown, and its time is one that the clock returned.
 pub record IsNoteOf (went came : List ℕ → Type 0) (told : ℕ → Type 0) (token : List ℕ) (id : ℕ) (n : Note) : Type 0 where
   pub bytes : List ℕ
-  pub heard : IsHeardFrom went came bytes n.message
+  pub handled : IsHandledFrom went came bytes n.message
   pub own : IsResponseWith token id n.message
   pub whole : can_be_shown n.message ≡ true
-  pub moment : told n.at
+  pub time : told n.at
 
 -- a state is newer than one of this sequence number and time (RFC 7641, section 3.4).
-abbrev pub IsNewerThan : ℕ → ℕ → Notice → ℕ → Type 0
+abbrev pub IsNewerThan : ℕ → ℕ → NotificationClass → ℕ → Type 0
 IsNewerThan sequence at (State v) now = is_newer sequence at v now ≡ true
 IsNewerThan sequence at other now = Unit {0}
 
@@ -112,7 +112,7 @@ IsNewerThan sequence at other now = Unit {0}
 pub record IsAfter (earlier later : Note) : Type 0 where
   pub sequence : ℕ
   pub state : notice_of earlier.message ≡ State sequence
-  pub moments : earlier.at ≤ later.at
+  pub times : earlier.at ≤ later.at
   pub newer : IsNewerThan sequence earlier.at (notice_of later.message) later.at
 
 -- the later message isn't a duplicate of the earlier one: it has another message ID, or arrived at
@@ -150,39 +150,39 @@ abbrev pub IsRemembered : List ShownMark → ℕ → Note → Type 0
 IsRemembered marks now n = begins_exchange n.message.kind ≡ true → (has_mark marks n.message.id n.at ≡ true) ⊎ (n.at + window ≤ now)
 
 -- these messages were shown. The watch has the state of the newest one, and remembers all.
-pub record IsWatching (went came : List ℕ → Type 0) (told : ℕ → Type 0) (token : List ℕ) (id : ℕ) (latest : Note) (older : List Note) (w : Watch) : Type 0 where
+pub record IsWatching (went came : List ℕ → Type 0) (told : ℕ → Type 0) (token : List ℕ) (id : ℕ) (latest : Note) (older : List Note) (w : Observation) : Type 0 where
   pub are : AreNotes went came told token id (latest ∷ older)
   pub state : notice_of latest.message ≡ State w.sequence
-  pub moment : w.at ≡ latest.at
+  pub time : w.at ≡ latest.at
   pub remembered : All (IsRemembered w.marks.items w.at) (latest ∷ older)
 
 -- the next message shown at this time is a state, and the watch records it.
-pub record IsKept (old new : Watch) (at : ℕ) (m : Message) : Type 0 where
+pub record IsKept (old new : Observation) (at : ℕ) (m : Message) : Type 0 where
   pub notice : notice_after old at m ≡ State new.sequence
-  pub moment : new.at ≡ at
+  pub time : new.at ≡ at
   pub marks : new.marks.items ≡ marked old.marks.items m.id at
 
-abbrev pub IsShownAs : Bool → Watch → Watch → ℕ → Message → Type 0
+abbrev pub IsShownAs : Bool → Observation → Observation → ℕ → Message → Type 0
 IsShownAs true old new at m = notice_after old at m ≡ Last
 IsShownAs false old new at m = IsKept old new at m
 
-pub record IsNextNote (went came : List ℕ → Type 0) (told : ℕ → Type 0) (token bytes : List ℕ) (moment : ℕ) (old new : Watch) (last : Bool) : Type 0 where
+pub record IsNextNote (went came : List ℕ → Type 0) (told : ℕ → Type 0) (token bytes : List ℕ) (time : ℕ) (old new : Observation) (last : Bool) : Type 0 where
   pub message : Message
-  pub told_is : told moment
-  pub heard : IsHeardFrom went came bytes message
+  pub told_is : told time
+  pub handled : IsHandledFrom went came bytes message
   pub own : IsOwnResponse token message
-  pub shown : IsShownAs last old new (max old.at moment) message
+  pub shown : IsShownAs last old new (max old.at time) message
 
 -- if no notification is to be shown, the watch is unchanged.
-abbrev pub Watches : (List ℕ → Type 0) → (List ℕ → Type 0) → (ℕ → Type 0) → List ℕ → List ℕ → Watch → Watch → Option NotedMessage → Type 0
+abbrev pub Watches : (List ℕ → Type 0) → (List ℕ → Type 0) → (ℕ → Type 0) → List ℕ → List ℕ → Observation → Observation → Option NotedMessage → Type 0
 Watches went came told token buffer old new None = new ≡ old
 Watches went came told token buffer old new (Some noted) =
-    (noted.count ≤ length buffer) × IsNextNote went came told token (take noted.count buffer) noted.moment old new noted.last
+    (noted.count ≤ length buffer) × IsNextNote went came told token (take noted.count buffer) noted.time old new noted.last
 
 -- a notification arrived, and was acknowledged if it is confirmable.
 pub record HasOwnResponse (went came : List ℕ → Type 0) (token bytes : List ℕ) : Type 0 where
   pub message : Message
-  pub heard : IsHeardFrom went came bytes message
+  pub handled : IsHandledFrom went came bytes message
   pub own : IsOwnResponse token message
 
 -- ---- the deregistration
@@ -199,5 +199,5 @@ pub record HasAcknowledgement (came : List ℕ → Type 0) (id : ℕ) : Type 0 w
 
 -- the deregistration was sent and acknowledged.
 pub record HasDeregistered (went came : List ℕ → Type 0) (o : Observer) : Type 0 where
-  pub asked : went (message_bytes (observe_request o.errand.now Deregister o.token ((o.id + 1) % 65536)))
+  pub asked : went (message_bytes (observe_request o.client_request.now Deregister o.token ((o.id + 1) % 65536)))
   pub acknowledged : HasAcknowledgement came ((o.id + 1) % 65536)

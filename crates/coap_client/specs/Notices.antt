@@ -9,27 +9,27 @@ use Rattle.coap_opts.specs.Fields.{method_code}
 use Rattle.coap_opts.specs.Values.{uint_bytes, uint_value}
 use Rattle.coap_opts.specs.declared.number.TheConstants as option
 use Rattle.coap_opts.specs.declared.request.Method.TheVariants.{Get}
-use Rattle.coap_client.specs.declared.errand.Errand.{Errand}
-use Rattle.coap_client.specs.declared.notice.Interest.{Interest}
-use Rattle.coap_client.specs.declared.notice.Interest.TheVariants.{Register, Deregister}
-use Rattle.coap_client.specs.declared.notice.Notice.{Notice}
-use Rattle.coap_client.specs.declared.notice.Notice.TheVariants.{State, Older, Last, Misfit}
+use Rattle.coap_client.specs.declared.client_request.ClientRequest.{ClientRequest}
+use Rattle.coap_client.specs.declared.notice.ObserveOption.{ObserveOption}
+use Rattle.coap_client.specs.declared.notice.ObserveOption.TheVariants.{Register, Deregister}
+use Rattle.coap_client.specs.declared.notice.NotificationClass.{NotificationClass}
+use Rattle.coap_client.specs.declared.notice.NotificationClass.TheVariants.{State, Older, Last, Malformed}
 use Rattle.coap_client.specs.declared.reply.Next.{Next}
 use Rattle.coap_client.specs.declared.reply.Next.TheVariants as next
 use Rattle.coap_client.specs.declared.watch.ShownMark.{ShownMark}
-use Rattle.coap_client.specs.declared.watch.Watch.{Watch}
+use Rattle.coap_client.specs.declared.watch.Observation.{Observation}
 use Rattle.coap_client.specs.Parts.{largest_szx, resource_options}
 use Rattle.coap_client.specs.Paths.{slices_in}
 use Rattle.coap_client.specs.Replies.{begins_exchange, first_or_none, is_response, is_success, is_understood, next_of_answer}
 
 -- the value of Observe: 0 registers, 1 deregisters (RFC 7641, section 2).
-abbrev pub observe_value : Interest → ℕ
+abbrev pub observe_value : ObserveOption → ℕ
 observe_value Register = 0
 observe_value Deregister = 1
 
--- the GET with a token that registers or deregisters an observer of an errand's resource (RFC 7641,
+-- the GET with a token that registers or deregisters an observer of a client request's resource (RFC 7641,
 -- sections 3.1 and 3.6).
-abbrev pub observe_request : Errand → Interest → List ℕ → ℕ → Message
+abbrev pub observe_request : ClientRequest → ObserveOption → List ℕ → ℕ → Message
 observe_request e interest token id = record {
   kind = Confirmable;
   code = method_code Get;
@@ -91,15 +91,15 @@ is_unobserved m = is_understood m && (is_first_part (next_of_answer 0 largest_sz
 
 -- a success with a sequence number is a state, and more may follow. A success without one is the
 -- last response, and so is an error (RFC 7641, sections 3.2 and 4.2).
-abbrev pub by_sequence : Option ℕ → Notice
+abbrev pub by_sequence : Option ℕ → NotificationClass
 by_sequence None = Last
 by_sequence (Some v) = State v
 
-abbrev pub by_success : Message → Notice
+abbrev pub by_success : Message → NotificationClass
 by_success m = if is_success m.code then by_sequence (sequence_of m) else Last
 
-abbrev pub notice_of : Message → Notice
-notice_of m = if can_be_shown m then by_success m else Misfit
+abbrev pub notice_of : Message → NotificationClass
+notice_of m = if can_be_shown m then by_success m else Malformed
 
 -- a message with this message ID was shown less than 247 s before, so that this one is a duplicate
 -- (RFC 7252, section 4.5).
@@ -107,11 +107,11 @@ abbrev pub is_shown_again : List ShownMark → ℕ → ℕ → Bool
 is_shown_again marks id at = list_any (λ k. nat_eq k.id id && within_window at k.at) marks
 
 -- the classification of a separate response at this time, for an observer with this watch.
-abbrev pub by_age : Watch → ℕ → Notice → Notice
+abbrev pub by_age : Observation → ℕ → NotificationClass → NotificationClass
 by_age w at (State v) = if is_newer w.sequence w.at v at then State v else Older
 by_age w at other = other
 
-abbrev pub notice_after : Watch → ℕ → Message → Notice
+abbrev pub notice_after : Observation → ℕ → Message → NotificationClass
 notice_after w at m = if is_shown_again w.marks.items m.id at then Older else by_age w at (notice_of m)
 
 abbrev pub mark : ℕ → ℕ → ShownMark

@@ -3,13 +3,13 @@
 use Rattle.std.specs.Prelude.{◌≡◌, ℕ, zero, suc, ◌+◌, ◌%◌, ◌⊎◌, max, option_map, Bool, true, false, List, [], ◌∷◌, ◌++◌, take, Ok, Option, Some, None}
 use Rattle.coap_msg.specs.Reading.{reading_of}
 use Rattle.coap_msg.specs.Wire.{Message, message_bytes}
-use Rattle.coap_client.specs.declared.notice.Interest.TheVariants.{Register, Deregister}
-use Rattle.coap_client.specs.declared.notice.Notice.TheVariants.{Older}
+use Rattle.coap_client.specs.declared.notice.ObserveOption.TheVariants.{Register, Deregister}
+use Rattle.coap_client.specs.declared.notice.NotificationClass.TheVariants.{Older}
 use Rattle.coap_client.specs.declared.observing.DatedMessage.{DatedMessage}
 use Rattle.coap_client.specs.declared.observing.NotedMessage.{NotedMessage}
 use Rattle.coap_client.specs.declared.observing.Observer.{Observer}
-use Rattle.coap_client.specs.declared.watch.Watch.{Watch}
-use Rattle.coap_client.specs.Heard.{IsReadAs}
+use Rattle.coap_client.specs.declared.watch.Observation.{Observation}
+use Rattle.coap_client.specs.Handled.{IsReadAs}
 use Rattle.coap_client.specs.Listening.{EndsOn, IsOver, acknowledges}
 use Rattle.coap_client.specs.Notes.{IsAcknowledgementOf, TellsObserver}
 use Rattle.coap_client.specs.Notices.{IsOwnResponse, notice_after, observe_request}
@@ -22,7 +22,7 @@ use Rattle.coap_client.specs.Transmissions.{AreBehind, IsLastSending, IsTransmis
 -- the registration is transmitted, and has a response.
 abbrev pub IsRegistration : Observer → List ℕ → List PeerCall → Type 0
 IsRegistration o answer calls =
-    IsTransmission true (TellsObserver o.token o.id) (message_bytes (observe_request o.errand.now Register o.token o.id)) (Some answer) calls
+    IsTransmission true (TellsObserver o.token o.id) (message_bytes (observe_request o.client_request.now Register o.token o.id)) (Some answer) calls
 
 abbrev pub IsAnsweredRegistration : Observer → List PeerCall → Type 0
 IsAnsweredRegistration o calls = (answer : List ℕ) × IsRegistration o answer calls
@@ -31,8 +31,8 @@ IsAnsweredRegistration o calls = (answer : List ℕ) × IsRegistration o answer 
 pub record IsDatedRegistration (o : Observer) (calls : List PeerCall) : Type 0 where
   pub older : List PeerCall
   pub answered : IsAnsweredRegistration o older
-  pub moment : ℕ
-  pub is : calls ≡ Reads moment ∷ older
+  pub time : ℕ
+  pub is : calls ≡ Reads time ∷ older
 
 -- ---- notifications
 
@@ -46,30 +46,30 @@ AcknowledgesNotification token bytes sent = (IsReadAs bytes (IsOwnResponse token
 
 -- a notification is acknowledged if it is confirmable, and then the clock is read.
 abbrev pub dates : List ℕ → ℕ → List PeerCall
-dates bytes moment = Reads moment ∷ acknowledges bytes
+dates bytes time = Reads time ∷ acknowledges bytes
 
 -- a notification that isn't shown: it is a duplicate of one already shown, or isn't newer, at the
 -- time that the clock then returns.
-pub record IsOlderNotification (told : ℕ → Type 0) (token : List ℕ) (w : Watch) (bytes : List ℕ) (sent : List PeerCall) : Type 0 where
+pub record IsOlderNotification (told : ℕ → Type 0) (token : List ℕ) (w : Observation) (bytes : List ℕ) (sent : List PeerCall) : Type 0 where
   pub message : Message
   pub read_is : reading_of bytes ≡ Ok message
   pub own : IsOwnResponse token message
-  pub moment : ℕ
-  pub told_is : told moment
-  pub older : notice_after w (max w.at moment) message ≡ Older
-  pub sent_is : sent ≡ dates bytes moment
+  pub time : ℕ
+  pub told_is : told time
+  pub older : notice_after w (max w.at time) message ≡ Older
+  pub sent_is : sent ≡ dates bytes time
 
 -- during a watch, such a notification is skipped too.
-abbrev pub IsPassedOverWatching : (ℕ → Type 0) → List ℕ → Watch → List ℕ → List PeerCall → Type 0
+abbrev pub IsPassedOverWatching : (ℕ → Type 0) → List ℕ → Observation → List ℕ → List PeerCall → Type 0
 IsPassedOverWatching told token w bytes sent = IsOlderNotification told token w bytes sent ⊎ IsNoNotification token bytes sent
 
 -- this notification arrived and was acknowledged if it is confirmable; then the clock returned this
 -- time.
-pub record IsNoticed (token : List ℕ) (passes : List ℕ → List PeerCall → Type 0) (bytes : List ℕ) (moment : ℕ) (calls : List PeerCall) : Type 0 where
+pub record IsNoticed (token : List ℕ) (passes : List ℕ → List PeerCall → Type 0) (bytes : List ℕ) (time : ℕ) (calls : List PeerCall) : Type 0 where
   pub own : IsReadAs bytes (IsOwnResponse token)
-  pub heard : List PeerCall
-  pub ends : EndsOn passes bytes heard
-  pub is : calls ≡ dates bytes moment ++ heard
+  pub handled : List PeerCall
+  pub ends : EndsOn passes bytes handled
+  pub is : calls ≡ dates bytes time ++ handled
 
 -- a notification, and the time that the clock returned after it.
 abbrev pub Dated : Type 0
@@ -78,15 +78,15 @@ Dated = List ℕ × ℕ
 -- the wait for a notification: one arrives, or the wait is over.
 abbrev pub AwaitsNotification : List ℕ → (List ℕ → List PeerCall → Type 0) → Option Dated → List PeerCall → Type 0
 AwaitsNotification token passes None calls = IsOver passes calls
-AwaitsNotification token passes (Some (bytes, moment)) calls = IsNoticed token passes bytes moment calls
+AwaitsNotification token passes (Some (bytes, time)) calls = IsNoticed token passes bytes time calls
 
 -- the notification at the start of the buffer, if one arrived.
 abbrev pub dated_in : List ℕ → Option DatedMessage → Option Dated
-dated_in buffer came = option_map (λ x. (take x.count buffer, x.moment)) came
+dated_in buffer came = option_map (λ x. (take x.count buffer, x.time)) came
 
 -- the notification at the start of the buffer, if one is to be shown.
 abbrev pub noted_in : List ℕ → Option NotedMessage → Option Dated
-noted_in buffer noted = option_map (λ x. (take x.count buffer, x.moment)) noted
+noted_in buffer noted = option_map (λ x. (take x.count buffer, x.time)) noted
 
 -- ---- a registered observer
 
@@ -101,7 +101,7 @@ pub record ComesToObserver (token : List ℕ) (step : List PeerCall) : Type 0 wh
 -- arrives.
 abbrev pub IsObserverStep : List ℕ → List PeerCall → Type 0
 IsObserverStep token step =
-    ((seconds : ℕ) × (step ≡ Waits seconds ∷ [])) ⊎ ((step ≡ Receives None ∷ []) ⊎ (((moment : ℕ) × (step ≡ Reads moment ∷ [])) ⊎ ComesToObserver token step))
+    ((seconds : ℕ) × (step ≡ Waits seconds ∷ [])) ⊎ ((step ≡ Receives None ∷ []) ⊎ (((time : ℕ) × (step ≡ Reads time ∷ [])) ⊎ ComesToObserver token step))
 
 pub record IsOneMoreStep (Before : List PeerCall → Type 0) (token : List ℕ) (calls : List PeerCall) : Type 0 where
   pub older : List PeerCall
@@ -131,20 +131,20 @@ pub record IsPassedOverLeaving (token : List ℕ) (id : ℕ) (bytes : List ℕ) 
   pub notification : AcknowledgesNotification token bytes sent
 
 -- the deregistration was acknowledged.
-pub record IsAcknowledgedLeaving (token : List ℕ) (id : ℕ) (heard : List PeerCall) : Type 0 where
+pub record IsAcknowledgedLeaving (token : List ℕ) (id : ℕ) (handled : List PeerCall) : Type 0 where
   pub bytes : List ℕ
   pub acknowledges_it : IsReadAs bytes (IsAcknowledgementOf id)
-  pub ends : EndsOn (IsPassedOverLeaving token id) bytes heard
+  pub ends : EndsOn (IsPassedOverLeaving token id) bytes handled
 
 -- the deregistration was acknowledged, or the wait is over.
 abbrev pub IsOverUnlessLeft : List ℕ → ℕ → Bool → List PeerCall → Type 0
-IsOverUnlessLeft token id true heard = IsAcknowledgedLeaving token id heard
-IsOverUnlessLeft token id false heard = IsOver (IsPassedOverLeaving token id) heard
+IsOverUnlessLeft token id true handled = IsAcknowledgedLeaving token id handled
+IsOverUnlessLeft token id false handled = IsOver (IsPassedOverLeaving token id) handled
 
 -- the deregistration is sent until it is acknowledged.
 abbrev pub IsDeregistrationOf : Observer → ℕ → List PeerCall → Type 0
 IsDeregistrationOf o id calls =
-    IsLastSending (IsPassedOverLeaving o.token id) (message_bytes (observe_request o.errand.now Deregister o.token id)) (IsAcknowledgedLeaving o.token id) calls
+    IsLastSending (IsPassedOverLeaving o.token id) (message_bytes (observe_request o.client_request.now Deregister o.token id)) (IsAcknowledgedLeaving o.token id) calls
 
 abbrev pub IsDeregistration : Observer → List PeerCall → Type 0
 IsDeregistration o calls = IsDeregistrationOf o ((o.id + 1) % 65536) calls

@@ -18,7 +18,7 @@ pub data PeerCall : Type 0 where
   -- a datagram arrives during the wait; or none, since the wait is over.
   Receives : (bytes : Option (List ℕ)) → PeerCall
   -- the clock is read, and returns this time in milliseconds.
-  Reads : (moment : ℕ) → PeerCall
+  Reads : (time : ℕ) → PeerCall
 
 -- these calls are added to the earlier ones.
 abbrev pub Adds : (List PeerCall → Type 0) → (List PeerCall → Type 0) → List PeerCall → Type 0

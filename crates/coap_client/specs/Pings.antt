@@ -5,7 +5,7 @@ use Rattle.coap_msg.specs.Wire.{Message, message_bytes}
 use Rattle.coap_msg.specs.declared.types.MessageType.TheVariants.{Confirmable}
 use Rattle.coap_client.specs.declared.fetcher.FetchFault.{FetchFault}
 use Rattle.coap_client.specs.declared.fetcher.FetchFault.TheVariants as fault
-use Rattle.coap_client.specs.Heard.{IsReadAs}
+use Rattle.coap_client.specs.Handled.{IsReadAs}
 use Rattle.coap_client.specs.Listening.{EndsOn, IsOver}
 use Rattle.coap_client.specs.PeerCalls.{PeerCall, PeerError, Sends, Waits, Receives, Reads}
 use Rattle.coap_client.specs.Replies.{IsReset}
@@ -24,15 +24,15 @@ abbrev pub IsNoPong : ℕ → List ℕ → List PeerCall → Type 0
 IsNoPong id bytes sent = (IsReadAs bytes (IsReset id) → ⊥) × (sent ≡ [])
 
 -- the Reset message with the ping's message ID arrived.
-pub record EndsOnPong (id : ℕ) (heard : List PeerCall) : Type 0 where
+pub record EndsOnPong (id : ℕ) (handled : List PeerCall) : Type 0 where
   pub bytes : List ℕ
   pub rejects : IsReadAs bytes (IsReset id)
-  pub ends : EndsOn (IsNoPong id) bytes heard
+  pub ends : EndsOn (IsNoPong id) bytes handled
 
 -- the Reset message arrived, or the wait is over.
 abbrev pub IsOverUnlessPong : ℕ → Bool → List PeerCall → Type 0
-IsOverUnlessPong id true heard = EndsOnPong id heard
-IsOverUnlessPong id false heard = IsOver (IsNoPong id) heard
+IsOverUnlessPong id true handled = EndsOnPong id handled
+IsOverUnlessPong id false handled = IsOver (IsNoPong id) handled
 
 -- the ping is sent like a confirmable request, and retransmitted at the end of each wait, until the
 -- Reset message arrives.
@@ -66,7 +66,7 @@ abbrev pub is_own_call : PeerCall → Bool
 is_own_call (Sends bytes) = true
 is_own_call (Waits seconds) = true
 is_own_call (Receives bytes) = false
-is_own_call (Reads moment) = false
+is_own_call (Reads time) = false
 
 abbrev pub own_calls : List PeerCall → List PeerCall
 own_calls calls = filter is_own_call calls

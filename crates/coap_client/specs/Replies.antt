@@ -11,7 +11,7 @@ use Rattle.coap_opts.specs.declared.number.TheConstants as option
 use Rattle.coap_client.specs.declared.part.Part.{Part}
 use Rattle.coap_client.specs.declared.part.Part.TheVariants.{Whole, Body, Answer}
 use Rattle.coap_client.specs.declared.reply.Next.{Next}
-use Rattle.coap_client.specs.declared.reply.Next.TheVariants.{Ask, Last, Refused, Stale, Misfit}
+use Rattle.coap_client.specs.declared.reply.Next.TheVariants.{Ask, Last, Refused, Stale, Malformed}
 use Rattle.coap_client.specs.Parts.{has_more, largest_szx}
 
 -- a response code: class 2, 4 or 5 (RFC 7252, section 5.9).
@@ -98,14 +98,14 @@ etag_of m = or_empty (first_or_none (values_in option.ETAG m.options))
 
 -- the next step after a block of the response that others follow.
 abbrev pub next_block : Place → Next
-next_block b = if nat_lt (b.number + 1) 1048576 then Ask (Answer (b.number + 1) b.szx) else Misfit
+next_block b = if nat_lt (b.number + 1) 1048576 then Ask (Answer (b.number + 1) b.szx) else Malformed
 
 -- the next step after a block of `count` bytes of the response. If others follow, it has just the
 -- block size; if not, at most that.
 abbrev pub by_more : Place → ℕ → Next
 by_more b count = if b.more
-    then (if count == block_size b.szx then next_block b else Misfit)
-    else (if nat_le count (block_size b.szx) then Last else Misfit)
+    then (if count == block_size b.szx then next_block b else Malformed)
+    else (if nat_le count (block_size b.szx) then Last else Malformed)
 
 -- the block begins at the start of the requested one, and is no larger (RFC 7959, sections 2.3 and
 -- 2.4).
@@ -113,12 +113,12 @@ abbrev pub fits_place : ℕ → ℕ → Place → Bool
 fits_place n szx b = nat_le b.szx szx && (block_size b.szx * b.number == block_size szx * n)
 
 abbrev pub by_block : ℕ → ℕ → ℕ → Place → Next
-by_block n szx count b = if fits_place n szx b then by_more b count else Misfit
+by_block n szx count b = if fits_place n szx b then by_more b count else Malformed
 
 -- a response without Block2 is whole.
 abbrev pub by_option : ℕ → ℕ → ℕ → Option (List ℕ) → Next
-by_option n szx count None = if n == 0 then Last else Misfit
-by_option n szx count (Some value) = if nat_le (length value) 3 then by_block n szx count (place_in value) else Misfit
+by_option n szx count None = if n == 0 then Last else Malformed
+by_option n szx count (Some value) = if nat_le (length value) 3 then by_block n szx count (place_in value) else Malformed
 
 -- the next step after the response to a request for block n of this size.
 abbrev pub next_of_answer : ℕ → ℕ → Message → Next
@@ -140,9 +140,9 @@ abbrev pub next_number : ℕ → ℕ → ℕ → ℕ
 next_number n szx smaller = (n + 1) * 2 ^ (szx - smaller)
 
 abbrev pub next_of_body : ℕ → ℕ → Option ℕ → Next
-next_of_body n szx None = Misfit
+next_of_body n szx None = Malformed
 next_of_body n szx (Some smaller) =
-    if nat_lt (next_number n szx smaller) 1048576 then Ask (Body (next_number n szx smaller) smaller) else Misfit
+    if nat_lt (next_number n szx smaller) 1048576 then Ask (Body (next_number n szx smaller) smaller) else Malformed
 
 -- a success is the response to the whole request: it isn't 2.31, and its Block1, if there is one,
 -- names block n and says that the server has the whole body (RFC 7959, section 2.3).
@@ -157,12 +157,12 @@ abbrev pub is_final : ℕ → Message → Bool
 is_final n m = not (is_continue m) && says_last n (block1_of m)
 
 abbrev pub next_of_whole : ℕ → Message → Next
-next_of_whole n m = if is_final n m then next_of_answer 0 largest_szx m else Misfit
+next_of_whole n m = if is_final n m then next_of_answer 0 largest_szx m else Malformed
 
 -- a further block is of the same version as the blocks before it (RFC 7959, section 2.4).
 abbrev pub next_of_further : ℕ → ℕ → List ℕ → Message → Next
 next_of_further n szx etag m =
-    if bytes_eq (etag_of m) etag then (if is_continue m then Misfit else next_of_answer n szx m) else Stale
+    if bytes_eq (etag_of m) etag then (if is_continue m then Malformed else next_of_answer n szx m) else Stale
 
 abbrev pub by_part : ℕ → Part → List ℕ → Message → Next
 by_part count Whole etag m = next_of_whole 0 m
@@ -176,4 +176,4 @@ next_by_code count part etag m = if is_success m.code then by_part count part et
 -- the next step after the response to a part, if the body has `count` bytes and the response's
 -- blocks so far have this ETag.
 abbrev pub next_of : ℕ → Part → List ℕ → Message → Next
-next_of count part etag m = if is_understood m then next_by_code count part etag m else Misfit
+next_of count part etag m = if is_understood m then next_by_code count part etag m else Malformed

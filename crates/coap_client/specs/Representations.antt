@@ -6,21 +6,21 @@ use Rattle.coap_client.specs.declared.fetcher.FetchFault.{FetchFault}
 use Rattle.coap_client.specs.declared.fetcher.FetchFault.TheVariants as fault
 use Rattle.coap_client.specs.declared.fetcher.Step.{Step}
 use Rattle.coap_client.specs.declared.fetcher.Step.TheVariants as step
-use Rattle.coap_client.specs.declared.joining.BlockHeard.{BlockHeard}
-use Rattle.coap_client.specs.declared.joining.BlockHeard.TheVariants as heard
+use Rattle.coap_client.specs.declared.joining.BlockHandled.{BlockHandled}
+use Rattle.coap_client.specs.declared.joining.BlockHandled.TheVariants as handled
 use Rattle.coap_client.specs.declared.joining.Completion.{Completion}
 use Rattle.coap_client.specs.declared.joining.Completion.TheVariants as completion
 use Rattle.coap_client.specs.declared.joining.Joining.{Joining}
-use Rattle.coap_client.specs.declared.notice.Notice.{Notice}
-use Rattle.coap_client.specs.declared.notice.Notice.TheVariants as notice
+use Rattle.coap_client.specs.declared.notice.NotificationClass.{NotificationClass}
+use Rattle.coap_client.specs.declared.notice.NotificationClass.TheVariants as notice
 use Rattle.coap_client.specs.declared.observing.DatedMessage.{DatedMessage}
 use Rattle.coap_client.specs.declared.observing.NotedMessage.{NotedMessage}
 use Rattle.coap_client.specs.declared.observing.Observer.{Observer}
 use Rattle.coap_client.specs.declared.part.Part.TheVariants.{Answer}
-use Rattle.coap_client.specs.declared.watch.Watch.{Watch}
+use Rattle.coap_client.specs.declared.watch.Observation.{Observation}
 use Rattle.coap_client.specs.Faults.{IsOfPeer, IsRejection, UnfitCame}
 use Rattle.coap_client.specs.Fetching.{State, Out, Ended, Outdated, Lost, after_reply, moved_on}
-use Rattle.coap_client.specs.Notes.{IsAwaitedBy, IsHeardFrom, IsNextNote, IsResponseWith, IsShownAs, TellsRequest}
+use Rattle.coap_client.specs.Notes.{IsAwaitedBy, IsHandledFrom, IsNextNote, IsResponseWith, IsShownAs, TellsRequest}
 use Rattle.coap_client.specs.Notices.{is_first_part}
 use Rattle.coap_client.specs.Parts.{largest_szx}
 use Rattle.coap_client.specs.PeerCalls.{PeerCall, PeerError, Reads}
@@ -33,18 +33,18 @@ use Rattle.coap_client.specs.Transmissions.{IsTransmission}
 -- the request is transmitted; its response, or a notification, ends the wait.
 abbrev pub IsBlockTransmission : Observer → ℕ → ℕ → ℕ → Option (List ℕ) → List PeerCall → Type 0
 IsBlockTransmission o n szx id answer calls =
-    IsTransmission true (TellsRequest o.token (block_token id) id) (message_bytes (block_request o.errand.now n szx id)) answer calls
+    IsTransmission true (TellsRequest o.token (block_token id) id) (message_bytes (block_request o.client_request.now n szx id)) answer calls
 
 -- the request was sent, and its response or a notification arrived.
 pub record IsBlockAnswer (went came : List ℕ → Type 0) (o : Observer) (n szx id : ℕ) (bytes : List ℕ) : Type 0 where
-  pub asked : went (message_bytes (block_request o.errand.now n szx id))
+  pub asked : went (message_bytes (block_request o.client_request.now n szx id))
   pub message : Message
-  pub heard : IsHeardFrom went came bytes message
+  pub handled : IsHandledFrom went came bytes message
   pub own : IsAwaitedBy o.token (block_token id) id message
 
 -- the request is sent until it is rejected.
 abbrev pub IsBlockRejection : Observer → ℕ → ℕ → ℕ → List PeerCall → Type 0
-IsBlockRejection o n szx id = IsRejection true (TellsRequest o.token (block_token id) id) (message_bytes (block_request o.errand.now n szx id))
+IsBlockRejection o n szx id = IsRejection true (TellsRequest o.token (block_token id) id) (message_bytes (block_request o.client_request.now n szx id))
 
 -- its errors; if there was no memory for it, no call was made.
 abbrev pub IsBlockFault : (PeerError → Type 0) → ((List PeerCall → Type 0) → Type 0) → Observer → ℕ → ℕ → ℕ → FetchFault → Type 0
@@ -65,9 +65,9 @@ joined m (r ∷ rs) = after_reply 0 r (joined m rs)
 
 -- the message is the response to the request for this block.
 pub record IsBlockReply (went came : List ℕ → Type 0) (o : Observer) (n szx id : ℕ) (r : Message) : Type 0 where
-  pub asked : went (message_bytes (block_request o.errand.now n szx id))
+  pub asked : went (message_bytes (block_request o.client_request.now n szx id))
   pub bytes : List ℕ
-  pub heard : IsHeardFrom went came bytes r
+  pub handled : IsHandledFrom went came bytes r
   pub own : IsResponseWith (block_token id) id r
 
 -- the message is the response to the request for the block that follows.
@@ -105,7 +105,7 @@ abbrev pub IsStateBy : State → Joining → Step → Type 0
 IsStateBy state j step.GoesOn = state ≡ state_of j
 IsStateBy state j (step.Ended code) = state ≡ Ended code.byte j.body.items
 IsStateBy state j step.Outdated = state ≡ Outdated
-IsStateBy state j step.Misfit = state ≡ Lost
+IsStateBy state j step.Malformed = state ≡ Lost
 
 -- one more block is joined, or the last.
 pub record IsGrownBy (went came : List ℕ → Type 0) (o : Observer) (id : ℕ) (old : Joining) (state : State) : Type 0 where
@@ -114,40 +114,40 @@ pub record IsGrownBy (went came : List ℕ → Type 0) (o : Observer) (id : ℕ)
   pub leads : after_reply 0 reply (state_of old) ≡ state
 
 -- a notification, by its classification: no newer one leaves the watch unchanged.
-abbrev pub IsNotedAs : DatedMessage → Message → Watch → Watch → Option NotedMessage → Type 0
+abbrev pub IsNotedAs : DatedMessage → Message → Observation → Observation → Option NotedMessage → Type 0
 IsNotedAs came m old new None = new ≡ old
-IsNotedAs came m old new (Some noted) = (noted.count ≡ came.count) × ((noted.moment ≡ came.moment) × IsShownAs noted.last old new (max old.at came.moment) m)
+IsNotedAs came m old new (Some noted) = (noted.count ≡ came.count) × ((noted.time ≡ came.time) × IsShownAs noted.last old new (max old.at came.time) m)
 
 -- a notification of this classification can't be shown, or memory for its mark can't be allocated.
-abbrev pub IsNoteFault : Notice → FetchFault → Type 0
-IsNoteFault n fault.Part = n ≡ notice.Misfit
+abbrev pub IsNoteFault : NotificationClass → FetchFault → Type 0
+IsNoteFault n fault.Part = n ≡ notice.Malformed
 IsNoteFault n (fault.Memory error) = Unit {0}
 IsNoteFault n other = ⊥
 
 -- what arrived while a block was requested: the block, or a notification. One that isn't newer
 -- changes nothing.
-abbrev pub IsBlockHeard : (List ℕ → Type 0) → (List ℕ → Type 0) → (ℕ → Type 0) → Observer → ℕ → Joining → Joining → Watch → Watch → List ℕ → ℕ → BlockHeard → Type 0
-IsBlockHeard went came told o id old new before after bytes count heard.GoesOn =
+abbrev pub IsBlockHandled : (List ℕ → Type 0) → (List ℕ → Type 0) → (ℕ → Type 0) → Observer → ℕ → Joining → Joining → Observation → Observation → List ℕ → ℕ → BlockHandled → Type 0
+IsBlockHandled went came told o id old new before after bytes count handled.GoesOn =
     (after ≡ before) × (IsBlock new.number new.szx × ((new ≡ old) ⊎ IsGrownBy went came o id old (state_of new)))
-IsBlockHeard went came told o id old new before after bytes count (heard.Ended code) =
+IsBlockHandled went came told o id old new before after bytes count (handled.Ended code) =
     (after ≡ before) × ((is_success code.byte ≡ true) × IsGrownBy went came o id old (Ended code.byte new.body.items))
-IsBlockHeard went came told o id old new before after bytes count (heard.Newer noted) =
-    (noted.count ≡ count) × IsNextNote went came told o.token bytes noted.moment before after noted.last
-IsBlockHeard went came told o id old new before after bytes count (heard.Unfetched cause) = after ≡ before
+IsBlockHandled went came told o id old new before after bytes count (handled.Newer noted) =
+    (noted.count ≡ count) × IsNextNote went came told o.token bytes noted.time before after noted.last
+IsBlockHandled went came told o id old new before after bytes count (handled.Unfetched cause) = after ≡ before
 
 -- nothing is called, or the clock is read.
 abbrev pub ReadsAtMost : List PeerCall → Type 0
-ReadsAtMost calls = (calls ≡ []) ⊎ ((moment : ℕ) × (calls ≡ Reads moment ∷ []))
+ReadsAtMost calls = (calls ≡ []) ⊎ ((time : ℕ) × (calls ≡ Reads time ∷ []))
 
 -- ---- a whole state
 
 -- the result of the requests for the further blocks: the body; or a newer notification arrived; or
 -- they can't be fetched. Only a newer notification changes the watch.
-abbrev pub IsCompletion : (List ℕ → Type 0) → (List ℕ → Type 0) → (ℕ → Type 0) → Observer → Joining → Watch → Watch → List ℕ → Completion → Type 0
+abbrev pub IsCompletion : (List ℕ → Type 0) → (List ℕ → Type 0) → (ℕ → Type 0) → Observer → Joining → Observation → Observation → List ℕ → Completion → Type 0
 IsCompletion went came told o j old new buffer (completion.Whole code body) =
     (new ≡ old) × ((is_success code.byte ≡ true) × ((m : Message) → begun m ≡ state_of j → HasBody went came o m code.byte body.items))
 IsCompletion went came told o j old new buffer (completion.Newer noted) =
-    (noted.count ≤ length buffer) × IsNextNote went came told o.token (take noted.count buffer) noted.moment old new noted.last
+    (noted.count ≤ length buffer) × IsNextNote went came told o.token (take noted.count buffer) noted.time old new noted.last
 IsCompletion went came told o j old new buffer (completion.Unfetched cause) = new ≡ old
 
 -- a request for a block is transmitted, or sent until it is rejected, or the clock is read.

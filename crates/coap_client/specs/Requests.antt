@@ -6,7 +6,7 @@ use Rattle.coap_msg.specs.declared.types.MessageType.TheVariants.{Acknowledgemen
 use Rattle.coap_opts.specs.declared.request.Method.TheVariants.{Get, Put}
 use Rattle.coap_opts.specs.Fields.{method_code}
 use Rattle.coap_opts.specs.Values.{block_size}
-use Rattle.coap_client.specs.declared.errand.Errand.{Errand}
+use Rattle.coap_client.specs.declared.client_request.ClientRequest.{ClientRequest}
 use Rattle.coap_client.specs.declared.part.Part.{Part}
 use Rattle.coap_client.specs.declared.part.Part.TheVariants.{Whole, Body, Answer}
 use Rattle.coap_client.specs.Paths.{slices_in}
@@ -18,13 +18,13 @@ pub record IsBlock (n szx : ℕ) : Type 0 where
   pub size : szx ≤ largest_szx
 
 -- a block of the body; only a PUT sends blocks.
-pub record IsBodyBlock (e : Errand) (n szx : ℕ) : Type 0 where
+pub record IsBodyBlock (e : ClientRequest) (n szx : ℕ) : Type 0 where
   pub block : IsBlock n szx
   pub method : e.method ≡ Put
   pub within : block_size szx * n < length e.payload.now
 
--- the part is one of the errand's.
-abbrev pub IsPartOf : Errand → Part → Type 0
+-- the part is one of the client request's.
+abbrev pub IsPartOf : ClientRequest → Part → Type 0
 IsPartOf e Whole = most_at_once e.method (length e.payload.now) ≡ length e.payload.now
 IsPartOf e (Body n szx) = IsBodyBlock e n szx
 IsPartOf e (Answer n szx) = IsBlock n szx
@@ -35,7 +35,7 @@ IsFurther (Answer n szx) = IsBlock n szx
 IsFurther other = ⊥
 
 -- the request of a part, with this message ID and no token.
-abbrev pub part_request : Errand → Part → ℕ → Message
+abbrev pub part_request : ClientRequest → Part → ℕ → Message
 part_request e part id = record {
   kind = request_kind e.confirmable;
   code = method_code e.method;
@@ -54,7 +54,7 @@ abbrev pub block_token : ℕ → List ℕ
 block_token id = to_be_bytes w16 id
 
 -- the GET of block n of this size, without Observe.
-abbrev pub block_request : Errand → ℕ → ℕ → ℕ → Message
+abbrev pub block_request : ClientRequest → ℕ → ℕ → ℕ → Message
 block_request e n szx id = record {
   kind = Confirmable;
   code = method_code Get;

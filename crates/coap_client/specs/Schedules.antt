@@ -17,7 +17,7 @@ abbrev pub is_scheduled : PeerCall → Bool
 is_scheduled (Sends bytes) = has_code bytes
 is_scheduled (Waits seconds) = true
 is_scheduled (Receives bytes) = false
-is_scheduled (Reads moment) = false
+is_scheduled (Reads time) = false
 
 abbrev pub schedule : List PeerCall → List PeerCall
 schedule calls = filter is_scheduled calls

@@ -1,7 +1,7 @@
 -- The transmissions of a request, and the waits for its response (RFC 7252, section 4.2). In a list
 -- of calls, the newest is first.
 use Rattle.std.specs.Prelude.{◌≡◌, ℕ, zero, suc, ◌+◌, ◌<◌, ◌^◌, ◌⊎◌, Bool, true, false, List, [], ◌∷◌, ◌++◌, Option, Some, None}
-use Rattle.coap_client.specs.declared.transmission.Reception.{Reception}
+use Rattle.coap_client.specs.declared.transmission.ReplyClass.{ReplyClass}
 use Rattle.coap_client.specs.Listening.{IsAcknowledgedBy, IsAnsweredBy, IsOver, IsPassedOver, acknowledges}
 use Rattle.coap_client.specs.PeerCalls.{PeerCall, Sends, Waits}
 
@@ -45,9 +45,9 @@ pub record AreBehind (First Then : List PeerCall → Type 0) (calls : List PeerC
 
 -- a request is sent, a wait of `seconds` seconds begins, and then calls with this property follow.
 pub record IsSending (request : List ℕ) (seconds : ℕ) (P : List PeerCall → Type 0) (calls : List PeerCall) : Type 0 where
-  pub heard : List PeerCall
-  pub ends : P heard
-  pub is : calls ≡ heard ++ (Waits seconds ∷ Sends request ∷ [])
+  pub handled : List PeerCall
+  pub ends : P handled
+  pub is : calls ≡ handled ++ (Waits seconds ∷ Sends request ∷ [])
 
 -- the request was sent n times before, and once more, and each wait was over.
 pub record IsSentAgain (Before : List PeerCall → Type 0) (passes : List ℕ → List PeerCall → Type 0) (request : List ℕ) (n : ℕ) (calls : List PeerCall) : Type 0 where
@@ -74,31 +74,31 @@ pub record IsLastSending (passes : List ℕ → List PeerCall → Type 0) (reque
 -- ---- its response; `tells` classifies a datagram for the request
 
 -- the wait for a separate response: this response arrived, or the wait is over.
-abbrev pub EndsAwaited : (List ℕ → Reception → Type 0) → Option (List ℕ) → List PeerCall → Type 0
-EndsAwaited tells None heard = IsOver (IsPassedOver tells true) heard
-EndsAwaited tells (Some answer) heard = IsAnsweredBy tells true answer heard
+abbrev pub EndsAwaited : (List ℕ → ReplyClass → Type 0) → Option (List ℕ) → List PeerCall → Type 0
+EndsAwaited tells None handled = IsOver (IsPassedOver tells true) handled
+EndsAwaited tells (Some answer) handled = IsAnsweredBy tells true answer handled
 
 -- the request was acknowledged, and then a longer wait for its response had this outcome.
-pub record IsAcknowledgedFirst (tells : List ℕ → Reception → Type 0) (answer : Option (List ℕ)) (heard : List PeerCall) : Type 0 where
+pub record IsAcknowledgedFirst (tells : List ℕ → ReplyClass → Type 0) (answer : Option (List ℕ)) (handled : List PeerCall) : Type 0 where
   pub first : List PeerCall
   pub acknowledged : IsAcknowledgedBy tells first
   pub more : List PeerCall
   pub ends : EndsAwaited tells answer more
-  pub is : heard ≡ more ++ Waits separate_wait ∷ first
+  pub is : handled ≡ more ++ Waits separate_wait ∷ first
 
 -- the response arrived, after an acknowledgement or without one.
-abbrev pub EndsAnswered : (List ℕ → Reception → Type 0) → List ℕ → List PeerCall → Type 0
-EndsAnswered tells answer heard = IsAnsweredBy tells false answer heard ⊎ IsAcknowledgedFirst tells (Some answer) heard
+abbrev pub EndsAnswered : (List ℕ → ReplyClass → Type 0) → List ℕ → List PeerCall → Type 0
+EndsAnswered tells answer handled = IsAnsweredBy tells false answer handled ⊎ IsAcknowledgedFirst tells (Some answer) handled
 
 -- a confirmable request has a response; or it is sent the maximum number of times without one; or
 -- it is acknowledged, and then has none.
-abbrev pub IsAskedAgain : (List ℕ → Reception → Type 0) → List ℕ → Option (List ℕ) → List PeerCall → Type 0
+abbrev pub IsAskedAgain : (List ℕ → ReplyClass → Type 0) → List ℕ → Option (List ℕ) → List PeerCall → Type 0
 IsAskedAgain tells request (Some answer) calls = IsLastSending (IsPassedOver tells false) request (EndsAnswered tells answer) calls
 IsAskedAgain tells request None calls =
     AreInVain (IsPassedOver tells false) request most_sendings calls ⊎ IsLastSending (IsPassedOver tells false) request (IsAcknowledgedFirst tells None) calls
 
 -- the transmission of a request; a non-confirmable one is sent once.
-abbrev pub IsTransmitted : Bool → (List ℕ → Reception → Type 0) → List ℕ → Option (List ℕ) → List PeerCall → Type 0
+abbrev pub IsTransmitted : Bool → (List ℕ → ReplyClass → Type 0) → List ℕ → Option (List ℕ) → List PeerCall → Type 0
 IsTransmitted true tells request answer calls = IsAskedAgain tells request answer calls
 IsTransmitted false tells request answer calls = IsSending request non_wait (EndsAwaited tells answer) calls
 
@@ -108,7 +108,7 @@ acknowledges_answer None = []
 acknowledges_answer (Some answer) = acknowledges answer
 
 -- a request is transmitted, and its response is acknowledged if it is confirmable.
-pub record IsTransmission (confirmable : Bool) (tells : List ℕ → Reception → Type 0) (request : List ℕ) (answer : Option (List ℕ)) (calls : List PeerCall) : Type 0 where
+pub record IsTransmission (confirmable : Bool) (tells : List ℕ → ReplyClass → Type 0) (request : List ℕ) (answer : Option (List ℕ)) (calls : List PeerCall) : Type 0 where
   pub asked : List PeerCall
   pub is_asked : IsTransmitted confirmable tells request answer asked
   pub is : calls ≡ acknowledges_answer answer ++ asked

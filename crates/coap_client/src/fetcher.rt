@@ -3,12 +3,12 @@ ghost use Rattle.std.specs.Prelude.{◌≡◌, ℕ, ◌+◌, ◌++◌, ◌%◌, 
 ghost use Rattle.coap_client.specs.Requests.{IsPartOf};
 ghost use Rattle.coap_client.specs.Replies.{begins_exchange};
 ghost use Rattle.coap_client.specs.Joined.{SendsWhole};
-ghost use Rattle.coap_client.specs.Faults.{IsAttemptFault, IsFetchFault};
+ghost use Rattle.coap_client.specs.Faults.{IsFetchOutcomeFault, IsFetchFault};
 ghost use Rattle.coap_client.specs.Transmissions.{MakesCalls};
 ghost use Rattle.coap_client.specs.declared.fetcher.FetchFault.TheVariants.{Memory, Socket};
-ghost use Rattle.coap_client.specs.Fetching.{IsAttempt, IsFetched, IsSameAnswer, IsStepOf, Out, going_on, with_taken_id};
+ghost use Rattle.coap_client.specs.Fetching.{IsFetchOutcome, IsFetched, IsSameAnswer, IsStepOf, Out, going_on, with_taken_id};
 
-use crate::errand::Errand;
+use crate::client_request::ClientRequest;
 use crate::part::Part;
 use crate::peer::{BUFFER, Peer};
 use crate::reply::{Next, begins_exchange, etag_of, next_of};
@@ -36,7 +36,7 @@ pub enum FetchFault {
     /// A success doesn't say that the server took the block of the body, or it doesn't have the
     /// requested block of the response. Or a response has an unknown critical option.
     #[error("the answer doesn't fit the block that was sent or asked for, or has a critical option that isn't known")]
-    Misfit,
+    Malformed,
     /// The response changed during the fetch.
     ///
     /// A further block is of another version than the blocks before it. That happened for the
@@ -83,7 +83,7 @@ pub struct Fetched {
 
 /// The result of one attempt.
 #[derive(Drop)]
-pub enum Attempt {
+pub enum FetchOutcome {
     /// The fetch has its response.
     Ended(Fetched),
     /// The response changed during the fetch.
@@ -91,10 +91,10 @@ pub enum Attempt {
     /// Has the message ID of the next request, and those of the separate responses so far.
     Outdated(u16, Vec<u16>),
     /// A response doesn't match its request.
-    Misfit,
+    Malformed,
 }
 
-/// Fetches the response to the errand; message IDs count up from `first_id`.
+/// Fetches the response to the client request; message IDs count up from `first_id`.
 ///
 /// A body that is too large for one request is sent in blocks. A larger response is requested in
 /// blocks, of 1,024 bytes or of the smaller size that the server names (RFC 7959).
@@ -111,26 +111,26 @@ pub enum Attempt {
 pub fn fetch<P: Peer>(
     alloc: Global,
     peer: &mut P,
-    errand: &Errand<'_>,
+    client_request: &ClientRequest<'_>,
     first_id: u16,
 ) -> Result<Fetched, FetchFault>
-    ensures fetched { IfOk result (λ f. IsFetched P.went P.came (P.called peer.old) (P.called peer.new) errand.now first_id
+    ensures fetched { IfOk result (λ f. IsFetched P.went P.came (P.called peer.old) (P.called peer.new) client_request.now first_id
         f.code.byte f.body.items) }
-    ensures whole { IfOk result (λ f. SendsWhole P.went errand.now f.code.byte) }
+    ensures whole { IfOk result (λ f. SendsWhole P.went client_request.now f.code.byte) }
     ensures fault { IfErr result (IsFetchFault P.went P.came P.is_error (MakesCalls (P.called peer.old) (P.called peer.new))
-        errand.now first_id) }
+        client_request.now first_id) }
 {
-    match fetch_once(alloc, peer, errand, first_id, Vec::new(alloc))? {
-        Attempt::Ended(fetched) => Ok(fetched),
-        Attempt::Misfit => Err(FetchFault::Misfit),
-        Attempt::Outdated(id, earlier) if errand.method == Method::Get => {
-            match fetch_once(alloc, peer, errand, id, earlier)? {
-                Attempt::Ended(fetched) => Ok(fetched),
-                Attempt::Misfit => Err(FetchFault::Misfit),
-                Attempt::Outdated(..) => Err(FetchFault::Changed),
+    match fetch_once(alloc, peer, client_request, first_id, Vec::new(alloc))? {
+        FetchOutcome::Ended(fetched) => Ok(fetched),
+        FetchOutcome::Malformed => Err(FetchFault::Malformed),
+        FetchOutcome::Outdated(id, earlier) if client_request.method == Method::Get => {
+            match fetch_once(alloc, peer, client_request, id, earlier)? {
+                FetchOutcome::Ended(fetched) => Ok(fetched),
+                FetchOutcome::Malformed => Err(FetchFault::Malformed),
+                FetchOutcome::Outdated(..) => Err(FetchFault::Changed),
             }
         }
-        Attempt::Outdated(..) => Err(FetchFault::Changed),
+        FetchOutcome::Outdated(..) => Err(FetchFault::Changed),
     }
 }
 
@@ -138,17 +138,17 @@ pub fn fetch<P: Peer>(
 fn fetch_once<P: Peer>(
     alloc: Global,
     peer: &mut P,
-    errand: &Errand<'_>,
+    client_request: &ClientRequest<'_>,
     first_id: u16,
     earlier: Vec<u16>,
-) -> Result<Attempt, FetchFault>
-    ensures attempt { IfOk result (IsAttempt P.went P.came (P.called peer.old) (P.called peer.new) errand.now first_id earlier.items) }
-    ensures fault { IfErr result (IsAttemptFault P.went P.came P.is_error (MakesCalls (P.called peer.old) (P.called peer.new))
-        errand.now first_id earlier.items) }
+) -> Result<FetchOutcome, FetchFault>
+    ensures fetch_outcome { IfOk result (IsFetchOutcome P.went P.came (P.called peer.old) (P.called peer.new) client_request.now first_id earlier.items) }
+    ensures fault { IfErr result (IsFetchOutcomeFault P.went P.came P.is_error (MakesCalls (P.called peer.old) (P.called peer.new))
+        client_request.now first_id earlier.items) }
 {
-    let mut course = Course {
+    let mut fetch_state = FetchState {
         id: first_id,
-        part: errand.first_part(),
+        part: client_request.first_part(),
         body: Vec::new(alloc),
         etag: Vec::new(alloc),
         earlier,
@@ -156,29 +156,29 @@ fn fetch_once<P: Peer>(
     let mut datagram = Datagram::new();
     let mut buffer = [0; BUFFER];
     for answered in 0..REQUESTS {
-        errand.write(alloc, course.part, course.id, &mut datagram)?;
-        let request = course.request(errand.confirmable, &datagram);
+        client_request.write(alloc, fetch_state.part, fetch_state.id, &mut datagram)?;
+        let request = fetch_state.request(client_request.confirmable, &datagram);
         let Some(count) = ask(peer, &request, &mut buffer)? else {
             return Err(FetchFault::Silence);
         };
         let Ok(message) = read(&buffer[..count]) else {
             unreachable!();
         };
-        let step = course.hear(errand, &message)?;
+        let step = fetch_state.handle(client_request, &message)?;
         match step {
             Step::GoesOn => {}
             Step::Ended(code) => {
-                let Course { body, .. } = course;
-                return Ok(Attempt::Ended(Fetched { code, body }));
+                let FetchState { body, .. } = fetch_state;
+                return Ok(FetchOutcome::Ended(Fetched { code, body }));
             }
             Step::Outdated => {
-                let Course { id, earlier, .. } = course;
-                return Ok(Attempt::Outdated(id, earlier));
+                let FetchState { id, earlier, .. } = fetch_state;
+                return Ok(FetchOutcome::Outdated(id, earlier));
             }
-            Step::Misfit => return Ok(Attempt::Misfit),
+            Step::Malformed => return Ok(FetchOutcome::Malformed),
         }
     }
-    Err(FetchFault::Misfit)
+    Err(FetchFault::Malformed)
 }
 
 /// The effect of a response on a fetch.
@@ -191,13 +191,13 @@ pub enum Step {
     /// The fetch ends: the response changed.
     Outdated,
     /// The fetch ends: the response doesn't match its request.
-    Misfit,
+    Malformed,
 }
 
 // The state of a fetch: the outstanding request, the response so far with its ETag, and the message
 // IDs of the separate responses so far.
 #[derive(Drop)]
-struct Course {
+struct FetchState {
     id: u16,
     part: Part,
     body: Vec<u8>,
@@ -205,7 +205,7 @@ struct Course {
     earlier: Vec<u16>,
 }
 
-impl Course {
+impl FetchState {
     // Returns the outstanding request.
     fn request<'a>(&'a self, confirmable: bool, datagram: &'a Datagram) -> SentRequest<'a>
         ensures { (result.datagram.now ≡ datagram.entry.now) × (result.id ≡ self.entry.now.id) × (result.confirmable ≡ confirmable)
@@ -221,13 +221,17 @@ impl Course {
 
     // Receives the response to the outstanding request and returns its effect. Sets the next
     // request, unless the fetch ends.
-    fn hear(&mut self, errand: &Errand<'_>, message: &Message<'_>) -> Result<Step, AllocError>
-        requires { IsPartOf errand.now self.old.part }
-        ensures own { OnOk result (IsPartOf errand.now self.new.part) }
-        ensures step { IfOk result (IsStepOf (length errand.now.payload.now) message.now self.old self.new) }
+    fn handle(
+        &mut self,
+        client_request: &ClientRequest<'_>,
+        message: &Message<'_>,
+    ) -> Result<Step, AllocError>
+        requires { IsPartOf client_request.now self.old.part }
+        ensures own { OnOk result (IsPartOf client_request.now self.new.part) }
+        ensures step { IfOk result (IsStepOf (length client_request.now.payload.now) message.now self.old self.new) }
     {
         self.count(message)?;
-        match next_of(errand, self.part, &self.etag, message) {
+        match next_of(client_request, self.part, &self.etag, message) {
             Next::Ask(part) => {
                 self.go_on(part, message)?;
                 Ok(Step::GoesOn)
@@ -242,7 +246,7 @@ impl Course {
                 Ok(Step::Ended(message.code()))
             }
             Next::Stale => Ok(Step::Outdated),
-            Next::Misfit => Ok(Step::Misfit),
+            Next::Malformed => Ok(Step::Malformed),
         }
     }
 

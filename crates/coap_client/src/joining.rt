@@ -2,18 +2,18 @@
 ghost use Rattle.std.specs.Prelude.{◌≡◌, ◌≤◌, IfErr, IfOk, OnOk, length, max, take};
 ghost use Rattle.coap_client.specs.Notices.{notice_after};
 ghost use Rattle.coap_client.specs.Fetching.{after_reply, going_on};
-ghost use Rattle.coap_client.specs.Representations.{IsBegun, IsBlockAnswer, IsBlockHeard, IsCompletion, IsFollowing, IsFollowingFault, IsNoteFault, IsNotedAs, IsStateBy, ReadsAtMost, state_of};
+ghost use Rattle.coap_client.specs.Representations.{IsBegun, IsBlockAnswer, IsBlockHandled, IsCompletion, IsFollowing, IsFollowingFault, IsNoteFault, IsNotedAs, IsStateBy, ReadsAtMost, state_of};
 ghost use Rattle.coap_client.specs.Requests.{IsBlock, IsFurther};
 ghost use Rattle.coap_client.specs.Transmissions.{MakesCalls};
 
-use crate::errand::LARGEST_SZX;
+use crate::client_request::LARGEST_SZX;
 use crate::fetcher::{FetchFault, Step};
-use crate::notice::{Notice, is_notification};
+use crate::notice::{NotificationClass, is_notification};
 use crate::observing::{DatedMessage, NotedMessage, Observer};
 use crate::part::Part;
 use crate::peer::{Buffer, Peer};
 use crate::reply::{Next, etag_of, next_of_answer, next_of_block};
-use crate::watch::Watch;
+use crate::watch::Observation;
 use coap_msg::{Code, Message, read};
 use std::alloc::{AllocError, Global};
 use thiserror::Error;
@@ -53,7 +53,7 @@ pub enum Unfetched {
     Changed,
     /// A response isn't the requested block, or has an unknown critical option.
     #[error("a further block doesn't fit the request")]
-    Misfit,
+    Malformed,
 }
 
 /// The result of the requests for the further blocks of a state.
@@ -69,7 +69,7 @@ pub enum Completion {
 
 /// The effect of a datagram that ends the wait for a block.
 #[derive(Clone, Copy, PartialEq, Eq)]
-pub enum BlockHeard {
+pub enum BlockHandled {
     /// The next request follows.
     GoesOn,
     /// The state is whole; the last response has this code.
@@ -109,7 +109,7 @@ impl Joining {
     }
 
     // Receives the response to the request for the next block, and returns its effect.
-    fn hear(&mut self, message: &Message<'_>) -> Result<Step, AllocError>
+    fn handle(&mut self, message: &Message<'_>) -> Result<Step, AllocError>
         requires { IsBlock self.old.number self.old.szx }
         ensures own { OnOk result (IsBlock self.new.number self.new.szx) }
         ensures step { IfOk result (IsStateBy (after_reply 0 message.now (state_of self.old)) self.new) }
@@ -129,7 +129,7 @@ impl Joining {
                 Ok(Step::Ended(message.code()))
             }
             Next::Stale => Ok(Step::Outdated),
-            Next::Misfit => Ok(Step::Misfit),
+            Next::Malformed => Ok(Step::Malformed),
         }
     }
 
@@ -151,7 +151,7 @@ impl Joining {
     }
 }
 
-impl Watch {
+impl Observation {
     /// Requests the further blocks of a state, one after the other, and joins them.
     ///
     /// The requests have message IDs from `ids` on. Confirmable notifications that arrive meanwhile
@@ -171,7 +171,7 @@ impl Watch {
         buffer: &mut Buffer,
     ) -> Result<Completion, FetchFault>
         requires { IsBlock joining.number joining.szx }
-        ensures completed { IfOk result (IsCompletion P.went P.came P.is_moment observer.now joining self.old self.new buffer.new) }
+        ensures completed { IfOk result (IsCompletion P.went P.came P.is_time observer.now joining self.old self.new buffer.new) }
         ensures called { OnOk result (MakesCalls (P.called peer.old) (P.called peer.new) (IsFollowing observer.now)) }
         ensures fault { IfErr result (IsFollowingFault P.came P.is_error observer.now.token) }
     {
@@ -186,22 +186,22 @@ impl Watch {
                 Err(FetchFault::Rejected) => return Ok(Completion::Unfetched(Unfetched::Rejected)),
                 Err(fault) => return Err(fault),
             };
-            match self.hear_block(peer, observer, id, &mut joining, count, buffer)? {
-                BlockHeard::GoesOn => {}
-                BlockHeard::Ended(code) => {
+            match self.handle_block(peer, observer, id, &mut joining, count, buffer)? {
+                BlockHandled::GoesOn => {}
+                BlockHandled::Ended(code) => {
                     let Joining { body, .. } = joining;
                     return Ok(Completion::Whole(code, body));
                 }
-                BlockHeard::Newer(noted) => return Ok(Completion::Newer(noted)),
-                BlockHeard::Unfetched(cause) => return Ok(Completion::Unfetched(cause)),
+                BlockHandled::Newer(noted) => return Ok(Completion::Newer(noted)),
+                BlockHandled::Unfetched(cause) => return Ok(Completion::Unfetched(cause)),
             }
         }
-        Ok(Completion::Unfetched(Unfetched::Misfit))
+        Ok(Completion::Unfetched(Unfetched::Malformed))
     }
 
     // Takes in what arrived while a block was requested with this message ID: the block, or a
     // notification, of `count` bytes.
-    fn hear_block<P: Peer>(
+    fn handle_block<P: Peer>(
         &mut self,
         peer: &mut P,
         observer: &Observer<'_>,
@@ -209,11 +209,11 @@ impl Watch {
         joining: &mut Joining,
         count: usize,
         buffer: &Buffer,
-    ) -> Result<BlockHeard, FetchFault>
+    ) -> Result<BlockHandled, FetchFault>
         requires block { IsBlock joining.old.number joining.old.szx }
         requires long { count ≤ length buffer.now }
         requires arrived { IsBlockAnswer P.went P.came observer.now joining.old.number joining.old.szx id (take count buffer.now) }
-        ensures heard { IfOk result (IsBlockHeard P.went P.came P.is_moment observer.now id joining.old joining.new self.old self.new
+        ensures handled { IfOk result (IsBlockHandled P.went P.came P.is_time observer.now id joining.old joining.new self.old self.new
             (take count buffer.now) count) }
         ensures called { OnOk result (MakesCalls (P.called peer.old) (P.called peer.new) ReadsAtMost) }
         ensures fault { IfErr result (IsFollowingFault P.came P.is_error observer.now.token) }
@@ -222,18 +222,18 @@ impl Watch {
             unreachable!();
         };
         if is_notification(&observer.token, &message) {
-            let moment = peer.now()?;
-            match self.note(DatedMessage { count, moment }, &message)? {
-                Some(noted) => Ok(BlockHeard::Newer(noted)),
-                None => Ok(BlockHeard::GoesOn),
+            let time = peer.now()?;
+            match self.note(DatedMessage { count, time }, &message)? {
+                Some(noted) => Ok(BlockHandled::Newer(noted)),
+                None => Ok(BlockHandled::GoesOn),
             }
         } else {
-            match joining.hear(&message)? {
-                Step::GoesOn => Ok(BlockHeard::GoesOn),
-                Step::Ended(code) if code.class() == SUCCESS => Ok(BlockHeard::Ended(code)),
-                Step::Ended(code) => Ok(BlockHeard::Unfetched(Unfetched::Refused(code))),
-                Step::Outdated => Ok(BlockHeard::Unfetched(Unfetched::Changed)),
-                Step::Misfit => Ok(BlockHeard::Unfetched(Unfetched::Misfit)),
+            match joining.handle(&message)? {
+                Step::GoesOn => Ok(BlockHandled::GoesOn),
+                Step::Ended(code) if code.class() == SUCCESS => Ok(BlockHandled::Ended(code)),
+                Step::Ended(code) => Ok(BlockHandled::Unfetched(Unfetched::Refused(code))),
+                Step::Outdated => Ok(BlockHandled::Unfetched(Unfetched::Changed)),
+                Step::Malformed => Ok(BlockHandled::Unfetched(Unfetched::Malformed)),
             }
         }
     }
@@ -245,26 +245,26 @@ impl Watch {
         message: &Message<'_>,
     ) -> Result<Option<NotedMessage>, FetchFault>
         ensures noted { IfOk result (IsNotedAs came message.now self.old self.new) }
-        ensures fault { IfErr result (IsNoteFault (notice_after self.old (max self.old.at came.moment) message.now)) }
+        ensures fault { IfErr result (IsNoteFault (notice_after self.old (max self.old.at came.time) message.now)) }
     {
-        let at = self.at.max(came.moment);
-        let (count, moment) = (came.count, came.moment);
+        let at = self.at.max(came.time);
+        let (count, time) = (came.count, came.time);
         match self.notice_of(at, message) {
-            Notice::State(sequence) => {
+            NotificationClass::State(sequence) => {
                 self.keep(sequence, at, message.id())?;
                 Ok(Some(NotedMessage {
                     count,
-                    moment,
+                    time,
                     last: false,
                 }))
             }
-            Notice::Last => Ok(Some(NotedMessage {
+            NotificationClass::Last => Ok(Some(NotedMessage {
                 count,
-                moment,
+                time,
                 last: true,
             })),
-            Notice::Misfit => Err(FetchFault::Part),
-            Notice::Older => Ok(None),
+            NotificationClass::Malformed => Err(FetchFault::Part),
+            NotificationClass::Older => Ok(None),
         }
     }
 }

@@ -4,17 +4,17 @@ ghost use Rattle.coap_msg.specs.Wire.{Message, SpellsMessage, message_bytes};
 ghost use Rattle.coap_opts.specs.Values.{block_bytes};
 ghost use Rattle.coap_opts.specs.declared.request.Method.TheVariants.{Get, Post, Put};
 ghost use Rattle.coap_client.specs.Listening.{is_passed_over};
-ghost use Rattle.coap_client.specs.declared.transmission.Reception.TheVariants as reception;
-ghost use Rattle.coap_client.specs.declared.errand.Errand.{Errand};
+ghost use Rattle.coap_client.specs.declared.transmission.ReplyClass.TheVariants as reception;
+ghost use Rattle.coap_client.specs.declared.client_request.ClientRequest.{ClientRequest};
 ghost use Rattle.coap_client.specs.declared.part.Part.{Part};
 ghost use Rattle.coap_client.specs.declared.part.Part.TheVariants.{Answer, Body, Whole};
 ghost use Rattle.coap_client.specs.Pings.{IsPinged, IsPingedInVain, own_calls, ping_bytes};
 ghost use Rattle.coap_client.specs.Clocks.{is_transient};
 ghost use Rattle.std.specs.declared.io.ErrorKind.TheVariants.{ConnectionRefused, Interrupted, NetworkDown, TimedOut, WouldBlock};
-ghost use Rattle.coap_client.specs.declared.notice.Notice.TheVariants.{Last, State};
-ghost use Rattle.coap_client.specs.declared.notice.Interest.TheVariants.{Deregister, Register};
+ghost use Rattle.coap_client.specs.declared.notice.NotificationClass.TheVariants.{Last, State};
+ghost use Rattle.coap_client.specs.declared.notice.ObserveOption.TheVariants.{Deregister, Register};
 ghost use Rattle.coap_client.specs.declared.observing.Observer.{Observer};
-ghost use Rattle.coap_client.specs.Heard.{Tells};
+ghost use Rattle.coap_client.specs.Handled.{Tells};
 ghost use Rattle.coap_client.specs.Notices.{can_be_shown, is_newer, is_unobserved, notice_of, observe_request};
 ghost use Rattle.coap_client.specs.Parts.{first_part, format_option, format_options, part_options, part_payload, request_options};
 ghost use Rattle.coap_client.specs.PeerCalls.{PeerCall, Sends, Waits};
@@ -51,7 +51,7 @@ pub fn the_next_block_goes_behind_one_that_was_taken()
 /// some replies before it, joined. The reply has the last block, each block begins at the end of
 /// those before it, and all have one ETag, or none.
 pub fn the_answer_is_of_one_version()
-    ensures { (e : Errand) (m : Message) (replies : List Message) (part : Part) (body etag answer : List ℕ) (code : ℕ) →
+    ensures { (e : ClientRequest) (m : Message) (replies : List Message) (part : Part) (body etag answer : List ℕ) (code : ℕ) →
         state_after e replies ≡ Out part body etag →
         state_after e (m ∷ replies) ≡ Ended code answer → is_success code ≡ true →
         IsOneAnswer answer m replies }
@@ -73,9 +73,9 @@ pub fn an_observed_state_is_of_one_version()
 /// It has the path, the query and Block2, option 23: block 1 of 1,024 bytes has the value 22. With
 /// message ID 258 its token is the bytes 1 and 2 (RFC 7959, sections 2.2 and 2.6).
 pub fn further_blocks_are_requested_without_observe()
-    ensures options { (e : Errand) (id : ℕ) → slices_in e.target.path.segments.items ≡ codes "r" ∷ [] → slices_in e.target.query.items ≡ []
+    ensures options { (e : ClientRequest) (id : ℕ) → slices_in e.target.path.segments.items ≡ codes "r" ∷ [] → slices_in e.target.query.items ≡ []
         → (block_request e 1 6 id).options ≡ (11, codes "r") ∷ (23, 22 ∷ []) ∷ [] }
-    ensures token { (e : Errand) (n szx : ℕ) → (block_request e n szx 258).token ≡ 1 ∷ 2 ∷ [] }
+    ensures token { (e : ClientRequest) (n szx : ℕ) → (block_request e n szx 258).token ≡ 1 ∷ 2 ∷ [] }
 {}
 
 /// After the greatest sequence number, 0 is newer.
@@ -154,8 +154,8 @@ pub fn by_a_long_observe_it_is_the_last()
 ///
 /// Observe is option 6, and the value 0 has no bytes (RFC 7641, section 2).
 pub fn registers_by_0_and_deregisters_by_1()
-    ensures registration { (e : Errand) (token : List ℕ) (id : ℕ) → take 1 (observe_request e Register token id).options ≡ (6, []) ∷ [] }
-    ensures deregistration { (e : Errand) (token : List ℕ) (id : ℕ)
+    ensures registration { (e : ClientRequest) (token : List ℕ) (id : ℕ) → take 1 (observe_request e Register token id).options ≡ (6, []) ∷ [] }
+    ensures deregistration { (e : ClientRequest) (token : List ℕ) (id : ℕ)
         → take 1 (observe_request e Deregister token id).options ≡ (6, 1 ∷ []) ∷ [] }
 {}
 
@@ -209,10 +209,10 @@ pub fn requests_are_sent_by_the_schedule()
 /// by it until it was acknowledged.
 pub fn observers_are_sent_by_the_schedule()
     ensures registration { (o : Observer) (answer : List ℕ) (calls : List PeerCall) → IsRegistration o answer calls
-        → BeginsSchedule (message_bytes (observe_request o.errand.now Register o.token o.id)) (schedule calls)
-        ⊎ AwaitsResponse (message_bytes (observe_request o.errand.now Register o.token o.id)) (schedule calls) }
+        → BeginsSchedule (message_bytes (observe_request o.client_request.now Register o.token o.id)) (schedule calls)
+        ⊎ AwaitsResponse (message_bytes (observe_request o.client_request.now Register o.token o.id)) (schedule calls) }
     ensures deregistration { (o : Observer) (calls : List PeerCall) → IsDeregistration o calls
-        → BeginsSchedule (message_bytes (observe_request o.errand.now Deregister o.token ((o.id + 1) % 65536))) (schedule calls) }
+        → BeginsSchedule (message_bytes (observe_request o.client_request.now Deregister o.token ((o.id + 1) % 65536))) (schedule calls) }
 {}
 
 /// An observer gives up by the same schedule.

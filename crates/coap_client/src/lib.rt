@@ -12,9 +12,9 @@
 //!   from 1, and says which of these it is. Or it says that the text doesn't begin with a slash.
 //! - A datagram is received into 1,281 bytes, one more than the maximum length of a message. A
 //!   datagram that fills them may be truncated, and is skipped.
-//! - Each request of an errand is a message that fits a datagram. It has the whole body, a block of
+//! - Each request of a client request is a message that fits a datagram. It has the whole body, a block of
 //!   it, or a block option that requests a further block of the response. The size of that block is
-//!   the one that the server named last. A Content-Format, if the errand has one, is in each
+//!   the one that the server named last. A Content-Format, if the client request has one, is in each
 //!   request with the body or a block of it, between the path and the query.
 //! - Each datagram has one meaning for a request: a piggybacked response, a separate response, an
 //!   acknowledgement, a rejection, or none of these. The next step after each response is defined
@@ -125,15 +125,15 @@
 //!   milliseconds from its start to a reading.
 //! - An observer reads the clock after the receive of each notification, and its acknowledgement.
 //!
-//! By the contracts of `Path::parse`, `Errand::new`, `Errand::write`, `is_reply`, `is_separate`,
+//! By the contracts of `Path::parse`, `ClientRequest::new`, `ClientRequest::write`, `is_reply`, `is_separate`,
 //! `next_of`, `fetch`, `laws`; `Observer::register`, `deregister`, `deregister_by`, `notice_of`,
-//! `is_newer`, `Watch::notice_of`, `keep`, `next`, `complete`; `Joining`; `ask_block`; `ping`; `UdpPeer`.
+//! `is_newer`, `Observation::notice_of`, `keep`, `next`, `complete`; `Joining`; `ask_block`; `ping`; `UdpPeer`.
 //!
 //! No public clause of [`UdpPeer`] says which bytes its socket sends and receives, or that a
 //! receive ends with its wait. Tests try that over a socket.
 #![tactic(auto)]
 
-pub mod errand;
+pub mod client_request;
 pub mod fetcher;
 pub mod joining;
 pub mod laws;
@@ -148,14 +148,14 @@ pub mod transmission;
 pub mod udp;
 pub mod watch;
 
-pub use errand::{Errand, RequestTarget};
+pub use client_request::{ClientRequest, RequestTarget};
 pub use fetcher::{FetchFault, Fetched, fetch};
 pub use joining::{Completion, Joining, Unfetched};
-pub use notice::Notice;
+pub use notice::NotificationClass;
 pub use observing::{NotedMessage, Observer};
 pub use part::Part;
 pub use path::{Path, PathError};
 pub use peer::Peer;
 pub use reply::Next;
 pub use udp::UdpPeer;
-pub use watch::Watch;
+pub use watch::Observation;

@@ -5,7 +5,7 @@ ghost use Rattle.coap_client.specs.Notices.{IsOwnResponse, IsReplyWith};
 ghost use Rattle.coap_client.specs.Notices as spec;
 ghost use Rattle.coap_client.specs.Replies as replies;
 
-use crate::errand::LARGEST_SZX;
+use crate::client_request::LARGEST_SZX;
 use crate::reply::{Next, begins_exchange, is_understood, next_of_answer};
 use coap_msg::{Code, Message, MessageType};
 use coap_opts::decode_uint;
@@ -32,7 +32,7 @@ const VALUE: usize = 3;
 
 /// The action of a GET with Observe (RFC 7641, section 2).
 #[derive(Clone, Copy, PartialEq, Eq)]
-pub enum Interest {
+pub enum ObserveOption {
     /// Starts notifications of changes.
     Register,
     /// Ends notifications.
@@ -41,7 +41,7 @@ pub enum Interest {
 
 /// The classification of a response to an observer.
 #[derive(Clone, Copy, PartialEq, Eq)]
-pub enum Notice {
+pub enum NotificationClass {
     /// A state of the resource with this sequence number; more may follow.
     State(u32),
     /// A state no newer than the one shown last, or a message shown already.
@@ -53,7 +53,7 @@ pub enum Notice {
     /// A response that can't be shown.
     ///
     /// It has an unknown critical option, or more of it follows in further blocks.
-    Misfit,
+    Malformed,
 }
 
 /// Returns whether `message` is the piggybacked response to a request.
@@ -95,18 +95,18 @@ pub fn is_newer(first: u32, first_at: u64, second: u32, second_at: u64) -> bool
 }
 
 /// Classifies a response to an observer, regardless of earlier ones.
-pub fn notice_of(message: &Message<'_>) -> Notice
+pub fn notice_of(message: &Message<'_>) -> NotificationClass
     ensures { result ≡ spec.notice_of message.now }
 {
     if !(is_understood(message) && is_whole(message)) {
-        return Notice::Misfit;
+        return NotificationClass::Malformed;
     }
     if message.code().class() != SUCCESS {
-        return Notice::Last;
+        return NotificationClass::Last;
     }
     match sequence_of(message) {
-        Some(sequence) => Notice::State(sequence),
-        None => Notice::Last,
+        Some(sequence) => NotificationClass::State(sequence),
+        None => NotificationClass::Last,
     }
 }
 

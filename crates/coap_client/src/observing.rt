@@ -3,12 +3,12 @@ ghost use Rattle.std.specs.Prelude.{◌≡◌, ◌↔◌, ◌∷◌, ◌≤◌, 
 ghost use Rattle.coap_msg.specs.Wire.{message_bytes};
 ghost use Rattle.coap_msg.specs.Writing.{options_in};
 ghost use Rattle.coap_client.specs.Faults.{IsDeregistrationFault, IsLeavingFault, IsNotificationFault, IsOfPeer, IsRegistrationFault, IsRejectedBy, IsRejectedLeaving, IsRejection, deregistration_of};
-ghost use Rattle.coap_client.specs.Heard.{IsReadAs};
-ghost use Rattle.coap_client.specs.Notes.{HasAcknowledgement, HasArrived, HasDeregistered, HearsAnswer, IsAcknowledgementOf, IsAwaitedBy, IsToldAs, HasOwnResponse, IsRegistered, TellsRequest, Watches};
+ghost use Rattle.coap_client.specs.Handled.{IsReadAs};
+ghost use Rattle.coap_client.specs.Notes.{HasAcknowledgement, HasArrived, HasDeregistered, HandlesAnswer, IsAcknowledgementOf, IsAwaitedBy, IsToldAs, HasOwnResponse, IsRegistered, TellsRequest, Watches};
 ghost use Rattle.coap_client.specs.Notices.{IsOwnResponse, observe_request, observe_value};
 ghost use Rattle.coap_client.specs.Replies.{IsReset};
 ghost use Rattle.coap_opts.specs.Values.{uint_bytes};
-ghost use Rattle.coap_client.specs.Listening.{IsHeard};
+ghost use Rattle.coap_client.specs.Listening.{IsHandled};
 ghost use Rattle.coap_client.specs.PeerCalls.{received_bytes};
 ghost use Rattle.coap_client.specs.ObserverCalls.{AcknowledgesNotification, AwaitsNotification, IsDeregistration, IsNoNotification, IsOverUnlessLeft, IsPassedOverWatching, IsRegistration, dated_in, noted_in};
 ghost use Rattle.coap_client.specs.Transmissions.{MakesCalls, IsAskedAgain, EndsAwaited};
@@ -18,15 +18,16 @@ ghost use Rattle.coap_client.specs.Representations.{IsBlockAnswer, IsBlockFault,
 ghost use Rattle.coap_client.specs.Requests.{IsBlock};
 ghost use Rattle.coap_client.specs.Paths.{slices_in};
 
-use crate::errand::{Errand, push_options};
+use crate::client_request::{ClientRequest, push_options};
 use crate::fetcher::FetchFault;
-use crate::notice::{Interest, Notice, is_notification, is_reply_with};
+use crate::notice::{NotificationClass, ObserveOption, is_notification, is_reply_with};
 use crate::peer::{Buffer, Peer};
 use crate::reply::{is_empty_acknowledgement, is_reset};
 use crate::transmission::{
-    Listened, Reception, SENDINGS, SEPARATE_WAIT, ack_timeout, acknowledge, is_passed_over, send,
+    ReplyClass, SENDINGS, SEPARATE_WAIT, WaitOutcome, ack_timeout, acknowledge, is_passed_over,
+    send,
 };
-use crate::watch::Watch;
+use crate::watch::Observation;
 use coap_msg::{Code, Datagram, Message, MessageType, Outgoing, read, write};
 use coap_opts::number::{OBSERVE, URI_PATH, URI_QUERY};
 use coap_opts::{UintBytes, encode_uint};
@@ -37,11 +38,11 @@ pub const TOKEN: usize = 4;
 
 /// An observer of a resource.
 ///
-/// It has the errand that names the resource, the token that identifies its notifications, and the
+/// It has the client request that names the resource, the token that identifies its notifications, and the
 /// message ID of the registration. The deregistration has the next message ID.
 #[derive(Clone, Copy)]
 pub struct Observer<'a> {
-    pub errand: &'a Errand<'a>,
+    pub client_request: &'a ClientRequest<'a>,
     pub token: [u8; TOKEN],
     pub id: u16,
 }
@@ -53,7 +54,7 @@ pub struct Observer<'a> {
 #[derive(Clone, Copy, PartialEq, Eq)]
 pub struct DatedMessage {
     pub count: usize,
-    pub moment: u64,
+    pub time: u64,
 }
 
 /// A notification to show.
@@ -63,7 +64,7 @@ pub struct DatedMessage {
 #[derive(Clone, Copy, PartialEq, Eq)]
 pub struct NotedMessage {
     pub count: usize,
-    pub moment: u64,
+    pub time: u64,
     pub last: bool,
 }
 
@@ -91,8 +92,8 @@ impl<'a> Observer<'a> {
         let mut datagram = Datagram::new();
         write_request(
             alloc,
-            self.errand,
-            Interest::Register,
+            self.client_request,
+            ObserveOption::Register,
             &self.token,
             self.id,
             &mut datagram,
@@ -124,12 +125,12 @@ impl<'a> Observer<'a> {
         for sendings in 0..SENDINGS {
             send(peer, datagram, ack_timeout(sendings))?;
             match self.listen(own, id, peer, false, buffer)? {
-                Listened::Answer(count) => return Ok(Some(count)),
-                Listened::Acknowledged => {
+                WaitOutcome::Answer(count) => return Ok(Some(count)),
+                WaitOutcome::Acknowledged => {
                     peer.begin_wait(SEPARATE_WAIT)?;
                     return self.await_answer(own, id, peer, buffer);
                 }
-                Listened::Nothing => {}
+                WaitOutcome::Nothing => {}
             }
         }
         Ok(None)
@@ -151,8 +152,8 @@ impl<'a> Observer<'a> {
             (IsRejectedBy (TellsRequest self.now.token own.now id) true))) }
     {
         match self.listen(own, id, peer, true, buffer)? {
-            Listened::Answer(count) => Ok(Some(count)),
-            Listened::Acknowledged | Listened::Nothing => Ok(None),
+            WaitOutcome::Answer(count) => Ok(Some(count)),
+            WaitOutcome::Acknowledged | WaitOutcome::Nothing => Ok(None),
         }
     }
 
@@ -164,26 +165,26 @@ impl<'a> Observer<'a> {
         peer: &mut P,
         awaited: bool,
         buffer: &mut Buffer,
-    ) -> Result<Listened, FetchFault>
-        ensures listened { IfOk result (HearsAnswer P.came self.now.token own.now id buffer.new) }
+    ) -> Result<WaitOutcome, FetchFault>
+        ensures listened { IfOk result (HandlesAnswer P.came self.now.token own.now id buffer.new) }
         ensures called { IfOk result (λ x. MakesCalls (P.called peer.old) (P.called peer.new)
-            (IsHeard (TellsRequest self.now.token own.now id) awaited buffer.new x)) }
+            (IsHandled (TellsRequest self.now.token own.now id) awaited buffer.new x)) }
         ensures fault { IfErr result (IsOfPeer P.is_error (MakesCalls (P.called peer.old) (P.called peer.new)
             (IsRejectedBy (TellsRequest self.now.token own.now id) awaited))) }
     {
         for received in 0..u64::MAX {
             let Some(count) = peer.receive(buffer)? else {
-                return Ok(Listened::Nothing);
+                return Ok(WaitOutcome::Nothing);
             };
-            let heard = hear_datagram(&self.token, own, id, &buffer[..count]);
-            match heard {
-                _ if is_passed_over(awaited, heard) => {}
-                Reception::Acknowledged => return Ok(Listened::Acknowledged),
-                Reception::Rejected => return Err(FetchFault::Rejected),
-                _ => return Ok(Listened::Answer(count)),
+            let handled = handle_datagram(&self.token, own, id, &buffer[..count]);
+            match handled {
+                _ if is_passed_over(awaited, handled) => {}
+                ReplyClass::Acknowledged => return Ok(WaitOutcome::Acknowledged),
+                ReplyClass::Rejected => return Err(FetchFault::Rejected),
+                _ => return Ok(WaitOutcome::Answer(count)),
             }
         }
-        Ok(Listened::Nothing)
+        Ok(WaitOutcome::Nothing)
     }
 
     /// Requests a block of the observed resource, and returns the length of what arrived, in bytes.
@@ -212,7 +213,7 @@ impl<'a> Observer<'a> {
         ensures fault { IfErr result (IsBlockFault P.is_error (MakesCalls (P.called peer.old) (P.called peer.new)) self.now number szx id) }
     {
         let mut datagram = Datagram::new();
-        self.errand
+        self.client_request
             .write_block(alloc, number, szx, id, &mut datagram)?;
         let own = id.to_be_bytes();
         let Some(count) = self.ask(&own, id, peer, &datagram, buffer)? else {
@@ -254,8 +255,8 @@ impl<'a> Observer<'a> {
         let mut datagram = Datagram::new();
         write_request(
             alloc,
-            self.errand,
-            Interest::Deregister,
+            self.client_request,
+            ObserveOption::Deregister,
             &self.token,
             self.id.wrapping_add(1),
             &mut datagram,
@@ -293,7 +294,7 @@ impl<'a> Observer<'a> {
     }
 }
 
-impl Watch {
+impl Observation {
     /// Waits for the next notification to show, and records a state as shown.
     ///
     /// Skips older notifications and duplicates. A confirmable notification is acknowledged, shown
@@ -308,38 +309,38 @@ impl Watch {
         token: &[u8],
         buffer: &mut Buffer,
     ) -> Result<Option<NotedMessage>, FetchFault>
-        ensures watched { IfOk result (Watches P.went P.came P.is_moment token.now buffer.new self.old self.new) }
+        ensures watched { IfOk result (Watches P.went P.came P.is_time token.now buffer.new self.old self.new) }
         ensures called { IfOk result (λ r. MakesCalls (P.called peer.old) (P.called peer.new)
-            (AwaitsNotification token.now (IsPassedOverWatching P.is_moment token.now self.old) (noted_in buffer.new r))) }
+            (AwaitsNotification token.now (IsPassedOverWatching P.is_time token.now self.old) (noted_in buffer.new r))) }
         ensures fault { IfErr result (IsNotificationFault P.came P.is_error (MakesCalls (P.called peer.old) (P.called peer.new))
-            P.is_moment token.now self.old) }
+            P.is_time token.now self.old) }
     {
         for _ in 0..u64::MAX {
-            let Some(came) = hear(peer, token, buffer)? else {
+            let Some(came) = handle(peer, token, buffer)? else {
                 return Ok(None);
             };
             let Ok(message) = read(&buffer[..came.count]) else {
                 unreachable!();
             };
-            let at = self.at.max(came.moment);
+            let at = self.at.max(came.time);
             match self.notice_of(at, &message) {
-                Notice::State(sequence) => {
+                NotificationClass::State(sequence) => {
                     self.keep(sequence, at, message.id())?;
                     return Ok(Some(NotedMessage {
                         count: came.count,
-                        moment: came.moment,
+                        time: came.time,
                         last: false,
                     }));
                 }
-                Notice::Last => {
+                NotificationClass::Last => {
                     return Ok(Some(NotedMessage {
                         count: came.count,
-                        moment: came.moment,
+                        time: came.time,
                         last: true,
                     }));
                 }
-                Notice::Misfit => return Err(FetchFault::Part),
-                Notice::Older => {}
+                NotificationClass::Malformed => return Err(FetchFault::Part),
+                NotificationClass::Older => {}
             }
         }
         Ok(None)
@@ -348,14 +349,14 @@ impl Watch {
 
 // Receives the next notification during a wait, acknowledges it if it is confirmable, and then
 // reads the clock.
-fn hear<P: Peer>(
+fn handle<P: Peer>(
     peer: &mut P,
     token: &[u8],
     buffer: &mut Buffer,
 ) -> Result<Option<DatedMessage>, FetchFault>
-    ensures heard { IfOk result (λ r. IfSome r (λ x. (x.count ≤ length buffer.new)
+    ensures handled { IfOk result (λ r. IfSome r (λ x. (x.count ≤ length buffer.new)
         × HasOwnResponse P.went P.came token.now (take x.count buffer.new))) }
-    ensures moment { IfOk result (λ r. IfSome r (λ x. P.is_moment x.moment)) }
+    ensures time { IfOk result (λ r. IfSome r (λ x. P.is_time x.time)) }
     ensures called { IfOk result (λ r. MakesCalls (P.called peer.old) (P.called peer.new)
         (AwaitsNotification token.now (IsNoNotification token.now) (dated_in buffer.new r))) }
     ensures fault { IfErr result (IsOfPeer P.is_error ⊥) }
@@ -366,8 +367,8 @@ fn hear<P: Peer>(
         };
         if tells_notification(token, &buffer[..count]) {
             acknowledge(peer, &buffer[..count])?;
-            let moment = peer.now()?;
-            return Ok(Some(DatedMessage { count, moment }));
+            let time = peer.now()?;
+            return Ok(Some(DatedMessage { count, time }));
         }
     }
     Ok(None)
@@ -384,29 +385,29 @@ fn tells_notification(token: &[u8], bytes: &[u8]) -> bool
 }
 
 // Classifies a datagram for an observer whose request has this own token and message ID.
-fn hear_datagram(token: &[u8], own: &[u8], id: u16, bytes: &[u8]) -> Reception
+fn handle_datagram(token: &[u8], own: &[u8], id: u16, bytes: &[u8]) -> ReplyClass
     ensures { TellsRequest token.now own.now id bytes.now result }
 {
     match read(bytes) {
-        Ok(message) => hear_message(token, own, id, &message),
-        Err(_) => Reception::Other,
+        Ok(message) => handle_message(token, own, id, &message),
+        Err(_) => ReplyClass::Other,
     }
 }
 
-fn hear_message(token: &[u8], own: &[u8], id: u16, message: &Message<'_>) -> Reception
+fn handle_message(token: &[u8], own: &[u8], id: u16, message: &Message<'_>) -> ReplyClass
     ensures { IsToldAs token.now own.now id message.now result }
 {
     if is_reply_with(own, id, message)
         || is_notification(own, message)
         || is_notification(token, message)
     {
-        Reception::Reply
+        ReplyClass::Reply
     } else if is_empty_acknowledgement(id, message) {
-        Reception::Acknowledged
+        ReplyClass::Acknowledged
     } else if is_reset(id, message) {
-        Reception::Rejected
+        ReplyClass::Rejected
     } else {
-        Reception::Other
+        ReplyClass::Other
     }
 }
 
@@ -477,20 +478,20 @@ pub(crate) fn tells_reset(id: u16, bytes: &[u8]) -> bool
     }
 }
 
-// Writes the GET with Observe for an errand's resource. It replaces the contents of `datagram`.
+// Writes the GET with Observe for a client request's resource. It replaces the contents of `datagram`.
 fn write_request(
     alloc: Global,
-    errand: &Errand<'_>,
-    interest: Interest,
+    client_request: &ClientRequest<'_>,
+    interest: ObserveOption,
     token: &[u8],
     id: u16,
     datagram: &mut Datagram,
 ) -> Result<(), AllocError>
     requires { length token.now ≤ TOKEN }
-    ensures { OnOk result (datagram.new.items ≡ message_bytes (observe_request errand.now interest token.now id)) }
+    ensures { OnOk result (datagram.new.items ≡ message_bytes (observe_request client_request.now interest token.now id)) }
 {
     let value = value_of(interest);
-    let options = options_of(alloc, errand, &value)?;
+    let options = options_of(alloc, client_request, &value)?;
     let request = Outgoing {
         kind: MessageType::Confirmable,
         code: Code::GET,
@@ -504,27 +505,27 @@ fn write_request(
 }
 
 // Returns the value of Observe (RFC 7641, section 2).
-fn value_of(interest: Interest) -> UintBytes
+fn value_of(interest: ObserveOption) -> UintBytes
     ensures { result.items ≡ uint_bytes (observe_value interest) }
 {
     encode_uint(match interest {
-        Interest::Register => 0,
-        Interest::Deregister => 1,
+        ObserveOption::Register => 0,
+        ObserveOption::Deregister => 1,
     })
 }
 
-// Builds the options: Observe, and those that name an errand's resource.
+// Builds the options: Observe, and those that name a client request's resource.
 fn options_of<'a>(
     alloc: Global,
-    errand: &'a Errand<'a>,
+    client_request: &'a ClientRequest<'a>,
     value: &'a UintBytes,
 ) -> Result<Vec<(u16, &'a [u8])>, AllocError>
     ensures { IfOk result (λ v. options_in v.items ≡ (OBSERVE, value.entry.now.items) ∷ resource_options
-        (slices_in errand.entry.now.target.path.segments.items) (slices_in errand.entry.now.target.query.items)) }
+        (slices_in client_request.entry.now.target.path.segments.items) (slices_in client_request.entry.now.target.query.items)) }
 {
     let mut options = Vec::new(alloc);
     options.push((OBSERVE, value.as_slice()))?;
-    push_options(&mut options, URI_PATH, &errand.target.path.segments)?;
-    push_options(&mut options, URI_QUERY, &errand.target.query)?;
+    push_options(&mut options, URI_PATH, &client_request.target.path.segments)?;
+    push_options(&mut options, URI_QUERY, &client_request.target.query)?;
     Ok(options)
 }

@@ -29,7 +29,7 @@ pub trait Peer {
     ghost called: { Self → List PeerCall → Type 0 } = { λ peer calls. ⊤ };
 
     // The times that it returned.
-    ghost is_moment: { ℕ → Type 0 } = { λ _. ⊤ };
+    ghost is_time: { ℕ → Type 0 } = { λ _. ⊤ };
 
     // The errors that it returned.
     ghost is_error: { PeerError → Type 0 } = { λ _. ⊤ };
@@ -57,8 +57,8 @@ pub trait Peer {
     /// # Errors
     /// Returns an error if there is no clock.
     fn now(&mut self) -> io::Result<u64>
-        ensures moment { IfOk result is_moment }
-        ensures called { IfOk result (λ moment. Adds (called self.old) (called self.new) (Reads moment ∷ [])) }
+        ensures time { IfOk result is_time }
+        ensures called { IfOk result (λ time. Adds (called self.old) (called self.new) (Reads time ∷ [])) }
         ensures error { IfErr result is_error };
 
     /// Receives the next datagram, and returns its length in bytes.

@@ -8,7 +8,7 @@ ghost use Rattle.coap_client.specs.declared.reply.Next.TheVariants.{Ask};
 ghost use Rattle.coap_client.specs.Replies.{IsEmptyAcknowledgement, IsReply, IsReset, IsSeparate};
 ghost use Rattle.coap_client.specs.Replies as spec;
 
-use crate::errand::{Errand, LARGEST_SZX};
+use crate::client_request::{ClientRequest, LARGEST_SZX};
 use crate::part::Part;
 use coap_msg::{Code, Message, MessageType};
 use coap_opts::Block;
@@ -44,7 +44,7 @@ pub enum Next {
     /// The block is of another version than the blocks before it.
     Stale,
     /// The response doesn't match the part.
-    Misfit,
+    Malformed,
 }
 
 /// Returns whether `message` is the piggybacked response to a request.
@@ -111,22 +111,27 @@ pub fn is_reset(id: u16, message: &Message<'_>) -> bool
 /// Returns the next step after the response to a part.
 ///
 /// `etag` is the ETag of the response's blocks so far.
-pub fn next_of(errand: &Errand<'_>, part: Part, etag: &[u8], message: &Message<'_>) -> Next
-    requires { IsPartOf errand.now part }
-    ensures { result ≡ spec.next_of (length errand.now.payload.now) part etag.now message.now }
+pub fn next_of(
+    client_request: &ClientRequest<'_>,
+    part: Part,
+    etag: &[u8],
+    message: &Message<'_>,
+) -> Next
+    requires { IsPartOf client_request.now part }
+    ensures { result ≡ spec.next_of (length client_request.now.payload.now) part etag.now message.now }
 {
     if !is_understood(message) {
-        return Next::Misfit;
+        return Next::Malformed;
     }
     if message.code().class() != SUCCESS {
         return Next::Refused;
     }
     match part {
         Part::Whole => next_of_whole(0, message),
-        Part::Body { number, szx } if errand.has_more(number, szx) => {
+        Part::Body { number, szx } if client_request.has_more(number, szx) => {
             match next_size(number, szx, message) {
                 Some(smaller) => next_of_body(number, szx, smaller),
-                None => Next::Misfit,
+                None => Next::Malformed,
             }
         }
         Part::Body { number, .. } => next_of_whole(number, message),
@@ -141,7 +146,7 @@ pub(crate) fn next_of_block(number: u32, szx: u8, etag: &[u8], message: &Message
     ensures further { (part : Piece) → result ≡ Ask part → IsFurther part }
 {
     if !is_understood(message) {
-        Next::Misfit
+        Next::Malformed
     } else if message.code().class() != SUCCESS {
         Next::Refused
     } else {
@@ -234,7 +239,7 @@ fn next_of_body(number: u32, szx: u8, smaller: u8) -> Next
             szx: smaller,
         })
     } else {
-        Next::Misfit
+        Next::Malformed
     }
 }
 
@@ -246,7 +251,7 @@ fn next_of_whole(number: u32, message: &Message<'_>) -> Next
     if !is_continue(message) && says_last(number, message) {
         next_of_answer(0, LARGEST_SZX, message)
     } else {
-        Next::Misfit
+        Next::Malformed
     }
 }
 
@@ -276,7 +281,7 @@ fn next_of_further(number: u32, szx: u8, etag: &[u8], message: &Message<'_>) -> 
         return Next::Stale;
     }
     if is_continue(message) {
-        return Next::Misfit;
+        return Next::Malformed;
     }
     next_of_answer(number, szx, message)
 }
@@ -294,10 +299,10 @@ pub(crate) fn next_of_answer(number: u32, szx: u8, message: &Message<'_>) -> Nex
             if fits_place(number, szx, block) {
                 after_block(message.payload().len(), block)
             } else {
-                Next::Misfit
+                Next::Malformed
             }
         }
-        _ => Next::Misfit,
+        _ => Next::Malformed,
     }
 }
 
@@ -319,7 +324,7 @@ fn after_block(count: usize, block: Block) -> Next
         return if count <= block.size() {
             Next::Last
         } else {
-            Next::Misfit
+            Next::Malformed
         };
     }
     let number = block.number() + 1;
@@ -329,6 +334,6 @@ fn after_block(count: usize, block: Block) -> Next
             szx: block.szx(),
         })
     } else {
-        Next::Misfit
+        Next::Malformed
     }
 }

@@ -5,8 +5,8 @@ ghost use Rattle.coap_msg.specs.Reading.{reading_of};
 ghost use Rattle.coap_msg.specs.Wire as wire;
 ghost use Rattle.coap_msg.specs.declared.types.MessageType.TheVariants.{Confirmable};
 ghost use Rattle.coap_client.specs.Faults.{IsOfPeer, IsRejectedBy, IsRejection};
-ghost use Rattle.coap_client.specs.Heard.{AcknowledgesRepeat, Listens, HasTakenResponse, HasResponse, IsAwaitedAnswer, IsHeardAs, TellsSent};
-ghost use Rattle.coap_client.specs.Listening.{IsHeard, acknowledges, is_passed_over, sent_behind};
+ghost use Rattle.coap_client.specs.Handled.{AcknowledgesRepeat, Listens, HasTakenResponse, HasResponse, IsAwaitedAnswer, IsHandledAs, TellsSent};
+ghost use Rattle.coap_client.specs.Listening.{IsHandled, acknowledges, is_passed_over, sent_behind};
 ghost use Rattle.coap_client.specs.PeerCalls.{Adds, Sends, Waits, received_bytes};
 ghost use Rattle.coap_client.specs.Replies.{is_taken};
 ghost use Rattle.coap_client.specs.Transmissions.{ack_timeout, most_sendings, non_wait, MakesCalls, IsTransmitted, IsAskedAgain, EndsAwaited, IsSending, IsTransmission};
@@ -48,7 +48,7 @@ pub struct SentRequest<'a> {
 
 /// The classification of a datagram with respect to the outstanding request.
 #[derive(Clone, Copy, PartialEq, Eq)]
-pub enum Reception {
+pub enum ReplyClass {
     /// The response, piggybacked or identified by its token.
     Reply,
     /// A separate response, without a token.
@@ -65,7 +65,7 @@ pub enum Reception {
 
 /// The outcome of a wait.
 #[derive(Clone, Copy, PartialEq, Eq)]
-pub enum Listened {
+pub enum WaitOutcome {
     /// A response of this length in bytes.
     Answer(usize),
     /// An acknowledgement without a response.
@@ -147,12 +147,12 @@ fn ask_again<P: Peer>(
     for sendings in 0..SENDINGS {
         send(peer, request.datagram, ack_timeout(sendings))?;
         match listen(peer, request, false, buffer)? {
-            Listened::Answer(count) => return Ok(Some(count)),
-            Listened::Acknowledged => {
+            WaitOutcome::Answer(count) => return Ok(Some(count)),
+            WaitOutcome::Acknowledged => {
                 peer.begin_wait(SEPARATE_WAIT)?;
                 return await_separate(peer, request, buffer);
             }
-            Listened::Nothing => {}
+            WaitOutcome::Nothing => {}
         }
     }
     Ok(None)
@@ -206,8 +206,8 @@ fn await_separate<P: Peer>(
         (IsRejectedBy (TellsSent request.now) true))) }
 {
     match listen(peer, request, true, buffer)? {
-        Listened::Answer(count) => Ok(Some(count)),
-        Listened::Acknowledged | Listened::Nothing => Ok(None),
+        WaitOutcome::Answer(count) => Ok(Some(count)),
+        WaitOutcome::Acknowledged | WaitOutcome::Nothing => Ok(None),
     }
 }
 
@@ -217,85 +217,85 @@ fn listen<P: Peer>(
     request: &SentRequest<'_>,
     awaited: bool,
     buffer: &mut Buffer,
-) -> Result<Listened, FetchFault>
+) -> Result<WaitOutcome, FetchFault>
     ensures listened { IfOk result (Listens P.came request.now awaited buffer.new) }
     ensures called { IfOk result (λ x. MakesCalls (P.called peer.old) (P.called peer.new)
-        (IsHeard (TellsSent request.now) awaited buffer.new x)) }
+        (IsHandled (TellsSent request.now) awaited buffer.new x)) }
     ensures fault { IfErr result (IsOfPeer P.is_error (MakesCalls (P.called peer.old) (P.called peer.new)
         (IsRejectedBy (TellsSent request.now) awaited))) }
 {
     for received in 0..u64::MAX {
         let Some(count) = peer.receive(buffer)? else {
-            return Ok(Listened::Nothing);
+            return Ok(WaitOutcome::Nothing);
         };
-        let heard = hear_from(peer, request, &buffer[..count])?;
-        match heard {
-            _ if is_passed_over(awaited, heard) => {}
-            Reception::Acknowledged => return Ok(Listened::Acknowledged),
-            Reception::Rejected => return Err(FetchFault::Rejected),
-            _ => return Ok(Listened::Answer(count)),
+        let handled = handle_from(peer, request, &buffer[..count])?;
+        match handled {
+            _ if is_passed_over(awaited, handled) => {}
+            ReplyClass::Acknowledged => return Ok(WaitOutcome::Acknowledged),
+            ReplyClass::Rejected => return Err(FetchFault::Rejected),
+            _ => return Ok(WaitOutcome::Answer(count)),
         }
     }
-    Ok(Listened::Nothing)
+    Ok(WaitOutcome::Nothing)
 }
 
 // Returns whether a datagram is skipped, so that the wait goes on. A separate response ends the
 // wait only if one is awaited, and an acknowledgement only if none is.
-pub(crate) fn is_passed_over(awaited: bool, heard: Reception) -> bool
-    ensures { result ≡ is_passed_over awaited heard }
+pub(crate) fn is_passed_over(awaited: bool, handled: ReplyClass) -> bool
+    ensures { result ≡ is_passed_over awaited handled }
 {
-    match heard {
-        Reception::Repeat | Reception::Other => true,
-        Reception::Separate => !awaited,
-        Reception::Acknowledged => awaited,
-        Reception::Reply | Reception::Rejected => false,
+    match handled {
+        ReplyClass::Repeat | ReplyClass::Other => true,
+        ReplyClass::Separate => !awaited,
+        ReplyClass::Acknowledged => awaited,
+        ReplyClass::Reply | ReplyClass::Rejected => false,
     }
 }
 
 // Classifies a datagram with respect to a request. A confirmable response that was received before
 // is acknowledged again (RFC 7252, section 4.2).
-fn hear_from<P: Peer>(
+fn handle_from<P: Peer>(
     peer: &mut P,
     request: &SentRequest<'_>,
     bytes: &[u8],
-) -> Result<Reception, FetchFault>
-    ensures heard { IfOk result (TellsSent request.now bytes.now) }
+) -> Result<ReplyClass, FetchFault>
+    ensures handled { IfOk result (TellsSent request.now bytes.now) }
     ensures repeat { IfOk result (AcknowledgesRepeat P.went bytes.now) }
-    ensures called { IfOk result (λ heard. Adds (P.called peer.old) (P.called peer.new) (sent_behind heard bytes.now)) }
+    ensures called { IfOk result (λ handled. Adds (P.called peer.old) (P.called peer.new) (sent_behind handled bytes.now)) }
     ensures fault { IfErr result (IsOfPeer P.is_error ⊥) }
 {
-    let heard = hear_datagram(request, bytes);
-    if heard == Reception::Repeat {
+    let handled = handle_datagram(request, bytes);
+    if handled == ReplyClass::Repeat {
         acknowledge(peer, bytes)?;
     }
-    Ok(heard)
+    Ok(handled)
 }
 
 // Classifies a datagram with respect to a request.
-fn hear_datagram(request: &SentRequest<'_>, bytes: &[u8]) -> Reception
+fn handle_datagram(request: &SentRequest<'_>, bytes: &[u8]) -> ReplyClass
     ensures { TellsSent request.now bytes.now result }
 {
     match read(bytes) {
-        Ok(message) => hear_message(request, &message),
-        Err(_) => Reception::Other,
+        Ok(message) => handle_message(request, &message),
+        Err(_) => ReplyClass::Other,
     }
 }
 
-fn hear_message(request: &SentRequest<'_>, message: &Message<'_>) -> Reception
-    ensures { IsHeardAs request.now.confirmable request.now.id request.now.earlier.now message.now result }
+fn handle_message(request: &SentRequest<'_>, message: &Message<'_>) -> ReplyClass
+    ensures { IsHandledAs request.now.confirmable request.now.id request.now.earlier.now message.now result }
 {
     if request.confirmable && is_reply(request.id, message) {
-        Reception::Reply
+        ReplyClass::Reply
     } else if is_empty_acknowledgement(request.id, message) {
-        Reception::Acknowledged
+        ReplyClass::Acknowledged
     } else if is_reset(request.id, message) {
-        Reception::Rejected
+        ReplyClass::Rejected
     } else if !is_separate(message) {
-        Reception::Other
+        ReplyClass::Other
     } else if request.earlier.contains(&message.id()) {
-        Reception::Repeat
+        ReplyClass::Repeat
     } else {
-        Reception::Separate
+        ReplyClass::Separate
     }
 }
 

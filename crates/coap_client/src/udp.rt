@@ -5,7 +5,7 @@ ghost use Rattle.std.specs.IoError.{error_kind};
 ghost use Rattle.std.specs.Time.{FitsClock, instant_nanos};
 ghost use Rattle.std.specs.declared.time.Instant.{Instant as Reading};
 ghost use Rattle.coap_client.specs.PeerCalls.{Adds, PeerError, Reads, Waits, receives_in};
-ghost use Rattle.coap_client.specs.Clocks.{IsEndOfWait, IsLeftOf, IsMomentSince, IsWaitOver, is_transient};
+ghost use Rattle.coap_client.specs.Clocks.{IsEndOfWait, IsLeftOf, IsTimeSince, IsWaitOver, is_transient};
 
 use crate::peer::{BUFFER, Buffer, Peer};
 use coap_msg::Datagram;
@@ -121,10 +121,10 @@ impl<'a, T: Ticks> Peer for UdpPeer<'a, T> {
     }
 
     fn now(&mut self) -> io::Result<u64>
-        ensures moment { IfOk result (λ _. ⊤) }
-        ensures called { IfOk result (λ moment. Adds (λ _. ⊤) (λ _. ⊤) (Reads moment ∷ [])) }
+        ensures time { IfOk result (λ _. ⊤) }
+        ensures called { IfOk result (λ time. Adds (λ _. ⊤) (λ _. ⊤) (Reads time ∷ [])) }
         ensures error { IfErr result (λ _. ⊤) }
-        ensures since { IfOk result (IsMomentSince T.is_read self.old.start) }
+        ensures since { IfOk result (IsTimeSince T.is_read self.old.start) }
     {
         let now = self.ticks.read()?;
         Ok(millis_of(now.duration_since(self.start)))

@@ -5,7 +5,7 @@ ghost use Rattle.std.specs.Prelude.{◌≡◌, IfOk, OnOk};
 ghost use Rattle.coap_client.specs.Notices.{first_marks, is_shown_again, marked, notice_after};
 ghost use Rattle.coap_msg.specs.Windows.{within_window};
 
-use crate::notice::{Notice, is_newer, notice_of};
+use crate::notice::{NotificationClass, is_newer, notice_of};
 use crate::reply::begins_exchange;
 use coap_msg::Message;
 use coap_msg::types::WINDOW;
@@ -25,13 +25,13 @@ pub struct ShownMark {
 /// The state has its sequence number and its time in milliseconds. The messages are separate
 /// responses; one of them that is received again is a duplicate (RFC 7252, section 4.5).
 #[derive(Drop)]
-pub struct Watch {
+pub struct Observation {
     pub sequence: u32,
     pub at: u64,
     pub marks: Vec<ShownMark>,
 }
 
-impl Watch {
+impl Observation {
     /// Begins a watch after the first message shown.
     ///
     /// The message is a state with this sequence number, shown at `at` in milliseconds.
@@ -43,7 +43,7 @@ impl Watch {
         sequence: u32,
         at: u64,
         message: &Message<'_>,
-    ) -> Result<Watch, AllocError>
+    ) -> Result<Observation, AllocError>
         ensures shown { IfOk result (λ w. (w.sequence ≡ sequence) × (w.at ≡ at)) }
         ensures marks { IfOk result (λ w. w.marks.items ≡ first_marks message.now at) }
     {
@@ -54,7 +54,7 @@ impl Watch {
                 at,
             })?;
         }
-        Ok(Watch {
+        Ok(Observation {
             sequence,
             at,
             marks,
@@ -62,16 +62,15 @@ impl Watch {
     }
 
     /// Classifies a separate response received at `at`, in milliseconds.
-    pub fn notice_of(&self, at: u64, message: &Message<'_>) -> Notice
+    pub fn notice_of(&self, at: u64, message: &Message<'_>) -> NotificationClass
         ensures { result ≡ notice_after self.now at message.now }
     {
         if self.repeats(message.id(), at) {
-            return Notice::Older;
+            return NotificationClass::Older;
         }
         match notice_of(message) {
-            Notice::State(sequence) if !is_newer(self.sequence, self.at, sequence, at) => {
-                Notice::Older
-            }
+            NotificationClass::State(sequence) if !is_newer(self.sequence, self.at, sequence, at) =>
+                { NotificationClass::Older }
             notice => notice,
         }
     }

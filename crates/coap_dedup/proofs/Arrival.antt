@@ -2,7 +2,7 @@
 use Rattle.std.proofs.Common.{◌≡◌, ℕ, ◌+◌, ◌<◌, ◌≤◌, List, [], ◌∷◌, ◌++◌, length, map, drop, Bool, true, false, cond, Some, None, refl, sym, ap, ◌∙◌, subst, ⊎_elim, arith, length-append}
 use Rattle.std.specs.Prelude.{filter, slice_get}
 use Rattle.std.proofs.lemmas.Bool.{cases_lt, lt-ltb, le-ltb, ltb-true}
-use Rattle.coap_dedup.specs.declared.exchange.Kept.{Kept}
+use Rattle.coap_dedup.specs.declared.exchange.StoredResponse.{StoredResponse}
 use Rattle.coap_dedup.specs.declared.exchange.Opened.{Opened}
 use Rattle.coap_dedup.specs.Exchanges.{Exchange, is_live}
 use Rattle.coap_dedup.specs.Views.{Arrives, IsArrived, InOrder, as_exchange, request_is_live}
@@ -103,11 +103,11 @@ opened_arrived opened now at os o le n m a =
 
 -- ---- the view in contracts
 
-seen_if : (kept : List Kept) (b : Bool) (o : Opened) (os : List Opened) → map (as_exchange kept) (cond b (o ∷ os) os) ≡ cond b (as_exchange kept o ∷ map (as_exchange kept) os) (map (as_exchange kept) os)
+seen_if : (kept : List StoredResponse) (b : Bool) (o : Opened) (os : List Opened) → map (as_exchange kept) (cond b (o ∷ os) os) ≡ cond b (as_exchange kept o ∷ map (as_exchange kept) os) (map (as_exchange kept) os)
 seen_if kept true o os = refl
 seen_if kept false o os = refl
 
-pub filter_seen : (kept : List Kept) (at : ℕ) (os : List Opened) → map (as_exchange kept) (filter (request_is_live at) os) ≡ filter (is_live at) (map (as_exchange kept) os)
+pub filter_seen : (kept : List StoredResponse) (at : ℕ) (os : List Opened) → map (as_exchange kept) (filter (request_is_live at) os) ≡ filter (is_live at) (map (as_exchange kept) os)
 filter_seen kept at [] = refl
 filter_seen kept at (o ∷ os) =
     seen_if kept (request_is_live at o) o (filter (request_is_live at) os) ∙ ap (λ (l : List Exchange). cond (request_is_live at o) (as_exchange kept o ∷ l) l) (filter_seen kept at os)

@@ -13,15 +13,15 @@ use Rattle.coap_dedup.proofs.Index.{Entry, rises}
 use Rattle.coap_dedup.proofs.Keys.{key_total}
 
 -- the key is between these places after this many comparisons
-pub record IsBetween (ks : List Key) (k : Key) (low high probes : ℕ) : Type 0 where
+pub record IsBetween (ks : List Key) (k : Key) (low high comparisons : ℕ) : Type 0 where
   pub below : AreBelow ks k low
   pub above : AreAbove ks k high
   pub order : low ≤ high
   pub within : high ≤ length ks
-  pub left : high - low ≤ left_after 65536 probes
-  pub few : probes ≤ 17
-  pub left_of_few : length ks ≤ 1024 → high - low ≤ left_after 1024 probes
-  pub fewer_of_few : length ks ≤ 1024 → probes ≤ 11
+  pub left : high - low ≤ left_after 65536 comparisons
+  pub few : comparisons ≤ 17
+  pub left_of_few : length ks ≤ 1024 → high - low ≤ left_after 1024 comparisons
+  pub fewer_of_few : length ks ≤ 1024 → comparisons ≤ 11
 
 pub start : (ks : List Key) (k : Key) → length ks ≤ 65536 → IsBetween ks k 0 (length ks) 0
 start ks k few = record {
@@ -46,36 +46,36 @@ none_left_of_few : (n : ℕ) → left_after 1024 (suc (suc (suc (suc (suc (suc (
 none_left_of_few n = let le = at_most 1024 n in omega (arith, le)
 
 -- while a key is left, fewer than 17 were compared
-pub fewer : (ks : List Key) (k : Key) (low high probes : ℕ) → IsBetween ks k low high probes → low < high → probes < 17
-fewer ks k low high probes b lt =
+pub fewer : (ks : List Key) (k : Key) (low high comparisons : ℕ) → IsBetween ks k low high comparisons → low < high → comparisons < 17
+fewer ks k low high comparisons b lt =
     let left = b.left in
     ⊎_elim
-    (λ (few : probes < 17). few)
-    (λ (many : 17 ≤ probes).
-    let all : probes ≡ suc (suc (suc (suc (suc (suc (suc (suc (suc (suc (suc (suc (suc (suc (suc (suc (suc (probes - 17))))))))))))))))) = omega (arith, many) in
-    let none = ap (left_after 65536) all ∙ none_left (probes - 17) in
+    (λ (few : comparisons < 17). few)
+    (λ (many : 17 ≤ comparisons).
+    let all : comparisons ≡ suc (suc (suc (suc (suc (suc (suc (suc (suc (suc (suc (suc (suc (suc (suc (suc (suc (comparisons - 17))))))))))))))))) = omega (arith, many) in
+    let none = ap (left_after 65536) all ∙ none_left (comparisons - 17) in
     absurd (omega (arith, left, lt, none)))
-    (cases_lt probes 17)
+    (cases_lt comparisons 17)
 
 -- of at most 1,024 keys, fewer than 11 were compared
-pub fewer_than_eleven : (ks : List Key) (k : Key) (low high probes : ℕ) → IsBetween ks k low high probes → low < high → length ks ≤ 1024 → probes < 11
-fewer_than_eleven ks k low high probes b lt small =
+pub fewer_than_eleven : (ks : List Key) (k : Key) (low high comparisons : ℕ) → IsBetween ks k low high comparisons → low < high → length ks ≤ 1024 → comparisons < 11
+fewer_than_eleven ks k low high comparisons b lt small =
     let left = b.left_of_few small in
     ⊎_elim
-    (λ (few : probes < 11). few)
-    (λ (many : 11 ≤ probes).
-    let all : probes ≡ suc (suc (suc (suc (suc (suc (suc (suc (suc (suc (suc (probes - 11))))))))))) = omega (arith, many) in
-    let none = ap (left_after 1024) all ∙ none_left_of_few (probes - 11) in
+    (λ (few : comparisons < 11). few)
+    (λ (many : 11 ≤ comparisons).
+    let all : comparisons ≡ suc (suc (suc (suc (suc (suc (suc (suc (suc (suc (suc (comparisons - 11))))))))))) = omega (arith, many) in
+    let none = ap (left_after 1024) all ∙ none_left_of_few (comparisons - 11) in
     absurd (omega (arith, left, lt, none)))
-    (cases_lt probes 11)
+    (cases_lt comparisons 11)
 
 turned : (x k : Key) → key_cmp x k ≡ Greater → key_cmp k x ≡ Less
 turned x k e = key_total.antisymm k x ∙ ap ordering_reverse e
 
-pub upper : (es : List Entry) (k x : Key) (low high middle probes : ℕ) → T (entry_list.is_sorted key_cmp es) → IsBetween (map (λ e. e.0) es) k low high probes → low < high → middle ≡ low + (high - low) / 2 → slice_get (map (λ e. e.0) es) middle ≡ Some x → key_cmp x k ≡ Less → IsBetween (map (λ e. e.0) es) k (middle + 1) high (suc probes)
-upper es k x low high middle probes sorted b lt half is less =
+pub upper : (es : List Entry) (k x : Key) (low high middle comparisons : ℕ) → T (entry_list.is_sorted key_cmp es) → IsBetween (map (λ e. e.0) es) k low high comparisons → low < high → middle ≡ low + (high - low) / 2 → slice_get (map (λ e. e.0) es) middle ≡ Some x → key_cmp x k ≡ Less → IsBetween (map (λ e. e.0) es) k (middle + 1) high (suc comparisons)
+upper es k x low high middle comparisons sorted b lt half is less =
     let left = b.left in
-    let few = fewer _ k low high probes b lt in
+    let few = fewer _ k low high comparisons b lt in
     record {
       below = λ j y lt_j is_j. ⊎_elim
           (λ (e : j ≡ middle). let same : y ≡ x = cc (is_j, is, e) in ap (λ (z : Key). key_cmp z k) same ∙ less)
@@ -87,14 +87,14 @@ upper es k x low high middle probes sorted b lt half is less =
       left = omega (arith, half, lt, left);
       few = omega (arith, few);
       left_of_few = λ small. let some = b.left_of_few small in omega (arith, half, lt, some);
-      fewer_of_few = λ small. let some = fewer_than_eleven _ k low high probes b lt small in omega (arith, some);
+      fewer_of_few = λ small. let some = fewer_than_eleven _ k low high comparisons b lt small in omega (arith, some);
     }
 
-pub lower : (es : List Entry) (k x : Key) (low high middle probes : ℕ) → T (entry_list.is_sorted key_cmp es) → IsBetween (map (λ e. e.0) es) k low high probes → low < high → middle ≡ low + (high - low) / 2 → slice_get (map (λ e. e.0) es) middle ≡ Some x → key_cmp x k ≡ Greater → IsBetween (map (λ e. e.0) es) k low middle (suc probes)
-lower es k x low high middle probes sorted b lt half is greater =
+pub lower : (es : List Entry) (k x : Key) (low high middle comparisons : ℕ) → T (entry_list.is_sorted key_cmp es) → IsBetween (map (λ e. e.0) es) k low high comparisons → low < high → middle ≡ low + (high - low) / 2 → slice_get (map (λ e. e.0) es) middle ≡ Some x → key_cmp x k ≡ Greater → IsBetween (map (λ e. e.0) es) k low middle (suc comparisons)
+lower es k x low high middle comparisons sorted b lt half is greater =
     let left = b.left in
     let within = b.within in
-    let few = fewer _ k low high probes b lt in
+    let few = fewer _ k low high comparisons b lt in
     let after : key_cmp k x ≡ Less = turned x k greater in
     record {
       below = b.below;
@@ -107,5 +107,5 @@ lower es k x low high middle probes sorted b lt half is greater =
       left = omega (arith, half, lt, left);
       few = omega (arith, few);
       left_of_few = λ small. let some = b.left_of_few small in omega (arith, half, lt, some);
-      fewer_of_few = λ small. let some = fewer_than_eleven _ k low high probes b lt small in omega (arith, some);
+      fewer_of_few = λ small. let some = fewer_than_eleven _ k low high comparisons b lt small in omega (arith, some);
     }

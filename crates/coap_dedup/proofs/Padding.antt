@@ -3,62 +3,62 @@ use Rattle.std.proofs.Common.{◌≡◌, ℕ, ◌+◌, ◌-◌, ◌<◌, ◌≤�
 use Rattle.std.specs.Prelude.{slice_index_or}
 use Rattle.std.proofs.lemmas.List.{append_assoc, get_or-append_right, get_or-replicate, get_or_append_left, get_or_default, length-replicate, replicate-append-replicate, set-append_left, set-get_or}
 use Rattle.arrayvec.specs.ArrayVec.{ArrayVec}
-use Rattle.coap_dedup.specs.declared.exchange.Kept.{Kept}
+use Rattle.coap_dedup.specs.declared.exchange.StoredResponse.{StoredResponse}
 use Rattle.coap_dedup.specs.Views.{answered_at, forgotten, no_answer, padded}
 
-pub length_padded : (places : ℕ) (kept : List Kept) → length kept ≤ places → length (padded places kept) ≡ places
+pub length_padded : (places : ℕ) (kept : List StoredResponse) → length kept ≤ places → length (padded places kept) ≡ places
 length_padded places kept le =
     let long = length-append kept (replicate (places - length kept) no_answer) in
     let rest = length-replicate (places - length kept) no_answer in
     omega (arith, le, long, rest)
 
 -- writing a touched place
-written : (places i : ℕ) (kept : List Kept) (k : Kept) → i < length kept → set (padded places kept) i k ≡ padded places (set kept i k)
+written : (places i : ℕ) (kept : List StoredResponse) (k : StoredResponse) → i < length kept → set (padded places kept) i k ≡ padded places (set kept i k)
 written places i kept k lt = set-append_left kept (replicate (places - length kept) no_answer) i k lt ∙ ap (λ (n : ℕ). set kept i k ++ replicate (places - n) no_answer) (sym (length-set kept i k))
 
 -- a place that wasn't touched has no response
-untouched : (places i : ℕ) (kept : List Kept) → length kept ≤ i → i < places → slice_index_or (padded places kept) i no_answer ≡ no_answer
+untouched : (places i : ℕ) (kept : List StoredResponse) → length kept ≤ i → i < places → slice_index_or (padded places kept) i no_answer ≡ no_answer
 untouched places i kept le lt =
     get_or-append_right kept (replicate (places - length kept) no_answer) (length kept) i no_answer refl le
     ∙ get_or-replicate (places - length kept) (i - length kept) no_answer no_answer (omega (arith, le, lt))
 
 -- touching places changes none
-touched : (places n : ℕ) (kept : List Kept) → length kept + n ≤ places → padded places (kept ++ replicate n no_answer) ≡ padded places kept
+touched : (places n : ℕ) (kept : List StoredResponse) → length kept + n ≤ places → padded places (kept ++ replicate n no_answer) ≡ padded places kept
 touched places n kept le =
     let long = length-append kept (replicate n no_answer) in
     let rest = length-replicate n no_answer in
     let left : n + (places - length (kept ++ replicate n no_answer)) ≡ places - length kept = omega (arith, le, long, rest) in
     append_assoc kept (replicate n no_answer) (replicate (places - length (kept ++ replicate n no_answer)) no_answer)
-    ∙ (ap (λ (l : List Kept). kept ++ l) (replicate-append-replicate n (places - length (kept ++ replicate n no_answer)) no_answer)
+    ∙ (ap (λ (l : List StoredResponse). kept ++ l) (replicate-append-replicate n (places - length (kept ++ replicate n no_answer)) no_answer)
     ∙ ap (λ (m : ℕ). kept ++ replicate m no_answer) left)
 
-abbrev without : Kept → Kept
+abbrev without : StoredResponse → StoredResponse
 without k = record { answered = false; bytes = k.bytes }
 
-forgotten_of : (places number : ℕ) (kept : List Kept) → length kept ≤ places → set (padded places kept) (number % places) (without (slice_index_or (padded places kept) (number % places) no_answer)) ≡ forgotten (padded places kept) number
+forgotten_of : (places number : ℕ) (kept : List StoredResponse) → length kept ≤ places → set (padded places kept) (number % places) (without (slice_index_or (padded places kept) (number % places) no_answer)) ≡ forgotten (padded places kept) number
 forgotten_of places number kept le =
     ap (λ (n : ℕ). set (padded places kept) (number % n) (without (slice_index_or (padded places kept) (number % n) no_answer))) (sym (length_padded places kept le))
 
 -- the response at a touched place is cleared
-pub forgets : (places number : ℕ) (kept : List Kept) (was : Kept) → length kept ≤ places → number % places < length kept → was ≡ slice_index_or kept (number % places) was
+pub forgets : (places number : ℕ) (kept : List StoredResponse) (was : StoredResponse) → length kept ≤ places → number % places < length kept → was ≡ slice_index_or kept (number % places) was
     → padded places (set kept (number % places) (without was)) ≡ forgotten (padded places kept) number
 forgets places number kept was le lt is =
     let own : was ≡ slice_index_or (padded places kept) (number % places) no_answer = is ∙ (get_or_default kept (number % places) was no_answer lt ∙ sym (get_or_append_left kept (replicate (places - length kept) no_answer) no_answer (number % places) lt)) in
     sym (written places (number % places) kept (without was) lt)
-    ∙ (ap (λ (k : Kept). set (padded places kept) (number % places) (without k)) own ∙ forgotten_of places number kept le)
+    ∙ (ap (λ (k : StoredResponse). set (padded places kept) (number % places) (without k)) own ∙ forgotten_of places number kept le)
 
 -- a place that wasn't touched has no response to clear
-pub forgets_none : (places number : ℕ) (kept : List Kept) → length kept ≤ places → length kept ≤ number % places → number % places < places → padded places kept ≡ forgotten (padded places kept) number
+pub forgets_none : (places number : ℕ) (kept : List StoredResponse) → length kept ≤ places → length kept ≤ number % places → number % places < places → padded places kept ≡ forgotten (padded places kept) number
 forgets_none places number kept le over lt =
     let none = untouched places (number % places) kept over lt in
     sym (set-get_or (padded places kept) (number % places) no_answer)
     ∙ (ap (set (padded places kept) (number % places)) (none ∙ ap without (sym none)) ∙ forgotten_of places number kept le)
 
 -- a response is stored at its place, once the place is touched
-pub keeps : (places number n : ℕ) (kept : List Kept) (bytes : ArrayVec ℕ) → length kept + n ≤ places → number % places < length (kept ++ replicate n no_answer)
+pub keeps : (places number n : ℕ) (kept : List StoredResponse) (bytes : ArrayVec ℕ) → length kept + n ≤ places → number % places < length (kept ++ replicate n no_answer)
     → padded places (set (kept ++ replicate n no_answer) (number % places) (record { answered = true; bytes = bytes })) ≡ answered_at (padded places kept) number bytes
 keeps places number n kept bytes le lt =
-    let k : Kept = record { answered = true; bytes = bytes } in
+    let k : StoredResponse = record { answered = true; bytes = bytes } in
     sym (written places (number % places) (kept ++ replicate n no_answer) k lt)
-    ∙ (ap (λ (l : List Kept). set l (number % places) k) (touched places n kept le)
+    ∙ (ap (λ (l : List StoredResponse). set l (number % places) k) (touched places n kept le)
     ∙ ap (λ (m : ℕ). set (padded places kept) (number % m) k) (sym (length_padded places kept (omega (arith, le)))))

@@ -8,7 +8,7 @@ use Rattle.std.specs.Vec.{vec_capacity}
 use Rattle.circular_buffer.specs.Buffer.{Buffer}
 use Rattle.coap_dedup.specs.declared.exchange.Opened.{Opened}
 use Rattle.coap_dedup.specs.declared.key.Key.{Key}
-use Rattle.coap_dedup.specs.declared.requests.Gap.{Gap}
+use Rattle.coap_dedup.specs.declared.requests.InsertHint.{InsertHint}
 use Rattle.coap_dedup.specs.Keys.{first_key, key_cmp}
 use Rattle.coap_dedup.specs.Views.{InOrder}
 
@@ -60,7 +60,7 @@ pub record IsStart (ip : List ℕ) (ks : List Key) (i : ℕ) : Type 0 where
   pub above : (j : ℕ) (x : Key) → i ≤ j → slice_get ks j ≡ Some x → (first_key ip).number ≤ x.number
 
 -- the cached insertion point, if any, is right for its key.
-abbrev pub HasGap : List Opened → Option Gap → Type 0
+abbrev pub HasGap : List Opened → Option InsertHint → Type 0
 HasGap os gap = IfSome gap (λ g. IsGap (keys (by_key os)) g.key g.index)
 
 -- the oldest request, if there is one, has this number.

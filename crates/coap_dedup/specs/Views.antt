@@ -5,7 +5,7 @@ use Rattle.std.specs.Cmp.Lexicographic.{pointwise}
 use Rattle.arrayvec.specs.ArrayVec.{ArrayVec}
 use Rattle.coap_msg.specs.declared.types.Endpoint.{Endpoint}
 use Rattle.circular_buffer.specs.Buffer.{Buffer}
-use Rattle.coap_dedup.specs.declared.exchange.Kept.{Kept}
+use Rattle.coap_dedup.specs.declared.exchange.StoredResponse.{StoredResponse}
 use Rattle.coap_dedup.specs.declared.exchange.Limits.{Limits}
 use Rattle.coap_dedup.specs.declared.exchange.Opened.{Opened}
 use Rattle.coap_msg.specs.Endpoints.{same_endpoint}
@@ -13,14 +13,14 @@ use Rattle.coap_msg.specs.Windows.{within_window}
 use Rattle.coap_dedup.specs.Exchanges.{Exchange, places_of}
 use Rattle.coap_dedup.specs.Keys.{endpoint_of, id_of}
 
-abbrev pub no_answer : Kept
+abbrev pub no_answer : StoredResponse
 no_answer = record { answered = false; bytes = record { items = [] } }
 
 -- all places, if only these were touched.
-abbrev pub padded : ℕ → List Kept → List Kept
+abbrev pub padded : ℕ → List StoredResponse → List StoredResponse
 padded places kept = kept ++ replicate (places - length kept) no_answer
 
-abbrev pub kept_at : List Kept → ℕ → Kept
+abbrev pub kept_at : List StoredResponse → ℕ → StoredResponse
 kept_at kept number = slice_index_or kept (number % length kept) no_answer
 
 abbrev pub answer_if : Bool → ArrayVec ℕ → Option (ArrayVec ℕ)
@@ -28,10 +28,10 @@ answer_if false bytes = None
 answer_if true bytes = Some bytes
 
 -- an exchange, from the contents of its place.
-abbrev pub with_answer : Kept → Opened → Exchange
+abbrev pub with_answer : StoredResponse → Opened → Exchange
 with_answer k o = record { endpoint = endpoint_of o.key; id = id_of o.key; confirmable = o.confirmable; number = o.number; at = o.at; answer = answer_if k.answered k.bytes }
 
-abbrev pub as_exchange : List Kept → Opened → Exchange
+abbrev pub as_exchange : List StoredResponse → Opened → Exchange
 as_exchange kept o = with_answer (kept_at kept o.number) o
 
 abbrev pub request_is_live : ℕ → Opened → Bool
@@ -73,15 +73,15 @@ IsGone os opened number = number < opened → number + length os < opened
 
 -- there are at most as many requests as the limit, in order of arrival, and there is a place for
 -- the response of each.
-pub record AreExchanges (limits : Limits) (now opened : ℕ) (ring : Buffer Opened) (kept : List Kept) : Type 0 where
+pub record AreExchanges (limits : Limits) (now opened : ℕ) (ring : Buffer Opened) (kept : List StoredResponse) : Type 0 where
   pub capacity : ring.capacity ≡ places_of limits
   pub few : length ring.items ≤ places_of limits
   pub places : length kept ≡ places_of limits
   pub arrived : IsArrived now opened ring.items
 
 -- the places, one of them without its response, or with this response.
-abbrev pub forgotten : List Kept → ℕ → List Kept
+abbrev pub forgotten : List StoredResponse → ℕ → List StoredResponse
 forgotten kept number = slice_set kept (number % length kept) (record { answered = false; bytes = (kept_at kept number).bytes })
 
-abbrev pub answered_at : List Kept → ℕ → ArrayVec ℕ → List Kept
+abbrev pub answered_at : List StoredResponse → ℕ → ArrayVec ℕ → List StoredResponse
 answered_at kept number bytes = slice_set kept (number % length kept) (record { answered = true; bytes = bytes })

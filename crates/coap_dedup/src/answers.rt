@@ -2,7 +2,7 @@
 ghost use Rattle.std.specs.Prelude.{◌≡◌, ◌+◌, ◌-◌, ◌<◌, ◌≤◌, ◌++◌, length, option_map, replicate, vec_capacity, IfOk};
 ghost use Rattle.coap_dedup.specs.Views.{answer_if, answered_at, forgotten, kept_at, no_answer};
 
-use crate::exchange::{Kept, place, write_over};
+use crate::exchange::{StoredResponse, place, write_over};
 use coap_msg::Datagram;
 use std::alloc::{AllocError, Global};
 use std::marker::Model;
@@ -17,12 +17,12 @@ use std::marker::Model;
 #[derive(Drop)]
 pub(crate) struct Answers {
     places: usize,
-    kept: Vec<Kept>,
+    kept: Vec<StoredResponse>,
 }
 
 impl Model for Answers {
     ghost use Rattle.std.specs.Prelude.{◌≤◌, List, length, vec_capacity};
-    ghost use Rattle.coap_dedup.specs.declared.exchange.Kept.{Kept as Seen};
+    ghost use Rattle.coap_dedup.specs.declared.exchange.StoredResponse.{StoredResponse as Seen};
     ghost use Rattle.coap_dedup.specs.Views.{padded};
 
     ghost Value = { List Seen };
@@ -78,7 +78,7 @@ impl Answers {
 }
 
 // Touches the places up to this one; the newly touched have no response.
-fn touch(kept: &mut Vec<Kept>, place: usize)
+fn touch(kept: &mut Vec<StoredResponse>, place: usize)
     requires { place < vec_capacity kept.old }
     ensures items { kept.new.items ≡ kept.old.items ++ replicate (place + 1 - length kept.old.items) no_answer }
     ensures capacity { vec_capacity kept.new ≡ vec_capacity kept.old }
@@ -87,7 +87,7 @@ fn touch(kept: &mut Vec<Kept>, place: usize)
         return;
     }
     for _place in kept.len()..place + 1 {
-        kept.push_reserved(Kept {
+        kept.push_reserved(StoredResponse {
             answered: false,
             bytes: Datagram::new(),
         });

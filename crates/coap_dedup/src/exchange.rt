@@ -51,7 +51,7 @@ pub(crate) struct Opened {
 
 /// The stored response of an exchange, once there is one.
 #[derive(Drop)]
-pub(crate) struct Kept {
+pub(crate) struct StoredResponse {
     pub(crate) answered: bool,
     pub(crate) bytes: Datagram,
 }

@@ -8,7 +8,7 @@ ghost use Rattle.coap_dedup.specs.Views.{IsGone, IsNumbered};
 
 use crate::answers::Answers;
 use crate::exchange::{Limits, Opened, copy, is_live};
-use crate::key::{Key, Probes};
+use crate::key::{Comparisons, Key};
 use crate::requests::Requests;
 use coap_msg::{Datagram, Endpoint};
 use std::alloc::{AllocError, Global};
@@ -57,7 +57,7 @@ pub struct Exchanges {
     opened: u64,
     requests: Requests,
     answers: Answers,
-    probes: Probes,
+    comparisons: Comparisons,
 }
 
 impl Model for Exchanges {
@@ -69,7 +69,7 @@ impl Model for Exchanges {
 
     ghost view = { λ x. record { limits = x.limits; now = x.now; opened = x.opened; held = map (as_exchange x.answers) x.requests.items } };
 
-    ghost invariant = { λ x. AreExchanges x.limits x.now x.opened x.requests x.answers × (x.probes ≤ 17) × (places_of x.limits ≤ 1024 → x.probes ≤ 11) };
+    ghost invariant = { λ x. AreExchanges x.limits x.now x.opened x.requests x.answers × (x.comparisons ≤ 17) × (places_of x.limits ≤ 1024 → x.comparisons ≤ 11) };
 }
 
 impl Exchanges {
@@ -86,7 +86,7 @@ impl Exchanges {
             opened: 0,
             requests: Requests::new(alloc, limits.places())?,
             answers: Answers::new(alloc, limits.places())?,
-            probes: Probes::none(),
+            comparisons: Comparisons::none(),
         })
     }
 
@@ -99,10 +99,10 @@ impl Exchanges {
         ensures after { self.new ≡ expired self.old now }
     {
         self.expire(now);
-        self.probes = Probes::none();
+        self.comparisons = Comparisons::none();
         match self
             .requests
-            .find(&Key::new(endpoint, id), &mut self.probes)
+            .find(&Key::new(endpoint, id), &mut self.comparisons)
         {
             Some(opened) => repeat(opened.confirmable, self.answers.get(opened.number)),
             None => Looked::New,
@@ -143,7 +143,7 @@ impl Exchanges {
 
     /// Opens an exchange for a new request, and returns its number.
     pub fn open(&mut self, now: u64, endpoint: Endpoint, id: u16, confirmable: bool) -> u64
-        requires moment { self.old.now ≤ now }
+        requires time { self.old.now ≤ now }
         requires new { look_at self.old endpoint id ≡ IsNew }
         ensures number { result ≡ self.old.opened }
         ensures after { self.new ≡ opened self.old now endpoint id confirmable }
@@ -187,11 +187,11 @@ impl Exchanges {
     /// Returns how many keys the last [`Exchanges::look`] compared.
     ///
     /// It is at most 17, at most 11 if there are at most 1,024 places, and 0 before the first call.
-    pub fn probes(&self) -> u32
+    pub fn comparisons(&self) -> u32
         ensures most { result ≤ 17 }
         ensures few { places_of self.entry.now.limits ≤ 1024 → result ≤ 11 }
     {
-        self.probes.count()
+        self.comparisons.count()
     }
 }
 

@@ -8,11 +8,11 @@ use std::marker::Model;
 
 /// The number of compared keys.
 #[derive(Drop)]
-pub(crate) struct Probes {
+pub(crate) struct Comparisons {
     count: u32,
 }
 
-impl Model for Probes {
+impl Model for Comparisons {
     ghost use Rattle.std.specs.Prelude.{ℕ};
 
     ghost Value = { ℕ };
@@ -20,12 +20,12 @@ impl Model for Probes {
     ghost view = { λ p. p.count };
 }
 
-impl Probes {
+impl Comparisons {
     // Returns a count of 0.
-    pub(crate) fn none() -> Probes
+    pub(crate) fn none() -> Comparisons
         ensures { result ≡ 0 }
     {
-        Probes { count: 0 }
+        Comparisons { count: 0 }
     }
 
     pub(crate) fn count(&self) -> u32
@@ -68,12 +68,12 @@ impl Key {
     }
 
     // Compares two keys, and counts the comparison. Only `is_of` also reads a key.
-    pub(crate) fn order(&self, other: &Key, probes: &mut Probes) -> Ordering
-        requires { probes.old < 4294967295 }
+    pub(crate) fn order(&self, other: &Key, comparisons: &mut Comparisons) -> Ordering
+        requires { comparisons.old < 4294967295 }
         ensures order { result ≡ key_cmp self.now other.now }
-        ensures counted { probes.new ≡ probes.old + 1 }
+        ensures counted { comparisons.new ≡ comparisons.old + 1 }
     {
-        probes.count += 1;
+        comparisons.count += 1;
         self.number.cmp(&other.number)
     }
 

@@ -7,7 +7,7 @@ ghost use Rattle.coap_dedup.specs.Requests.{IsOldest, IsGap, IsStart, by_key, ha
 ghost use Rattle.coap_dedup.specs.Views.{InOrder, is_of_address, request_is_live};
 
 use crate::exchange::{Opened, is_live};
-use crate::key::{Key, Probes};
+use crate::key::{Comparisons, Key};
 use circular_buffer::HeapCircularBuffer;
 use std::alloc::{AllocError, Global};
 use std::cmp::Ordering;
@@ -15,7 +15,7 @@ use std::marker::Model;
 
 /// An insertion point: the index at which an absent key would be.
 #[derive(Clone, Copy)]
-pub(crate) struct Gap {
+pub(crate) struct InsertHint {
     key: Key,
     index: usize,
 }
@@ -30,7 +30,7 @@ pub(crate) struct Gap {
 pub(crate) struct Requests {
     ring: HeapCircularBuffer<Opened>,
     index: Vec<u16>,
-    gap: Option<Gap>,
+    gap: Option<InsertHint>,
 }
 
 impl Model for Requests {
@@ -73,17 +73,17 @@ impl Requests {
 
     // Returns the request with this key, after at most 17 comparisons of keys, or 11 for at most
     // 1,024 requests.
-    pub(crate) fn find(&mut self, key: &Key, probes: &mut Probes) -> Option<Opened>
-        requires { probes.old ≡ 0 }
+    pub(crate) fn find(&mut self, key: &Key, comparisons: &mut Comparisons) -> Option<Opened>
+        requires { comparisons.old ≡ 0 }
         ensures found { result ≡ find (has_key key.now) self.old.items }
         ensures same { self.new ≡ self.old }
-        ensures most { probes.new ≤ 17 }
-        ensures few { length self.old.items ≤ 1024 → probes.new ≤ 11 }
+        ensures most { comparisons.new ≤ 17 }
+        ensures few { length self.old.items ≤ 1024 → comparisons.new ≤ 11 }
     {
-        match self.search(key, probes) {
+        match self.search(key, comparisons) {
             Ok(index) => Some(*self.at(self.first(), index)),
             Err(index) => {
-                self.gap = Some(Gap { key: *key, index });
+                self.gap = Some(InsertHint { key: *key, index });
                 None
             }
         }
@@ -110,7 +110,7 @@ impl Requests {
         if let Some(index) = self.known_gap(key) {
             return index;
         }
-        match self.search(key, &mut Probes::none()) {
+        match self.search(key, &mut Comparisons::none()) {
             Ok(index) | Err(index) => index,
         }
     }
@@ -120,7 +120,7 @@ impl Requests {
         ensures { IfSome result (IsGap (keys (by_key self.now.items)) key.now) }
     {
         let gap = self.gap?;
-        match gap.key.order(key, &mut Probes::none()) {
+        match gap.key.order(key, &mut Comparisons::none()) {
             Ordering::Equal => Some(gap.index),
             _ => None,
         }
@@ -146,7 +146,7 @@ impl Requests {
         requires { option_map (λ o. o.key) (slice_get self.old.items 0) ≡ Some key }
         ensures { self.new ≡ buffer (drop 1 self.old.items) self.old.capacity }
     {
-        if let Ok(index) = self.search(&key, &mut Probes::none()) {
+        if let Ok(index) = self.search(&key, &mut Comparisons::none()) {
             self.index.remove(index);
         }
         self.gap = None;
@@ -154,19 +154,19 @@ impl Requests {
     }
 
     // Returns the index of the request with this key, or the insertion point of the key.
-    fn search(&self, key: &Key, probes: &mut Probes) -> Result<usize, usize>
-        requires { probes.old ≡ 0 }
+    fn search(&self, key: &Key, comparisons: &mut Comparisons) -> Result<usize, usize>
+        requires { comparisons.old ≡ 0 }
         ensures found { IfOk result (λ i. slice_get (keys (by_key self.now.items)) i ≡ Some key.now) }
         ensures absent { IfErr result (IsGap (keys (by_key self.now.items)) key.now) }
-        ensures most { probes.new ≤ 17 }
-        ensures few { length self.now.items ≤ 1024 → probes.new ≤ 11 }
+        ensures most { comparisons.new ≤ 17 }
+        ensures few { length self.now.items ≤ 1024 → comparisons.new ≤ 11 }
     {
         let first = self.first();
         let mut low = 0;
         let mut high = self.index.len();
         'halves: while low < high {
             let middle = low + (high - low) / 2;
-            match self.at(first, middle).key.order(key, probes) {
+            match self.at(first, middle).key.order(key, comparisons) {
                 Ordering::Less => low = middle + 1,
                 Ordering::Equal => return Ok(middle),
                 Ordering::Greater => high = middle,
@@ -197,7 +197,7 @@ impl Requests {
         ensures start { IsStart ip (keys (by_key self.now.items)) result }
         ensures bytes { AreBytes ip }
     {
-        match self.search(&Key::first_of(ip), &mut Probes::none()) {
+        match self.search(&Key::first_of(ip), &mut Comparisons::none()) {
             Ok(index) | Err(index) => index,
         }
     }

@@ -2,7 +2,7 @@
 use Rattle.std.proofs.Common.{◌≡◌, ◌∙◌, ℕ, zero, suc, Bool, true, false, List, [], ◌∷◌, Option, None, Some, ap, refl}
 use Rattle.std.specs.Prelude.{if◌then◌else◌, map, slice_index_or, slice_set}
 use Rattle.fc_observe.specs.Calls.{ObserverCall, NextDue, Tick, after_calls, observers_after}
-use Rattle.fc_observe.specs.Observers.{ObserverList, at_moment, gives_turn, no_observers, turn_given_by}
+use Rattle.fc_observe.specs.Observers.{ObserverList, list_at_time, gives_turn, no_observers, turn_given_by}
 use Rattle.fc_registry.specs.Slots.{Shard}
 use Rattle.fc_registry.specs.Watches.{after_due, noticed_at, shard_after_tick, signalled, watches_called, with_calls}
 use Rattle.fc_calls.specs.Kept.{confirm_times}
@@ -10,13 +10,13 @@ use Rattle.fc_calls.specs.Kept.{confirm_times}
 abbrev times : List ObserverList → List ℕ
 times ws = map (λ w. w.confirm_after) ws
 
-turn_keeps : (gives : Bool) (noticed : ℕ) (w : ObserverList) → (turn_given_by gives noticed w).confirm_after ≡ w.confirm_after
-turn_keeps true noticed w = refl
-turn_keeps false noticed w = refl
+turn_keeps : (gives : Bool) (notify_serial : ℕ) (w : ObserverList) → (turn_given_by gives notify_serial w).confirm_after ≡ w.confirm_after
+turn_keeps true notify_serial w = refl
+turn_keeps false notify_serial w = refl
 
 -- a call on the observers of a slot
 call_keeps : (c : ObserverCall) (w : ObserverList) → (observers_after c w).confirm_after ≡ w.confirm_after
-call_keeps (NextDue now noticed) w = turn_keeps (gives_turn noticed (at_moment now w)) noticed (at_moment now w)
+call_keeps (NextDue now notify_serial) w = turn_keeps (gives_turn notify_serial (list_at_time now w)) notify_serial (list_at_time now w)
 call_keeps other w = refl
 
 calls_keep : (cs : List ObserverCall) (w : ObserverList) → (after_calls cs w).confirm_after ≡ w.confirm_after
@@ -66,9 +66,9 @@ due_keeps (Some k) s = called_keep (NextDue s.now (noticed_at s k) ∷ []) k s.w
 pub due_confirms : (place : Option ℕ) (s new : Shard) → new ≡ after_due place s → confirm_times new ≡ confirm_times s
 due_confirms place s new after = ap confirm_times after ∙ due_keeps place s
 
-quiet_keeps : (quiet : Bool) (s at : Shard) → at.watches ≡ s.watches → confirm_times (if quiet then at else s) ≡ confirm_times s
-quiet_keeps true s at same = ap times same
-quiet_keeps false s at same = refl
+idle_keeps : (idle : Bool) (s at : Shard) → at.watches ≡ s.watches → confirm_times (if idle then at else s) ≡ confirm_times s
+idle_keeps true s at same = ap times same
+idle_keeps false s at same = refl
 
-pub quiet_confirms : (quiet : Bool) (s at new : Shard) → at.watches ≡ s.watches → new ≡ (if quiet then at else s) → confirm_times new ≡ confirm_times s
-quiet_confirms quiet s at new same after = ap confirm_times after ∙ quiet_keeps quiet s at same
+pub idle_confirms : (idle : Bool) (s at new : Shard) → at.watches ≡ s.watches → new ≡ (if idle then at else s) → confirm_times new ≡ confirm_times s
+idle_confirms idle s at new same after = ap confirm_times after ∙ idle_keeps idle s at same

@@ -1,2 +1,2 @@
-pub mod Takings
+pub mod Snapshots
 mod Confirming

@@ -22,15 +22,15 @@ use Rattle.fc_registry.specs.declared.note.Notification.TheVariants as tells
 use Rattle.fc_registry.specs.declared.receipt.Receipt.{Receipt}
 use Rattle.fc_registry.specs.declared.shard.Made.{Made}
 use Rattle.fc_registry.specs.declared.shard.Removal.{Removal}
-use Rattle.fc_registry.specs.Taken.{Found, Taken}
+use Rattle.fc_registry.specs.Taken.{SlotSnapshot, Taken}
 use Rattle.fc_registry.specs.Views.{HasSize, taken_with}
 use Rattle.fc_registry.specs.declared.shard.Taken as handles
-use Rattle.fc_registry.specs.Calls.{CommitsTo, TakesAt, after_taking, install_in, receipt_at, remove_from, run_of, initial_vars_of}
+use Rattle.fc_registry.specs.Calls.{CommitsTo, TakesAt, after_snapshot, install_in, receipt_at, remove_from, run_of, initial_vars_of}
 use Rattle.fc_registry.specs.Changes.{after_changes}
 use Rattle.fc_registry.specs.Notes.{NotesTo}
 use Rattle.fc_registry.specs.Slots.{Shard, Ticket, slot_in, with_slot}
 use Rattle.fc_registry.specs.Turns.{due_job}
-use Rattle.fc_registry.specs.Watches.{StaysQuietUntil, after_due, after_given_up, shard_after_tick, due_place, at_time, is_quiet, late_place, signal_call, signalled, ticked_in}
+use Rattle.fc_registry.specs.Watches.{StaysIdleUntil, after_due, after_given_up, shard_after_tick, due_place, at_time, is_idle, overdue_place, signal_call, signalled, ticked_in}
 
 -- a run is committed at this time.
 abbrev pub CommitsAt : ℕ → Ran → Ticket → Shard → Committed → Shard → Type 0
@@ -41,17 +41,17 @@ CommitsAt now ran ticket before committed after = CommitsTo ran ticket before no
 abbrev pub TicksAt : ℕ → Shard → Ticked → Shard → Type 0
 TicksAt now before ticked after =
     let at = at_time before now in
-    (ticked ≡ ticked_in (late_place at) at) × (after ≡ shard_after_tick (late_place at) at)
+    (ticked ≡ ticked_in (overdue_place at) at) × (after ≡ shard_after_tick (overdue_place at) at)
 
 -- the clock is advanced to this time if the shard is idle then.
-abbrev pub PassesIfQuiet : ℕ → Shard → Bool → Shard → Type 0
-PassesIfQuiet now before quiet after =
+abbrev pub PassesIfIdle : ℕ → Shard → Bool → Shard → Type 0
+PassesIfIdle now before idle after =
     let at = at_time before now in
-    (quiet ≡ is_quiet at) × (after ≡ (if quiet then at else before))
+    (idle ≡ is_idle at) × (after ≡ (if idle then at else before))
 
 -- a time is returned before which the shard is idle.
-abbrev pub TellsQuietUntil : Shard → ℕ → Shard → Type 0
-TellsQuietUntil before until after = StaysQuietUntil until before × (after ≡ before)
+abbrev pub TellsIdleUntil : Shard → ℕ → Shard → Type 0
+TellsIdleUntil before until after = StaysIdleUntil until before × (after ≡ before)
 
 -- the first observer with a pending notification at this time gets a lease.
 abbrev pub GivesTurnAt : ℕ → Shard → Option Job → Shard → Type 0
@@ -70,11 +70,11 @@ GivesUpAt now turn before after = after ≡ after_given_up turn (at_time before 
 
 -- a job takes a snapshot of its slot, with these readings.
 abbrev pub TakesTo : Job → List ℕ → Shard → Taken → Shard → Type 0
-TakesTo job readings before taken after = TakesAt job readings before taken × (after ≡ after_taking job before)
+TakesTo job readings before taken after = TakesAt job readings before taken × (after ≡ after_snapshot job before)
 
 -- it does so, with the variables written to the snapshot's memory; a program in the snapshot has as
 -- many variables as were written.
-abbrev pub TakesInto : Job → List ℕ → Shard → handles.Taken → Found → Shard → Type 0
+abbrev pub TakesInto : Job → List ℕ → Shard → handles.Taken → SlotSnapshot → Shard → Type 0
 TakesInto job readings before taken found after = TakesTo job readings before (taken_with taken found) after × HasSize taken found
 
 -- a program is installed in the slot of a job, which determines the variables that it leaves.
@@ -107,8 +107,8 @@ SaysFound tells.Gone found = found ≡ None
 -- ---- the front
 
 -- a datagram is handled at this time, with this result.
-abbrev pub HearsAt : ℕ → Endpoint → List ℕ → Delivered → FrontState → FrontState → Type 0
-HearsAt now from bytes brings before after =
+abbrev pub HandlesAt : ℕ → Endpoint → List ℕ → Delivered → FrontState → FrontState → Type 0
+HandlesAt now from bytes brings before after =
     let at = advanced before now in
     (brings ≡ delivered at from bytes) × (after ≡ after_delivered at from bytes)
 

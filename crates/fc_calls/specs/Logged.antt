@@ -21,7 +21,7 @@ use Rattle.fc_registry.specs.Slots.{Ticket}
 -- a call that may change something, or whose result is soon out of date.
 pub data LoggedCall : Type 0 where
   -- a datagram is handled at this time, with this result.
-  HearsDatagram : (now : ℕ) (from : Endpoint) (bytes : List ℕ) (brings : Delivered) → LoggedCall
+  HandlesDatagram : (now : ℕ) (from : Endpoint) (bytes : List ℕ) (brings : Delivered) → LoggedCall
   -- the front is advanced to this time.
   AdvancesFront : (now : ℕ) → LoggedCall
   -- a message ID is drawn at this time, or none is available.
@@ -45,7 +45,7 @@ pub data LoggedCall : Type 0 where
   -- a shard is passed a Reset message or an Acknowledgement, by its endpoint and message ID.
   HandsSignal : (shard : ℕ) (from : Endpoint) (id : ℕ) (reset : Bool) → LoggedCall
   -- a shard that is idle at this time is advanced to it.
-  AdvancesQuiet : (shard now : ℕ) → LoggedCall
+  AdvancesIdle : (shard now : ℕ) → LoggedCall
   -- a shard is advanced to this time, with this result.
   AdvancesShard : (shard now : ℕ) (ticked : Ticked) → LoggedCall
   -- a shard is asked at this time for its next lease.

@@ -5,8 +5,8 @@ ghost use Rattle.std.specs.Prelude.{◌≡◌, ℕ, ◌+◌, ⊤, if◌then◌el
 ghost use Rattle.fc_registry.specs.Notes.{noted_as};
 ghost use Rattle.fc_registry.specs.Slots.{IsOwned, Shard as Seen};
 ghost use Rattle.fc_registry.specs.Turns.{written_if};
-ghost use Rattle.fc_calls.specs.Doings.{CommitsAt, DescribesTo, GivesTurnAt, GivesUpAt, HandsOn, InstallsTo, NotesAt, PassesIfQuiet};
-ghost use Rattle.fc_calls.specs.Doings.{RemovesFrom, TakesInto, TellsQuietUntil, TicksAt};
+ghost use Rattle.fc_calls.specs.Doings.{CommitsAt, DescribesTo, GivesTurnAt, GivesUpAt, HandsOn, InstallsTo, NotesAt, PassesIfIdle};
+ghost use Rattle.fc_calls.specs.Doings.{RemovesFrom, TakesInto, TellsIdleUntil, TicksAt};
 ghost use Rattle.fc_calls.specs.Kept.{HasEightSlots, commit_changes, confirm_times, install_changes, removal_changes, serials};
 
 use coap_msg::{Emission, Endpoint};
@@ -14,7 +14,8 @@ use fc_help::Readings;
 use fc_machine::Outcome;
 use fc_observe::{Ticked, Turn};
 use fc_registry::{
-    Committed, Found, Job, Made, NoteOutcome, Notification, Receipt, Removal, Shard, Taken, Ticket,
+    Committed, Job, Made, NoteOutcome, Notification, Receipt, Removal, Shard, SlotSnapshot, Taken,
+    Ticket,
 };
 use fc_verify::Verified;
 use std::sync::Arc;
@@ -62,7 +63,7 @@ pub trait Change: ShardCall {
 
 /// Takes a snapshot of a job's slot, with these readings.
 ///
-/// See [`Shard::write_taking`].
+/// See [`Shard::take_into`].
 #[derive(Drop)]
 pub struct Take<'a> {
     pub job: &'a Job,
@@ -72,14 +73,14 @@ pub struct Take<'a> {
 impl<'a> ShardCall for Take<'a> {
     type Answer = Taken;
 
-    type Room = Found;
+    type Room = SlotSnapshot;
 
     ghost may_ask = { λ call shard. IsOwned shard call.job.now.origin.slot };
 
     ghost does = { λ call before answer room after. TakesInto call.job.now call.readings.now before answer room after };
 
-    fn call(self, shard: &mut Shard, room: &mut Found) -> Taken {
-        shard.write_taking(self.job, self.readings, room)
+    fn call(self, shard: &mut Shard, room: &mut SlotSnapshot) -> Taken {
+        shard.take_into(self.job, self.readings, room)
     }
 }
 
@@ -244,37 +245,37 @@ impl ShardCall for Tick {
 /// Advances an idle shard to a time in milliseconds.
 ///
 /// It is idle if no notification has timed out and no observer has a pending one. See
-/// [`Shard::advance_if_quiet`].
+/// [`Shard::advance_if_idle`].
 #[derive(Drop)]
-pub struct AdvanceIfQuiet {
+pub struct AdvanceIfIdle {
     pub now: u64,
 }
 
-impl ShardCall for AdvanceIfQuiet {
+impl ShardCall for AdvanceIfIdle {
     type Answer = bool;
 
     type Room = ();
 
-    ghost does = { λ call before answer room after. PassesIfQuiet call.now before answer after };
+    ghost does = { λ call before answer room after. PassesIfIdle call.now before answer after };
 
     fn call(self, shard: &mut Shard, _: &mut ()) -> bool {
-        shard.advance_if_quiet(self.now)
+        shard.advance_if_idle(self.now)
     }
 }
 
-/// Returns a time before which the shard stays idle. See [`Shard::quiet_until`].
+/// Returns a time before which the shard stays idle. See [`Shard::idle_until`].
 #[derive(Drop)]
-pub struct QuietUntil;
+pub struct IdleUntil;
 
-impl ShardCall for QuietUntil {
+impl ShardCall for IdleUntil {
     type Answer = u64;
 
     type Room = ();
 
-    ghost does = { λ call before answer room after. TellsQuietUntil before answer after };
+    ghost does = { λ call before answer room after. TellsIdleUntil before answer after };
 
     fn call(self, shard: &mut Shard, _: &mut ()) -> u64 {
-        shard.quiet_until()
+        shard.idle_until()
     }
 }
 

@@ -7,7 +7,7 @@ use Rattle.fc_observe.specs.declared.entry.Turn.{Turn}
 use Rattle.fc_registry.specs.declared.job.Job.{Job}
 use Rattle.fc_registry.specs.Changes.{Change}
 use Rattle.fc_registry.specs.declared.commit.CommitOutcome.{CommitOutcome}
-use Rattle.fc_registry.specs.Calls.{commit_calls, commits, is_out_at, outcome, readings_if, receipt_at, remove_from, taking, turn_taking, initial_vars_of}
+use Rattle.fc_registry.specs.Calls.{commit_calls, commits, is_out_at, outcome, readings_if, receipt_at, remove_from, snapshot, turn_snapshot, initial_vars_of}
 use Rattle.fc_registry.specs.Slots.{Slot, Ticket}
 use Rattle.fc_verify.specs.Judged.{judged}
 use Rattle.fc_core.specs.declared.event.Event.{Event}
@@ -17,15 +17,15 @@ use Rattle.fc_core.specs.Stage.{ToMatch, ToTake, ToCommit, ToInstall, ToRemove, 
 use Rattle.fc_core.specs.TurnStage.{TurnStage}
 use Rattle.fc_core.specs.TurnStage as turns
 use Rattle.fc_core.specs.Contents.{Content}
-use Rattle.fc_core.specs.AnswerLaws.{row_moment}
-use Rattle.fc_core.specs.Laws.{gives, is_answered, is_stray_at}
+use Rattle.fc_core.specs.AnswerLaws.{row_time}
+use Rattle.fc_core.specs.Laws.{gives, is_answered, is_noop_at}
 use Rattle.fc_core.specs.Heads.{word_at}
-use Rattle.fc_core.specs.Rows.{Around, Move, Scene, call_if, install_if, move_of, moves, names, row, call_at}
+use Rattle.fc_core.specs.Rows.{Around, Move, Inputs, call_if, install_if, move_of, moves, names, row, call_at}
 use Rattle.fc_core.specs.Stages.{after_commit, image_of}
 use Rattle.fc_core.specs.Steps.{Call, changes_told}
 use Rattle.fc_core.specs.Steps as calls
 
-abbrev at : Job → Slot → Around → Stage → Scene
+abbrev at : Job → Slot → Around → Stage → Inputs
 at job slot ws stage = record { job = job; slot = slot; around = ws; stage = stage }
 
 -- an event at a stage that needs it, with the data of both.
@@ -92,8 +92,8 @@ IsAsked other job = Unit {0}
 abbrev pub call_by : Step → Job → Slot → Around → Call
 call_by (Matches n) job slot ws = calls.Matches job.etags.items (word_at ws.common.words n)
 call_by (Lists n seen) job slot ws = calls.Lists seen (word_at ws.common.words n)
-call_by (Takes memory readings count) job slot ws = calls.Takes count (taking (readings_if memory readings) job slot.serial slot.present)
-call_by (TakesTurn memory readings turn) job slot ws = calls.TakesTurn turn (turn_taking (is_out_at turn ws.moment ws.watch) (readings_if memory readings) job slot.serial slot.present)
+call_by (Takes memory readings count) job slot ws = calls.Takes count (snapshot (readings_if memory readings) job slot.serial slot.present)
+call_by (TakesTurn memory readings turn) job slot ws = calls.TakesTurn turn (turn_snapshot (is_out_at turn ws.time ws.watch) (readings_if memory readings) job slot.serial slot.present)
 call_by (Commits now count t) job slot ws = calls.Commits count t (commits (outcome t slot) t slot.serial ws.watch).answer
 call_by (Installs memory) job slot ws = install_if memory (initial_vars_of job.ask) (judged (image_of job.ask)) slot
 call_by Removes job slot ws = calls.Removes (remove_from slot).answer
@@ -119,24 +119,24 @@ abbrev pub committed : CommitOutcome → ℕ → Ticket → ℕ → ℕ → Arou
 committed o count t now serial ws = record {
   stage = after_commit count t (commits o t serial ws.watch).answer;
   changes = (changes_told (calls.Commits count t (commits o t serial ws.watch).answer));
-  calls = commit_calls (commits o t serial ws.watch).answer (max ws.moment now) t;
+  calls = commit_calls (commits o t serial ws.watch).answer (max ws.time now) t;
   hands = Some now;
   raises = None;
 }
 
 -- ---- an event that is no step
 
--- properties of an event that is no call for a job: it is a stray, answers nothing, passes no time
+-- properties of an event that is no call for a job: it is a no-op, answers nothing, passes no time
 -- and gives no ticket.
 pub record Rests (e : Event) (job : Job) (s : Stage) : Type 0 where
   pub none : (slot : Slot) (ws : Around) → call_at e (at job slot ws s) (at job slot ws s).stage ≡ None
-  pub stray : (k : ℕ) → names e ≡ Some k → is_stray_at e job.origin.slot s ≡ true
+  pub noop : (k : ℕ) → names e ≡ Some k → is_noop_at e job.origin.slot s ≡ true
   pub answered : is_answered e s ≡ false
-  pub moments : row_moment e s ≡ []
+  pub times : row_time e s ≡ []
   pub given : (slot : Slot) (ws : Around) (cs : List Change) → gives e (at job slot ws s) cs ≡ []
 
-rests : {e : Event} {job : Job} {s : Stage} → ((slot : Slot) (ws : Around) → call_at e (at job slot ws s) (at job slot ws s).stage ≡ None) → ((k : ℕ) → names e ≡ Some k → is_stray_at e job.origin.slot s ≡ true) → is_answered e s ≡ false → row_moment e s ≡ [] → ((slot : Slot) (ws : Around) (cs : List Change) → gives e (at job slot ws s) cs ≡ []) → Rests e job s
-rests none stray answered moments given = record { none = none; stray = stray; answered = answered; moments = moments; given = given }
+rests : {e : Event} {job : Job} {s : Stage} → ((slot : Slot) (ws : Around) → call_at e (at job slot ws s) (at job slot ws s).stage ≡ None) → ((k : ℕ) → names e ≡ Some k → is_noop_at e job.origin.slot s ≡ true) → is_answered e s ≡ false → row_time e s ≡ [] → ((slot : Slot) (ws : Around) (cs : List Change) → gives e (at job slot ws s) cs ≡ []) → Rests e job s
+rests none noop answered times given = record { none = none; noop = noop; answered = answered; times = times; given = given }
 
 no_job : {A : Type 0} {k : ℕ} → None ≡ Some k → A
 no_job e = absurd (cc e)

@@ -22,7 +22,7 @@ use Rattle.fc_registry.specs.Slots.{Slot, Present, Ticket, last_serial, vars_in}
 use Rattle.fc_registry.specs.Changes.{Change, Installed, Committed, Removed, changed, after_changes, with_vars}
 use Rattle.fc_registry.specs.Record.{IsChain, IsLink, code_class}
 use Rattle.fc_registry.specs.declared.receipt.Receipt.{Receipt as Facts}
-use Rattle.fc_registry.specs.Calls.{HasGiven, clear_by, commit_of, input_of, is_post, meaning_at, outcome, outcome_by, put_by, receipt_at, receipt_of, request_of, taking, wants, is_out_at, turn_taking, readings_if, initial_vars_of}
+use Rattle.fc_registry.specs.Calls.{HasGiven, clear_by, commit_of, input_of, is_post, meaning_at, outcome, outcome_by, put_by, receipt_at, receipt_of, request_of, snapshot, wants, is_out_at, turn_snapshot, readings_if, initial_vars_of}
 use Rattle.fc_core.specs.declared.event.Event.{Event}
 use Rattle.fc_core.specs.Stage.{Stage}
 use Rattle.fc_core.specs.Stage.{ToTake, ToCommit, ToInstall, ToList, ToAnswer, ToTell}
@@ -34,7 +34,7 @@ use Rattle.fc_core.specs.Fits.{FitsPresent, FitsSlot, FitsStage, FitsTurn, HasNe
 use Rattle.fc_core.specs.Receiving.{AskWithin}
 use Rattle.fc_core.specs.Sound.{AllSafe}
 use Rattle.fc_core.specs.Stages.{first_by, first_or_turn, first_stage, image_of, made, matched_by, removed, told, took, turn_took, with_id}
-use Rattle.fc_core.specs.Rows.{Around, Scene, row, install_call, install_if}
+use Rattle.fc_core.specs.Rows.{Around, Inputs, row, install_call, install_if}
 use Rattle.fc_registry.proofs.Installs.{installed_size}
 use Rattle.fc_core.specs.Steps.{Installs, Removes, changes_told, next_stage}
 use Rattle.fc_core.proofs.ByStep.{Step, by_move, move_by, stage_by, committed}
@@ -98,12 +98,12 @@ first_turn_fits job slot (Some number) is = (refl, is, tt)
 pub first_fits : (job : Job) (slot : Slot) → FitsStage job slot (first_stage job)
 first_fits job slot = first_turn_fits job slot job.turn refl
 
-took_fits : (kept : Option (List ℕ)) (job : Job) (slot : Slot) (n : ℕ) (p : Option Present) → slot.present ≡ p → n < 8 → job.turn ≡ None → FitsStage job slot (took n (taking kept job slot.serial p))
+took_fits : (kept : Option (List ℕ)) (job : Job) (slot : Slot) (n : ℕ) (p : Option Present) → slot.present ≡ p → n < 8 → job.turn ≡ None → FitsStage job slot (took n (snapshot kept job slot.serial p))
 took_fits kept job slot n None e lt none = tt
 took_fits (Some readings) job slot n (Some p) e lt none = (omega arith, record { origin = refl; turn = refl; request = refl; given = record { serial = omega arith; present = λ _. e } }, none)
 took_fits None job slot n (Some p) e lt none = tt
 
-turn_fits : (kept : Option (List ℕ)) (job : Job) (slot : Slot) (turn : Turn) (out : Bool) (p : Option Present) → slot.present ≡ p → turn.slot ≡ job.origin.slot → job.turn ≡ Some turn.number → FitsStage job slot (turn_took turn (turn_taking out kept job slot.serial p))
+turn_fits : (kept : Option (List ℕ)) (job : Job) (slot : Slot) (turn : Turn) (out : Bool) (p : Option Present) → slot.present ≡ p → turn.slot ≡ job.origin.slot → job.turn ≡ Some turn.number → FitsStage job slot (turn_took turn (turn_snapshot out kept job slot.serial p))
 turn_fits kept job slot turn false p e own number = tt
 turn_fits kept job slot turn true None e own number = (own, number, tt)
 turn_fits (Some readings) job slot turn true (Some p) e own number = (own, number, record { origin = refl; turn = refl; request = refl; given = record { serial = omega arith; present = λ _. e } })
@@ -128,11 +128,11 @@ installed_fits job slot v (Accepts p) = made_fits job slot (nat_lt slot.serial l
 installed_fits job slot v (Breaks rule k) = tt
 installed_fits job slot v Untypable = tt
 
-verified_fits : (memory : Bool) (s : Scene) → FitsStage s.job s.slot (next_stage (install_if memory (initial_vars_of s.job.ask) (judged (image_of s.job.ask)) s.slot))
+verified_fits : (memory : Bool) (s : Inputs) → FitsStage s.job s.slot (next_stage (install_if memory (initial_vars_of s.job.ask) (judged (image_of s.job.ask)) s.slot))
 verified_fits true s = installed_fits s.job s.slot (initial_vars_of s.job.ask) (judged (image_of s.job.ask))
 verified_fits false s = tt
 
-abbrev at : Job → Slot → Around → Stage → Scene
+abbrev at : Job → Slot → Around → Stage → Inputs
 at job slot ws stage = record { job = job; slot = slot; around = ws; stage = stage }
 
 clear_fits : (job : Job) (slot : Slot) (below : Bool) (serial : ℕ) (p : Option Present) → FitsStage job slot (removed (clear_by below serial p).answer)
@@ -164,7 +164,7 @@ step_fits (steps.Lists n seen) job slot ws f = listed_fits job slot (nat_lt (len
 step_fits steps.Removes job slot ws f = clear_fits job slot (nat_lt slot.serial last_serial) slot.serial slot.present
 step_fits steps.Describes job slot ws f = told_fits job slot (receipt_at slot.present)
 step_fits (steps.Takes memory readings n) job slot ws f = took_fits (readings_if memory readings) job slot n slot.present refl f.0 f.1
-step_fits (steps.TakesTurn memory readings turn) job slot ws f = turn_fits (readings_if memory readings) job slot turn (is_out_at turn ws.moment ws.watch) slot.present refl f.0 f.1
+step_fits (steps.TakesTurn memory readings turn) job slot ws f = turn_fits (readings_if memory readings) job slot turn (is_out_at turn ws.time ws.watch) slot.present refl f.0 f.1
 step_fits (steps.Commits now n t) job slot ws f = committed_fits job slot n t (outcome t slot) now ws f.1.origin f.2
 step_fits (steps.Installs memory) job slot ws f = verified_fits memory (at job slot ws ToInstall)
 step_fits (steps.Raises word content) job slot ws f = f
@@ -225,7 +225,7 @@ installed_chain first cs v (Accepts p) slot chain = put_chain first cs (nat_lt s
 installed_chain first cs v (Breaks rule k) slot chain = chain
 installed_chain first cs v Untypable slot chain = chain
 
-verified_chain : (memory : Bool) (first : Slot) (cs : List Change) (s : Scene) → IsChain first cs → IsChain first (changes_told (install_if memory (initial_vars_of s.job.ask) (judged (image_of s.job.ask)) s.slot) ++ cs)
+verified_chain : (memory : Bool) (first : Slot) (cs : List Change) (s : Inputs) → IsChain first cs → IsChain first (changes_told (install_if memory (initial_vars_of s.job.ask) (judged (image_of s.job.ask)) s.slot) ++ cs)
 verified_chain true first cs s chain = installed_chain first cs (initial_vars_of s.job.ask) (judged (image_of s.job.ask)) s.slot chain
 verified_chain false first cs s chain = chain
 
@@ -278,7 +278,7 @@ installed_safe slot v (Accepts p) safe fits = put_safe slot (nat_lt slot.serial 
 installed_safe slot v (Breaks rule k) safe fits = fits
 installed_safe slot v Untypable safe fits = fits
 
-verified_safe : (memory : Bool) (s : Scene) → AllSafe (changes_told (install_if memory (initial_vars_of s.job.ask) (judged (image_of s.job.ask)) s.slot)) → FitsSlot s.slot.present → FitsSlot (after_changes s.slot (changes_told (install_if memory (initial_vars_of s.job.ask) (judged (image_of s.job.ask)) s.slot))).present
+verified_safe : (memory : Bool) (s : Inputs) → AllSafe (changes_told (install_if memory (initial_vars_of s.job.ask) (judged (image_of s.job.ask)) s.slot)) → FitsSlot s.slot.present → FitsSlot (after_changes s.slot (changes_told (install_if memory (initial_vars_of s.job.ask) (judged (image_of s.job.ask)) s.slot))).present
 verified_safe true s safe fits = installed_safe s.slot (initial_vars_of s.job.ask) (judged (image_of s.job.ask)) safe fits
 verified_safe false s safe fits = fits
 

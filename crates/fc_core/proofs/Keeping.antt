@@ -28,7 +28,7 @@ use Rattle.fc_core.specs.Stage.{Stage}
 use Rattle.fc_core.specs.declared.stage.Task.{Task}
 use Rattle.fc_core.specs.Exchanges.{FrontState}
 use Rattle.fc_core.specs.Fits.{FitsSlot, FitsStage}
-use Rattle.fc_core.specs.History.{AsksTurn, around, Entry, Seen, and_then, changes_after, front_at, job, no_task, scene, slot_at, stage, task_at, tasks_brought, tasks_moved, turns_by}
+use Rattle.fc_core.specs.History.{AsksTurn, around, Entry, Seen, and_then, changes_after, front_at, job, no_task, inputs, slot_at, stage, task_at, tasks_brought, tasks_moved, turns_by}
 use Rattle.fc_core.specs.Receiving.{AskWithin, JobWithin, Received, add_in, received_added, received_if, request_received, ask_by, brought, is_confirmable, over_share, job_of, look_in, looked, next_opening, received, received_as, received_read, slot_of_resource}
 use Rattle.coap_block.specs.Uploads.{Add, Continues, IsWhole, IsIncomplete, IsBadLength, IsTooLarge, IsFull}
 use Rattle.fc_core.specs.Policies.{is_allowed}
@@ -108,8 +108,8 @@ pub record Grows (s : Seen) (e : Event) (o : Option ℕ) (n : ℕ) : Type 0 wher
   pub is : changes_after o e s n ≡ made ++ s.changes n
 
 grows_if : (s : Seen) (e : Event) (k n : ℕ) (b : Bool) → ((job s k).origin.slot == n) ≡ b → Grows s e (Some k) n
-grows_if s e k n true is = record { made = (row e (scene s k)).changes; is = ap (λ (c : Bool). if c then (row e (scene s k)).changes ++ s.changes n else s.changes n) is }
-grows_if s e k n false is = record { made = []; is = ap (λ (c : Bool). if c then (row e (scene s k)).changes ++ s.changes n else s.changes n) is }
+grows_if s e k n true is = record { made = (row e (inputs s k)).changes; is = ap (λ (c : Bool). if c then (row e (inputs s k)).changes ++ s.changes n else s.changes n) is }
+grows_if s e k n false is = record { made = []; is = ap (λ (c : Bool). if c then (row e (inputs s k)).changes ++ s.changes n else s.changes n) is }
 
 pub grows : (s : Seen) (e : Event) (o : Option ℕ) (n : ℕ) → Grows s e o n
 grows s e None n = record { made = []; is = refl }
@@ -130,10 +130,10 @@ later_fits s e o j st f =
 
 -- ---- each part
 
-chain_if : (s : Seen) (e : Event) (k n : ℕ) (b : Bool) → ((job s k).origin.slot == n) ≡ b → IsSoundlySeen s → IsChain (new_slot s.first_serial) (if b then (row e (scene s k)).changes ++ s.changes n else s.changes n)
+chain_if : (s : Seen) (e : Event) (k n : ℕ) (b : Bool) → ((job s k).origin.slot == n) ≡ b → IsSoundlySeen s → IsChain (new_slot s.first_serial) (if b then (row e (inputs s k)).changes ++ s.changes n else s.changes n)
 chain_if s e k n true is a =
     let slot_is = eqb-true (job s k).origin.slot n is in
-    subst (λ (m : ℕ). IsChain (new_slot s.first_serial) ((row e (scene s k)).changes ++ s.changes m)) slot_is
+    subst (λ (m : ℕ). IsChain (new_slot s.first_serial) ((row e (inputs s k)).changes ++ s.changes m)) slot_is
     (row_chain e (job s k) (new_slot s.first_serial) (s.changes (job s k).origin.slot) (around s (job s k).origin.slot) (stage s k) (a.stages k) (a.chain (job s k).origin.slot))
 chain_if s e k n false is a = a.chain n
 
@@ -150,7 +150,7 @@ old_fit s e o a k = (a.within k, later_fits s e o (job s k) (stage s k) (a.stage
 moved_fit : (s : Seen) (e : Event) (o : Option ℕ) → IsSoundlySeen s → (p : Option ℕ) → (k : ℕ) → FitsAfter o e s (task_at (tasks_moved p e s) k)
 moved_fit s e o a None k = old_fit s e o a k
 moved_fit s e o a (Some j) k =
-    let new = task_moved (task_at s.tasks j) (row e (scene s j)) in
+    let new = task_moved (task_at s.tasks j) (row e (inputs s j)) in
     written_all (FitsAfter o e s) s.tasks j new no_task (old_fit s e o a) (a.within j, later_fits s e o (job s j) new.stage (row_fits e (job s j) (slot_at s (job s j).origin.slot) (around s (job s j).origin.slot) (stage s j) (a.stages j))) k
 
 new_fit : (s : Seen) (e : Event) (o : Option ℕ) (jobs : List Job) → Each JobWithin jobs → Each (FitsAfter o e s) (map new_task jobs)
@@ -159,7 +159,7 @@ new_fit s e o (j ∷ js) w = ((w.0, first_fits j (slot_after o e s j.origin.slot
 
 brought_fit : (s : Seen) (o : Option ℕ) (e d : Event) → IsSoundlySeen s → Each (FitsAfter o e s) (tasks_brought d s)
 brought_fit s o e (Deliver now to b) a = new_fit s e o _ (received_within _ to b.now (next_opening (front_at s now)))
-brought_fit s o e (Due shard now) a = subst (Each (FitsAfter o e s)) (sym (append-nil (turns_by (AsksTurn shard now) s))) (new_fit s e o _ (turns_within s shard (max (s.shard_moment shard) now) a))
+brought_fit s o e (Due shard now) a = subst (Each (FitsAfter o e s)) (sym (append-nil (turns_by (AsksTurn shard now) s))) (new_fit s e o _ (turns_within s shard (max (s.shard_time shard) now) a))
 brought_fit s o e other a = tt
 
 all_fit : (s : Seen) (e : Event) (o : Option ℕ) → IsSoundlySeen s → (k : ℕ) → FitsAfter o e s (task_at (tasks_moved o e s ++ tasks_brought e s) k)
@@ -175,19 +175,19 @@ still_sound r s a = record {
 
 -- ---- safe programs
 
-safe_if : (s : Seen) (e : Event) (k n : ℕ) (b : Bool) → ((job s k).origin.slot == n) ≡ b → IsSoundlySeen s → AllSafe (row e (scene s k)).changes → IsSafelySeen s → FitsSlot (after_changes (new_slot s.first_serial) (if b then (row e (scene s k)).changes ++ s.changes n else s.changes n)).present
+safe_if : (s : Seen) (e : Event) (k n : ℕ) (b : Bool) → ((job s k).origin.slot == n) ≡ b → IsSoundlySeen s → AllSafe (row e (inputs s k)).changes → IsSafelySeen s → FitsSlot (after_changes (new_slot s.first_serial) (if b then (row e (inputs s k)).changes ++ s.changes n else s.changes n)).present
 safe_if s e k n true is a made f =
     let slot_is = eqb-true (job s k).origin.slot n is in
     let m = (job s k).origin.slot in
-    subst (λ (i : ℕ). FitsSlot (after_changes (new_slot s.first_serial) ((row e (scene s k)).changes ++ s.changes i)).present) slot_is
-    (subst (λ (x : Slot). FitsSlot x.present) (sym (after_changes-append (new_slot s.first_serial) (row e (scene s k)).changes (s.changes m)))
+    subst (λ (i : ℕ). FitsSlot (after_changes (new_slot s.first_serial) ((row e (inputs s k)).changes ++ s.changes i)).present) slot_is
+    (subst (λ (x : Slot). FitsSlot x.present) (sym (after_changes-append (new_slot s.first_serial) (row e (inputs s k)).changes (s.changes m)))
     (row_safe e (job s k) (slot_at s m) (around s (job s k).origin.slot) (stage s k) (a.within k).1 (a.stages k) made (f.slots m)))
 safe_if s e k n false is a made f = f.slots n
 
 -- the install by the event that names a job is safe.
 abbrev pub IsSafeMove : Option ℕ → Event → Seen → Type 0
 IsSafeMove None e s = Unit {0}
-IsSafeMove (Some k) e s = AllSafe (row e (scene s k)).changes
+IsSafeMove (Some k) e s = AllSafe (row e (inputs s k)).changes
 
 safe_after : (s : Seen) (e : Event) (o : Option ℕ) (n : ℕ) → IsSoundlySeen s → IsSafeMove o e s → IsSafelySeen s → FitsSlot (slot_after o e s n).present
 safe_after s e None n a made f = f.slots n

@@ -4,7 +4,7 @@ pub mod Commits
 pub mod Lists
 pub mod Fitting
 pub mod Places
-pub mod TurnTakings
+pub mod TurnSnapshots
 pub mod Calling
 pub mod Keeping
 pub mod OnShards

@@ -5,10 +5,10 @@ use Rattle.std.proofs.lemmas.Bool.{eq-eqb, ne_eqb}
 use Rattle.coap_msg.specs.declared.types.Emission.{Emission}
 use Rattle.coap_msg.specs.declared.types.Endpoint.{Endpoint}
 use Rattle.fc_observe.specs.Calls.{ObserverCall, Tick as TickObservers, after_calls, observers, observers_after}
-use Rattle.fc_observe.specs.Observers.{after_ack, after_reset, after_tick, at_moment}
+use Rattle.fc_observe.specs.Observers.{after_ack, after_reset, after_tick, list_at_time}
 use Rattle.fc_registry.specs.Watches.{signal_call}
 use Rattle.fc_core.specs.declared.event.Event.TheVariants.{Signal, ShardTick}
-use Rattle.fc_core.specs.History.{Seen, and_then, did, is_place_of, late_in, watch}
+use Rattle.fc_core.specs.History.{Seen, and_then, did, is_place_of, overdue_in, watch}
 
 -- the observers after more calls
 pub after_append : (n confirm_after : ℕ) (cs ds : List ObserverCall) → observers n confirm_after (cs ++ ds) ≡ after_calls cs (observers n confirm_after ds)
@@ -32,16 +32,16 @@ signalled_elsewhere s i n id to o reset ne = called s n (signal_call reset to id
 ticked_by : (s : Seen) (i n now : ℕ) (o p : Option ℕ) → o ≡ p → observers n s.policy.confirm_after ((if is_place_of o i n then TickObservers now ∷ [] else []) ++ s.calls n) ≡ observers n s.policy.confirm_after ((if is_place_of p i n then TickObservers now ∷ [] else []) ++ s.calls n)
 ticked_by s i n now o p is = ap (λ (x : Option ℕ). observers n s.policy.confirm_after ((if is_place_of x i n then TickObservers now ∷ [] else []) ++ s.calls n)) is
 
-pub ticked_first : (s : Seen) (i k now : ℕ) (o : Option Emission) → late_in s i (max (s.shard_moment i) now) ≡ Some k → watch (and_then (did (ShardTick i now) o) s) (8 * k + i) ≡ after_tick (at_moment (max (s.shard_moment i) now) (watch s (8 * k + i)))
+pub ticked_first : (s : Seen) (i k now : ℕ) (o : Option Emission) → overdue_in s i (max (s.shard_time i) now) ≡ Some k → watch (and_then (did (ShardTick i now) o) s) (8 * k + i) ≡ after_tick (list_at_time (max (s.shard_time i) now) (watch s (8 * k + i)))
 ticked_first s i k now o is =
     let n = 8 * k + i in
-    let at = max (s.shard_moment i) now in
-    ticked_by s i n at (late_in s i at) (Some k) is ∙ called s n (TickObservers at) (n == n) true (eq-eqb n n refl)
+    let at = max (s.shard_time i) now in
+    ticked_by s i n at (overdue_in s i at) (Some k) is ∙ called s n (TickObservers at) (n == n) true (eq-eqb n n refl)
 
-pub ticked_others : (s : Seen) (i k n now : ℕ) (o : Option Emission) → late_in s i (max (s.shard_moment i) now) ≡ Some k → (n ≡ 8 * k + i → ⊥) → watch (and_then (did (ShardTick i now) o) s) n ≡ watch s n
+pub ticked_others : (s : Seen) (i k n now : ℕ) (o : Option Emission) → overdue_in s i (max (s.shard_time i) now) ≡ Some k → (n ≡ 8 * k + i → ⊥) → watch (and_then (did (ShardTick i now) o) s) n ≡ watch s n
 ticked_others s i k n now o is ne =
-    let at = max (s.shard_moment i) now in
-    ticked_by s i n at (late_in s i at) (Some k) is ∙ called s n (TickObservers at) ((8 * k + i) == n) false (ne_eqb (8 * k + i) n (λ q. ne (sym q)))
+    let at = max (s.shard_time i) now in
+    ticked_by s i n at (overdue_in s i at) (Some k) is ∙ called s n (TickObservers at) ((8 * k + i) == n) false (ne_eqb (8 * k + i) n (λ q. ne (sym q)))
 
-pub ticked_none : (s : Seen) (i n now : ℕ) (o : Option Emission) → late_in s i (max (s.shard_moment i) now) ≡ None → watch (and_then (did (ShardTick i now) o) s) n ≡ watch s n
-ticked_none s i n now o is = ticked_by s i n (max (s.shard_moment i) now) (late_in s i (max (s.shard_moment i) now)) None is
+pub ticked_none : (s : Seen) (i n now : ℕ) (o : Option Emission) → overdue_in s i (max (s.shard_time i) now) ≡ None → watch (and_then (did (ShardTick i now) o) s) n ≡ watch s n
+ticked_none s i n now o is = ticked_by s i n (max (s.shard_time i) now) (overdue_in s i (max (s.shard_time i) now)) None is

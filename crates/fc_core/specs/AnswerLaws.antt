@@ -17,7 +17,7 @@ use Rattle.coap_reply.specs.Blocks.{cut_for}
 use Rattle.fc_core.specs.Contents.{Content, RunAnswer, Ran, Missing, Unavailable, Made, Rejected, Untyped, Valid, Deleted, Described, Listed}
 use Rattle.fc_core.specs.Heads.{head_word, word_at}
 use Rattle.fc_core.specs.History.{Entry, History, Begins, Then, Seen, seen, job, slot_at, stage}
-use Rattle.fc_core.specs.Laws.{slot_of, stage_named, takings_of}
+use Rattle.fc_core.specs.Laws.{slot_of, stage_named, snapshots_of}
 use Rattle.fc_core.specs.Stages.{image_of}
 use Rattle.fc_core.specs.Rows.{names}
 
@@ -128,7 +128,7 @@ IsCause e k j slot words at taken (Listed list) = IsListed e k words at list
 
 -- the reason why an event after a history makes this the answer of the job that it names.
 abbrev pub Causes : History → Entry → ℕ → Content → Type 0
-Causes h r k c = IsCause r.event k (job (seen h) k) (slot_at (seen h) (slot_of (seen h) k)) (seen h).words (stage (seen h) k) (length (takings_of h k)) c
+Causes h r k c = IsCause r.event k (job (seen h) k) (slot_at (seen h) (slot_of (seen h) k)) (seen h).words (stage (seen h) k) (length (snapshots_of h k)) c
 
 -- ---- times
 
@@ -137,35 +137,35 @@ greatest [] = 0
 greatest (n ∷ ns) = max (greatest ns) n
 
 -- time of an answer at its stage.
-abbrev pub answer_moment : Stage → ℕ → List ℕ
-answer_moment (ToAnswer content) now = now ∷ []
-answer_moment other now = []
+abbrev pub answer_time : Stage → ℕ → List ℕ
+answer_time (ToAnswer content) now = now ∷ []
+answer_time other now = []
 
 -- time of a lease that draws a message ID.
-abbrev pub draw_moment : Stage → ℕ → List ℕ
-draw_moment (ToTell turn (turns.ToDraw found)) now = now ∷ []
-draw_moment other now = []
+abbrev pub draw_time : Stage → ℕ → List ℕ
+draw_time (ToTell turn (turns.ToDraw found)) now = now ∷ []
+draw_time other now = []
 
 -- time that an event passes to the front: that of a delivery, of a tick, of an answer at its stage,
 -- or of a lease that draws a message ID, whether or not one is available.
-abbrev pub moments_in : Event → Seen → List ℕ
-moments_in (Deliver now to bytes) s = now ∷ []
-moments_in (Tick now) s = now ∷ []
-moments_in (Answer k now) s = answer_moment (stage s k) now
-moments_in (Fresh k now) s = draw_moment (stage s k) now
-moments_in other s = []
+abbrev pub times_in : Event → Seen → List ℕ
+times_in (Deliver now to bytes) s = now ∷ []
+times_in (Tick now) s = now ∷ []
+times_in (Answer k now) s = answer_time (stage s k) now
+times_in (Fresh k now) s = draw_time (stage s k) now
+times_in other s = []
 
 -- times that were passed to the front, the newest first.
-abbrev pub moments_of : History → List ℕ
-moments_of (Begins serial id policy) = []
-moments_of (Then h r) = moments_in r.event (seen h) ++ moments_of h
+abbrev pub times_of : History → List ℕ
+times_of (Begins serial id policy) = []
+times_of (Then h r) = times_in r.event (seen h) ++ times_of h
 
 -- time of a commit at its stage, of a lease that notifies, or of the release of a lease.
-abbrev pub row_moment : Event → Stage → List ℕ
-row_moment (Commit k now) (ToCommit count t) = now ∷ []
-row_moment (Note k now random) (ToTell turn (turns.ToNote found id)) = now ∷ []
-row_moment (GiveUp k now) (ToTell turn needs) = now ∷ []
-row_moment other at = []
+abbrev pub row_time : Event → Stage → List ℕ
+row_time (Commit k now) (ToCommit count t) = now ∷ []
+row_time (Note k now random) (ToTell turn (turns.ToNote found id)) = now ∷ []
+row_time (GiveUp k now) (ToTell turn needs) = now ∷ []
+row_time other at = []
 
 -- whether the job that is named, if one is, belongs to a slot of this shard.
 abbrev pub is_of_shard : ℕ → Seen → Option ℕ → Bool
@@ -173,17 +173,17 @@ is_of_shard i s None = false
 is_of_shard i s (Some k) = slot_of s k % 8 == i
 
 -- time of an event of this shard itself, one of eight.
-abbrev pub own_moment : Event → ℕ → List ℕ
-own_moment (Due shard now) i = if (shard == i) && nat_lt i 8 then now ∷ [] else []
-own_moment (ShardTick shard now) i = if (shard == i) && nat_lt i 8 then now ∷ [] else []
-own_moment other i = []
+abbrev pub own_time : Event → ℕ → List ℕ
+own_time (Due shard now) i = if (shard == i) && nat_lt i 8 then now ∷ [] else []
+own_time (ShardTick shard now) i = if (shard == i) && nat_lt i 8 then now ∷ [] else []
+own_time other i = []
 
 -- times that were passed to a shard, the newest first: by its own events, and by the commits,
 -- notifications and releases of its slots' jobs.
-abbrev pub shard_moments_of : ℕ → History → List ℕ
-shard_moments_of i (Begins serial id policy) = []
-shard_moments_of i (Then h r) =
-    own_moment r.event i
+abbrev pub shard_times_of : ℕ → History → List ℕ
+shard_times_of i (Begins serial id policy) = []
+shard_times_of i (Then h r) =
+    own_time r.event i
     ++ (if is_of_shard i (seen h) (names r.event)
-    then row_moment r.event (stage_named (seen h) (names r.event)) ++ shard_moments_of i h
-    else shard_moments_of i h)
+    then row_time r.event (stage_named (seen h) (names r.event)) ++ shard_times_of i h
+    else shard_times_of i h)

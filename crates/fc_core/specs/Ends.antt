@@ -8,8 +8,8 @@ use Rattle.coap_block.specs.Cuts.{Part}
 use Rattle.coap_opts.specs.Values.{Place}
 use Rattle.fc_core.specs.declared.answer.End.{End}
 use Rattle.fc_core.specs.declared.answer.End.TheVariants.{Match, Missing, Unavailable, Made, Rejected, Removed, Told, Core}
-use Rattle.fc_core.specs.declared.answer.Said.{Said}
-use Rattle.fc_core.specs.declared.answer.Said.TheVariants.{Ran, Other}
+use Rattle.fc_core.specs.declared.answer.AnswerBody.{AnswerBody}
+use Rattle.fc_core.specs.declared.answer.AnswerBody.TheVariants.{Ran, Other}
 use Rattle.fc_core.specs.Contents.{Content, Ran as Runs, Missing as Misses, Unavailable as NotNow, Made as Makes, Rejected as Rejects, Untyped, Valid, Deleted, Described, Listed}
 
 -- a refusal by a rule below 20 has its rule and slot, a refusal by typing has neither.
@@ -37,12 +37,12 @@ abbrev pub part_in : Option (Option Place) → List ℕ → Option Part
 part_in None bytes = None
 part_in (Some place) bytes = Some (record { bytes = bytes; place = place })
 
-abbrev pub said_of : Said → List ℕ → Content
+abbrev pub said_of : AnswerBody → List ℕ → Content
 said_of (Ran by code block serial observed) bytes =
     Runs (record { by = by; code = code.byte; cut = part_in block bytes; serial = serial; observed = observed })
 said_of (Other end) bytes = content_of end
 
 -- the code of a run is that of a response, with class 2 or above.
-abbrev pub IsTold : Said → Type 0
+abbrev pub IsTold : AnswerBody → Type 0
 IsTold (Ran by code block serial observed) = 64 ≤ code.byte
 IsTold (Other end) = Unit {0}

@@ -12,7 +12,7 @@ use Rattle.fc_core.specs.TurnStage.{TurnStage}
 use Rattle.fc_core.specs.TurnStage as turns
 use Rattle.fc_core.specs.Stage.{ToMatch, ToTake, ToCommit, ToList, ToRaise, ToAnswer, ToTell}
 use Rattle.fc_core.specs.Contents.{IsOf}
-use Rattle.fc_core.specs.Stages.{takings}
+use Rattle.fc_core.specs.Stages.{snapshots}
 
 -- a ticket that the slot gave to the job.
 pub record IsTicketOf (job : Job) (slot : Slot) (t : Ticket) : Type 0 where
@@ -46,8 +46,8 @@ TellsOwn turn serial (Some t) = (t.origin.slot ≡ turn.slot) × (t.turn ≡ Som
 -- a lease has its job's slot and number.
 abbrev pub FitsStage : Job → Slot → Stage → Type 0
 FitsStage job slot ToMatch = job.turn ≡ None
-FitsStage job slot (ToTake count) = (count < takings) × (job.turn ≡ None)
-FitsStage job slot (ToCommit count t) = (count ≤ takings) × IsTicketOf job slot t × (job.turn ≡ None)
+FitsStage job slot (ToTake count) = (count < snapshots) × (job.turn ≡ None)
+FitsStage job slot (ToCommit count t) = (count ≤ snapshots) × IsTicketOf job slot t × (job.turn ≡ None)
 FitsStage job slot (ToList seen) = HasNext (ToList seen)
 FitsStage job slot (ToRaise word content) = IsOf job content
 FitsStage job slot (ToAnswer content) = IsOf job content

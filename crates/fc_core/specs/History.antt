@@ -8,7 +8,7 @@ use Rattle.coap_dedup.specs.Exchanges.{Exchange}
 use Rattle.coap_dedup.specs.Exchanges.{answered_if, is_live as is_held}
 use Rattle.coap_block.specs.Transfers.{Addition, transfers}
 use Rattle.fc_observe.specs.Calls.{ObserverCall, NextDue, Tick as TickObservers, observers}
-use Rattle.fc_observe.specs.Observers.{ObserverList, at_moment, late_entry, next_turn}
+use Rattle.fc_observe.specs.Observers.{ObserverList, list_at_time, overdue_entry, next_turn}
 use Rattle.fc_registry.specs.declared.job.Ask.TheVariants.{Install as Installs}
 use Rattle.fc_registry.specs.declared.job.Job.{Job}
 use Rattle.fc_registry.specs.declared.job.InitialVars.TheVariants.{Zeros}
@@ -29,7 +29,7 @@ use Rattle.fc_core.specs.declared.policy.Policy.{Policy}
 use Rattle.fc_core.specs.Receiving.{Received, added_by, received, opened_by, kept_of, drawn_by, brought, next_opening}
 use Rattle.fc_core.specs.Heads.{no_words}
 use Rattle.fc_core.specs.Stages.{needs_id, new_task, content_at}
-use Rattle.fc_core.specs.Rows.{Around, Common, Scene, names, scene_at, row, task_moved, handed, words_after}
+use Rattle.fc_core.specs.Rows.{Around, Common, Inputs, names, inputs_at, row, task_moved, handed, words_after}
 
 -- an event and its emission.
 pub record Entry : Type 0 where
@@ -51,18 +51,18 @@ pub data History : Type 0 where
 pub record Seen : Type 0 where
   pub policy : Policy
   pub first_serial : ℕ
-  pub moment : ℕ
+  pub time : ℕ
   pub exchanges : List Exchange
   pub additions : List Addition
   pub ids : Ids
   pub tasks : List Task
   pub changes : ℕ → List Change
-  pub shard_moment : ℕ → ℕ
+  pub shard_time : ℕ → ℕ
   pub calls : ℕ → List ObserverCall
   pub words : List ℕ
 
 abbrev pub begun : ℕ → ℕ → Policy → Seen
-begun serial id policy = record { policy = policy; first_serial = serial; moment = 0; exchanges = []; additions = []; ids = first_ids id; tasks = []; changes = λ n. []; shard_moment = λ k. 0; calls = λ n. []; words = no_words }
+begun serial id policy = record { policy = policy; first_serial = serial; time = 0; exchanges = []; additions = []; ids = first_ids id; tasks = []; changes = λ n. []; shard_time = λ k. 0; calls = λ n. []; words = no_words }
 
 -- ---- slots and jobs
 
@@ -100,15 +100,15 @@ watch s n = observers n s.policy.confirm_after (s.calls n)
 
 -- inputs shared by the jobs of all slots.
 abbrev pub common : Seen → Common
-common s = record { words = s.words; free = λ now. free_id s.ids (max s.moment now) }
+common s = record { words = s.words; free = λ now. free_id s.ids (max s.time now) }
 
 -- surroundings of slot n.
 abbrev pub around : Seen → ℕ → Around
-around s n = record { common = common s; moment = s.shard_moment (n % 8); watch = watch s n }
+around s n = record { common = common s; time = s.shard_time (n % 8); watch = watch s n }
 
 -- inputs of an event for the job that it names.
-abbrev pub scene : Seen → ℕ → Scene
-scene s k = scene_at (task_at s.tasks k) (slot_at s (job s k).origin.slot) (around s (job s k).origin.slot)
+abbrev pub inputs : Seen → ℕ → Inputs
+inputs s k = inputs_at (task_at s.tasks k) (slot_at s (job s k).origin.slot) (around s (job s k).origin.slot)
 
 -- ---- the front
 
@@ -118,7 +118,7 @@ front_in s at = record { managers = s.policy.managers; limits = s.policy.limits;
 
 -- the front after it was passed a time, which never moves it back.
 abbrev pub front_at : Seen → ℕ → FrontState
-front_at s now = front_in s (max s.moment now)
+front_at s now = front_in s (max s.time now)
 
 abbrev pub received_at : Seen → ℕ → Endpoint → List ℕ → Received
 received_at s now to bytes = received (front_at s now) to bytes
@@ -144,12 +144,12 @@ at_front (Fresh k now) = Draws k now
 at_front (Tick now) = Passes now
 at_front other = Rests
 
-abbrev pub moment_by : AtFront → Seen → ℕ
-moment_by (Receives now to bytes) s = max s.moment now
-moment_by (Answers k now) s = if is_some (content_at (stage s k)) then max s.moment now else s.moment
-moment_by (Draws k now) s = if needs_id (stage s k) then max s.moment now else s.moment
-moment_by (Passes now) s = max s.moment now
-moment_by Rests s = s.moment
+abbrev pub time_by : AtFront → Seen → ℕ
+time_by (Receives now to bytes) s = max s.time now
+time_by (Answers k now) s = if is_some (content_at (stage s k)) then max s.time now else s.time
+time_by (Draws k now) s = if needs_id (stage s k) then max s.time now else s.time
+time_by (Passes now) s = max s.time now
+time_by Rests s = s.time
 
 -- a delivery opens an exchange, and answers a refusal immediately; other exchanges are answered at
 -- their job's stage.
@@ -165,7 +165,7 @@ exchanges_by Rests emitted s = s.exchanges
 
 -- payload of a new request, which begins or continues a transfer if it has a block.
 abbrev pub additions_by : AtFront → Seen → List Addition
-additions_by (Receives now to bytes) s = added_by (received_at s now to bytes) (max s.moment now) to
+additions_by (Receives now to bytes) s = added_by (received_at s now to bytes) (max s.time now) to
 additions_by other s = []
 
 -- an answer within the lifetime to a request that isn't confirmable draws a message ID.
@@ -174,9 +174,9 @@ ids_answered (Some content) true confirmable ids at = drawn_for confirmable ids 
 ids_answered content live confirmable ids at = ids
 
 abbrev pub ids_by : AtFront → Seen → Ids
-ids_by (Receives now to bytes) s = drawn_by (received_at s now to bytes) s.ids (max s.moment now)
-ids_by (Answers k now) s = ids_answered (content_at (stage s k)) (opening_is_live (max s.moment now) (job s k).origin.opening) (job s k).confirmable s.ids (max s.moment now)
-ids_by (Draws k now) s = if needs_id (stage s k) then drawn s.ids (max s.moment now) else s.ids
+ids_by (Receives now to bytes) s = drawn_by (received_at s now to bytes) s.ids (max s.time now)
+ids_by (Answers k now) s = ids_answered (content_at (stage s k)) (opening_is_live (max s.time now) (job s k).origin.opening) (job s k).confirmable s.ids (max s.time now)
+ids_by (Draws k now) s = if needs_id (stage s k) then drawn s.ids (max s.time now) else s.ids
 ids_by (Passes now) s = s.ids
 ids_by Rests s = s.ids
 
@@ -189,15 +189,15 @@ tasks_by other s = []
 
 abbrev pub tasks_moved : Option ℕ → Event → Seen → List Task
 tasks_moved None e s = s.tasks
-tasks_moved (Some k) e s = slice_set s.tasks k (task_moved (task_at s.tasks k) (row e (scene s k)))
+tasks_moved (Some k) e s = slice_set s.tasks k (task_moved (task_at s.tasks k) (row e (inputs s k)))
 
 abbrev pub changes_after : Option ℕ → Event → Seen → ℕ → List Change
 changes_after None e s n = s.changes n
-changes_after (Some k) e s n = if (job s k).origin.slot == n then (row e (scene s k)).changes ++ s.changes n else s.changes n
+changes_after (Some k) e s n = if (job s k).origin.slot == n then (row e (inputs s k)).changes ++ s.changes n else s.changes n
 
-abbrev pub shard_moment_after : Option ℕ → Event → Seen → ℕ → ℕ
-shard_moment_after None e s i = s.shard_moment i
-shard_moment_after (Some k) e s i = if (job s k).origin.slot % 8 == i then handed (row e (scene s k)).hands (s.shard_moment i) else s.shard_moment i
+abbrev pub shard_time_after : Option ℕ → Event → Seen → ℕ → ℕ
+shard_time_after None e s i = s.shard_time i
+shard_time_after (Some k) e s i = if (job s k).origin.slot % 8 == i then handed (row e (inputs s k)).hands (s.shard_time i) else s.shard_time i
 
 -- effect of an event on its own shard, rather than on that of a job's slot: it requests the lease
 -- of an observer of its slots, passes a signal to them all, lets time pass there, or has no effect
@@ -223,22 +223,22 @@ hands_by other i = None
 -- the greatest head word raised for each slot.
 abbrev pub words_seen : Option ℕ → Event → Seen → List ℕ
 words_seen None e s = s.words
-words_seen (Some k) e s = words_after (row e (scene s k)) (task_at s.tasks k) s.words
+words_seen (Some k) e s = words_after (row e (inputs s k)) (task_at s.tasks k) s.words
 
 -- ---- calls on the observers
 
 -- whether the slot at a place of shard i, 8 k + i, has a notification that has timed out at this
 -- time.
-abbrev pub is_late_at : Seen → ℕ → ℕ → ℕ → Bool
-is_late_at s i at k = is_some (late_entry (at_moment at (watch s (8 * k + i))))
+abbrev pub is_overdue_at : Seen → ℕ → ℕ → ℕ → Bool
+is_overdue_at s i at k = is_some (overdue_entry (list_at_time at (watch s (8 * k + i))))
 
 -- the first such place; a shard above 7 has none.
-unfoldable pub late_in : Seen → ℕ → ℕ → Option ℕ
-late_in s i at = if nat_lt i 8 then place_from (is_late_at s i at) 8 0 else None
+unfoldable pub overdue_in : Seen → ℕ → ℕ → Option ℕ
+overdue_in s i at = if nat_lt i 8 then place_from (is_overdue_at s i at) 8 0 else None
 
 -- whether the slot at a place of shard i has an observer with a pending notification at this time.
 abbrev pub is_due_at : Seen → ℕ → ℕ → ℕ → Bool
-is_due_at s i at k = is_some (next_turn (slot_at s (8 * k + i)).noticed (at_moment at (watch s (8 * k + i))))
+is_due_at s i at k = is_some (next_turn (slot_at s (8 * k + i)).notify_serial (list_at_time at (watch s (8 * k + i))))
 
 -- the first such place.
 unfoldable pub due_in : Seen → ℕ → ℕ → Option ℕ
@@ -254,24 +254,24 @@ is_place_of (Some k) i n = (8 * k + i) == n
 -- notification that has timed out.
 abbrev pub calls_by : AtShard → Seen → ℕ → List ObserverCall
 calls_by (AsksTurn shard now) s n =
-    if is_place_of (due_in s shard (max (s.shard_moment shard) now)) shard n
-    then NextDue (max (s.shard_moment shard) now) (slot_at s n).noticed ∷ []
+    if is_place_of (due_in s shard (max (s.shard_time shard) now)) shard n
+    then NextDue (max (s.shard_time shard) now) (slot_at s n).notify_serial ∷ []
     else []
 calls_by (Signals shard to id reset) s n = if (n % 8) == shard then signal_call reset to id ∷ [] else []
 calls_by (Ticks shard now) s n =
-    if is_place_of (late_in s shard (max (s.shard_moment shard) now)) shard n
-    then TickObservers (max (s.shard_moment shard) now) ∷ []
+    if is_place_of (overdue_in s shard (max (s.shard_time shard) now)) shard n
+    then TickObservers (max (s.shard_time shard) now) ∷ []
     else []
 calls_by Calm s n = []
 
 -- job of the lease that is granted at a place of shard i, if there is one.
 abbrev pub turn_at : Option ℕ → Seen → ℕ → ℕ → Option Job
 turn_at None s i at = None
-turn_at (Some k) s i at = turn_given_to (8 * k + i) at (slot_at s (8 * k + i)).noticed (watch s (8 * k + i))
+turn_at (Some k) s i at = turn_given_to (8 * k + i) at (slot_at s (8 * k + i)).notify_serial (watch s (8 * k + i))
 
 -- jobs that it produces.
 abbrev pub turns_by : AtShard → Seen → List Task
-turns_by (AsksTurn shard now) s = map new_task (option_to_list (turn_at (due_in s shard (max (s.shard_moment shard) now)) s shard (max (s.shard_moment shard) now)))
+turns_by (AsksTurn shard now) s = map new_task (option_to_list (turn_at (due_in s shard (max (s.shard_time shard) now)) s shard (max (s.shard_time shard) now)))
 turns_by other s = []
 
 -- jobs that an event produces: a lease, or a request.
@@ -281,7 +281,7 @@ tasks_brought e s = turns_by (at_shard e) s ++ tasks_by (at_front e) s
 -- calls of an event on the observers of the slot of the job that it names.
 abbrev pub calls_named : Option ℕ → Event → Seen → ℕ → List ObserverCall
 calls_named None e s n = []
-calls_named (Some k) e s n = if (job s k).origin.slot == n then (row e (scene s k)).calls else []
+calls_named (Some k) e s n = if (job s k).origin.slot == n then (row e (inputs s k)).calls else []
 
 -- ---- the fold
 
@@ -289,13 +289,13 @@ abbrev pub and_then : Entry → Seen → Seen
 and_then r s = record {
   policy = s.policy;
   first_serial = s.first_serial;
-  moment = moment_by (at_front r.event) s;
+  time = time_by (at_front r.event) s;
   exchanges = exchanges_by (at_front r.event) r.emitted s;
   additions = additions_by (at_front r.event) s ++ s.additions;
   ids = ids_by (at_front r.event) s;
   tasks = tasks_moved (names r.event) r.event s ++ tasks_brought r.event s;
   changes = λ n. changes_after (names r.event) r.event s n;
-  shard_moment = λ i. handed (hands_by (at_shard r.event) i) (shard_moment_after (names r.event) r.event s i);
+  shard_time = λ i. handed (hands_by (at_shard r.event) i) (shard_time_after (names r.event) r.event s i);
   calls = λ n. calls_named (names r.event) r.event s n ++ (calls_by (at_shard r.event) s n ++ s.calls n);
   words = words_seen (names r.event) r.event s;
 }

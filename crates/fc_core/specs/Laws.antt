@@ -11,8 +11,8 @@ use Rattle.fc_core.specs.Stage.{ToMatch, ToTake, ToCommit, ToInstall, ToRemove, 
 use Rattle.fc_core.specs.TurnStage as turns
 use Rattle.coap_reply.specs.Blocks.{cut_for}
 use Rattle.fc_core.specs.Contents.{Content, RunAnswer}
-use Rattle.fc_core.specs.Rows.{Scene, names}
-use Rattle.fc_core.specs.History.{Entry, History, Begins, Then, Seen, seen, job, scene, slot_at, stage}
+use Rattle.fc_core.specs.Rows.{Inputs, names}
+use Rattle.fc_core.specs.History.{Entry, History, Begins, Then, Seen, seen, job, inputs, slot_at, stage}
 
 -- ---- strays
 
@@ -24,27 +24,27 @@ needs_word own n (ToList seen) = n == length seen.items
 needs_word own n other = false
 
 -- whether the job that the event names, of slot `own`, isn't at the stage that the event needs.
-abbrev pub is_stray_at : Event → ℕ → Stage → Bool
-is_stray_at (Peek k n) own at = not (needs_word own n at)
-is_stray_at (Take k memory readings) own (ToTake count) = false
-is_stray_at (Take k memory readings) own (ToTell turn turns.ToTake) = false
-is_stray_at (Commit k now) own (ToCommit count t) = false
-is_stray_at (Install k memory) own ToInstall = false
-is_stray_at (Remove k) own ToRemove = false
-is_stray_at (Receipt k) own ToDescribe = false
-is_stray_at (Raise k) own (ToRaise word content) = false
-is_stray_at (Answer k now) own (ToAnswer content) = false
-is_stray_at (Fresh k now) own (ToTell turn (turns.ToDraw found)) = false
-is_stray_at (Note k now random) own (ToTell turn (turns.ToNote found id)) = false
-is_stray_at (GiveUp k now) own (ToTell turn needs) = false
-is_stray_at (Lose k) own Gone = true
-is_stray_at (Lose k) own other = false
-is_stray_at (Deliver now to bytes) own at = false
-is_stray_at (Tick now) own at = false
-is_stray_at (Due shard now) own at = false
-is_stray_at (Signal shard to id reset) own at = false
-is_stray_at (ShardTick shard now) own at = false
-is_stray_at other own at = true
+abbrev pub is_noop_at : Event → ℕ → Stage → Bool
+is_noop_at (Peek k n) own at = not (needs_word own n at)
+is_noop_at (Take k memory readings) own (ToTake count) = false
+is_noop_at (Take k memory readings) own (ToTell turn turns.ToTake) = false
+is_noop_at (Commit k now) own (ToCommit count t) = false
+is_noop_at (Install k memory) own ToInstall = false
+is_noop_at (Remove k) own ToRemove = false
+is_noop_at (Receipt k) own ToDescribe = false
+is_noop_at (Raise k) own (ToRaise word content) = false
+is_noop_at (Answer k now) own (ToAnswer content) = false
+is_noop_at (Fresh k now) own (ToTell turn (turns.ToDraw found)) = false
+is_noop_at (Note k now random) own (ToTell turn (turns.ToNote found id)) = false
+is_noop_at (GiveUp k now) own (ToTell turn needs) = false
+is_noop_at (Lose k) own Gone = true
+is_noop_at (Lose k) own other = false
+is_noop_at (Deliver now to bytes) own at = false
+is_noop_at (Tick now) own at = false
+is_noop_at (Due shard now) own at = false
+is_noop_at (Signal shard to id reset) own at = false
+is_noop_at (ShardTick shard now) own at = false
+is_noop_at other own at = true
 
 -- stage of the job that is named, if one is, and its slot.
 abbrev pub stage_named : Seen → Option ℕ → Stage
@@ -55,8 +55,8 @@ abbrev pub own_of_named : Seen → Option ℕ → ℕ
 own_of_named s None = 0
 own_of_named s (Some k) = (job s k).origin.slot
 
-abbrev pub is_stray : Seen → Event → Bool
-is_stray s e = is_stray_at e (own_of_named s (names e)) (stage_named s (names e))
+abbrev pub is_noop : Seen → Event → Bool
+is_noop s e = is_noop_at e (own_of_named s (names e)) (stage_named s (names e))
 
 -- ---- jobs
 
@@ -79,47 +79,47 @@ slot_of s k = (job s k).origin.slot
 -- ---- snapshots
 
 -- a snapshot that gave a ticket, and the earlier changes of the slot, the newest first.
-pub record Taking : Type 0 where
+pub record Snapshot : Type 0 where
   pub ticket : Ticket
   pub changes : List Change
 
 -- a ticket of the slot's state, if it has a program, with these readings.
-abbrev pub finds : Job → List ℕ → ℕ → Option Present → List Change → List Taking
+abbrev pub finds : Job → List ℕ → ℕ → Option Present → List Change → List Snapshot
 finds j readings serial None changes = []
 finds j readings serial (Some found) changes = record { ticket = ticket_of j readings serial found; changes = changes } ∷ []
 
 -- a lease that isn't out any more takes no snapshot.
-abbrev pub finds_if : Bool → Job → List ℕ → ℕ → Option Present → List Change → List Taking
+abbrev pub finds_if : Bool → Job → List ℕ → ℕ → Option Present → List Change → List Snapshot
 finds_if true j readings serial present changes = finds j readings serial present changes
 finds_if false j readings serial present changes = []
 
-abbrev pub gives_at : List ℕ → Scene → Stage → List Change → List Taking
+abbrev pub gives_at : List ℕ → Inputs → Stage → List Change → List Snapshot
 gives_at readings s (ToTake count) changes = finds s.job readings s.slot.serial s.slot.present changes
-gives_at readings s (ToTell turn turns.ToTake) changes = finds_if (is_out_at turn s.around.moment s.around.watch) s.job readings s.slot.serial s.slot.present changes
+gives_at readings s (ToTell turn turns.ToTake) changes = finds_if (is_out_at turn s.around.time s.around.watch) s.job readings s.slot.serial s.slot.present changes
 gives_at readings s other changes = []
 
 -- snapshots that an event gives to the job that it names: a take at its stage gives a ticket if
 -- memory for it can be allocated.
-abbrev pub gives : Event → Scene → List Change → List Taking
+abbrev pub gives : Event → Inputs → List Change → List Snapshot
 gives (Take k true readings) s changes = gives_at readings s s.stage changes
 gives other s changes = []
 
 -- snapshots that gave a ticket to the job with this number, the newest first.
-abbrev pub takings_of : History → ℕ → List Taking
-takings_of (Begins serial id policy) k = []
-takings_of (Then h r) k =
+abbrev pub snapshots_of : History → ℕ → List Snapshot
+snapshots_of (Begins serial id policy) k = []
+snapshots_of (Then h r) k =
     if is_named k r.event
-    then gives r.event (scene (seen h) k) ((seen h).changes (slot_of (seen h) k)) ++ takings_of h k
-    else takings_of h k
+    then gives r.event (inputs (seen h) k) ((seen h).changes (slot_of (seen h) k)) ++ snapshots_of h k
+    else snapshots_of h k
 
 -- the newest of these snapshots gave this ticket.
-abbrev pub IsNewest : List Taking → Ticket → Type 0
+abbrev pub IsNewest : List Snapshot → Ticket → Type 0
 IsNewest [] t = ⊥
 IsNewest (x ∷ xs) t = x.ticket ≡ t
 
 -- a run's answer comes from the newest of these snapshots: the code that its program means, the
 -- block of the reply that its request names, and the serial of the snapshot.
-abbrev pub IsOfNewest : List Taking → RunAnswer → Type 0
+abbrev pub IsOfNewest : List Snapshot → RunAnswer → Type 0
 IsOfNewest [] run = ⊥
 IsOfNewest (t ∷ ts) run = (run.code ≡ (meaning_at t.ticket).code) × (run.cut ≡ cut_for t.ticket.block (meaning_at t.ticket).reply) × (run.serial ≡ t.ticket.serial)
 

@@ -5,7 +5,7 @@ use Rattle.fc_image.specs.Paths.{IsLongest}
 use Rattle.fc_kinds.specs.Meaning.{IsRun}
 use Rattle.fc_observe.specs.declared.observers.Ticked.{Ticked}
 use Rattle.fc_observe.specs.declared.observers.Ticked.TheVariants.{Resend}
-use Rattle.fc_observe.specs.Observers.{at_moment, ticked}
+use Rattle.fc_observe.specs.Observers.{list_at_time, ticked}
 use Rattle.fc_registry.specs.declared.job.Job.{Job}
 use Rattle.fc_registry.specs.Slots.{Present, Ticket}
 use Rattle.fc_registry.specs.Calls.{ticket_of, input_of}
@@ -19,8 +19,8 @@ use Rattle.fc_core.specs.Replies.{IsReplyTo}
 use Rattle.fc_core.specs.Exchanges.{FrontState, opening_is_live}
 use Rattle.fc_core.specs.Receiving.{sent, id_in}
 use Rattle.fc_core.specs.Stages.{content_at}
-use Rattle.fc_core.specs.Rows.{Scene, names, sends}
-use Rattle.fc_core.specs.History.{AtFront, Receives, Answers, Draws, Passes, Rests, AtShard, Ticks, History, Begins, Then, Seen, seen, at_front, at_shard, front_at, received_at, job, late_in, stage, scene, watch}
+use Rattle.fc_core.specs.Rows.{Inputs, names, sends}
+use Rattle.fc_core.specs.History.{AtFront, Receives, Answers, Draws, Passes, Rests, AtShard, Ticks, History, Begins, Then, Seen, seen, at_front, at_shard, front_at, received_at, job, overdue_in, stage, inputs, watch}
 
 -- a job's answer is sent while its exchange is live and a message ID is available, and not
 -- otherwise.
@@ -42,18 +42,18 @@ resent other = None
 -- retransmission of a tick at a place of shard i, at this time; none without a place.
 abbrev pub resent_at : Option ℕ → Seen → ℕ → ℕ → Option Emission
 resent_at None s i at = None
-resent_at (Some k) s i at = resent (ticked (at_moment at (watch s (8 * k + i))))
+resent_at (Some k) s i at = resent (ticked (list_at_time at (watch s (8 * k + i))))
 
 -- retransmission of an event at its own shard.
 abbrev pub resent_in : AtShard → Seen → Option Emission
-resent_in (Ticks i now) s = resent_at (late_in s i (max (s.shard_moment i) now)) s i (max (s.shard_moment i) now)
+resent_in (Ticks i now) s = resent_at (overdue_in s i (max (s.shard_time i) now)) s i (max (s.shard_time i) now)
 resent_in other s = None
 
 -- emission of an event without an effect on the front: the notification of the job that it names,
 -- or a retransmission of its own shard.
 abbrev pub sends_in : Option ℕ → Event → Seen → Option Emission
 sends_in None e s = resent_in (at_shard e) s
-sends_in (Some k) e s = sends e (scene s k)
+sends_in (Some k) e s = sends e (inputs s k)
 
 -- permitted emissions of an event, by its effect on the front.
 abbrev pub EmitsBy : AtFront → Event → Seen → Option Emission → Type 0
@@ -84,7 +84,7 @@ abbrev pub FoundMeans : Job → List ℕ → ℕ → Option Present → Type 0
 FoundMeans j readings serial None = Unit {0}
 FoundMeans j readings serial (Some found) = IsMeant (ticket_of j readings serial found)
 
-abbrev pub FindsMeaning : List ℕ → Scene → Stage → Type 0
+abbrev pub FindsMeaning : List ℕ → Inputs → Stage → Type 0
 FindsMeaning readings s (ToTake count) = FoundMeans s.job readings s.slot.serial s.slot.present
 FindsMeaning readings s (ToTell turn turns.ToTake) = FoundMeans s.job readings s.slot.serial s.slot.present
 FindsMeaning readings s other = Unit {0}
@@ -92,7 +92,7 @@ FindsMeaning readings s other = Unit {0}
 -- a snapshot at its stage that finds a program finds one with a meaning, whether or not memory for
 -- a ticket can be allocated.
 abbrev pub TakesMeaning : Seen → Event → Type 0
-TakesMeaning s (Take k memory readings) = FindsMeaning readings (scene s k) (stage s k)
+TakesMeaning s (Take k memory readings) = FindsMeaning readings (inputs s k) (stage s k)
 TakesMeaning s other = Unit {0}
 
 abbrev pub AllMean : History → Type 0

@@ -37,8 +37,8 @@ use Rattle.fc_registry.specs.declared.observe.TheConstants as observe
 use Rattle.fc_registry.specs.Calls.{has_observe}
 use Rattle.fc_core.specs.declared.front.Delivered.{Delivered}
 use Rattle.fc_core.specs.declared.front.Delivered.TheVariants.{Nothing, Reply, Job as Brings, Signal}
-use Rattle.fc_core.specs.declared.front.Heard.{Heard}
-use Rattle.fc_core.specs.declared.front.Heard.TheVariants as hearing
+use Rattle.fc_core.specs.declared.front.Handled.{Handled}
+use Rattle.fc_core.specs.declared.front.Handled.TheVariants as hearing
 use Rattle.coap_reply.specs.Responses.{Response, bare, reply_kind, sent_in, settled_by, reset_of}
 use Rattle.fc_core.specs.Ids.{Ids, free_id, reply_id, drawn_for}
 use Rattle.fc_core.specs.Exchanges.{FrontState}
@@ -280,15 +280,15 @@ reply_or_nothing None = Nothing
 reply_or_nothing (Some emission) = Reply emission
 
 -- a delivery whose job and response were written.
-abbrev pub heard : Heard → Job → Emission → Delivered
-heard hearing.Nothing job emission = Nothing
-heard hearing.Reply job emission = Reply emission
-heard hearing.Job job emission = Brings job
-heard (hearing.Signal id reset) job emission = Signal id reset
+abbrev pub handled : Handled → Job → Emission → Delivered
+handled hearing.Nothing job emission = Nothing
+handled hearing.Reply job emission = Reply emission
+handled hearing.Job job emission = Brings job
+handled (hearing.Signal id reset) job emission = Signal id reset
 
-abbrev pub heard_if : Bool → Heard
-heard_if true = hearing.Reply
-heard_if false = hearing.Nothing
+abbrev pub handled_if : Bool → Handled
+handled_if true = hearing.Reply
+handled_if false = hearing.Nothing
 
 -- the datagram, if there is one to send.
 abbrev pub emission_if : Bool → Emission → Option Emission

@@ -2,7 +2,7 @@
 -- has listed, and its answer.
 use Rattle.std.specs.Prelude.{◌≡◌, ℕ, Some, None}
 use Rattle.arrayvec.specs.ArrayVec.{ArrayVec}
-use Rattle.fc_registry.specs.Taken.{Found, IsSized, ticket_with}
+use Rattle.fc_registry.specs.Taken.{SlotSnapshot, IsSized, ticket_with}
 use Rattle.fc_registry.specs.Taken as spec
 use Rattle.fc_registry.specs.Views.{HasSize, taken_with}
 use Rattle.fc_registry.specs.declared.shard.Taken.{Taken}
@@ -15,14 +15,14 @@ use Rattle.fc_core.specs.Stage.{Stage, ToMatch, ToTake, ToCommit, ToInstall, ToR
 use Rattle.fc_core.specs.TurnStage as turns
 use Rattle.fc_core.specs.TurnStage.{TurnStage}
 
-abbrev pub turn_stage_of : TurnStep → Found → TurnStage
+abbrev pub turn_stage_of : TurnStep → SlotSnapshot → TurnStage
 turn_stage_of turn_steps.ToTake f = turns.ToTake
 turn_stage_of (turn_steps.ToDraw None) f = turns.ToDraw None
 turn_stage_of (turn_steps.ToDraw (Some program)) f = turns.ToDraw (Some (ticket_with program.value f))
 turn_stage_of (turn_steps.ToNote None id) f = turns.ToNote None id
 turn_stage_of (turn_steps.ToNote (Some program) id) f = turns.ToNote (Some (ticket_with program.value f)) id
 
-abbrev pub stage_of : Step → Found → ArrayVec ℕ → Content → Stage
+abbrev pub stage_of : Step → SlotSnapshot → ArrayVec ℕ → Content → Stage
 stage_of steps.ToMatch f seen content = ToMatch
 stage_of (steps.ToTake count) f seen content = ToTake count
 stage_of (steps.ToCommit count program) f seen content = ToCommit count (ticket_with program.value f)
@@ -36,21 +36,21 @@ stage_of (steps.ToTell turn needs) f seen content = ToTell turn (turn_stage_of n
 stage_of steps.Gone f seen content = Gone
 
 -- the snapshot has as many variables as the action's program.
-abbrev pub FitsTurnStep : TurnStep → Found → Type 0
+abbrev pub FitsTurnStep : TurnStep → SlotSnapshot → Type 0
 FitsTurnStep (turn_steps.ToDraw (Some program)) f = IsSized program.value f
 FitsTurnStep (turn_steps.ToNote (Some program) id) f = IsSized program.value f
 FitsTurnStep other f = Unit {0}
 
-abbrev pub FitsStep : Step → Found → Type 0
+abbrev pub FitsStep : Step → SlotSnapshot → Type 0
 FitsStep (steps.ToCommit count program) f = IsSized program.value f
 FitsStep (steps.ToTell turn needs) f = FitsTurnStep needs f
 FitsStep other f = Unit {0}
 
 -- the action is this stage, with this answer and any other data.
 abbrev pub StandsAt : Step → Content → Stage → Type 0
-StandsAt step content stage = (f : Found) (seen : ArrayVec ℕ) → (stage_of step f seen content ≡ stage) × FitsStep step f
+StandsAt step content stage = (f : SlotSnapshot) (seen : ArrayVec ℕ) → (stage_of step f seen content ≡ stage) × FitsStep step f
 
 -- the action is the one after a snapshot by this transition, with this answer and this snapshot.
 abbrev pub LeadsTo : Taken → (spec.Taken → Stage) → Step → Content → Type 0
 LeadsTo taken row step content =
-    (f : Found) (seen : ArrayVec ℕ) → HasSize taken f → (stage_of step f seen content ≡ row (taken_with taken f)) × FitsStep step f
+    (f : SlotSnapshot) (seen : ArrayVec ℕ) → HasSize taken f → (stage_of step f seen content ≡ row (taken_with taken f)) × FitsStep step f

@@ -14,7 +14,7 @@ use Rattle.fc_registry.specs.declared.job.InitialVars.{InitialVars}
 use Rattle.fc_registry.specs.Slots.{Slot, Shard, Ticket, slot_in, with_slot}
 use Rattle.fc_registry.specs.Changes.{Change, after_changes}
 use Rattle.fc_registry.specs.Watches.{watch_at, with_calls}
-use Rattle.fc_registry.specs.Calls.{commit_calls, commits, install_in, is_out_at, outcome, readings_if, receipt_at, remove_from, taking, turn_calls, turn_taking, initial_vars_of}
+use Rattle.fc_registry.specs.Calls.{commit_calls, commits, install_in, is_out_at, outcome, readings_if, receipt_at, remove_from, snapshot, turn_calls, turn_snapshot, initial_vars_of}
 use Rattle.fc_registry.specs.Notes.{note_at, note_calls}
 use Rattle.fc_core.specs.Contents.{Rejected, Untyped}
 use Rattle.fc_core.specs.Heads.{published, word_at}
@@ -54,11 +54,11 @@ pub record Common : Type 0 where
 -- surroundings of a job's slot: the shared inputs, its shard's time, and its observers.
 pub record Around : Type 0 where
   pub common : Common
-  pub moment : ℕ
+  pub time : ℕ
   pub watch : ObserverList
 
 -- inputs of an event for the job that it names.
-pub record Scene : Type 0 where
+pub record Inputs : Type 0 where
   pub job : Job
   pub slot : Slot
   pub around : Around
@@ -84,12 +84,12 @@ install_if false initial judgement slot = Refuses
 
 -- call of an event for the job that it names, with its result; none if the job's stage needs
 -- another call.
-abbrev pub call_at : Event → Scene → Stage → Option Call
+abbrev pub call_at : Event → Inputs → Stage → Option Call
 call_at (Peek job n) s ToMatch = call_if (n == s.job.origin.slot) (Matches s.job.etags.items (word_at s.around.common.words n))
 call_at (Peek job n) s (ToList seen) = call_if (n == length seen.items) (Lists seen (word_at s.around.common.words n))
-call_at (Take job memory readings) s (ToTake count) = Some (Takes count (taking (readings_if memory readings) s.job s.slot.serial s.slot.present))
+call_at (Take job memory readings) s (ToTake count) = Some (Takes count (snapshot (readings_if memory readings) s.job s.slot.serial s.slot.present))
 call_at (Take job memory readings) s (ToTell turn turns.ToTake) =
-    Some (TakesTurn turn (turn_taking (is_out_at turn s.around.moment s.around.watch) (readings_if memory readings) s.job s.slot.serial s.slot.present))
+    Some (TakesTurn turn (turn_snapshot (is_out_at turn s.around.time s.around.watch) (readings_if memory readings) s.job s.slot.serial s.slot.present))
 call_at (Commit job now) s (ToCommit count t) = Some (Commits count t (commits (outcome t s.slot) t s.slot.serial s.around.watch).answer)
 call_at (Install job memory) s ToInstall = Some (install_if memory (initial_vars_of s.job.ask) (judged (image_of s.job.ask)) s.slot)
 call_at (Remove job) s ToRemove = Some (Removes (remove_from s.slot).answer)
@@ -134,49 +134,49 @@ handed None before = before
 handed (Some now) before = max before now
 
 -- calls on the slot's observers, at the shard's time after the event, with this random word.
-abbrev pub calls_told : ℕ → ℕ → Scene → Call → List ObserverCall
+abbrev pub calls_told : ℕ → ℕ → Inputs → Call → List ObserverCall
 calls_told at random s (TakesTurn turn taken) = turn_calls turn at s.slot.present s.around.watch
 calls_told at random s (Commits count t committed) = commit_calls committed at t
 calls_told at random s (Notes turn found id) = note_calls turn id random at found (note_at turn id at found s.around.watch)
 calls_told at random s (GivesUp turn needs) = GiveUpTurn turn at ∷ []
 calls_told at random s other = []
 
-abbrev pub move_of : Event → Scene → Option Call → Move
+abbrev pub move_of : Event → Inputs → Option Call → Move
 move_of e s None = moves s.stage
 move_of e s (Some c) = record {
   stage = next_stage c;
   changes = changes_told c;
-  calls = calls_told (handed (handed_in e) s.around.moment) (random_in e) s c;
+  calls = calls_told (handed (handed_in e) s.around.time) (random_in e) s c;
   hands = handed_in e;
   raises = word_told c;
 }
 
 -- transition of an event: the effect of its call.
-abbrev pub row : Event → Scene → Move
+abbrev pub row : Event → Inputs → Move
 row e s = move_of e s (call_at e s s.stage)
 
 -- notification that a lease sends at this stage.
-abbrev pub notification : ℕ → Scene → Stage → Option Emission
-notification now s (ToTell turn (turns.ToNote found id)) = note_at turn id (max s.around.moment now) found s.around.watch
+abbrev pub notification : ℕ → Inputs → Stage → Option Emission
+notification now s (ToTell turn (turns.ToNote found id)) = note_at turn id (max s.around.time now) found s.around.watch
 notification now s other = None
 
 -- emission of an event for the job that it names, apart from its answer.
-abbrev pub sends : Event → Scene → Option Emission
+abbrev pub sends : Event → Inputs → Option Emission
 sends (Note job now random) s = notification now s s.stage
 sends other s = None
 
 -- ---- on a task and its shard
 
-abbrev pub scene_at : Task → Slot → Around → Scene
-scene_at task slot around = record { job = task.job; slot = slot; around = around; stage = task.stage }
+abbrev pub inputs_at : Task → Slot → Around → Inputs
+inputs_at task slot around = record { job = task.job; slot = slot; around = around; stage = task.stage }
 
 -- surroundings of slot n at a shard.
 abbrev pub around_of : Shard → Common → ℕ → Around
-around_of shard common n = record { common = common; moment = shard.now; watch = watch_at shard (n / 8) }
+around_of shard common n = record { common = common; time = shard.now; watch = watch_at shard (n / 8) }
 
 -- inputs of an event on a task at a shard.
-abbrev pub scene_of : Shard → Common → Task → Scene
-scene_of shard common task = scene_at task (slot_in shard task.job.origin.slot) (around_of shard common task.job.origin.slot)
+abbrev pub inputs_of : Shard → Common → Task → Inputs
+inputs_of shard common task = inputs_at task (slot_in shard task.job.origin.slot) (around_of shard common task.job.origin.slot)
 
 abbrev pub task_moved : Task → Move → Task
 task_moved task m = record { job = task.job; stage = m.stage }
@@ -207,7 +207,7 @@ commit_move shard count t now =
     }
 
 -- the transition of an install by the judgement of its image, if memory isn't refused.
-abbrev pub install_move : InitialVars → Judgement → Scene → Move
+abbrev pub install_move : InitialVars → Judgement → Inputs → Move
 install_move initial judgement s = move_of (Install 0 true) s (Some (install_call initial judgement s.slot))
 
 -- a shard after a transition of this task.
@@ -217,10 +217,10 @@ shard_after m task shard = shard_moved m task.job.origin.slot shard
 -- the task, and the shard of its slot, after an event: for any shared inputs, since transitions of
 -- slots don't depend on them.
 abbrev pub TaskMoves : Event → Shard → Task → Task → Type 0
-TaskMoves e shard old new = (common : Common) → new ≡ task_moved old (row e (scene_of shard common old))
+TaskMoves e shard old new = (common : Common) → new ≡ task_moved old (row e (inputs_of shard common old))
 
 abbrev pub ShardMoves : Event → Shard → Task → Shard → Type 0
-ShardMoves e old task new = (common : Common) → new ≡ shard_after (row e (scene_of old common task)) task old
+ShardMoves e old task new = (common : Common) → new ≡ shard_after (row e (inputs_of old common task)) task old
 
 -- the head words after a transition of this task.
 abbrev pub words_after : Move → Task → List ℕ → List ℕ

@@ -24,8 +24,8 @@ use Rattle.fc_core.specs.TurnStage as turns
 use Rattle.fc_core.specs.declared.stage.Task.{Task}
 
 -- greatest number of snapshots of a job.
-abbrev pub takings : ℕ
-takings = 8
+abbrev pub snapshots : ℕ
+snapshots = 8
 
 -- first action of a job; a run whose client has responses reads its slot's head word.
 abbrev pub first_by : Ask → List ℕ → Stage
@@ -102,7 +102,7 @@ run_content t observed = Ran (run_answer t (meaning_at t) observed)
 
 -- a run whose slot has changed takes another snapshot, at most eight in all.
 abbrev pub retaken : ℕ → Stage
-retaken count = if nat_lt count takings then ToTake count else ToAnswer Unavailable
+retaken count = if nat_lt count snapshots then ToTake count else ToAnswer Unavailable
 
 abbrev pub after_commit : ℕ → Ticket → Committed → Stage
 after_commit count t (Done m) = if m.changed then ToRaise (head_word m.serial true) (run_content t m.observed) else ToAnswer (run_content t m.observed)

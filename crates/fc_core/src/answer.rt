@@ -42,7 +42,7 @@ pub enum End {
 pub type Words = ArrayVec<u64, WORDS>;
 
 #[derive(Drop)]
-pub(crate) enum Said {
+pub(crate) enum AnswerBody {
     Ran {
         by: Origin,
         code: Code,
@@ -61,7 +61,7 @@ pub(crate) enum Said {
 /// refusal by typing names. An answer has memory for a block, and is overwritten in place.
 #[derive(Drop)]
 pub struct Answer {
-    said: Said,
+    said: AnswerBody,
     bytes: ArrayVec<u8, BLOCK>,
 }
 
@@ -96,7 +96,7 @@ impl Answer {
         ensures { result ≡ content_of end }
     {
         Answer {
-            said: Said::Other(end),
+            said: AnswerBody::Other(end),
             bytes: ArrayVec::new(),
         }
     }
@@ -107,12 +107,12 @@ impl Answer {
         ensures { self.new ≡ Ran (run_answer ticket.now (meaning_of outcome.now) mark.observed) }
     {
         let observed = mark.observed();
-        let serial = mark.spend();
+        let serial = mark.into_serial();
         let block = write_block(
             BodyBlock::cut(outcome.reply(), ticket.block()),
             &mut self.bytes,
         );
-        self.said = Said::Ran {
+        self.said = AnswerBody::Ran {
             by: ticket.origin(),
             code: Code {
                 byte: outcome.code(),
@@ -127,11 +127,11 @@ impl Answer {
     pub fn write_other(&mut self, end: End)
         ensures { self.new ≡ content_of end }
     {
-        self.said = Said::Other(end);
+        self.said = AnswerBody::Other(end);
     }
 
     // The body of the answer, and the bytes of its block.
-    pub(crate) fn said(&self) -> (&Said, &[u8])
+    pub(crate) fn said(&self) -> (&AnswerBody, &[u8])
         ensures said { said_of result.0.now result.1.now ≡ self.now }
         ensures told { IsTold result.0.now }
         ensures short { length result.1.now ≤ 1024 }

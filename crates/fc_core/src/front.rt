@@ -12,7 +12,7 @@ ghost use Rattle.fc_core.specs.Ids.{drawn_for, free_id};
 ghost use Rattle.fc_core.specs.Policies.{is_allowed};
 ghost use Rattle.coap_block.specs.Transfers.{after_addition};
 ghost use Rattle.coap_block.specs.Views.{add_seen};
-ghost use Rattle.fc_core.specs.Receiving.{add_in, addition_of, after_delivered, after_received, ask_by, emission_if, etags_by, handed_on, heard, heard_if, id_in, is_confirmable, job_of, look_in, next_opening, observes, opening_for, received_as, reply_or_nothing, request_asked, request_received, settled_front, told, initial_vars_by};
+ghost use Rattle.fc_core.specs.Receiving.{add_in, addition_of, after_delivered, after_received, ask_by, emission_if, etags_by, handed_on, handled, handled_if, id_in, is_confirmable, job_of, look_in, next_opening, observes, opening_for, received_as, reply_or_nothing, request_asked, request_received, settled_front, told, initial_vars_by};
 ghost use Rattle.fc_core.specs.Receiving as receiving;
 ghost use Rattle.coap_reply.specs.Responses.{reset_of, settled_by};
 
@@ -55,7 +55,7 @@ pub enum Delivered {
 ///
 /// They are written over the caller's job and emission.
 #[derive(Clone, Copy, PartialEq, Eq)]
-pub enum Heard {
+pub enum Handled {
     /// Nothing: the datagram is ignored.
     Nothing,
     /// A datagram to send immediately, which was written.
@@ -141,11 +141,11 @@ impl Front {
     {
         let mut job = blank_job();
         let mut reply = blank_emission();
-        match self.hear(now, endpoint, bytes, &mut job, &mut reply) {
-            Heard::Nothing => Delivered::Nothing,
-            Heard::Reply => Delivered::Reply(reply),
-            Heard::Job => Delivered::Job(job),
-            Heard::Signal { mid, reset } => Delivered::Signal { mid, reset },
+        match self.handle(now, endpoint, bytes, &mut job, &mut reply) {
+            Handled::Nothing => Delivered::Nothing,
+            Handled::Reply => Delivered::Reply(reply),
+            Handled::Job => Delivered::Job(job),
+            Handled::Signal { mid, reset } => Delivered::Signal { mid, reset },
         }
     }
 
@@ -153,15 +153,15 @@ impl Front {
     ///
     /// See [`Front::deliver`]. Neither the job nor the response is moved.
     #[tactic(auto, unfolding(crate::specs::Receiving::received))]
-    pub fn hear(
+    pub fn handle(
         &mut self,
         now: u64,
         endpoint: Endpoint,
         bytes: &[u8],
         job: &mut Job,
         reply: &mut Emission,
-    ) -> Heard
-        ensures delivered { heard result job.new reply.new ≡ receiving.delivered (advanced self.old now) endpoint bytes.now }
+    ) -> Handled
+        ensures delivered { handled result job.new reply.new ≡ receiving.delivered (advanced self.old now) endpoint bytes.now }
         ensures after { self.new ≡ after_delivered (advanced self.old now) endpoint bytes.now }
     {
         self.hand(now);
@@ -258,23 +258,23 @@ impl Front {
     }
 
     // Ignores a datagram.
-    fn ignore(&mut self) -> Heard
-        ensures heard { result ≡ Heard.Nothing }
+    fn ignore(&mut self) -> Handled
+        ensures handled { result ≡ Handled.Nothing }
         ensures after { self.new ≡ front_expired self.old }
     {
         self.exchanges.expire(self.now);
-        Heard::Nothing
+        Handled::Nothing
     }
 
     // Rejects a message by its message ID.
-    fn reject(&mut self, endpoint: Endpoint, id: u16, reply: &mut Emission) -> Heard
-        ensures heard { result ≡ Heard.Reply }
+    fn reject(&mut self, endpoint: Endpoint, id: u16, reply: &mut Emission) -> Handled
+        ensures handled { result ≡ Handled.Reply }
         ensures reply { reply.new ≡ reset_of endpoint id }
         ensures after { self.new ≡ front_expired self.old }
     {
         self.exchanges.expire(self.now);
         reset(endpoint, id, reply);
-        Heard::Reply
+        Handled::Reply
     }
 
     // Handles a message.
@@ -284,9 +284,9 @@ impl Front {
         message: &Message<'_>,
         job: &mut Job,
         reply: &mut Emission,
-    ) -> Heard
+    ) -> Handled
         ensures delivered { let f = front_expired self.old in
-            heard result job.new reply.new ≡ handed_on (received_as f endpoint message.now (verdict message.now)) f endpoint }
+            handled result job.new reply.new ≡ handed_on (received_as f endpoint message.now (verdict message.now)) f endpoint }
         ensures after { let f = front_expired self.old in
             self.new ≡ after_received (received_as f endpoint message.now (verdict message.now)) f endpoint }
     {
@@ -299,7 +299,7 @@ impl Front {
             Classified::Reset => self.reject(endpoint, message.id(), reply),
             Classified::Signal { reset } => {
                 self.exchanges.expire(self.now);
-                Heard::Signal {
+                Handled::Signal {
                     mid: message.id(),
                     reset,
                 }
@@ -317,17 +317,17 @@ impl Front {
         request: &Request<'_>,
         job: &mut Job,
         reply: &mut Emission,
-    ) -> Heard
+    ) -> Handled
         requires { IsAsking asking request.now }
         ensures delivered { let f = front_expired self.old in
-            heard result job.new reply.new ≡ handed_on (asked_in f endpoint message.now asking request.now) f endpoint }
+            handled result job.new reply.new ≡ handed_on (asked_in f endpoint message.now asking request.now) f endpoint }
         ensures after { let f = front_expired self.old in
             self.new ≡ after_received (asked_in f endpoint message.now asking request.now) f endpoint }
     {
         match self.exchanges.look(self.now, endpoint, message.id()) {
             Looked::New => match self.exchanges.room(endpoint.ip) {
                 Room::Free => self.open(endpoint, message, asking, request, job, reply),
-                Room::OverShare if message.kind() != MessageType::Confirmable => Heard::Nothing,
+                Room::OverShare if message.kind() != MessageType::Confirmable => Handled::Nothing,
                 Room::Full | Room::OverShare => {
                     replied(self.tell(endpoint, message, Code::SERVICE_UNAVAILABLE, None, reply))
                 }
@@ -335,9 +335,9 @@ impl Front {
             Looked::Again(bytes) => {
                 reply.to = endpoint;
                 reply.bytes = bytes;
-                Heard::Reply
+                Handled::Reply
             }
-            Looked::Busy | Looked::Silent => Heard::Nothing,
+            Looked::Busy | Looked::Silent => Handled::Nothing,
         }
     }
 
@@ -350,18 +350,18 @@ impl Front {
         request: &Request<'_>,
         job: &mut Job,
         reply: &mut Emission,
-    ) -> Heard
+    ) -> Handled
         requires new { look_in self.old endpoint message.now ≡ IsNew }
         requires asking { IsAsking asking request.now }
         ensures delivered { let x = new_request self.old endpoint message.now asking request.now in
-            heard result job.new reply.new ≡ handed_on x self.old endpoint }
+            handled result job.new reply.new ≡ handed_on x self.old endpoint }
         ensures after { let x = new_request self.old endpoint message.now asking request.now in
             self.new ≡ after_received x self.old endpoint }
     {
         match self.authorize(endpoint, asking, request.action) {
             Asking::Silent => {
                 self.open_exchange(endpoint, message);
-                Heard::Nothing
+                Handled::Nothing
             }
             Asking::Refuse(code) => self.settle(endpoint, message, code, None, reply),
             Asking::Serve(()) => self.serve(endpoint, message, request, job, reply),
@@ -393,12 +393,12 @@ impl Front {
         request: &Request<'_>,
         job: &mut Job,
         reply: &mut Emission,
-    ) -> Heard
+    ) -> Handled
         requires new { look_in self.old endpoint message.now ≡ IsNew }
         requires limits { IsServable (asked_by request.now) }
         requires allowed { is_allowed self.old.managers endpoint request.now.action ≡ true }
         ensures delivered { let x = request_received self.old endpoint message.now (asked_by request.now) in
-            heard result job.new reply.new ≡ handed_on x self.old endpoint }
+            handled result job.new reply.new ≡ handed_on x self.old endpoint }
         ensures after { let x = request_received self.old endpoint message.now (asked_by request.now) in
             self.new ≡ after_received x self.old endpoint }
     {
@@ -406,7 +406,7 @@ impl Front {
             None => {
                 let opening = self.open_exchange(endpoint, message);
                 write_job(job, opening, endpoint, message, request, request.payload);
-                Heard::Job
+                Handled::Job
             }
             Some(block) => self.serve_block(endpoint, message, request, block, job, reply),
         }
@@ -445,13 +445,13 @@ impl Front {
         block: Block,
         job: &mut Job,
         reply: &mut Emission,
-    ) -> Heard
+    ) -> Handled
         requires new { look_in self.old endpoint message.now ≡ IsNew }
         requires limits { IsServable (asked_by request.now) }
         requires block { request.now.block1 ≡ Some block }
         requires allowed { is_allowed self.old.managers endpoint request.now.action ≡ true }
         ensures delivered { let x = request_received self.old endpoint message.now (asked_by request.now) in
-            heard result job.new reply.new ≡ handed_on x self.old endpoint }
+            handled result job.new reply.new ≡ handed_on x self.old endpoint }
         ensures after { let x = request_received self.old endpoint message.now (asked_by request.now) in
             self.new ≡ after_received x self.old endpoint }
     {
@@ -459,7 +459,7 @@ impl Front {
             Added::Whole(body) => {
                 let opening = self.open_exchange(endpoint, message);
                 write_job(job, opening, endpoint, message, request, body.as_slice());
-                Heard::Job
+                Handled::Job
             }
             Added::Continue => self.settle(endpoint, message, Code::CONTINUE, Some(block), reply),
             Added::Incomplete => {
@@ -531,11 +531,11 @@ impl Front {
         code: Code,
         block1: Option<Block>,
         reply: &mut Emission,
-    ) -> Heard
+    ) -> Handled
         requires new { look_in self.old endpoint message.now ≡ IsNew }
         requires code { 64 ≤ code.byte }
-        ensures heard { let response = settled_by code.byte block1 in
-            (job : Job) → heard result job reply.new ≡ reply_or_nothing (told self.old endpoint message.now response) }
+        ensures handled { let response = settled_by code.byte block1 in
+            (job : Job) → handled result job reply.new ≡ reply_or_nothing (told self.old endpoint message.now response) }
         ensures after { self.new ≡ settled_front self.old endpoint message.now (settled_by code.byte block1) }
     {
         let opening = self.open_exchange(endpoint, message);
@@ -556,10 +556,14 @@ pub fn is_live(now: u64, opening: &Opening) -> bool
     now < opening.at || now - opening.at < WINDOW
 }
 
-fn replied(sent: bool) -> Heard
-    ensures { result ≡ heard_if sent }
+fn replied(sent: bool) -> Handled
+    ensures { result ≡ handled_if sent }
 {
-    if sent { Heard::Reply } else { Heard::Nothing }
+    if sent {
+        Handled::Reply
+    } else {
+        Handled::Nothing
+    }
 }
 
 /// Makes an empty emission, to be overwritten.

@@ -32,7 +32,7 @@
 //! - A PUT in blocks is executed exactly if its last block fits, with the joined payloads since
 //!   block number 0.
 //!
-//! By the contracts of `Front::deliver`, `hear`, `answer`, `respond`, `tick`, `fresh_id`, `Heads`,
+//! By the contracts of `Front::deliver`, `handle`, `answer`, `respond`, `tick`, `fresh_id`, `Heads`,
 //! `Task`, `Answer::ran`.
 #![tactic(auto)]
 
@@ -49,7 +49,7 @@ mod text;
 
 pub use answer::{Answer, End, Words};
 pub use event::Event;
-pub use front::{Answered, Delivered, Front, Heard, Responded};
+pub use front::{Answered, Delivered, Front, Handled, Responded};
 pub use heads::{Heads, head_word};
 pub use policy::{ANY_ADDRESS, DEFAULT_POLICY, MOST_NETWORKS, Managers, Network, Policy};
 pub use stage::{Stage, Step, Task, TurnStep};

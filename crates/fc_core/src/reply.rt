@@ -11,7 +11,7 @@ ghost use Rattle.fc_core.specs.Receiving.{told_by};
 ghost use Rattle.fc_core.specs.Replies as spec;
 ghost use Rattle.fc_core.specs.Replies.{IsReplyTo, link_format, made_response, to_job};
 
-use crate::answer::{Answer, End, Said};
+use crate::answer::{Answer, AnswerBody, End};
 use crate::text::{fault_line, link_lines, receipt_line};
 use coap_msg::{Code, Datagram, Emission, Endpoint, Message, MessageType};
 use coap_opts::{Block, ReplyOptions};
@@ -25,7 +25,7 @@ pub(crate) fn answer(job: &Job, id: u16, answer: &Answer, bytes: &mut Datagram)
 {
     let (said, part) = answer.said();
     match said {
-        Said::Ran {
+        AnswerBody::Ran {
             code,
             block,
             serial,
@@ -39,7 +39,7 @@ pub(crate) fn answer(job: &Job, id: u16, answer: &Answer, bytes: &mut Datagram)
             *observed,
             bytes,
         ),
-        Said::Other(end) => ended(job, id, end, bytes),
+        AnswerBody::Other(end) => ended(job, id, end, bytes),
     }
 }
 

@@ -13,13 +13,13 @@ use crate::heads::{head_word, is_present, serial_in};
 use fc_isa::Fault;
 use fc_machine::Outcome;
 use fc_observe::Turn;
-use fc_registry::{Ask, Committed, Found, Job, Made, Receipt, Removal, Taken, Ticket, Took};
+use fc_registry::{Ask, Committed, Job, Made, Receipt, Removal, SlotSnapshot, Taken, Ticket, Took};
 use fc_verify::{Refusal, Verified};
 use std::marker::Model;
 use std::sync::Arc;
 
 /// The greatest number of snapshots of a job.
-const TAKINGS: u8 = 8;
+const SNAPSHOTS: u8 = 8;
 
 /// The next action that a job needs.
 #[derive(Drop)]
@@ -69,7 +69,7 @@ pub enum TurnStep {
 #[derive(Drop)]
 pub struct Stage {
     pub step: Step,
-    pub found: Found,
+    pub found: SlotSnapshot,
     pub seen: Words,
     pub answer: Answer,
 }
@@ -101,7 +101,7 @@ impl Stage {
     {
         Stage {
             step: Step::Gone,
-            found: Found::blank(),
+            found: SlotSnapshot::blank(),
             seen: Words::new(),
             answer: Answer::other(End::Unavailable),
         }
@@ -333,7 +333,7 @@ impl Step {
     fn overtaken(count: u8, answer: &mut Answer) -> Step
         ensures { StandsAt result answer.new (rows.retaken count) }
     {
-        if count < TAKINGS {
+        if count < SNAPSHOTS {
             return Step::ToTake(count);
         }
         answer.write_other(End::Unavailable);

@@ -17,7 +17,7 @@ ghost use Rattle.fc_core.specs.Stages.{content_at, drew, ended, had_memory, imag
 ghost use Rattle.fc_core.specs.TurnStage as turns;
 ghost use Rattle.fc_core.specs.declared.stage.TurnStep.TheVariants.{ToDraw};
 ghost use Rattle.fc_core.specs.Steps.{changes_told, next_stage};
-ghost use Rattle.fc_core.specs.Rows.{Common, Scene, ShardMoves, TaskMoves, commit_call, commit_move, install_call, install_move, moves, note_on, notification, row, scene_of, shard_moved, task_moved, words_after};
+ghost use Rattle.fc_core.specs.Rows.{Common, Inputs, ShardMoves, TaskMoves, commit_call, commit_move, install_call, install_move, moves, note_on, notification, row, inputs_of, shard_moved, task_moved, words_after};
 
 use crate::answer::Answer;
 use crate::front::blank_job;
@@ -28,8 +28,8 @@ use fc_help::{NO_READINGS, Readings};
 use fc_machine::{Frame, run};
 use fc_observe::Turn;
 use fc_registry::{
-    Ask, Found, InitialVars, Job, NoteOutcome, Notification, Receipt, Shard, SlotNumber, Taken,
-    Ticket,
+    Ask, InitialVars, Job, NoteOutcome, Notification, Receipt, Shard, SlotNumber, SlotSnapshot,
+    Taken, Ticket,
 };
 use fc_verify::{Refusal, Verified, verify};
 use std::alloc::{AllocError, Global};
@@ -64,7 +64,7 @@ impl Task {
     pub fn peek(&mut self, slot: u8, heads: &Heads)
         requires { HasNext self.old.stage }
         ensures { (k : ℕ) (shard : Shard) (free : ℕ → Option ℕ) → let common : Common = record { words = heads.now; free = free } in
-            self.new ≡ task_moved self.old (row (Event.Peek k slot) (scene_of shard common self.old)) }
+            self.new ≡ task_moved self.old (row (Event.Peek k slot) (inputs_of shard common self.old)) }
     {
         let stage = &mut self.stage;
         match &stage.step {
@@ -100,7 +100,7 @@ impl Task {
         let Step::ToTake(count) = stage.step else {
             return true;
         };
-        let taken = shard.write_taking(&self.job, readings, &mut stage.found);
+        let taken = shard.take_into(&self.job, readings, &mut stage.found);
         let memory = had_memory(&taken);
         stage.step = Step::took(count, taken, &mut stage.answer);
         memory
@@ -115,7 +115,7 @@ impl Task {
         ensures shard { (k : ℕ) → ShardMoves (Event.Take k result readings.now) shard.old self.old shard.new }
     {
         let stage = &mut self.stage;
-        let taken = shard.write_taking(&self.job, readings, &mut stage.found);
+        let taken = shard.take_into(&self.job, readings, &mut stage.found);
         let memory = had_memory(&taken);
         stage.step = Step::turn_took(turn, taken);
         memory
@@ -135,11 +135,7 @@ impl Task {
         }
         let stage = &mut self.stage;
         if let Step::ToTake(count) = stage.step {
-            let taken = without_memory(shard.write_taking(
-                &self.job,
-                &NO_READINGS,
-                &mut stage.found,
-            ));
+            let taken = without_memory(shard.take_into(&self.job, &NO_READINGS, &mut stage.found));
             stage.step = Step::took(count, taken, &mut stage.answer);
         }
     }
@@ -153,7 +149,7 @@ impl Task {
         ensures shard { (k : ℕ) (readings : List ℕ) → ShardMoves (Event.Take k false readings) shard.old self.old shard.new }
     {
         let stage = &mut self.stage;
-        let taken = without_memory(shard.write_taking(&self.job, &NO_READINGS, &mut stage.found));
+        let taken = without_memory(shard.take_into(&self.job, &NO_READINGS, &mut stage.found));
         stage.step = Step::turn_took(turn, taken);
     }
 
@@ -202,7 +198,7 @@ impl Task {
         requires { IsOwned shard.old self.old.job.origin.slot }
         ensures task { (k : ℕ) → TaskMoves (Event.Install k result) shard.old self.old self.new }
         ensures shard { (k : ℕ) → ShardMoves (Event.Install k result) shard.old self.old shard.new }
-        ensures safe { (k : ℕ) (common : Common) → AllSafe (row (Event.Install k result) (scene_of shard.old common self.old)).changes }
+        ensures safe { (k : ℕ) (common : Common) → AllSafe (row (Event.Install k result) (inputs_of shard.old common self.old)).changes }
     {
         let stage = &mut self.stage;
         let Step::ToInstall = &stage.step else {
@@ -233,7 +229,7 @@ impl Task {
     pub fn raise(&mut self, heads: &mut Heads)
         ensures task { (k : ℕ) (shard : Shard) → TaskMoves (Event.Raise k) shard self.old self.new }
         ensures words { (k : ℕ) (shard : Shard) (common : Common) →
-            heads.new ≡ words_after (row (Event.Raise k) (scene_of shard common self.old)) self.old heads.old }
+            heads.new ≡ words_after (row (Event.Raise k) (inputs_of shard common self.old)) self.old heads.old }
     {
         let stage = &mut self.stage;
         if let Step::ToRaise(word) = stage.step {
@@ -300,7 +296,7 @@ impl Task {
         ensures task { (k : ℕ) → TaskMoves (Event.Note k now random) shard.old self.old self.new }
         ensures shard { (k : ℕ) → ShardMoves (Event.Note k now random) shard.old self.old shard.new }
         ensures sent { (common : Common) →
-            emission_if result emission.new ≡ notification now (scene_of shard.old common self.old) self.old.stage }
+            emission_if result emission.new ≡ notification now (inputs_of shard.old common self.old) self.old.stage }
     {
         let stage = &mut self.stage;
         let Step::ToTell(turn, TurnStep::ToNote(program, id)) = &stage.step else {
@@ -337,14 +333,14 @@ impl Task {
 
 // Returns whether memory for a snapshot could be allocated.
 fn had_memory(taken: &Taken) -> bool
-    ensures { (f : Found) → result ≡ had_memory (taken_with taken.now f) }
+    ensures { (f : SlotSnapshot) → result ≡ had_memory (taken_with taken.now f) }
 {
     !matches!(taken, Taken::Refused)
 }
 
 // Returns the result of a snapshot if memory can't be allocated.
 fn without_memory(taken: Taken) -> Taken
-    ensures { (f : Found) → (taken_with result f ≡ without_memory (taken_with taken f)) × HasSize result f }
+    ensures { (f : SlotSnapshot) → (taken_with result f ≡ without_memory (taken_with taken f)) × HasSize result f }
 {
     match taken {
         Taken::Given(_) => Taken::Refused,
@@ -388,7 +384,7 @@ fn run_and_commit(
 }
 
 // Returns the ticket of a program, if there is one, and of the written snapshot.
-fn ticket_if<'a>(program: &'a Option<Arc<Verified>>, found: &'a Found) -> Option<Ticket<'a>>
+fn ticket_if<'a>(program: &'a Option<Arc<Verified>>, found: &'a SlotSnapshot) -> Option<Ticket<'a>>
     requires { FitsTurnStep (ToDraw program.now) found.now }
     ensures { turn_stage_of (ToDraw program.now) found.now ≡ turns.ToDraw result }
 {
@@ -447,7 +443,7 @@ fn verify_and_install(
 ) -> Result<(), AllocError>
     requires { IsOwned shard.old slot }
     ensures stage { OnOk result (stage.new ≡ next_stage (install_call initial (judged image.now) (slot_in shard.old slot))) }
-    ensures shard { OnOk result ((s : Scene) →
+    ensures shard { OnOk result ((s : Inputs) →
         shard.new ≡ shard_moved (install_move initial (judged image.now) (record s { slot = slot_in shard.old slot })) slot shard.old) }
     ensures safe { OnOk result (AllSafe (changes_told (install_call initial (judged image.now) (slot_in shard.old slot)))) }
     ensures refused { IsErr result → shard.new ≡ shard.old }
@@ -473,7 +469,7 @@ fn install_program(
 ) -> Result<(), AllocError>
     requires { IsOwned shard.old slot }
     ensures stage { OnOk result (stage.new ≡ next_stage (install_call initial (Accepts program) (slot_in shard.old slot))) }
-    ensures shard { OnOk result ((s : Scene) →
+    ensures shard { OnOk result ((s : Inputs) →
         shard.new ≡ shard_moved (install_move initial (Accepts program) (record s { slot = slot_in shard.old slot })) slot shard.old) }
     ensures refused { IsErr result → shard.new ≡ shard.old }
 {

@@ -1,8 +1,8 @@
--- The errand of a request, and the reasons to stop.
+-- The client request of a request, and the reasons to stop.
 use Rattle.std.proofs.Common.{◌≡◌, ℕ, List, Option, Some, None, IfNone, Result, Ok, Err, IfErr, IfOk, IfSome, inl, ap, subst, ◌∙◌}
 use Rattle.std.specs.Borrow.{Bor}
-use Rattle.coap_client.specs.declared.errand.Errand.{Errand}
-use Rattle.coap_client.specs.declared.errand.RequestTarget.{RequestTarget}
+use Rattle.coap_client.specs.declared.client_request.ClientRequest.{ClientRequest}
+use Rattle.coap_client.specs.declared.client_request.RequestTarget.{RequestTarget}
 use Rattle.fc_fetch.specs.declared.client.FetchOptions.{FetchOptions}
 use Rattle.std.specs.declared.net.socket_addr.SocketAddrV4.{SocketAddrV4}
 use Rattle.coap_client.specs.PeerCalls.{PeerCall, PeerError}
@@ -10,7 +10,7 @@ use Rattle.fc_fetch.specs.Connecting.{IsDrawnId}
 use Rattle.fc_fetch.specs.Addresses.{IsAddress}
 use Rattle.fc_fetch.specs.declared.address.Address.{Address}
 use Rattle.fc_fetch.specs.Fetching.{HasResource, IsAsking, IsFetchStop, IsOfConnecting, IsOfInput, IsOfRandom, IsTargetStop, NamesNoResource}
-use Rattle.fc_fetch.specs.Observing.{IsErrandStop, IsObserveStop}
+use Rattle.fc_fetch.specs.Observing.{IsClientRequestStop, IsObserveStop}
 use Rattle.fc_fetch.specs.Resources.{IsResourceOf}
 use Rattle.fc_fetch.specs.declared.observer.Observing.{Observing}
 use Rattle.fc_fetch.specs.Pinging.{IsPingEndpoint, IsPingStop}
@@ -18,7 +18,7 @@ use Rattle.fc_fetch.specs.declared.client.FetchStop.{FetchStop}
 use Rattle.fc_fetch.specs.declared.client.FetchStop.TheVariants as stop
 use Rattle.fc_fetch.specs.declared.ping.Pinging.{Pinging}
 
-pub asks : (asking : FetchOptions) (target : RequestTarget) (payload : Bor (List ℕ)) (plain e : Errand)
+pub asks : (asking : FetchOptions) (target : RequestTarget) (payload : Bor (List ℕ)) (plain e : ClientRequest)
     → (plain.confirmable ≡ asking.confirmable) × (plain.method ≡ asking.method) × (plain.target ≡ target) × (plain.payload ≡ payload) → e.content_format ≡ asking.content_format
     → (e.confirmable ≡ plain.confirmable) × (e.method ≡ plain.method) × (e.target ≡ plain.target) × (e.payload ≡ plain.payload) → IsAsking asking target payload.now e
 asks asking target payload plain e h format same = record {
@@ -152,22 +152,22 @@ module _ {S : Type 0} (connected : S → SocketAddrV4 → Type 0) (drawn went ca
   observed_nothing (stop.Notes error) h = absurd h.none
   observed_nothing (stop.Memory error) h = h
 
-  abbrev AtErrand : Errand → SocketAddrV4 → FetchStop → Type 0
-  AtErrand e server s = IsErrandStop connected drawn went came tried told is_error called observing e server s
+  abbrev AtClientRequest : ClientRequest → SocketAddrV4 → FetchStop → Type 0
+  AtClientRequest e server s = IsClientRequestStop connected drawn went came tried told is_error called observing e server s
 
-  pub observed_errand : (a : Address) (e : Errand) (s : FetchStop) → IsAddress observing.target.now observing.port a → IsResourceOf a e.target → AtErrand e a.server s → Ends s
-  observed_errand a e (stop.Address error) is target h = absurd h
-  observed_errand a e (stop.Path error) is target h = absurd h
-  observed_errand a e stop.Argument is target h = absurd h
-  observed_errand a e stop.Room is target h = absurd h
-  observed_errand a e stop.Resource is target h = absurd h
-  observed_errand a e (stop.Input name error) is target h = absurd h
-  observed_errand a e (stop.Random error) is target h = record { address = a; address_is = is; errand = e; target_is = target; stops = h }
-  observed_errand a e (stop.Fault f) is target h = record { address = a; address_is = is; errand = e; target_is = target; stops = h }
-  observed_errand a e (stop.Notes error) is target h = record { address = a; address_is = is; errand = e; target_is = target; stops = h }
-  observed_errand a e (stop.Memory error) is target h = absurd h
+  pub observed_client_request : (a : Address) (e : ClientRequest) (s : FetchStop) → IsAddress observing.target.now observing.port a → IsResourceOf a e.target → AtClientRequest e a.server s → Ends s
+  observed_client_request a e (stop.Address error) is target h = absurd h
+  observed_client_request a e (stop.Path error) is target h = absurd h
+  observed_client_request a e stop.Argument is target h = absurd h
+  observed_client_request a e stop.Room is target h = absurd h
+  observed_client_request a e stop.Resource is target h = absurd h
+  observed_client_request a e (stop.Input name error) is target h = absurd h
+  observed_client_request a e (stop.Random error) is target h = record { address = a; address_is = is; client_request = e; target_is = target; stops = h }
+  observed_client_request a e (stop.Fault f) is target h = record { address = a; address_is = is; client_request = e; target_is = target; stops = h }
+  observed_client_request a e (stop.Notes error) is target h = record { address = a; address_is = is; client_request = e; target_is = target; stops = h }
+  observed_client_request a e (stop.Memory error) is target h = absurd h
 
-  pub observed_without_words : (e : Errand) (server : SocketAddrV4) (s : FetchStop) → IsOfRandom s → AtErrand e server s
+  pub observed_without_words : (e : ClientRequest) (server : SocketAddrV4) (s : FetchStop) → IsOfRandom s → AtClientRequest e server s
   observed_without_words e server (stop.Address error) h = absurd h
   observed_without_words e server (stop.Path error) h = absurd h
   observed_without_words e server stop.Argument h = absurd h
@@ -179,7 +179,7 @@ module _ {S : Type 0} (connected : S → SocketAddrV4 → Type 0) (drawn went ca
   observed_without_words e server (stop.Notes error) h = absurd h
   observed_without_words e server (stop.Memory error) h = absurd h
 
-  pub observed_nobody : (e : Errand) (server : SocketAddrV4) (s : FetchStop) → IsOfConnecting s → AtErrand e server s
+  pub observed_nobody : (e : ClientRequest) (server : SocketAddrV4) (s : FetchStop) → IsOfConnecting s → AtClientRequest e server s
   observed_nobody e server (stop.Address error) h = absurd h
   observed_nobody e server (stop.Path error) h = absurd h
   observed_nobody e server stop.Argument h = absurd h

@@ -9,10 +9,10 @@ use Rattle.coap_client.specs.PeerCalls.{PeerCall, PeerError}
 use Rattle.coap_client.specs.Transmissions.{MakesCalls}
 use Rattle.coap_client.specs.declared.fetcher.FetchFault.{FetchFault}
 use Rattle.coap_client.specs.declared.fetcher.FetchFault.TheVariants as fault
-use Rattle.coap_client.specs.declared.notice.Notice.{Notice}
-use Rattle.coap_client.specs.declared.notice.Notice.TheVariants as notice
+use Rattle.coap_client.specs.declared.notice.NotificationClass.{NotificationClass}
+use Rattle.coap_client.specs.declared.notice.NotificationClass.TheVariants as notice
 use Rattle.coap_client.specs.declared.observing.Observer.{Observer}
-use Rattle.coap_client.specs.declared.watch.Watch.{Watch}
+use Rattle.coap_client.specs.declared.watch.Observation.{Observation}
 use Rattle.coap_client.proofs.Failing.{unfit_notice}
 use Rattle.coap_client.proofs.Transmitting.{Calls, both, does_of}
 use Rattle.coap_msg.specs.Reading.{reading_of}
@@ -29,7 +29,7 @@ pub unanswered : (came : List ℕ → Type 0) (is_error : PeerError → Type 0) 
     → IsFirstFault came is_error Makes o (notes_error.Fault f)
 unanswered came is_error Makes o fault.Silence h = h
 unanswered came is_error Makes o fault.Rejected h = h
-unanswered came is_error Makes o fault.Misfit h = h
+unanswered came is_error Makes o fault.Malformed h = h
 unanswered came is_error Makes o fault.Changed h = h
 unanswered came is_error Makes o fault.Part h = absurd h
 unanswered came is_error Makes o (fault.Socket error) h = h
@@ -40,7 +40,7 @@ pub undated : (came : List ℕ → Type 0) (is_error : PeerError → Type 0) (Ma
     → IsFirstFault came is_error Makes o (notes_error.Fault f)
 undated came is_error Makes o fault.Silence h = absurd h
 undated came is_error Makes o fault.Rejected h = absurd h
-undated came is_error Makes o fault.Misfit h = absurd h
+undated came is_error Makes o fault.Malformed h = absurd h
 undated came is_error Makes o fault.Changed h = absurd h
 undated came is_error Makes o fault.Part h = absurd h
 undated came is_error Makes o (fault.Socket error) h = h
@@ -51,52 +51,52 @@ pub unbegun : (went came : List ℕ → Type 0) (told : ℕ → Type 0) (is_erro
     → IsOfPeer is_error ⊥ f → IsLaterFault went came told is_error Makes o seconds (notes_error.Fault f)
 unbegun went came told is_error Makes o seconds fault.Silence h = absurd h
 unbegun went came told is_error Makes o seconds fault.Rejected h = absurd h
-unbegun went came told is_error Makes o seconds fault.Misfit h = absurd h
+unbegun went came told is_error Makes o seconds fault.Malformed h = absurd h
 unbegun went came told is_error Makes o seconds fault.Changed h = absurd h
 unbegun went came told is_error Makes o seconds fault.Part h = absurd h
 unbegun went came told is_error Makes o seconds (fault.Socket error) h = h
 unbegun went came told is_error Makes o seconds (fault.Memory error) h = absurd h
 
-pub of_peer : (came : List ℕ → Type 0) (told : ℕ → Type 0) (is_error : PeerError → Type 0) (Makes : (List PeerCall → Type 0) → Type 0) (o : Observer) (ends : Bool) (w : Watch) (f : FetchFault)
+pub of_peer : (came : List ℕ → Type 0) (told : ℕ → Type 0) (is_error : PeerError → Type 0) (Makes : (List PeerCall → Type 0) → Type 0) (o : Observer) (ends : Bool) (w : Observation) (f : FetchFault)
     → IsOfPeer is_error ⊥ f → IsAwaitFault came told is_error Makes o ends w f
 of_peer came told is_error Makes o ends w fault.Silence h = h
 of_peer came told is_error Makes o ends w fault.Rejected h = h
-of_peer came told is_error Makes o ends w fault.Misfit h = h
+of_peer came told is_error Makes o ends w fault.Malformed h = h
 of_peer came told is_error Makes o ends w fault.Changed h = h
 of_peer came told is_error Makes o ends w fault.Part h = absurd h
 of_peer came told is_error Makes o ends w (fault.Socket error) h = h
 of_peer came told is_error Makes o ends w (fault.Memory error) h = absurd h
 
 -- the wait for a note ends on a notification
-until : (told : ℕ → Type 0) (token : List ℕ) (ends : Bool) (n : ℕ) (w : Watch) (P : Notice → Type 0) (before between after : Calls) → MakesCalls before between (HasAwaited token ends n)
+until : (told : ℕ → Type 0) (token : List ℕ) (ends : Bool) (n : ℕ) (w : Observation) (P : NotificationClass → Type 0) (before between after : Calls) → MakesCalls before between (HasAwaited token ends n)
     → MakesCalls between after (EndsOnNotification told token w P) → MakesCalls before after (AwaitsUntil told token ends w P)
 until told token ends n w P before between after one other =
     both before between after (AwaitsNote token ends false) (EndsOnNotification told token w P)
     (does_of before between (HasAwaited token ends n) (AwaitsNote token ends false) one (λ calls h. record { observing = h.observing; awaited = h.awaited; over = λ x. absurd (cc x) })) other
 
 -- the wait for a note failed
-pub no_note : (came : List ℕ → Type 0) (told : ℕ → Type 0) (is_error : PeerError → Type 0) (before between after : Calls) (o : Observer) (ends : Bool) (n : ℕ) (w : Watch) (f : FetchFault)
+pub no_note : (came : List ℕ → Type 0) (told : ℕ → Type 0) (is_error : PeerError → Type 0) (before between after : Calls) (o : Observer) (ends : Bool) (n : ℕ) (w : Observation) (f : FetchFault)
     → MakesCalls before between (HasAwaited o.token ends n) → IsNotificationFault came is_error (MakesCalls between after) told o.token w f
     → IsAwaitFault came told is_error (MakesCalls before after) o ends w f
 no_note came told is_error before between after o ends n w fault.Silence one h = h
 no_note came told is_error before between after o ends n w fault.Rejected one h = h
-no_note came told is_error before between after o ends n w fault.Misfit one h = h
+no_note came told is_error before between after o ends n w fault.Malformed one h = h
 no_note came told is_error before between after o ends n w fault.Changed one h = h
-no_note came told is_error before between after o ends n w fault.Part one h = (h.1 o.id, until told o.token ends n w (λ x. x ≡ notice.Misfit) before between after one h.0)
+no_note came told is_error before between after o ends n w fault.Part one h = (h.1 o.id, until told o.token ends n w (λ x. x ≡ notice.Malformed) before between after one h.0)
 no_note came told is_error before between after o ends n w (fault.Socket error) one h = h
 no_note came told is_error before between after o ends n w (fault.Memory error) one h = until told o.token ends n w IsNewState before between after one h
 
 -- it fails after these notes
 pub stopped : (went came : List ℕ → Type 0) (told : ℕ → Type 0) (is_error : PeerError → Type 0) (before between after : Calls) (o : Observer) (shown : Shown) (out now : Option (List ℕ))
-    (lines : ℕ) (seconds : Option ℕ) (ends : Bool) (w : Watch) (f : FetchFault) → ends ≡ is_some seconds → IsShowing went came told o shown out now lines w
+    (lines : ℕ) (seconds : Option ℕ) (ends : Bool) (w : Observation) (f : FetchFault) → ends ≡ is_some seconds → IsShowing went came told o shown out now lines w
     → MakesCalls before between (HasObserved o seconds) → IsAwaitFault came told is_error (MakesCalls between after) o ends w f
     → IsLaterFault went came told is_error (MakesCalls before after) o seconds (notes_error.Fault f)
 stopped went came told is_error before between after o shown out now lines seconds ends w fault.Silence is s one h = h
 stopped went came told is_error before between after o shown out now lines seconds ends w fault.Rejected is s one h = h
-stopped went came told is_error before between after o shown out now lines seconds ends w fault.Misfit is s one h = h
+stopped went came told is_error before between after o shown out now lines seconds ends w fault.Malformed is s one h = h
 stopped went came told is_error before between after o shown out now lines seconds ends w fault.Changed is s one h = h
 stopped went came told is_error before between after o shown out now lines seconds ends w fault.Part is s one h =
-    (h.0, record { latest = s.latest; older = s.older; w = w; watching = s.watching; called = observed_until told o seconds ends w (λ x. x ≡ notice.Misfit) before between after is one h.1 })
+    (h.0, record { latest = s.latest; older = s.older; w = w; watching = s.watching; called = observed_until told o seconds ends w (λ x. x ≡ notice.Malformed) before between after is one h.1 })
 stopped went came told is_error before between after o shown out now lines seconds ends w (fault.Socket error) is s one h = h
 stopped went came told is_error before between after o shown out now lines seconds ends w (fault.Memory error) is s one h =
     record { latest = s.latest; older = s.older; w = w; watching = s.watching; called = observed_until told o seconds ends w IsNewState before between after is one h }
@@ -107,7 +107,7 @@ no_sequence_is_older None h = cc h
 no_sequence_is_older (Some v) h = cc h
 
 never_older : (m : Message) → notice_of m ≡ notice.Older → ⊥
-never_older m h = elim (can_be_shown m) as (λ b. (if b then by_success m else notice.Misfit) ≡ notice.Older → ⊥) [
+never_older m h = elim (can_be_shown m) as (λ b. (if b then by_success m else notice.Malformed) ≡ notice.Older → ⊥) [
   | true ↦ λ x. elim (is_success m.code) as (λ b. (if b then by_sequence (sequence_of m) else notice.Last) ≡ notice.Older → ⊥) [
     | true ↦ λ y. no_sequence_is_older (sequence_of m) y
     | false ↦ λ y. cc y
@@ -116,15 +116,15 @@ never_older m h = elim (can_be_shown m) as (λ b. (if b then by_success m else n
 ] h
 
 -- the response to the registration can't be shown
-pub unfit_first : (went came : List ℕ → Type 0) (o : Observer) (bytes : List ℕ) (m : Message) (n : Notice) → IsRegistered went came o bytes → reading_of bytes ≡ Ok m
-    → n ≡ notice_of m → (n ≡ notice.Older) ⊎ (n ≡ notice.Misfit) → (u : UnfitCame came o.token o.id) × (u.message ≡ m)
+pub unfit_first : (went came : List ℕ → Type 0) (o : Observer) (bytes : List ℕ) (m : Message) (n : NotificationClass) → IsRegistered went came o bytes → reading_of bytes ≡ Ok m
+    → n ≡ notice_of m → (n ≡ notice.Older) ⊎ (n ≡ notice.Malformed) → (u : UnfitCame came o.token o.id) × (u.message ≡ m)
 unfit_first went came o bytes m n registered read is (inl older) = absurd (never_older m (sym is ∙ older))
 unfit_first went came o bytes m n registered read is (inr so) =
-    let same : registered.message ≡ m = cc (registered.heard.read_is, read) in (
+    let same : registered.message ≡ m = cc (registered.handled.read_is, read) in (
       record {
         bytes = bytes;
         message = m;
-        came_is = registered.heard.came_is;
+        came_is = registered.handled.came_is;
         read_is = read;
         own = subst (IsResponseWith o.token o.id) same registered.own;
         unfit = unfit_notice m (sym is ∙ so);
@@ -145,12 +145,12 @@ stopped_unfit came is_error Makes o u error is one = subst (IsFirstFault came is
 pub unmarked : (went came : List ℕ → Type 0) (before after : Calls) (o : Observer) (bytes : List ℕ) (m : Message) (v : ℕ) → IsRegistered went came o bytes → reading_of bytes ≡ Ok m
     → notice_of m ≡ notice.State v → MakesCalls before after (IsDatedRegistration o) → IsStoppedByFirst came (MakesCalls before after) o
 unmarked went came before after o bytes m v registered read is one =
-    let same : registered.message ≡ m = cc (registered.heard.read_is, read) in
+    let same : registered.message ≡ m = cc (registered.handled.read_is, read) in
     record {
       bytes = bytes;
       came_is = record {
         message = m;
-        came_is = registered.heard.came_is;
+        came_is = registered.handled.came_is;
         read_is = read;
         holds = (subst (IsResponseWith o.token o.id) same registered.own, subst IsState (sym is) tt);
       };
@@ -165,7 +165,7 @@ unregistered called tried went came told is_error before after o seconds (notes_
 unregistered called tried went came told is_error before after o seconds (notes_error.Fault fault.Silence) is (inr h) = absurd h
 unregistered called tried went came told is_error before after o seconds (notes_error.Fault fault.Rejected) is (inl h) = inr (inr (inl h))
 unregistered called tried went came told is_error before after o seconds (notes_error.Fault fault.Rejected) is (inr h) = absurd h
-unregistered called tried went came told is_error before after o seconds (notes_error.Fault fault.Misfit) is h = absurd (cc is)
+unregistered called tried went came told is_error before after o seconds (notes_error.Fault fault.Malformed) is h = absurd (cc is)
 unregistered called tried went came told is_error before after o seconds (notes_error.Fault fault.Changed) is h = absurd (cc is)
 unregistered called tried went came told is_error before after o seconds (notes_error.Fault fault.Part) is h = absurd (cc is)
 unregistered called tried went came told is_error before after o seconds (notes_error.Fault (fault.Socket error)) is h = absurd (cc is)
@@ -187,7 +187,7 @@ pub left_in_vain : (is_error : PeerError → Type 0) (before between after : Lis
     → IsLeftInVain is_error (MakesCalls before after) o seconds f
 left_in_vain is_error before between after o seconds end fault.Silence one h = record { end = end; fails = both before between after (IsTimedObservation o seconds end) _ one h }
 left_in_vain is_error before between after o seconds end fault.Rejected one h = record { end = end; fails = both before between after (IsTimedObservation o seconds end) _ one h }
-left_in_vain is_error before between after o seconds end fault.Misfit one h = absurd h
+left_in_vain is_error before between after o seconds end fault.Malformed one h = absurd h
 left_in_vain is_error before between after o seconds end fault.Changed one h = absurd h
 left_in_vain is_error before between after o seconds end fault.Part one h = absurd h
 left_in_vain is_error before between after o seconds end (fault.Socket error) one h = record { end = end; fails = h }

@@ -8,9 +8,9 @@ use Rattle.coap_client.specs.ObserverCalls.{AwaitsNotification, Dated, IsDatedRe
 use Rattle.coap_client.specs.PeerCalls.{Adds, PeerCall, Reads, Receives, Waits}
 use Rattle.coap_client.specs.Schedules.{is_scheduled, schedule}
 use Rattle.coap_client.specs.Transmissions.{AreBehind, MakesCalls}
-use Rattle.coap_client.specs.declared.notice.Notice.{Notice}
+use Rattle.coap_client.specs.declared.notice.NotificationClass.{NotificationClass}
 use Rattle.coap_client.specs.declared.observing.Observer.{Observer}
-use Rattle.coap_client.specs.declared.watch.Watch.{Watch}
+use Rattle.coap_client.specs.declared.watch.Observation.{Observation}
 use Rattle.coap_client.proofs.ObserverCalls.{awaited_steps, observed, waiting_step}
 use Rattle.coap_client.proofs.Scheduled.{noted_quietly}
 use Rattle.coap_client.proofs.Transmitting.{Calls, Passes, does_both, does_nothing, does_of, does_then}
@@ -75,7 +75,7 @@ more_quietly true n newer older quiet days = days
 more_quietly false n newer older quiet days =
     subst (λ (x : List PeerCall). n ≤ length x) (sym (schedule_of newer older ∙ ap (λ (x : List PeerCall). x ++ schedule older) quiet)) days
 
-passes_quietly : (told : ℕ → Type 0) (token : List ℕ) (ends : Bool) (w : Watch) (n : ℕ) (answer : Option Dated) (before between after : Calls)
+passes_quietly : (told : ℕ → Type 0) (token : List ℕ) (ends : Bool) (w : Observation) (n : ℕ) (answer : Option Dated) (before between after : Calls)
     → MakesCalls before between (HasAwaited token ends n) → MakesCalls between after (AwaitsNotification token (IsPassedOverWatching told token w) answer)
     → MakesCalls before after (HasAwaited token ends n)
 passes_quietly told token ends w n answer before between after one other =
@@ -89,7 +89,7 @@ passes_quietly told token ends w n answer before between after one other =
     })
 
 -- one more day
-pub one_more_day : (told : ℕ → Type 0) (token : List ℕ) (ends : Bool) (w : Watch) (n : ℕ) (before between after begun : Calls) → ends ≡ false
+pub one_more_day : (told : ℕ → Type 0) (token : List ℕ) (ends : Bool) (w : Observation) (n : ℕ) (before between after begun : Calls) → ends ≡ false
     → MakesCalls before between (HasAwaited token ends n) → MakesCalls between after (AwaitsNotification token (IsPassedOverWatching told token w) None)
     → Adds after begun (Waits 86400 ∷ []) → MakesCalls before begun (HasAwaited token ends (n + 1))
 one_more_day told token ends w n before between after begun is one other adds =
@@ -99,7 +99,7 @@ one_more_day told token ends w n before between after begun is one other adds =
     (λ calls h. let days = h.days in record { observing = waiting_step token 86400 calls h.observing; awaited = All-cons is_day (Waits 86400) (schedule calls) refl h.awaited; days = omega (arith, days) }))
 
 -- the next note came, or the time is over
-pub note_awaited : (told : ℕ → Type 0) (token : List ℕ) (ends none : Bool) (w : Watch) (n : ℕ) (answer : Option Dated) (before between after : Calls)
+pub note_awaited : (told : ℕ → Type 0) (token : List ℕ) (ends none : Bool) (w : Observation) (n : ℕ) (answer : Option Dated) (before between after : Calls)
     → MakesCalls before between (HasAwaited token ends n) → MakesCalls between after (AwaitsNotification token (IsPassedOverWatching told token w) answer)
     → ((none ≡ true) → (ends ≡ true) × (answer ≡ None)) → MakesCalls before after (AwaitsNote token ends none)
 note_awaited told token ends none w n answer before between after one other only =
@@ -127,11 +127,11 @@ awaited_to_the_end token ends n before after full one =
 -- ---- from the registration on
 
 -- the clock is read after the response
-pub dated : (o : Observer) (answer : List ℕ) (moment : ℕ) (before between after : Calls) → MakesCalls before between (IsRegistration o answer) → Adds between after (Reads moment ∷ [])
+pub dated : (o : Observer) (answer : List ℕ) (time : ℕ) (before between after : Calls) → MakesCalls before between (IsRegistration o answer) → Adds between after (Reads time ∷ [])
     → MakesCalls before after (IsDatedRegistration o)
-dated o answer moment before between after one adds =
-    does_then before between after (IsRegistration o answer) (IsDatedRegistration o) (Reads moment ∷ []) one adds
-    (λ older a. record { older = older; answered = (answer, a); moment = moment; is = refl })
+dated o answer time before between after one adds =
+    does_then before between after (IsRegistration o answer) (IsDatedRegistration o) (Reads time ∷ []) one adds
+    (λ older a. record { older = older; answered = (answer, a); time = time; is = refl })
 
 pub record HasObserved (o : Observer) (seconds : Option ℕ) (calls : List PeerCall) : Type 0 where
   pub older : List PeerCall
@@ -150,7 +150,7 @@ waits_first o seconds wait before between after is one adds =
       registered = a;
       newer = Waits wait ∷ [];
       observing = waiting_step o.token wait [] (0, refl);
-      waited = record { heard = []; awaited = none_awaited (is_some seconds); is = ap (λ (x : ℕ). Waits x ∷ []) is };
+      waited = record { handled = []; awaited = none_awaited (is_some seconds); is = ap (λ (x : ℕ). Waits x ∷ []) is };
       is = refl;
     })
 
@@ -161,9 +161,9 @@ awaited_on false newer older a b = subst (All is_day) (sym (schedule_of newer ol
 waited_on : (seconds : Option ℕ) (ends : Bool) (newer older : List PeerCall) → ends ≡ is_some seconds → IsAwaitedIn ends newer → IsWaitedFor seconds older
     → IsWaitedFor seconds (newer ++ older)
 waited_on seconds ends newer older is awaited waited = record {
-  heard = newer ++ waited.heard;
-  awaited = awaited_on (is_some seconds) newer waited.heard (subst (λ x. IsAwaitedIn x newer) is awaited) waited.awaited;
-  is = ap (λ (x : List PeerCall). newer ++ x) waited.is ∙ sym (append_assoc newer waited.heard (Waits (first_wait seconds) ∷ []));
+  handled = newer ++ waited.handled;
+  awaited = awaited_on (is_some seconds) newer waited.handled (subst (λ x. IsAwaitedIn x newer) is awaited) waited.awaited;
+  is = ap (λ (x : List PeerCall). newer ++ x) waited.is ∙ sym (append_assoc newer waited.handled (Waits (first_wait seconds) ∷ []));
 }
 
 pub observes_on : (o : Observer) (seconds : Option ℕ) (ends none : Bool) (before between after : Calls) → ends ≡ is_some seconds → MakesCalls before between (HasObserved o seconds)
@@ -180,7 +180,7 @@ observes_on o seconds ends none before between after is one other =
     })
 
 -- a notification ends the observation
-pub observed_until : (told : ℕ → Type 0) (o : Observer) (seconds : Option ℕ) (ends : Bool) (w : Watch) (P : Notice → Type 0) (before between after : Calls) → ends ≡ is_some seconds
+pub observed_until : (told : ℕ → Type 0) (o : Observer) (seconds : Option ℕ) (ends : Bool) (w : Observation) (P : NotificationClass → Type 0) (before between after : Calls) → ends ≡ is_some seconds
     → MakesCalls before between (HasObserved o seconds) → MakesCalls between after (AwaitsUntil told o.token ends w P)
     → MakesCalls before after (AreBehind (IsObservedSoFar o seconds) (EndsOnNotification told o.token w P))
 observed_until told o seconds ends w P before between after is one other =
@@ -245,11 +245,11 @@ pub lasts_seconds : (seconds : ℕ) (calls : List PeerCall) → (calls ≡ []) �
 lasts_seconds seconds calls (inl none) = inl none
 lasts_seconds seconds calls (inr waited) = inr (
     ap schedule waited.is
-    ∙ schedule_of waited.heard (Waits seconds ∷ [])
+    ∙ schedule_of waited.handled (Waits seconds ∷ [])
     ∙ ap (λ (x : List PeerCall). x ++ Waits seconds ∷ []) waited.awaited)
 
 pub lasts_days : (calls : List PeerCall) → (calls ≡ []) ⊎ IsWaitedFor None calls → All is_day (schedule calls)
 lasts_days calls (inl none) = subst (λ (x : List PeerCall). All is_day (schedule x)) (sym none) (All-nil is_day)
 lasts_days calls (inr waited) =
-    subst (All is_day) (sym (ap schedule waited.is ∙ schedule_of waited.heard (Waits 86400 ∷ [])))
-    (All-append is_day (schedule waited.heard) (Waits 86400 ∷ []) waited.awaited (All-cons is_day (Waits 86400) [] refl (All-nil is_day)))
+    subst (All is_day) (sym (ap schedule waited.is ∙ schedule_of waited.handled (Waits 86400 ∷ [])))
+    (All-append is_day (schedule waited.handled) (Waits 86400 ∷ []) waited.awaited (All-cons is_day (Waits 86400) [] refl (All-nil is_day)))

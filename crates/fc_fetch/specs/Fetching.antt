@@ -10,8 +10,8 @@ use Rattle.coap_client.specs.Paths.{slices_in}
 use Rattle.coap_opts.specs.declared.request.Method.{Method}
 use Rattle.coap_client.specs.PeerCalls.{PeerCall, PeerError}
 use Rattle.coap_client.specs.Transmissions.{MakesCalls}
-use Rattle.coap_client.specs.declared.errand.Errand.{Errand}
-use Rattle.coap_client.specs.declared.errand.RequestTarget.{RequestTarget}
+use Rattle.coap_client.specs.declared.client_request.ClientRequest.{ClientRequest}
+use Rattle.coap_client.specs.declared.client_request.RequestTarget.{RequestTarget}
 use Rattle.coap_client.specs.declared.fetcher.FetchFault.{FetchFault}
 use Rattle.coap_client.specs.declared.fetcher.FetchFault.TheVariants as fault
 use Rattle.fc_cli.specs.Ending.{IsEnding}
@@ -109,28 +109,28 @@ pub record HasStopped (Stops : FetchStop → Type 0) (status : Status) : Type 0 
 
 -- ---- the request
 
--- the errand has the options' method, message type and Content-Format, with this resource and body.
-pub record IsAsking (asking : FetchOptions) (target : RequestTarget) (body : List ℕ) (e : Errand) : Type 0 where
+-- the client request has the options' method, message type and Content-Format, with this resource and body.
+pub record IsAsking (asking : FetchOptions) (target : RequestTarget) (body : List ℕ) (e : ClientRequest) : Type 0 where
   pub confirmable : e.confirmable ≡ asking.confirmable
   pub method : e.method ≡ asking.method
   pub target_is : e.target ≡ target
   pub body_is : e.payload.now ≡ body
   pub format_is : e.content_format ≡ asking.content_format
 
--- a fetch of such an errand ended with this response; the message IDs begin with `first`.
+-- a fetch of such a client request ended with this response; the message IDs begin with `first`.
 pub record IsFetchedBy (went came : List ℕ → Type 0) (before after : List PeerCall → Type 0) (asking : FetchOptions) (target : RequestTarget) (body : List ℕ) (first code : ℕ)
     (answer : List ℕ) : Type 0 where
-  pub errand : Errand
-  pub asks : IsAsking asking target body errand
-  pub fetched : IsFetched went came before after errand first code answer
-  pub whole : SendsWhole went errand code
+  pub client_request : ClientRequest
+  pub asks : IsAsking asking target body client_request
+  pub fetched : IsFetched went came before after client_request first code answer
+  pub whole : SendsWhole went client_request code
 
 -- or it failed with this fault.
 pub record IsFaultOf (went came : List ℕ → Type 0) (is_error : PeerError → Type 0) (Makes : (List PeerCall → Type 0) → Type 0) (asking : FetchOptions) (target : RequestTarget)
     (body : List ℕ) (first : ℕ) (fault : FetchFault) : Type 0 where
-  pub errand : Errand
-  pub asks : IsAsking asking target body errand
-  pub stops : IsFetchFault went came is_error Makes errand first fault
+  pub client_request : ClientRequest
+  pub asks : IsAsking asking target body client_request
+  pub stops : IsFetchFault went came is_error Makes client_request first fault
 
 -- the request doesn't fit in a datagram, and nothing is called.
 pub record HasNoRoom (Makes : (List PeerCall → Type 0) → Type 0) (method : Method) (target : RequestTarget) (body : List ℕ) : Type 0 where

@@ -9,11 +9,11 @@ use Rattle.coap_client.specs.ObserverCalls.{IsDatedRegistration, IsDeregistratio
 use Rattle.coap_client.specs.PeerCalls.{PeerCall, PeerError, Receives, Waits}
 use Rattle.coap_client.specs.Schedules.{schedule}
 use Rattle.coap_client.specs.Transmissions.{AreBehind}
-use Rattle.coap_client.specs.declared.notice.Interest.TheVariants.{Register}
-use Rattle.coap_client.specs.declared.notice.Notice.{Notice}
-use Rattle.coap_client.specs.declared.notice.Notice.TheVariants as notice
+use Rattle.coap_client.specs.declared.notice.ObserveOption.TheVariants.{Register}
+use Rattle.coap_client.specs.declared.notice.NotificationClass.{NotificationClass}
+use Rattle.coap_client.specs.declared.notice.NotificationClass.TheVariants as notice
 use Rattle.coap_client.specs.declared.observing.Observer.{Observer}
-use Rattle.coap_client.specs.declared.watch.Watch.{Watch}
+use Rattle.coap_client.specs.declared.watch.Observation.{Observation}
 use Rattle.coap_msg.specs.Codes.{code_text}
 use Rattle.coap_msg.specs.Wire.{Message, message_bytes}
 use Rattle.fc_cli.specs.declared.status.Status.{Status}
@@ -27,7 +27,7 @@ use Rattle.coap_client.specs.declared.fetcher.FetchFault.{FetchFault}
 use Rattle.coap_client.specs.declared.fetcher.FetchFault.TheVariants as fault
 use Rattle.std.specs.declared.net.socket_addr.SocketAddrV4.{SocketAddrV4}
 use Rattle.coap_client.specs.Transmissions.{MakesCalls}
-use Rattle.coap_client.specs.declared.errand.Errand.{Errand}
+use Rattle.coap_client.specs.declared.client_request.ClientRequest.{ClientRequest}
 use Rattle.fc_fetch.specs.Addresses.{IsAddress}
 use Rattle.fc_fetch.specs.Connecting.{IsDrawnId}
 use Rattle.fc_fetch.specs.Resources.{IsResourceOf}
@@ -58,7 +58,7 @@ abbrev pub lines_wanted : Option ℕ → ℕ
 lines_wanted None = 18446744073709551615
 lines_wanted (Some count) = max count 1
 
-abbrev pub IsState : Notice → Type 0
+abbrev pub IsState : NotificationClass → Type 0
 IsState (notice.State sequence) = Unit {0}
 IsState other = ⊥
 
@@ -88,9 +88,9 @@ IsAwaitedIn false calls = All is_day (schedule calls)
 
 -- the first wait is begun, and no other except such days.
 pub record IsWaitedFor (seconds : Option ℕ) (calls : List PeerCall) : Type 0 where
-  pub heard : List PeerCall
-  pub awaited : IsAwaitedIn (is_some seconds) heard
-  pub is : calls ≡ heard ++ Waits (first_wait seconds) ∷ []
+  pub handled : List PeerCall
+  pub awaited : IsAwaitedIn (is_some seconds) handled
+  pub is : calls ≡ handled ++ Waits (first_wait seconds) ∷ []
 
 -- the wait is over: the last receive returned nothing, or 2^64 - 1 datagrams came, after which no
 -- more are received.
@@ -133,7 +133,7 @@ ObservesToEnd o seconds end calls = AreBehind (IsTimedObservation o seconds end)
 -- the registration was sent. Its response and the notifications were printed, one line each: each
 -- came, is newer than the one before it, and was printed once.
 pub record HasShown (went came : List ℕ → Type 0) (told : ℕ → Type 0) (o : Observer) (shown : Shown) (limit : ℕ) (before after : Option (List ℕ)) (end : ObservationEnd) : Type 0 where
-  pub asked : went (message_bytes (observe_request o.errand.now Register o.token o.id))
+  pub asked : went (message_bytes (observe_request o.client_request.now Register o.token o.id))
   pub latest : Note
   pub older : List Note
   pub are : AreNotes went came told o.token o.id (latest ∷ older)
@@ -148,12 +148,12 @@ IsToldEnd other status = status ≡ Done
 
 -- ---- from the target on
 
--- an observer of an errand observed at the server of this address, and ended in this way. Its token
+-- an observer of a client request observed at the server of this address, and ended in this way. Its token
 -- and message ID were drawn, and the client connected to that server.
 pub record IsObservedAt {S : Type 0} (connected : S → SocketAddrV4 → Type 0) (drawn went came : List ℕ → Type 0) (told : ℕ → Type 0) (called : S → List PeerCall → Type 0) (observing : Observing)
-    (e : Errand) (server : SocketAddrV4) (before after : Option (List ℕ)) (end : ObservationEnd) : Type 0 where
+    (e : ClientRequest) (server : SocketAddrV4) (before after : Option (List ℕ)) (end : ObservationEnd) : Type 0 where
   pub observer : Observer
-  pub errand_is : observer.errand.now ≡ e
+  pub client_request_is : observer.client_request.now ≡ e
   pub token_is : drawn observer.token
   pub id_is : IsDrawnId drawn observer.id
   pub opened : S
@@ -168,9 +168,9 @@ pub record IsObservedIn {S : Type 0} (connected : S → SocketAddrV4 → Type 0)
     (before after : Option (List ℕ)) (end : ObservationEnd) : Type 0 where
   pub address : Address
   pub address_is : IsAddress observing.target.now observing.port address
-  pub errand : Errand
-  pub target_is : IsResourceOf address errand.target
-  pub observed : IsObservedAt connected drawn went came told called observing errand address.server before after end
+  pub client_request : ClientRequest
+  pub target_is : IsResourceOf address client_request.target
+  pub observed : IsObservedAt connected drawn went came told called observing client_request address.server before after end
 
 -- the program observed to such an end, which determines its status.
 pub record HasObservedTo (Ends : ObservationEnd → Type 0) (status : Status) : Type 0 where
@@ -223,22 +223,22 @@ abbrev pub IsObservedSoFar : Observer → Option ℕ → List PeerCall → Type 
 IsObservedSoFar o seconds = IsTimedObservation o seconds Counted
 
 -- during the wait for the next note a notification came last that has this classification.
-abbrev pub AwaitsUntil : (ℕ → Type 0) → List ℕ → Bool → Watch → (Notice → Type 0) → List PeerCall → Type 0
+abbrev pub AwaitsUntil : (ℕ → Type 0) → List ℕ → Bool → Observation → (NotificationClass → Type 0) → List PeerCall → Type 0
 AwaitsUntil told token ends w P = AreBehind (AwaitsNote token ends false) (EndsOnNotification told token w P)
 
 -- the wait for the next note failed. A notification that came last can't be shown; it is a newer
 -- state, and memory for its mark can't be allocated; or the peer returned an error.
-abbrev pub IsAwaitFault : (List ℕ → Type 0) → (ℕ → Type 0) → (PeerError → Type 0) → ((List PeerCall → Type 0) → Type 0) → Observer → Bool → Watch → FetchFault → Type 0
-IsAwaitFault came told is_error Makes o ends w fault.Part = UnfitCame came o.token o.id × Makes (AwaitsUntil told o.token ends w (λ n. n ≡ notice.Misfit))
+abbrev pub IsAwaitFault : (List ℕ → Type 0) → (ℕ → Type 0) → (PeerError → Type 0) → ((List PeerCall → Type 0) → Type 0) → Observer → Bool → Observation → FetchFault → Type 0
+IsAwaitFault came told is_error Makes o ends w fault.Part = UnfitCame came o.token o.id × Makes (AwaitsUntil told o.token ends w (λ n. n ≡ notice.Malformed))
 IsAwaitFault came told is_error Makes o ends w (fault.Memory error) = Makes (AwaitsUntil told o.token ends w IsNewState)
 IsAwaitFault came told is_error Makes o ends w (fault.Socket error) = is_error error
 IsAwaitFault came told is_error Makes o ends w other = ⊥
 
 -- the notes so far came, and then a notification came last that has this classification.
-pub record IsStoppedBy (went came : List ℕ → Type 0) (told : ℕ → Type 0) (Makes : (List PeerCall → Type 0) → Type 0) (o : Observer) (seconds : Option ℕ) (P : Notice → Type 0) : Type 0 where
+pub record IsStoppedBy (went came : List ℕ → Type 0) (told : ℕ → Type 0) (Makes : (List PeerCall → Type 0) → Type 0) (o : Observer) (seconds : Option ℕ) (P : NotificationClass → Type 0) : Type 0 where
   pub latest : Note
   pub older : List Note
-  pub w : Watch
+  pub w : Observation
   pub watching : IsWatching went came told o.token o.id latest older w
   pub called : Makes (AreBehind (IsObservedSoFar o seconds) (EndsOnNotification told o.token w P))
 
@@ -272,7 +272,7 @@ IsFirstFault came is_error Makes o (notes_error.Memory error) = IsStoppedByFirst
 -- a later line failed: a notification can't be shown, memory for its mark can't be allocated, its
 -- line can't be printed, or the peer returned an error.
 abbrev pub IsLaterFault : (List ℕ → Type 0) → (List ℕ → Type 0) → (ℕ → Type 0) → (PeerError → Type 0) → ((List PeerCall → Type 0) → Type 0) → Observer → Option ℕ → NotesError → Type 0
-IsLaterFault went came told is_error Makes o seconds (notes_error.Fault fault.Part) = UnfitCame came o.token o.id × IsStoppedBy went came told Makes o seconds (λ n. n ≡ notice.Misfit)
+IsLaterFault went came told is_error Makes o seconds (notes_error.Fault fault.Part) = UnfitCame came o.token o.id × IsStoppedBy went came told Makes o seconds (λ n. n ≡ notice.Malformed)
 IsLaterFault went came told is_error Makes o seconds (notes_error.Fault (fault.Memory error)) = IsStoppedBy went came told Makes o seconds IsNewState
 IsLaterFault went came told is_error Makes o seconds (notes_error.Fault (fault.Socket error)) = is_error error
 IsLaterFault went came told is_error Makes o seconds (notes_error.Fault other) = ⊥
@@ -308,11 +308,11 @@ IsEndFault went came told is_error called before after o seconds e =
 
 -- ---- the reasons to stop
 
--- the observer of an errand failed at the server that the client connected to, and deregistered.
+-- the observer of a client request failed at the server that the client connected to, and deregistered.
 pub record IsObservedInVain {S : Type 0} (connected : S → SocketAddrV4 → Type 0) (drawn went came tried : List ℕ → Type 0) (told : ℕ → Type 0) (is_error : PeerError → Type 0) (called : S → List PeerCall → Type 0)
-    (observing : Observing) (e : Errand) (server : SocketAddrV4) (error : NotesError) : Type 0 where
+    (observing : Observing) (e : ClientRequest) (server : SocketAddrV4) (error : NotesError) : Type 0 where
   pub observer : Observer
-  pub errand_is : observer.errand.now ≡ e
+  pub client_request_is : observer.client_request.now ≡ e
   pub token_is : drawn observer.token
   pub id_is : IsDrawnId drawn observer.id
   pub opened : S
@@ -322,21 +322,21 @@ pub record IsObservedInVain {S : Type 0} (connected : S → SocketAddrV4 → Typ
   pub leaves : LeavesAtFault called is_error tried opened ended observer
 
 -- or there are no random bytes, or the client can't connect.
-abbrev pub IsErrandStop : {S : Type 0} → (S → SocketAddrV4 → Type 0) → (List ℕ → Type 0) → (List ℕ → Type 0) → (List ℕ → Type 0) → (List ℕ → Type 0) → (ℕ → Type 0) → (PeerError → Type 0) → (S → List PeerCall → Type 0) → Observing
-    → Errand → SocketAddrV4 → FetchStop → Type 0
-IsErrandStop connected drawn went came tried told is_error called observing e server (stop.Random error) = Unit {0}
-IsErrandStop connected drawn went came tried told is_error called observing e server (stop.Fault f) = IsUnconnected f
-IsErrandStop connected drawn went came tried told is_error called observing e server (stop.Notes error) = IsObservedInVain connected drawn went came tried told is_error called observing e server error
-IsErrandStop connected drawn went came tried told is_error called observing e server other = ⊥
+abbrev pub IsClientRequestStop : {S : Type 0} → (S → SocketAddrV4 → Type 0) → (List ℕ → Type 0) → (List ℕ → Type 0) → (List ℕ → Type 0) → (List ℕ → Type 0) → (ℕ → Type 0) → (PeerError → Type 0) → (S → List PeerCall → Type 0) → Observing
+    → ClientRequest → SocketAddrV4 → FetchStop → Type 0
+IsClientRequestStop connected drawn went came tried told is_error called observing e server (stop.Random error) = Unit {0}
+IsClientRequestStop connected drawn went came tried told is_error called observing e server (stop.Fault f) = IsUnconnected f
+IsClientRequestStop connected drawn went came tried told is_error called observing e server (stop.Notes error) = IsObservedInVain connected drawn went came tried told is_error called observing e server error
+IsClientRequestStop connected drawn went came tried told is_error called observing e server other = ⊥
 
--- the same for the errand of the target's resource.
+-- the same for the client request of the target's resource.
 pub record HasStoppedObserving {S : Type 0} (connected : S → SocketAddrV4 → Type 0) (drawn went came tried : List ℕ → Type 0) (told : ℕ → Type 0) (is_error : PeerError → Type 0) (called : S → List PeerCall → Type 0)
     (observing : Observing) (reason : FetchStop) : Type 0 where
   pub address : Address
   pub address_is : IsAddress observing.target.now observing.port address
-  pub errand : Errand
-  pub target_is : IsResourceOf address errand.target
-  pub stops : IsErrandStop connected drawn went came tried told is_error called observing errand address.server reason
+  pub client_request : ClientRequest
+  pub target_is : IsResourceOf address client_request.target
+  pub stops : IsClientRequestStop connected drawn went came tried told is_error called observing client_request address.server reason
 
 -- a GET of the resource doesn't fit in a datagram.
 pub record HasNoRoomFor (observing : Observing) : Type 0 where
@@ -355,8 +355,8 @@ IsObserveStop connected drawn went came tried told is_error called observing oth
 -- ---- steps
 
 -- the notes so far were printed, with this number of lines, and the watch has them.
-pub record IsShowing (went came : List ℕ → Type 0) (told : ℕ → Type 0) (o : Observer) (shown : Shown) (before now : Option (List ℕ)) (lines : ℕ) (w : Watch) : Type 0 where
-  pub asked : went (message_bytes (observe_request o.errand.now Register o.token o.id))
+pub record IsShowing (went came : List ℕ → Type 0) (told : ℕ → Type 0) (o : Observer) (shown : Shown) (before now : Option (List ℕ)) (lines : ℕ) (w : Observation) : Type 0 where
+  pub asked : went (message_bytes (observe_request o.client_request.now Register o.token o.id))
   pub latest : Note
   pub older : List Note
   pub watching : IsWatching went came told o.token o.id latest older w

@@ -4,7 +4,7 @@ use Rattle.std.specs.Prelude.{◌≡◌, ℕ, ◌≤◌, nat_lt, true, List, len
 use Rattle.std.specs.List.{All, list_any}
 use Rattle.coap_client.specs.PathErrors.{IsPathFault}
 use Rattle.coap_client.specs.Paths.{IsSlashed, slices_in}
-use Rattle.coap_client.specs.declared.errand.RequestTarget.{RequestTarget}
+use Rattle.coap_client.specs.declared.client_request.RequestTarget.{RequestTarget}
 use Rattle.fc_fetch.specs.Addresses.{texts_in}
 use Rattle.fc_fetch.specs.declared.address.Address.{Address}
 use Rattle.fc_fetch.specs.declared.resource.ResourceError.{ResourceError}

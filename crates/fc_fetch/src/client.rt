@@ -15,7 +15,7 @@ use crate::connector::{Connector, System};
 use crate::observer::NotesError;
 use crate::printer::{PrintError, Shown, write_answer, write_bytes, write_code};
 use crate::resource::{ResourceError, resource_of};
-use coap_client::{Errand, FetchFault, Fetched, PathError, Peer, RequestTarget};
+use coap_client::{ClientRequest, FetchFault, Fetched, PathError, Peer, RequestTarget};
 use coap_opts::Method;
 use fc_cli::status::{Status, tell};
 use std::alloc::{AllocError, Global};
@@ -276,23 +276,23 @@ pub fn fetch_from<P: Peer>(
     ensures fault { IfErr result (IsFaultOf P.went P.came P.is_error (MakesCalls (P.called peer.old) (P.called peer.new))
         asking.now target.entry payload.now id) }
 {
-    let Some(errand) = Errand::new(asking.confirmable, asking.method, target, payload) else {
+    let Some(asked) = ClientRequest::new(asking.confirmable, asking.method, target, payload) else {
         return Ok(None);
     };
-    let errand = with_format(errand, asking.content_format);
-    Ok(Some(coap_client::fetch(alloc, peer, &errand, id)?))
+    let asked = with_format(asked, asking.content_format);
+    Ok(Some(coap_client::fetch(alloc, peer, &asked, id)?))
 }
 
-// Sets the errand's Content-Format, if one is given.
-fn with_format(errand: Errand<'_>, format: Option<u16>) -> Errand<'_>
-    requires { errand.content_format ≡ None }
+// Sets the client request's Content-Format, if one is given.
+fn with_format(client_request: ClientRequest<'_>, format: Option<u16>) -> ClientRequest<'_>
+    requires { client_request.content_format ≡ None }
     ensures format { result.content_format ≡ format }
-    ensures others { (result.confirmable ≡ errand.entry.confirmable) × (result.method ≡ errand.entry.method)
-        × (result.target ≡ errand.entry.target) × (result.payload ≡ errand.entry.payload) }
+    ensures others { (result.confirmable ≡ client_request.entry.confirmable) × (result.method ≡ client_request.entry.method)
+        × (result.target ≡ client_request.entry.target) × (result.payload ≡ client_request.entry.payload) }
 {
     match format {
-        Some(format) => errand.with_content_format(format),
-        None => errand,
+        Some(format) => client_request.with_content_format(format),
+        None => client_request,
     }
 }
 

@@ -7,7 +7,7 @@ ghost use Rattle.coap_client.specs.Notes.{Watches};
 ghost use Rattle.coap_client.specs.ObserverCalls.{IsDatedRegistration};
 ghost use Rattle.coap_client.specs.PeerCalls.{Adds, Reads, Waits};
 ghost use Rattle.coap_client.specs.Transmissions.{MakesCalls};
-ghost use Rattle.fc_fetch.specs.Observing.{AwaitsNote, HasEnded, HasLeft, HasShown, IsAwaitFault, IsEndFault, IsErrandStop, IsFirstFault, IsFirstShown, IsLeaving, IsNotesFault, IsObserveStop, IsObservedAt, IsObservedIn, IsTimedObservation, IsToldEnd, LeavesAtFault, ObservesToEnd, first_wait, lines_wanted, unfit_error};
+ghost use Rattle.fc_fetch.specs.Observing.{AwaitsNote, HasEnded, HasLeft, HasShown, IsAwaitFault, IsEndFault, IsClientRequestStop, IsFirstFault, IsFirstShown, IsLeaving, IsNotesFault, IsObserveStop, IsObservedAt, IsObservedIn, IsTimedObservation, IsToldEnd, LeavesAtFault, ObservesToEnd, first_wait, lines_wanted, unfit_error};
 ghost use Rattle.fc_fetch.specs.Observing as spec;
 ghost use Rattle.fc_fetch.specs.declared.observer.NotesError.TheVariants as notes_error;
 
@@ -17,7 +17,9 @@ use crate::printer::{PrintError, Shown, write_note};
 use coap_client::notice::{is_unobserved, notice_of};
 use coap_client::observing::TOKEN;
 use coap_client::peer::{BUFFER, Buffer};
-use coap_client::{Errand, FetchFault, NotedMessage, Notice, Observer, Peer, Watch};
+use coap_client::{
+    ClientRequest, FetchFault, NotedMessage, NotificationClass, Observation, Observer, Peer,
+};
 use coap_msg::{Code, Datagram, Message, read};
 use coap_opts::Method;
 use fc_cli::status::{Status, tell};
@@ -140,9 +142,9 @@ pub fn observe_by<C: Connector, W: Write, E: Write>(
     err: &mut E,
     observing: &Observing<'_>,
 ) -> Status
-    ensures { HasEnded (IsObservedIn C.connected C.drawn C.Server.went C.Server.came C.Server.is_moment C.Server.called observing.now
+    ensures { HasEnded (IsObservedIn C.connected C.drawn C.Server.went C.Server.came C.Server.is_time C.Server.called observing.now
         (W.contents out.old) (W.contents out.new))
-        (IsObserveStop C.connected C.drawn C.Server.went C.Server.came C.Server.tried C.Server.is_moment C.Server.is_error C.Server.called observing.now) result }
+        (IsObserveStop C.connected C.drawn C.Server.went C.Server.came C.Server.tried C.Server.is_time C.Server.is_error C.Server.called observing.now) result }
 {
     match observe_to_end(connector, alloc, out, observing) {
         Ok(end) => finish(err, end),
@@ -172,38 +174,45 @@ fn observe_to_end<'a, C: Connector, W: Write>(
     out: &mut W,
     observing: &Observing<'a>,
 ) -> Result<ObservationEnd, FetchStop<'a>>
-    ensures ended { IfOk result (IsObservedIn C.connected C.drawn C.Server.went C.Server.came C.Server.is_moment C.Server.called observing.now
+    ensures ended { IfOk result (IsObservedIn C.connected C.drawn C.Server.went C.Server.came C.Server.is_time C.Server.called observing.now
         (W.contents out.old) (W.contents out.new)) }
-    ensures stop { IfErr result (IsObserveStop C.connected C.drawn C.Server.went C.Server.came C.Server.tried C.Server.is_moment C.Server.is_error C.Server.called observing.now) }
+    ensures stop { IfErr result (IsObserveStop C.connected C.drawn C.Server.went C.Server.came C.Server.tried C.Server.is_time C.Server.is_error C.Server.called observing.now) }
 {
     let address = address_of(alloc, observing.target, observing.port)?;
     let target = resource_at(alloc, &address)?;
-    match Errand::new(true, Method::Get, target, &[]) {
-        Some(errand) => observe_errand(connector, alloc, out, observing, &errand, address.server),
+    match ClientRequest::new(true, Method::Get, target, &[]) {
+        Some(client_request) => observe_client_request(
+            connector,
+            alloc,
+            out,
+            observing,
+            &client_request,
+            address.server,
+        ),
         None => Err(FetchStop::Room),
     }
 }
 
 // Observes at the server of this address.
-fn observe_errand<'a, C: Connector, W: Write>(
+fn observe_client_request<'a, C: Connector, W: Write>(
     connector: &C,
     alloc: Global,
     out: &mut W,
     observing: &Observing<'a>,
-    errand: &Errand<'_>,
+    client_request: &ClientRequest<'_>,
     address: SocketAddrV4,
 ) -> Result<ObservationEnd, FetchStop<'a>>
-    ensures ended { IfOk result (IsObservedAt C.connected C.drawn C.Server.went C.Server.came C.Server.is_moment C.Server.called observing.now
-        errand.now address (W.contents out.old) (W.contents out.new)) }
-    ensures stop { IfErr result (IsErrandStop C.connected C.drawn C.Server.went C.Server.came C.Server.tried C.Server.is_moment C.Server.is_error C.Server.called observing.now
-        errand.now address) }
+    ensures ended { IfOk result (IsObservedAt C.connected C.drawn C.Server.went C.Server.came C.Server.is_time C.Server.called observing.now
+        client_request.now address (W.contents out.old) (W.contents out.new)) }
+    ensures stop { IfErr result (IsClientRequestStop C.connected C.drawn C.Server.went C.Server.came C.Server.tried C.Server.is_time C.Server.is_error C.Server.called observing.now
+        client_request.now address) }
 {
     let mut token = [0; TOKEN];
     if let Err(error) = connector.draw(&mut token) {
         return Err(FetchStop::Random(error));
     }
     let observer = Observer {
-        errand,
+        client_request,
         token,
         id: first_id(connector)?,
     };
@@ -240,12 +249,12 @@ pub fn print_to_end<P: Peer, W: Write>(
     extent: ObservationExtent,
     buffer: &mut Buffer,
 ) -> Result<ObservationEnd, NotesError>
-    ensures shown { IfOk result (HasShown P.went P.came P.is_moment observer.now shown
+    ensures shown { IfOk result (HasShown P.went P.came P.is_time observer.now shown
         (lines_wanted extent.count) (W.contents out.old) (W.contents out.new)) }
     ensures left { IfOk result (HasLeft P.went P.came observer.now) }
     ensures called { IfOk result (λ end. MakesCalls (P.called peer.old) (P.called peer.new)
         (ObservesToEnd observer.now extent.seconds end)) }
-    ensures fault { IfErr result (IsEndFault P.went P.came P.is_moment P.is_error P.called peer.old peer.new
+    ensures fault { IfErr result (IsEndFault P.went P.came P.is_time P.is_error P.called peer.old peer.new
         observer.now extent.seconds) }
     ensures leaves { OnErr result (LeavesAtFault P.called P.is_error P.tried peer.old peer.new observer.now) }
 {
@@ -314,11 +323,11 @@ pub fn print_notes<P: Peer, W: Write>(
     extent: ObservationExtent,
     buffer: &mut Buffer,
 ) -> Result<ObservationEnd, NotesError>
-    ensures shown { IfOk result (HasShown P.went P.came P.is_moment observer.now shown
+    ensures shown { IfOk result (HasShown P.went P.came P.is_time observer.now shown
         (lines_wanted extent.count) (W.contents out.old) (W.contents out.new)) }
     ensures called { IfOk result (λ end. MakesCalls (P.called peer.old) (P.called peer.new)
         (IsTimedObservation observer.now extent.seconds end)) }
-    ensures fault { IfErr result (IsNotesFault P.went P.came P.is_moment P.is_error (MakesCalls (P.called peer.old) (P.called peer.new))
+    ensures fault { IfErr result (IsNotesFault P.went P.came P.is_time P.is_error (MakesCalls (P.called peer.old) (P.called peer.new))
         observer.now extent.seconds) }
 {
     let mut watch = match print_first(alloc, peer, out, observer, shown, buffer)? {
@@ -367,7 +376,7 @@ fn first_wait(seconds: Option<u32>) -> u64
 // code.
 #[derive(Drop)]
 enum First {
-    State(Watch),
+    State(Observation),
     Only(Code),
 }
 
@@ -380,7 +389,7 @@ fn print_first<P: Peer, W: Write>(
     shown: Shown,
     buffer: &mut Buffer,
 ) -> Result<First, NotesError>
-    ensures shown { IfOk result (IsFirstShown P.went P.came P.is_moment observer.now shown (W.contents out.old) (W.contents out.new)) }
+    ensures shown { IfOk result (IsFirstShown P.went P.came P.is_time observer.now shown (W.contents out.old) (W.contents out.new)) }
     ensures called { OnOk result (MakesCalls (P.called peer.old) (P.called peer.new) (IsDatedRegistration observer.now)) }
     ensures fault { IfErr result (IsFirstFault P.came P.is_error (MakesCalls (P.called peer.old) (P.called peer.new)) observer.now) }
 {
@@ -388,11 +397,13 @@ fn print_first<P: Peer, W: Write>(
     let Ok(message) = read(&buffer[..count]) else {
         unreachable!();
     };
-    let at = moment(peer)?;
+    let at = time(peer)?;
     let first = match notice_of(&message) {
-        Notice::State(sequence) => First::State(Watch::first(alloc, sequence, at, &message)?),
-        Notice::Last => First::Only(message.code()),
-        Notice::Older | Notice::Misfit => return Err(unfit(&message)),
+        NotificationClass::State(sequence) => First::State(Observation::first(
+            alloc, sequence, at, &message,
+        )?),
+        NotificationClass::Last => First::Only(message.code()),
+        NotificationClass::Older | NotificationClass::Malformed => return Err(unfit(&message)),
     };
     write_note(alloc, out, shown, &message)?;
     Ok(first)
@@ -409,9 +420,9 @@ fn unfit(message: &Message<'_>) -> NotesError
     }
 }
 
-fn moment<P: Peer>(peer: &mut P) -> Result<u64, FetchFault>
-    ensures moment { IfOk result P.is_moment }
-    ensures called { IfOk result (λ moment. Adds (P.called peer.old) (P.called peer.new) (Reads moment ∷ [])) }
+fn time<P: Peer>(peer: &mut P) -> Result<u64, FetchFault>
+    ensures time { IfOk result P.is_time }
+    ensures called { IfOk result (λ time. Adds (P.called peer.old) (P.called peer.new) (Reads time ∷ [])) }
     ensures fault { IfErr result (IsOfPeer P.is_error ⊥) }
 {
     Ok(peer.now()?)
@@ -428,14 +439,14 @@ fn begin_wait<P: Peer>(peer: &mut P, seconds: u64) -> Result<(), FetchFault>
 fn await_note<P: Peer>(
     peer: &mut P,
     observer: &Observer<'_>,
-    watch: &mut Watch,
+    watch: &mut Observation,
     ends: bool,
     buffer: &mut Buffer,
 ) -> Result<Option<NotedMessage>, FetchFault>
-    ensures watched { IfOk result (Watches P.went P.came P.is_moment observer.now.token buffer.new watch.old watch.new) }
+    ensures watched { IfOk result (Watches P.went P.came P.is_time observer.now.token buffer.new watch.old watch.new) }
     ensures called { IfOk result (λ noted. MakesCalls (P.called peer.old) (P.called peer.new)
         (AwaitsNote observer.now.token ends (is_none noted))) }
-    ensures fault { IfErr result (IsAwaitFault P.came P.is_moment P.is_error (MakesCalls (P.called peer.old) (P.called peer.new))
+    ensures fault { IfErr result (IsAwaitFault P.came P.is_time P.is_error (MakesCalls (P.called peer.old) (P.called peer.new))
         observer.now ends watch.old) }
 {
     for _ in 0..u64::MAX {

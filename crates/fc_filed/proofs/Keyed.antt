@@ -4,8 +4,8 @@ use Rattle.std.specs.Prelude.{if◌then◌else◌}
 use Rattle.fc_book.specs.declared.view.Track.{Track}
 use Rattle.fc_book.specs.declared.view.BookView.{BookView}
 use Rattle.fc_book.specs.Tracks.{HasKey}
-use Rattle.fc_calls.specs.Logged.{HearsDatagram, AdvancesFront, DrawsId, AnswersRequest, TellsReceipt, GivesReadings, LooksAt, RaisesWord}
-use Rattle.fc_calls.specs.Logged.{TakesForJob, CommitsRun, InstallsProgram, RemovesProgram, HandsSignal, AdvancesQuiet, AdvancesShard, GivesTurn, NotesTurn, GivesUpTurn}
+use Rattle.fc_calls.specs.Logged.{HandlesDatagram, AdvancesFront, DrawsId, AnswersRequest, TellsReceipt, GivesReadings, LooksAt, RaisesWord}
+use Rattle.fc_calls.specs.Logged.{TakesForJob, CommitsRun, InstallsProgram, RemovesProgram, HandsSignal, AdvancesIdle, AdvancesShard, GivesTurn, NotesTurn, GivesUpTurn}
 use Rattle.fc_linear.specs.Operations.{Operation, Logged, RejectsImage, LacksMemory, ServerPart, FrontPart, ShardPart, WordsPart, NoPart, IsEvent, part_of}
 use Rattle.fc_filed.specs.declared.entry.FiledEntry.{FiledEntry}
 use Rattle.fc_filed.specs.Entries.{AreKeyed, IsKeyed, is_of_job, part_key}
@@ -17,7 +17,7 @@ IsLow (ShardPart index) = index < 8
 IsLow other = Unit {0}
 
 pub low_of : (operation : Operation) → IsEvent operation → IsLow (part_of operation)
-low_of (Logged (HearsDatagram now from bytes brings)) p = tt
+low_of (Logged (HandlesDatagram now from bytes brings)) p = tt
 low_of (Logged (AdvancesFront now)) p = tt
 low_of (Logged (DrawsId now id)) p = tt
 low_of (Logged (AnswersRequest now job content sent)) p = tt
@@ -29,7 +29,7 @@ low_of (Logged (CommitsRun now ran ticket committed)) p = omega arith
 low_of (Logged (InstallsProgram job program made)) p = omega arith
 low_of (Logged (RemovesProgram job removal)) p = omega arith
 low_of (Logged (HandsSignal shard from id reset)) p = p
-low_of (Logged (AdvancesQuiet shard now)) p = p
+low_of (Logged (AdvancesIdle shard now)) p = p
 low_of (Logged (AdvancesShard shard now ticked)) p = p
 low_of (Logged (GivesTurn shard now turn)) p = p
 low_of (Logged (NotesTurn turn id now random told noted)) p = omega arith

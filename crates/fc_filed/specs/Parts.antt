@@ -4,7 +4,7 @@ use Rattle.fc_registry.specs.declared.job.Job.{Job}
 use Rattle.fc_registry.specs.declared.shard.Taken.{Taken}
 use Rattle.fc_registry.specs.declared.shard.Taken.TheVariants.{Given}
 use Rattle.fc_registry.specs.Calls.{TakesAt}
-use Rattle.fc_registry.specs.Taken.{Found}
+use Rattle.fc_registry.specs.Taken.{SlotSnapshot}
 use Rattle.fc_registry.specs.Views.{taken_with}
 use Rattle.fc_core.specs.Exchanges.{FrontState}
 use Rattle.fc_registry.specs.Slots.{Shard}
@@ -54,8 +54,8 @@ IsCheap least (Given program) = program.value.cost < least
 IsCheap least other = Unit {0}
 
 -- a snapshot for the job would have a program that takes this number of steps or more.
-pub record IsDearIn (least : ℕ) (job : Job) (readings : List ℕ) (shard : Shard) : Type 0 where
+pub record IsExpensiveIn (least : ℕ) (job : Job) (readings : List ℕ) (shard : Shard) : Type 0 where
   pub taken : Taken
-  pub found : Found
+  pub found : SlotSnapshot
   pub takes : TakesAt job readings shard (taken_with taken found)
   pub costs : CostsFrom least taken

@@ -3,8 +3,8 @@ use Rattle.std.specs.Prelude.{◌≡◌, ℕ, ◌<◌, ◌≤◌, Bool, true, fa
 use Rattle.fc_book.specs.declared.view.Track.{Track}
 use Rattle.fc_book.specs.declared.view.BookView.{BookView}
 use Rattle.fc_book.specs.Tracks.{HasKey, with_begun, with_filed}
-use Rattle.fc_core.specs.declared.front.Heard.{Heard}
-use Rattle.fc_core.specs.declared.front.Heard.TheVariants as hearing
+use Rattle.fc_core.specs.declared.front.Handled.{Handled}
+use Rattle.fc_core.specs.declared.front.Handled.TheVariants as hearing
 use Rattle.fc_calls.specs.Logged.{LooksAt, RaisesWord}
 use Rattle.fc_linear.specs.Operations.{IsEvent, Logged, Operation}
 use Rattle.fc_filed.specs.declared.entry.FiledEntry.{FiledEntry}
@@ -44,7 +44,7 @@ pub record MayFile (first_job who : ℕ) (v : BookView FiledEntry) (operation : 
 abbrev pub begun_if : Bool → BookView FiledEntry → BookView FiledEntry
 begun_if brings v = if brings then with_begun v else v
 
-abbrev pub brings_job : Heard → Bool
+abbrev pub brings_job : Handled → Bool
 brings_job hearing.Job = true
 brings_job other = false
 

@@ -2,10 +2,10 @@
 ghost use Rattle.std.specs.Prelude.{◌≡◌, ◌≤◌, ◌++◌, ◌∷◌, [], true};
 ghost use Rattle.fc_core.specs.Answering.{emission_of, responded};
 ghost use Rattle.fc_core.specs.Contents.{IsOf};
-ghost use Rattle.fc_core.specs.Receiving.{heard};
+ghost use Rattle.fc_core.specs.Receiving.{handled};
 ghost use Rattle.fc_book.specs.Tracks.{part_view, with_part};
-ghost use Rattle.fc_calls.specs.Doings.{AdvancesTo, AnswersAt, DrawsAt, HearsAt};
-ghost use Rattle.fc_calls.specs.Logged.{AdvancesFront, AnswersRequest, DrawsId, HearsDatagram};
+ghost use Rattle.fc_calls.specs.Doings.{AdvancesTo, AnswersAt, DrawsAt, HandlesAt};
+ghost use Rattle.fc_calls.specs.Logged.{AdvancesFront, AnswersRequest, DrawsId, HandlesDatagram};
 ghost use Rattle.fc_linear.specs.Operations.{FrontDoes, Logged};
 ghost use Rattle.fc_linear.specs.Parts.{first_server};
 ghost use Rattle.fc_filed.specs.Entries.{OperationsLead};
@@ -15,7 +15,7 @@ use crate::book::{FiledTrack, ServerBook, ServerName, ServerTracks, file_as};
 use crate::view::FiledName;
 use coap_msg::{Emission, Endpoint};
 use fc_book::Part;
-use fc_core::{Answer, Front, Heard, Responded};
+use fc_core::{Answer, Front, Handled, Responded};
 use fc_registry::Job;
 use std::marker::{Brand, Model, PhantomData};
 
@@ -63,10 +63,10 @@ impl<J: ServerName> FiledFront<J> {
         FiledFront { front, track }
     }
 
-    /// Handles a datagram at `now` ms, as [`Front::hear`] does, and files that.
+    /// Handles a datagram at `now` ms, as [`Front::handle`] does, and files that.
     ///
     /// A job that the datagram produces begins a track.
-    pub fn hear(
+    pub fn handle(
         &mut self,
         book: &ServerBook<J>,
         tracks: &mut ServerTracks<J>,
@@ -76,17 +76,17 @@ impl<J: ServerName> FiledFront<J> {
         bytes: &[u8],
         job: &mut Job,
         reply: &mut Emission,
-    ) -> Heard
+    ) -> Handled
         requires thread { HasOwnTrack J.first_job who tracks.old }
         requires may_begin { tracks.old.may_begin ≡ true }
         requires next { J.first_job ≤ tracks.old.next }
-        ensures heard { HearsAt now endpoint bytes.now (heard result job.new reply.new) self.old.front self.new.front }
-        ensures filed { let operation = Logged (HearsDatagram now endpoint bytes.now (heard result job.new reply.new)) in
+        ensures handled { HandlesAt now endpoint bytes.now (handled result job.new reply.new) self.old.front self.new.front }
+        ensures filed { let operation = Logged (HandlesDatagram now endpoint bytes.now (handled result job.new reply.new)) in
             tracks.new ≡ did_by who operation (begun_if (brings_job result) tracks.old) }
     {
-        let outcome = self.front.hear(now, endpoint, bytes, job, reply);
+        let outcome = self.front.handle(now, endpoint, bytes, job, reply);
         begin_if_job(book, tracks, &outcome);
-        file_heard::<Brand, J>(
+        file_handled::<Brand, J>(
             book,
             tracks,
             &mut self.track,
@@ -101,10 +101,10 @@ impl<J: ServerName> FiledFront<J> {
         outcome
     }
 
-    /// Handles a datagram at `now` ms, as [`Front::hear`] does, and files that.
+    /// Handles a datagram at `now` ms, as [`Front::handle`] does, and files that.
     ///
     /// A job that the datagram produces begins no track: the entry is on the one that is first.
-    pub fn hear_for_first(
+    pub fn handle_for_first(
         &mut self,
         book: &ServerBook<J>,
         tracks: &mut ServerTracks<J>,
@@ -114,15 +114,15 @@ impl<J: ServerName> FiledFront<J> {
         bytes: &[u8],
         job: &mut Job,
         reply: &mut Emission,
-    ) -> Heard
+    ) -> Handled
         requires thread { HasOwnTrack J.first_job who tracks.old }
         requires job { HasJobFirst J.first_job tracks.old }
-        ensures heard { HearsAt now endpoint bytes.now (heard result job.new reply.new) self.old.front self.new.front }
-        ensures filed { let operation = Logged (HearsDatagram now endpoint bytes.now (heard result job.new reply.new)) in
+        ensures handled { HandlesAt now endpoint bytes.now (handled result job.new reply.new) self.old.front self.new.front }
+        ensures filed { let operation = Logged (HandlesDatagram now endpoint bytes.now (handled result job.new reply.new)) in
             tracks.new ≡ did_by who operation tracks.old }
     {
-        let outcome = self.front.hear(now, endpoint, bytes, job, reply);
-        file_heard::<Brand, J>(
+        let outcome = self.front.handle(now, endpoint, bytes, job, reply);
+        file_handled::<Brand, J>(
             book,
             tracks,
             &mut self.track,
@@ -212,16 +212,20 @@ impl<J: ServerName> FiledFront<J> {
 }
 
 /// Begins the track of the job that a datagram produces, if it produces one.
-fn begin_if_job<J: ServerName>(book: &ServerBook<J>, tracks: &mut ServerTracks<J>, outcome: &Heard)
+fn begin_if_job<J: ServerName>(
+    book: &ServerBook<J>,
+    tracks: &mut ServerTracks<J>,
+    outcome: &Handled,
+)
     requires { tracks.old.may_begin ≡ true }
     ensures { tracks.new ≡ begun_if (brings_job outcome.now) tracks.old }
 {
-    if let Heard::Job = outcome {
+    if let Handled::Job = outcome {
         tracks.begin(book);
     }
 }
 
-fn file_heard<X: FiledName, J: ServerName>(
+fn file_handled<X: FiledName, J: ServerName>(
     book: &ServerBook<J>,
     tracks: &mut ServerTracks<J>,
     track: &mut FiledTrack<FrontOf<J>>,
@@ -229,13 +233,13 @@ fn file_heard<X: FiledName, J: ServerName>(
     now: u64,
     endpoint: Endpoint,
     bytes: &[u8],
-    outcome: &Heard,
+    outcome: &Handled,
     job: &Job,
     reply: &Emission,
 )
-    requires entry { let operation = Logged (HearsDatagram now endpoint bytes.now (heard outcome.now job.now reply.now)) in
+    requires entry { let operation = Logged (HandlesDatagram now endpoint bytes.now (handled outcome.now job.now reply.now)) in
         X.entry ≡ entry_by who tracks.old operation }
-    requires may { let operation = Logged (HearsDatagram now endpoint bytes.now (heard outcome.now job.now reply.now)) in
+    requires may { let operation = Logged (HandlesDatagram now endpoint bytes.now (handled outcome.now job.now reply.now)) in
         MayFile J.first_job who tracks.old operation }
     ensures track { track.new ≡ track.old ++ X.entry ∷ [] }
     ensures filed { tracks.new ≡ did_by who X.entry.operation tracks.old }

@@ -5,22 +5,22 @@ ghost use Rattle.fc_registry.specs.Slots.{IsOwned, Shard as Seen};
 ghost use Rattle.fc_registry.specs.Turns.{written_if};
 ghost use Rattle.fc_registry.specs.Views.{taken_with};
 ghost use Rattle.fc_book.specs.Tracks.{part_view, with_part};
-ghost use Rattle.fc_calls.specs.Logged.{AdvancesQuiet, GivesTurn, TakesForJob};
+ghost use Rattle.fc_calls.specs.Logged.{AdvancesIdle, GivesTurn, TakesForJob};
 ghost use Rattle.fc_calls.specs.Kept.{HasEightSlots};
-ghost use Rattle.fc_calls.specs.Doings.{PassesIfQuiet};
+ghost use Rattle.fc_calls.specs.Doings.{PassesIfIdle};
 ghost use Rattle.fc_linear.specs.Operations.{Logged, Operation, ShardDoes, is_words, part_of};
 ghost use Rattle.fc_linear.specs.Parts.{first_server};
 ghost use Rattle.fc_filed.specs.Entries.{OperationsLead, part_key};
-ghost use Rattle.fc_filed.specs.Parts.{CostsFrom, IsCheap, IsDearIn, IsOperationOf};
+ghost use Rattle.fc_filed.specs.Parts.{CostsFrom, IsCheap, IsExpensiveIn, IsOperationOf};
 ghost use Rattle.fc_filed.specs.Threads.{HasJobFirst, HasOwnTrack, MayFile, begun_if, did_by, entry_by};
 
 use crate::book::{FiledTrack, ServerBook, ServerName, ServerTracks, file_as};
 use crate::view::FiledName;
 use fc_book::Part;
 use fc_calls::ShardCall;
-use fc_calls::calls::{AdvanceIfQuiet, NextDue, Take};
+use fc_calls::calls::{AdvanceIfIdle, NextDue, Take};
 use fc_help::Readings;
-use fc_registry::{Found, Job, Shard, Taken};
+use fc_registry::{Job, Shard, SlotSnapshot, Taken};
 use std::marker::{Brand, Model, PhantomData};
 
 /// A call of a shard that is filed with any answer.
@@ -162,8 +162,8 @@ impl<J: ServerName, P: Part> FiledShard<J, P> {
 
     /// Advances the shard to `now` ms if it is idle until then, and files that.
     ///
-    /// See [`Shard::advance_if_quiet`]. Otherwise the shard stays as it is, and nothing is filed.
-    pub fn advance_if_quiet(
+    /// See [`Shard::advance_if_idle`]. Otherwise the shard stays as it is, and nothing is filed.
+    pub fn advance_if_idle(
         &mut self,
         book: &ServerBook<J>,
         tracks: &mut ServerTracks<J>,
@@ -173,22 +173,22 @@ impl<J: ServerName, P: Part> FiledShard<J, P> {
         requires same { P.table ≡ J.table }
         requires thread { HasOwnTrack J.first_job who tracks.old }
         ensures filed { MatchBool result
-            (tracks.new ≡ did_by who (Logged (AdvancesQuiet self.old.shard.index now)) tracks.old)
+            (tracks.new ≡ did_by who (Logged (AdvancesIdle self.old.shard.index now)) tracks.old)
             ((tracks.new ≡ tracks.old) × (self.new ≡ self.old)) }
-        ensures busy { result ≡ false → PassesIfQuiet now self.old.shard false self.new.shard }
+        ensures busy { result ≡ false → PassesIfIdle now self.old.shard false self.new.shard }
     {
-        let is_quiet = AdvanceIfQuiet { now }.call(&mut self.shard, &mut ());
-        if is_quiet {
-            file_quiet::<Brand, J, P>(book, tracks, &mut self.track, who, &self.shard, now);
+        let is_idle = AdvanceIfIdle { now }.call(&mut self.shard, &mut ());
+        if is_idle {
+            file_idle::<Brand, J, P>(book, tracks, &mut self.track, who, &self.shard, now);
         }
-        is_quiet
+        is_idle
     }
 
     /// Takes a snapshot of a request's slot unless its program is expensive.
     ///
-    /// See [`Shard::write_taking`]. The slot is that of `job`. If the program takes `least` steps
+    /// See [`Shard::take_into`]. The slot is that of `job`. If the program takes `least` steps
     /// or more, the snapshot is dropped and nothing is filed: a worker will take its own.
-    pub fn take_unless_dear(
+    pub fn take_unless_expensive(
         &mut self,
         book: &ServerBook<J>,
         tracks: &mut ServerTracks<J>,
@@ -196,7 +196,7 @@ impl<J: ServerName, P: Part> FiledShard<J, P> {
         job: &Job,
         readings: &Readings,
         least: u32,
-        found: &mut Found,
+        found: &mut SlotSnapshot,
     ) -> Option<Taken>
         requires same { P.table ≡ J.table }
         requires request { job.now.turn ≡ None }
@@ -204,11 +204,11 @@ impl<J: ServerName, P: Part> FiledShard<J, P> {
         requires thread { HasOwnTrack J.first_job who tracks.old }
         requires job { HasJobFirst J.first_job tracks.old }
         ensures filed { MatchOption result
-            ((tracks.new ≡ tracks.old) × (self.new ≡ self.old) × IsDearIn least job.now readings.now self.old.shard)
+            ((tracks.new ≡ tracks.old) × (self.new ≡ self.old) × IsExpensiveIn least job.now readings.now self.old.shard)
             (λ taken. (tracks.new ≡ did_by who (Logged (TakesForJob job.now readings.now (taken_with taken found.new))) tracks.old) × IsCheap least taken) }
     {
         let taken = Take { job, readings }.call(&mut self.shard, found);
-        if is_dear(&taken, least) {
+        if is_expensive(&taken, least) {
             return None;
         }
         file_taken::<Brand, J, P>(
@@ -304,7 +304,7 @@ fn begin_if<J: ServerName>(book: &ServerBook<J>, tracks: &mut ServerTracks<J>, i
 }
 
 /// Returns whether a snapshot has a program that takes `least` steps or more.
-fn is_dear(taken: &Taken, least: u32) -> bool
+fn is_expensive(taken: &Taken, least: u32) -> bool
     ensures { MatchBool result (CostsFrom least taken.now) (IsCheap least taken.now) }
 {
     match taken {
@@ -337,7 +337,7 @@ fn file_due<X: FiledName, J: ServerName, P: Part>(
     file_as::<X, J, P>(book, tracks, track, who);
 }
 
-fn file_quiet<X: FiledName, J: ServerName, P: Part>(
+fn file_idle<X: FiledName, J: ServerName, P: Part>(
     book: &ServerBook<J>,
     tracks: &mut ServerTracks<J>,
     track: &mut FiledTrack<P>,
@@ -345,10 +345,10 @@ fn file_quiet<X: FiledName, J: ServerName, P: Part>(
     shard: &Shard,
     now: u64,
 )
-    requires entry { X.entry ≡ entry_by who tracks.old (Logged (AdvancesQuiet shard.now.index now)) }
+    requires entry { X.entry ≡ entry_by who tracks.old (Logged (AdvancesIdle shard.now.index now)) }
     requires same { P.table ≡ J.table }
     requires part { shard.now.index + 1 ≡ P.key }
-    requires may { MayFile J.first_job who tracks.old (Logged (AdvancesQuiet shard.now.index now)) }
+    requires may { MayFile J.first_job who tracks.old (Logged (AdvancesIdle shard.now.index now)) }
     ensures track { track.new ≡ track.old ++ X.entry ∷ [] }
     ensures filed { tracks.new ≡ did_by who X.entry.operation tracks.old }
 {
@@ -365,7 +365,7 @@ fn file_taken<X: FiledName, J: ServerName, P: Part>(
     job: &Job,
     readings: &Readings,
     taken: &Taken,
-    found: &Found,
+    found: &SlotSnapshot,
 )
     requires entry { X.entry ≡ entry_by who tracks.old (Logged (TakesForJob job.now readings.now (taken_with taken.now found.now))) }
     requires same { P.table ≡ J.table }

@@ -14,8 +14,8 @@ device_readings now sensed = to_le_bytes w64 now ++ sensed
 
 -- the clock was read, and these readings have its time and readings of the sensors.
 abbrev pub AreReadAt : (ℕ → CallLog → CallLog → Type 0) → (List ℕ → Type 0) → List ℕ → CallLog → CallLog → Type 0
-AreReadAt IsMoment AreSensed readings before after =
-    (now : ℕ) × (sensed : List ℕ) × IsMoment now before after × AreSensed sensed × (readings ≡ device_readings now sensed)
+AreReadAt IsTime AreSensed readings before after =
+    (now : ℕ) × (sensed : List ℕ) × IsTime now before after × AreSensed sensed × (readings ≡ device_readings now sensed)
 
 abbrev pub clock_readings : ℕ → List ℕ
 clock_readings now = device_readings now no_sensors

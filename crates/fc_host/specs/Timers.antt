@@ -92,30 +92,30 @@ ComesByPeer came given = ((given.from ≡ timers) × (came ≡ None)) ⊎ ((give
 -- the source gave a datagram, or nothing in time: then the clock is read once more, and a timer
 -- that is due makes its request.
 abbrev pub ComesThen : (ℕ → CallLog → CallLog → Type 0) → Option Incoming → Timers → Timers → Option Incoming → CallLog → CallLog → Type 0
-ComesThen IsMoment (Some given) old new came before after = ComesByPeer came given × (new ≡ old) × (after ≡ before)
-ComesThen IsMoment None old new came before after = (now : ℕ) × IsMoment now before after × ComesByTimer now old new came
+ComesThen IsTime (Some given) old new came before after = ComesByPeer came given × (new ≡ old) × (after ≡ before)
+ComesThen IsTime None old new came before after = (now : ℕ) × IsTime now before after × ComesByTimer now old new came
 
 -- no timer is due, and the source is called, for no longer than until one is.
-pub record AsksSource (IsMoment : ℕ → CallLog → CallLog → Type 0) (Received : Receive → CallLog → CallLog → Type 0) (now : ℕ) (old new : Timers) (receive : Receive) (before after : CallLog) : Type 0 where
+pub record AsksSource (IsTime : ℕ → CallLog → CallLog → Type 0) (Received : Receive → CallLog → CallLog → Type 0) (now : ℕ) (old new : Timers) (receive : Receive) (before after : CallLog) : Type 0 where
   pub none : NoneDue now old.timers.items
   pub given : Option Incoming
   pub log : CallLog
   pub received : Received (record { wait = until_due now old.timers.items receive.wait; came = given }) before log
-  pub next : ComesThen IsMoment given old new receive.came log after
+  pub next : ComesThen IsTime given old new receive.came log after
 
 -- the clock is read; a timer that is due makes its request, or the source is called.
-pub record IsTimed (IsMoment : ℕ → CallLog → CallLog → Type 0) (Received : Receive → CallLog → CallLog → Type 0) (old new : Timers) (receive : Receive) (before after : CallLog) : Type 0 where
+pub record IsTimed (IsTime : ℕ → CallLog → CallLog → Type 0) (Received : Receive → CallLog → CallLog → Type 0) (old new : Timers) (receive : Receive) (before after : CallLog) : Type 0 where
   pub now : ℕ
   pub log : CallLog
-  pub read : IsMoment now before log
+  pub read : IsTime now before log
   pub comes : ((after ≡ log) × (came : Incoming) × (receive.came ≡ Some came) × ComesByTimer now old new (Some came))
-      ⊎ AsksSource IsMoment Received now old new receive log after
+      ⊎ AsksSource IsTime Received now old new receive log after
 
 -- the same for some timers.
-pub record IsTimedReceive (IsMoment : ℕ → CallLog → CallLog → Type 0) (Received : Receive → CallLog → CallLog → Type 0) (receive : Receive) (before after : CallLog) : Type 0 where
+pub record IsTimedReceive (IsTime : ℕ → CallLog → CallLog → Type 0) (Received : Receive → CallLog → CallLog → Type 0) (receive : Receive) (before after : CallLog) : Type 0 where
   pub old : Timers
   pub new : Timers
-  pub is : IsTimed IsMoment Received old new receive before after
+  pub is : IsTimed IsTime Received old new receive before after
 
 -- ---- the responses
 

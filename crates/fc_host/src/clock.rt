@@ -4,7 +4,7 @@ ghost use Rattle.fc_host.specs.Clocks.{AreReadAt, device_readings};
 
 use crate::sensors::{Sensed, Sensors};
 use fc_help::{NO_READINGS, Readings};
-use fc_workers::{CallLog, Device, Moments};
+use fc_workers::{CallLog, Device, TimeSource};
 use std::io;
 use std::sync::Wait;
 use std::time::{Clock, Instant};
@@ -40,8 +40,8 @@ impl<'a, R: Clock> Elapsed<'a, R> {
     }
 }
 
-impl<'a, C: Clock> Moments for Elapsed<'a, C> {
-    ghost is_moment = { λ now before after. after ≡ before };
+impl<'a, C: Clock> TimeSource for Elapsed<'a, C> {
+    ghost is_time = { λ now before after. after ≡ before };
 
     fn now<R: Wait>(&self, rt: &R, log: &mut CallLog) -> u64 {
         let _ = rt;
@@ -58,16 +58,16 @@ impl<'a, C: Clock> Moments for Elapsed<'a, C> {
 
 /// A device with a clock, and with sensors or none.
 #[derive(Drop)]
-pub struct SensingDevice<'a, M: Moments, Z: Sensors> {
-    pub moments: &'a M,
+pub struct SensingDevice<'a, M: TimeSource, Z: Sensors> {
+    pub times: &'a M,
     pub sensors: &'a Z,
 }
 
-impl<'a, M: Moments, Z: Sensors> Device for SensingDevice<'a, M, Z> {
-    ghost are_readings = { AreReadAt M.is_moment Z.are_sensed };
+impl<'a, M: TimeSource, Z: Sensors> Device for SensingDevice<'a, M, Z> {
+    ghost are_readings = { AreReadAt M.is_time Z.are_sensed };
 
     fn readings<R: Wait>(&self, rt: &R, log: &mut CallLog) -> Readings {
-        let now = self.moments.now(rt, log);
+        let now = self.times.now(rt, log);
         device_readings(now, &self.sensors.sense(rt, now))
     }
 }

@@ -1,6 +1,6 @@
 //! The host of a server: its clock, a file of sensor readings, and sockets.
 //!
-//! When lines are played, a board replaces these.
+//! When lines are played, a scripted host replaces these.
 //!
 //! ```rust
 //! use coap_msg::Endpoint;
@@ -41,16 +41,16 @@
 //! - **Tested, not proved**: a time is the clock's, and a random word is its low bits. A file is
 //!   read again. A socket is opened at its address and port; tests show what it sends and how long
 //!   it waits.
-//! - **Not claimed**: that a board returns the reply that was sent and the readings that were set.
+//! - **Not claimed**: that a scripted host returns the reply that was sent and the readings that were set.
 //!
 //! By the contracts of `clock::SensingDevice`, `sensors::NoSensors`, `read_sensed`,
 //! `socket::Source`, `endpoint_of`, `address_of`, `Replying`, `timers::Timers`, `Timed`,
 //! `PastTimers`, `laws`.
 #![tactic(auto)]
 
-pub mod board;
 pub mod clock;
 pub mod laws;
+pub mod scripted;
 pub mod sensors;
 pub mod socket;
 pub mod timer;

@@ -11,7 +11,7 @@ use crate::timer::{Period, Timer};
 use coap_msg::types::WINDOW;
 use coap_msg::{Emission, Endpoint};
 use fc_registry::SlotNumber;
-use fc_workers::{CallLog, Moments};
+use fc_workers::{CallLog, TimeSource};
 use std::sync::Wait;
 
 /// The endpoint of timers, 0.0.0.0:0, which no peer has.
@@ -163,14 +163,14 @@ const FIRST_SEGMENT: u8 = 0xb1;
 /// A receive of the source waits no longer than until the next timer is due. A datagram of the
 /// source with the endpoint of timers is dropped.
 #[derive(Drop)]
-pub struct Timed<'a, S: Source + Drop, M: Moments, R: Wait> {
+pub struct Timed<'a, S: Source + Drop, M: TimeSource, R: Wait> {
     pub source: S,
     pub timers: Timers,
-    pub moments: &'a M,
+    pub times: &'a M,
     pub rt: &'a R,
 }
 
-impl<'a, S: Source + Drop, M: Moments, R: Wait> Timed<'a, S, M, R> {
+impl<'a, S: Source + Drop, M: TimeSource, R: Wait> Timed<'a, S, M, R> {
     // Returns the request of a timer that is due, or the next datagram of the source.
     fn next(
         &mut self,
@@ -179,9 +179,9 @@ impl<'a, S: Source + Drop, M: Moments, R: Wait> Timed<'a, S, M, R> {
         log: &mut CallLog,
     ) -> Option<(usize, Endpoint)>
         ensures fits { IfSome result (λ r. r.0 ≤ length buffer.new) }
-        ensures timed { IsTimed M.is_moment S.received self.old.timers self.new.timers (record { wait = wait; came = incoming_in buffer.new result }) log.old log.new }
+        ensures timed { IsTimed M.is_time S.received self.old.timers self.new.timers (record { wait = wait; came = incoming_in buffer.new result }) log.old log.new }
     {
-        let now = self.moments.now(self.rt, log);
+        let now = self.times.now(self.rt, log);
         if let Some(asked) = self.ask(now, buffer) {
             return Some(asked);
         }
@@ -208,20 +208,20 @@ impl<'a, S: Source + Drop, M: Moments, R: Wait> Timed<'a, S, M, R> {
     ) -> Option<(usize, Endpoint)>
         requires { NoneDue now self.old.timers.timers.items }
         ensures fits { IfSome result (λ r. r.0 ≤ length buffer.new) }
-        ensures waited { AsksSource M.is_moment S.received now self.old.timers self.new.timers (record { wait = wait; came = incoming_in buffer.new result }) log.old log.new }
+        ensures waited { AsksSource M.is_time S.received now self.old.timers self.new.timers (record { wait = wait; came = incoming_in buffer.new result }) log.old log.new }
     {
         let wait = self.timers.until_due(now, wait);
         if let Some(came) = self.source.receive(wait, buffer, log) {
             return of_peer(came);
         }
-        let now = self.moments.now(self.rt, log);
+        let now = self.times.now(self.rt, log);
         self.ask(now, buffer)
     }
 }
 
 /// The received datagrams are unknown, as those of a real socket are.
-impl<'a, S: Source + Drop, M: Moments, R: Wait> Source for Timed<'a, S, M, R> {
-    ghost received = { IsTimedReceive M.is_moment S.received };
+impl<'a, S: Source + Drop, M: TimeSource, R: Wait> Source for Timed<'a, S, M, R> {
+    ghost received = { IsTimedReceive M.is_time S.received };
 
     fn receive(
         &mut self,

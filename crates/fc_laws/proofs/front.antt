@@ -3,7 +3,7 @@ pub mod Envelopes
 pub mod Unchanged
 pub mod RefusedCalls
 pub mod Hushed
-pub mod Moments
+pub mod Times
 pub mod Repeats
 pub mod DrawnIds
 pub mod Drawing

@@ -3,7 +3,7 @@ pub mod Strays
 pub mod Others
 pub mod Steps
 pub mod Along
-pub mod Takings
+pub mod Snapshots
 pub mod Meanings
 pub mod Ends
 pub mod Reasons

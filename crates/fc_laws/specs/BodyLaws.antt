@@ -28,7 +28,7 @@ asked_at s now to m r = received_added (add_in (front_at s now) to r) m r
 
 -- payload that it adds.
 abbrev pub addition_at : Seen → ℕ → Endpoint → Asked → Addition
-addition_at s now to r = addition_of (max s.moment now) to r
+addition_at s now to r = addition_of (max s.time now) to r
 
 -- the datagram is a request and no duplicate, passes every check of its options, and its endpoint
 -- is allowed to send it.

@@ -34,5 +34,5 @@ pub data IsAnsweredAtOnce (s : Seen) (e : Event) (m : Message) : Type 0 where
 pub data NeedsId (s : Seen) (e : Event) : Type 0 where
   AnswersAtOnce : (m : Message) (kind : is_confirmable m.kind ≡ false) (answers : IsAnsweredAtOnce s e m) → NeedsId s e
   AnswersInTime : (k now : ℕ) (content : Content) (event : e ≡ Answer k now) (at : stage s k ≡ ToAnswer content) (kind : (job s k).confirmable ≡ false)
-      (in_time : max s.moment now < opened_at s k + 247000) → NeedsId s e
+      (in_time : max s.time now < opened_at s k + 247000) → NeedsId s e
   TellsTurn : (k now : ℕ) (turn : Turn) (found : Option Ticket) (event : e ≡ Fresh k now) (at : stage s k ≡ ToTell turn (turns.ToDraw found)) → NeedsId s e

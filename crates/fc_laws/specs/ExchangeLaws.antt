@@ -36,7 +36,7 @@ pub record IsRepeat (s : Seen) (now : ℕ) (to : Endpoint) (bytes : List ℕ) (e
   pub message : Message
   pub read : reading_of bytes ≡ Ok message
   pub asks : IsOnRequest (verdict message)
-  pub is : repeated s (max s.moment now) to message.id ≡ Some e
+  pub is : repeated s (max s.time now) to message.id ≡ Some e
 
 -- the bytes that are stored for an exchange are sent again if its request was confirmable and was
 -- answered.
@@ -59,9 +59,9 @@ pub record IsOpening (s : Seen) (now : ℕ) (to : Endpoint) (bytes : List ℕ) :
   pub message : Message
   pub read : reading_of bytes ≡ Ok message
   pub asks : IsOnRequest (verdict message)
-  pub new : repeated s (max s.moment now) to message.id ≡ None
-  pub room : length (held_at s (max s.moment now)) < (places_of s.policy.limits)
-  pub share : shared_at s (max s.moment now) to.ip < s.policy.limits.share
+  pub new : repeated s (max s.time now) to message.id ≡ None
+  pub room : length (held_at s (max s.time now)) < (places_of s.policy.limits)
+  pub share : shared_at s (max s.time now) to.ip < s.policy.limits.share
   pub numbers : length s.exchanges < 18446744073709551615
 
 -- there is no space for another exchange: as many were opened in the last 247,000 ms as the
@@ -74,17 +74,17 @@ HasNoPlace s at = (places_of s.policy.limits ≤ length (held_at s at)) ⊎ (184
 pub record IsCrowdedOut (s : Seen) (now : ℕ) (to : Endpoint) (bytes : List ℕ) (m : Message) : Type 0 where
   pub read : reading_of bytes ≡ Ok m
   pub asks : IsOnRequest (verdict m)
-  pub new : repeated s (max s.moment now) to m.id ≡ None
-  pub share : shared_at s (max s.moment now) to.ip < s.policy.limits.share
-  pub full : HasNoPlace s (max s.moment now)
+  pub new : repeated s (max s.time now) to m.id ≡ None
+  pub share : shared_at s (max s.time now) to.ip < s.policy.limits.share
+  pub full : HasNoPlace s (max s.time now)
 
 -- the datagram is a request and no duplicate, and in the last 247,000 ms as many exchanges of its
 -- address were opened as its share.
 pub record IsOverShare (s : Seen) (now : ℕ) (to : Endpoint) (bytes : List ℕ) (m : Message) : Type 0 where
   pub read : reading_of bytes ≡ Ok m
   pub asks : IsOnRequest (verdict m)
-  pub new : repeated s (max s.moment now) to m.id ≡ None
-  pub over : s.policy.limits.share ≤ shared_at s (max s.moment now) to.ip
+  pub new : repeated s (max s.time now) to m.id ≡ None
+  pub over : s.policy.limits.share ≤ shared_at s (max s.time now) to.ip
 
 abbrev pub Repeats : Seen → Event → Exchange → Type 0
 Repeats s (Deliver now to bytes) e = IsRepeat s now to bytes.now e
@@ -133,7 +133,7 @@ arrivals s = map arrival_of s.exchanges
 pub record IsArrival (s : Seen) (now : ℕ) (to : Endpoint) (bytes : List ℕ) (a : Arrival) : Type 0 where
   pub message : Message
   pub read : reading_of bytes ≡ Ok message
-  pub arrival_is : a ≡ record { endpoint = to; id = message.id; confirmable = is_confirmable message.kind; at = max s.moment now }
+  pub arrival_is : a ≡ record { endpoint = to; id = message.id; confirmable = is_confirmable message.kind; at = max s.time now }
 
 abbrev pub ArrivesBy : Seen → Event → Arrival → Type 0
 ArrivesBy s (Deliver now to bytes) a = IsArrival s now to bytes.now a
@@ -160,7 +160,7 @@ draws_by false draw before = draw ∷ before
 -- message IDs that were drawn, the newest first.
 abbrev pub draws_of : History → List Draw
 draws_of (Begins serial id policy) = []
-draws_of (Then h r) = draws_by ((seen (Then h r)).ids.next == (seen h).ids.next) (record { id = (seen h).ids.next; at = (seen (Then h r)).moment }) (draws_of h)
+draws_of (Then h r) = draws_by ((seen (Then h r)).ids.next == (seen h).ids.next) (record { id = (seen h).ids.next; at = (seen (Then h r)).time }) (draws_of h)
 
 -- first message ID of a server.
 abbrev pub first_id : History → ℕ

@@ -47,4 +47,4 @@ opened_at s k = (job s k).origin.opening.at
 -- the answer of a job has the request's own message ID, or a message ID of the server is available
 -- at a time.
 abbrev pub HasId : Seen → ℕ → ℕ → Type 0
-HasId s k now = ((job s k).confirmable ≡ true) ⊎ (is_some (free_id s.ids (max s.moment now)) ≡ true)
+HasId s k now = ((job s k).confirmable ≡ true) ⊎ (is_some (free_id s.ids (max s.time now)) ≡ true)

@@ -58,7 +58,7 @@ NoneRegisters h (r ∷ rs) n to token = (Registers r (seen h) n to token → ⊥
 -- observers with a pending notification then.
 pub record BringsTurn (s : Seen) (n at : ℕ) (after : Seen) : Type 0 where
   pub entry : ObserverEntry
-  pub first : find (is_due (max (watch s n).moment at) (slot_at s n).noticed) (watch s n).held ≡ Some entry
+  pub first : find (is_due (max (watch s n).time at) (slot_at s n).notify_serial) (watch s n).held ≡ Some entry
   pub comes : after.tasks ≡ s.tasks ++ record {
     job = turn_job n (watch s n).turns (interest_of entry);
     stage = ToTell (record { slot = n; number = (watch s n).turns }) turns.ToTake;

@@ -13,7 +13,7 @@ use Rattle.coap_block.specs.Uploads.{same_key}
 use Rattle.fc_kinds.specs.Meaning.{Program}
 use Rattle.fc_observe.specs.declared.entry.Entry.{Entry as ObserverEntry}
 use Rattle.fc_observe.specs.declared.entry.Turn.{Turn}
-use Rattle.fc_observe.specs.Observers.{at_moment, entry_out, turn_missed}
+use Rattle.fc_observe.specs.Observers.{list_at_time, entry_out, turn_missed}
 use Rattle.fc_registry.specs.Calls.{wants}
 use Rattle.fc_registry.specs.Slots.{Present, Ticket}
 use Rattle.fc_verify.specs.Accepted.{Accepts}
@@ -30,7 +30,7 @@ use Rattle.fc_core.specs.Ids.{free_id}
 use Rattle.fc_core.specs.Laws.{slot_of}
 use Rattle.fc_laws.specs.ReplyLaws.{Refuses, Rejects}
 use Rattle.fc_core.specs.Stages.{image_of}
-use Rattle.fc_laws.specs.TurnLaws.{moment_at}
+use Rattle.fc_laws.specs.TurnLaws.{time_at}
 
 -- ---- refusals
 
@@ -64,13 +64,13 @@ pub data IsRefusedCall (s : Seen) (k : ℕ) (e : Event) (emitted : Option Emissi
   NotDescribed : (event : e ≡ Receipt k) (at : stage s k ≡ ToDescribe) (empty : (slot_at s (slot_of s k)).present ≡ None) → IsRefusedCall s k e emitted
   NotSent : (now : ℕ) (content : Content) (event : e ≡ Answer k now) (at : stage s k ≡ ToAnswer content) (none : emitted ≡ None) → IsRefusedCall s k e emitted
   HasNoId : (now : ℕ) (turn : Turn) (found : Option Ticket) (event : e ≡ Fresh k now) (at : stage s k ≡ ToTell turn (turns.ToDraw found))
-      (none : free_id s.ids (max s.moment now) ≡ None) → IsRefusedCall s k e emitted
+      (none : free_id s.ids (max s.time now) ≡ None) → IsRefusedCall s k e emitted
   HasNoTicket : (turn : Turn) (readings : List ℕ) (p : Present) (event : e ≡ Take k false readings) (at : stage s k ≡ ToTell turn turns.ToTake)
       (found : (slot_at s (slot_of s k)).present ≡ Some p) → IsRefusedCall s k e emitted
-  IsStaleTaking : (turn : Turn) (memory : Bool) (readings : List ℕ) (event : e ≡ Take k memory readings) (at : stage s k ≡ ToTell turn turns.ToTake)
-      (stale : entry_out turn (at_moment (s.shard_moment (slot_of s k % 8)) (watch s (slot_of s k))) ≡ None) → IsRefusedCall s k e emitted
+  IsStaleSnapshot : (turn : Turn) (memory : Bool) (readings : List ℕ) (event : e ≡ Take k memory readings) (at : stage s k ≡ ToTell turn turns.ToTake)
+      (stale : entry_out turn (list_at_time (s.shard_time (slot_of s k % 8)) (watch s (slot_of s k))) ≡ None) → IsRefusedCall s k e emitted
   IsStaleNote : (now random id : ℕ) (turn : Turn) (found : Option Ticket) (event : e ≡ Note k now random)
-      (at : stage s k ≡ ToTell turn (turns.ToNote found id)) (stale : entry_out turn (at_moment (moment_at s k now) (watch s (slot_of s k))) ≡ None)
+      (at : stage s k ≡ ToTell turn (turns.ToNote found id)) (stale : entry_out turn (list_at_time (time_at s k now) (watch s (slot_of s k))) ≡ None)
       → IsRefusedCall s k e emitted
 
 -- a check of its options refuses a new request, by a code or silently.
@@ -87,7 +87,7 @@ pub record FindsTurnMissing (s : Seen) (k : ℕ) (e : Event) (turn : Turn) : Typ
   pub at : stage s k ≡ ToTell turn turns.ToTake
   pub empty : (slot_at s (slot_of s k)).present ≡ None
   pub entry : ObserverEntry
-  pub out : entry_out turn (at_moment (s.shard_moment (slot_of s k % 8)) (watch s (slot_of s k))) ≡ Some entry
+  pub out : entry_out turn (list_at_time (s.shard_time (slot_of s k % 8)) (watch s (slot_of s k))) ≡ Some entry
 
 -- ---- effects
 
@@ -119,7 +119,7 @@ pub record LeavesAllButStage (k : ℕ) (before after : Seen) : Type 0 where
   pub slots : LeavesSlots before after
   pub at : Stage
   pub tasks : after.tasks ≡ slice_set before.tasks k (record { job = job before k; stage = at })
-  pub observers : (n : ℕ) → watch after n ≡ record (watch before n) { moment = (watch after n).moment }
+  pub observers : (n : ℕ) → watch after n ≡ record (watch before n) { time = (watch after n).time }
   pub front : LeavesFront before after
 
 -- everything except that the request has its exchange.
@@ -134,9 +134,9 @@ pub record LeavesAllButTransfer (r : Entry) (s : Seen) (to : Endpoint) (n : ℕ)
   pub slots : LeavesSlots s (and_then r s)
   pub jobs : LeavesJobs s (and_then r s)
   pub exchange : OpensOne r s
-  pub gone : bytes_held (and_then r s).moment to n (transfers (and_then r s).additions) ≡ None
+  pub gone : bytes_held (and_then r s).time to n (transfers (and_then r s).additions) ≡ None
   pub others : (from : Endpoint) (m : ℕ) → same_key to n from m ≡ false →
-      bytes_held (and_then r s).moment from m (transfers (and_then r s).additions) ≡ bytes_held (and_then r s).moment from m (transfers s.additions)
+      bytes_held (and_then r s).time from m (transfers (and_then r s).additions) ≡ bytes_held (and_then r s).time from m (transfers s.additions)
 
 -- everything except the stage of job k, and that the lease's observer records that the snapshot
 -- found the slot empty.
@@ -145,7 +145,7 @@ pub record LeavesAllButTurn (k : ℕ) (turn : Turn) (before after : Seen) : Type
   pub at : Stage
   pub tasks : after.tasks ≡ slice_set before.tasks k (record { job = job before k; stage = at })
   pub others : (n : ℕ) → (n ≡ slot_of before k → ⊥) → watch after n ≡ watch before n
-  pub missing : watch after (slot_of before k) ≡ turn_missed turn (at_moment (before.shard_moment (slot_of before k % 8)) (watch before (slot_of before k)))
+  pub missing : watch after (slot_of before k) ≡ turn_missed turn (list_at_time (before.shard_time (slot_of before k % 8)) (watch before (slot_of before k)))
   pub front : LeavesFront before after
 
 -- sender of the datagram that an event delivers.

@@ -13,12 +13,12 @@ IsOfNoShard other = ⊥
 
 -- the front, the jobs, the slots and the shards are unchanged.
 pub record IsAsBefore (before after : Seen) : Type 0 where
-  pub moment : after.moment ≡ before.moment
+  pub time : after.time ≡ before.time
   pub exchanges : after.exchanges ≡ before.exchanges
   pub additions : after.additions ≡ before.additions
   pub ids : after.ids ≡ before.ids
   pub tasks : after.tasks ≡ before.tasks
   pub changes : (n : ℕ) → after.changes n ≡ before.changes n
-  pub shards : (i : ℕ) → after.shard_moment i ≡ before.shard_moment i
+  pub shards : (i : ℕ) → after.shard_time i ≡ before.shard_time i
   pub calls : (n : ℕ) → after.calls n ≡ before.calls n
   pub words : after.words ≡ before.words

@@ -12,11 +12,11 @@ use Rattle.fc_registry.specs.Slots.{Present, Ticket, vars_in}
 use Rattle.fc_registry.specs.declared.job.Ask.TheVariants.{Install as Asks}
 use Rattle.fc_registry.specs.declared.job.InitialVars.{InitialVars}
 use Rattle.fc_core.specs.declared.event.Event.TheVariants.{Commit, Install, Remove}
-use Rattle.fc_core.specs.Rows.{Scene}
+use Rattle.fc_core.specs.Rows.{Inputs}
 use Rattle.fc_core.specs.Stage.{Stage}
 use Rattle.fc_core.specs.Stage.{ToCommit, ToInstall, ToRemove, ToRaise}
 use Rattle.fc_core.specs.History.{Entry, History, Seen, seen, and_then, job, slot_at, stage}
-use Rattle.fc_core.specs.Laws.{Taking, slot_of, takings_of}
+use Rattle.fc_core.specs.Laws.{Snapshot, slot_of, snapshots_of}
 use Rattle.fc_core.specs.Stages.{image_of}
 
 -- a job that is to publish its slot's new head word.
@@ -45,8 +45,8 @@ pub record IsToInstall (s : Seen) (k : ℕ) (p : Program) : Type 0 where
   pub below : (slot_at s (slot_of s k)).serial < 9223372036854775807
 
 -- a scene whose job requests the install of an image, and determines the variables that it leaves.
-abbrev pub scene_installing : ArrayVec ℕ → InitialVars → Scene → Scene
-scene_installing image initial x = record x { job = record x.job { ask = Asks image initial } }
+abbrev pub inputs_installing : ArrayVec ℕ → InitialVars → Inputs → Inputs
+inputs_installing image initial x = record x { job = record x.job { ask = Asks image initial } }
 
 -- the variables of slot n.
 abbrev pub vars_at : Seen → ℕ → List ℕ
@@ -96,7 +96,7 @@ AllOfImages (Removed ∷ cs) = AllOfImages cs
 -- ---- commits
 
 -- the slot's changes are those before the newest of these snapshots.
-abbrev pub IsUnchanged : List Taking → List Change → Type 0
+abbrev pub IsUnchanged : List Snapshot → List Change → Type 0
 IsUnchanged [] cs = ⊥
 IsUnchanged (t ∷ ts) cs = cs ≡ t.changes
 
@@ -105,5 +105,5 @@ IsUnchanged (t ∷ ts) cs = cs ≡ t.changes
 pub record IsWritten (h : History) (k : ℕ) (t : Ticket) : Type 0 where
   pub post : t.request.method ≡ Post
   pub class : code_class (meaning_at t).code ≡ 2
-  pub unchanged : IsUnchanged (takings_of h k) ((seen h).changes (slot_of (seen h) k))
+  pub unchanged : IsUnchanged (snapshots_of h k) ((seen h).changes (slot_of (seen h) k))
   pub below : (slot_at (seen h) (slot_of (seen h) k)).serial < 9223372036854775807

@@ -13,20 +13,20 @@ use Rattle.coap_reply.specs.Responses.{Response, ran_response, sent_in}
 use Rattle.fc_observe.specs.declared.entry.Entry.{Entry as ObserverEntry}
 use Rattle.fc_observe.specs.declared.entry.Phase.TheVariants.{Outstanding, TurnOut}
 use Rattle.fc_observe.specs.declared.entry.Turn.{Turn}
-use Rattle.fc_observe.specs.Observers.{ObserverList, at_moment, entry_out, late_entry}
+use Rattle.fc_observe.specs.Observers.{ObserverList, list_at_time, entry_out, overdue_entry}
 use Rattle.fc_observe.specs.Entries.{is_entry_of}
 use Rattle.fc_registry.specs.Calls.{meaning_at}
 use Rattle.fc_registry.specs.Slots.{Ticket}
 use Rattle.fc_core.specs.declared.event.Event.TheVariants.{Commit, Note, ShardTick, Signal}
 use Rattle.fc_core.specs.Stage.{ToCommit, ToTell}
 use Rattle.fc_core.specs.TurnStage.{ToNote}
-use Rattle.fc_core.specs.History.{Entry, Seen, late_in, stage, watch}
+use Rattle.fc_core.specs.History.{Entry, Seen, overdue_in, stage, watch}
 use Rattle.fc_core.specs.Laws.{slot_of}
 use Rattle.fc_laws.specs.ObserveLaws.{is_held}
 
 -- time of the shard of a job's slot, after it is passed one.
-abbrev pub moment_at : Seen → ℕ → ℕ → ℕ
-moment_at s k now = max (s.shard_moment (slot_of s k % 8)) now
+abbrev pub time_at : Seen → ℕ → ℕ → ℕ
+time_at s k now = max (s.shard_time (slot_of s k % 8)) now
 
 -- a ticket's response: if its run means a 2.05 (Content), the snapshot's serial is its ETag and
 -- sequence number.
@@ -39,7 +39,7 @@ response_of t = ran_response (meaning_at t).code (cut_for t.block (meaning_at t)
 pub record Notifies (turn : Turn) (id at confirm_after : ℕ) (w : ObserverList) (response : Response) (e : Emission) : Type 0 where
   pub entry : ObserverEntry
   pub held : Contains w.held entry
-  pub out : entry_out turn (at_moment at w) ≡ Some entry
+  pub out : entry_out turn (list_at_time at w) ≡ Some entry
   pub is : e ≡ sent_in (record {
     to = entry.endpoint;
     kind = if nat_le (entry.confirmed + confirm_after) at then Confirmable else NonConfirmable;
@@ -53,7 +53,7 @@ note_as kind id entry response = sent_in (record { to = entry.endpoint; kind = k
 
 -- notification of an observer of this job's slot, by the policy.
 abbrev pub NotifiesOf : Seen → ℕ → ℕ → Turn → ℕ → Response → Emission → Type 0
-NotifiesOf s k now turn id response e = Notifies turn id (moment_at s k now) s.policy.confirm_after (watch s (slot_of s k)) response e
+NotifiesOf s k now turn id response e = Notifies turn id (time_at s k now) s.policy.confirm_after (watch s (slot_of s k)) response e
 
 -- its lease, if it is this one, was granted at least 247,000 ms before.
 abbrev pub HasLapsed : Turn → ℕ → ObserverEntry → Type 0
@@ -118,8 +118,8 @@ pub record TimesOut (r : Entry) (s : Seen) (n : ℕ) (to : Endpoint) (token : Li
   pub bytes : ArrayVec ℕ
   pub event : r.event ≡ ShardTick shard now
   pub slot : 8 * place + shard ≡ n
-  pub first : late_in s shard (max (s.shard_moment shard) now) ≡ Some place
-  pub late : late_entry (at_moment (max (s.shard_moment shard) now) (watch s n)) ≡ Some entry
+  pub first : overdue_in s shard (max (s.shard_time shard) now) ≡ Some place
+  pub overdue : overdue_entry (list_at_time (max (s.shard_time shard) now) (watch s n)) ≡ Some entry
   pub own : is_entry_of to token entry ≡ true
   pub outstanding : entry.phase ≡ Outstanding sent_at timeout retransmissions bytes
   pub four : 4 ≤ retransmissions
@@ -141,7 +141,7 @@ pub record IsTurnedAway (r : Entry) (s : Seen) (n : ℕ) (to : Endpoint) (token 
   pub event : r.event ≡ Note number now random
   pub at : stage s number ≡ ToTell turn (ToNote found id)
   pub slot : slot_of s number ≡ n
-  pub out : entry_out turn (at_moment (moment_at s number now) (watch s n)) ≡ Some entry
+  pub out : entry_out turn (list_at_time (time_at s number now) (watch s n)) ≡ Some entry
   pub own : is_entry_of to token entry ≡ true
   pub answer : IsNoContent found
 

@@ -1,6 +1,6 @@
 //! Laws of answers and times: each function is a law, stated by its contract.
 ghost use Rattle.coap_msg.specs.declared.types.Emission.{Emission};
-ghost use Rattle.fc_core.specs.AnswerLaws.{Causes, greatest, moments_of, shard_moments_of};
+ghost use Rattle.fc_core.specs.AnswerLaws.{Causes, greatest, times_of, shard_times_of};
 ghost use Rattle.coap_block.specs.Cuts.{Part};
 ghost use Rattle.coap_reply.specs.Blocks.{cut_for};
 ghost use Rattle.fc_core.specs.Contents.{Content, Deleted, Described, Listed, Made, Missing, Ran, Rejected, RunAnswer, Unavailable, Untyped, Valid};
@@ -62,9 +62,9 @@ pub fn empty_slots_are_missing()
 /// The front is passed a time by deliveries, by ticks, and, at their stage, by answers and by
 /// leases that draw a message ID. A shard is passed a time by requests for a lease and by ticks.
 /// Its slots' jobs that commit, notify or release their lease at their stage also pass it one.
-pub fn moments_are_the_greatest()
-    ensures front { (h : History) → (seen h).moment ≡ greatest (moments_of h) }
-    ensures shard { (h : History) (i : ℕ) → (seen h).shard_moment i ≡ greatest (shard_moments_of i h) }
+pub fn times_are_the_greatest()
+    ensures front { (h : History) → (seen h).time ≡ greatest (times_of h) }
+    ensures shard { (h : History) (i : ℕ) → (seen h).shard_time i ≡ greatest (shard_times_of i h) }
 {}
 
 /// Without a requested block, an answer of at most 1,024 bytes is sent complete.

@@ -72,7 +72,7 @@ pub fn jobs_are_of_their_messages()
     ensures program_slot { (r : Entry) (s : Seen) (from : Endpoint) (m : Message) (j : Job) (code n : ℕ) → n < 64 →
         BringsJob r s from m j → Requests m code (program_path n) → j.origin.slot ≡ n }
     ensures exchange { (r : Entry) (s : Seen) (from : Endpoint) (m : Message) (j : Job) (b : BringsJob r s from m j) →
-        j.origin.opening ≡ record { number = length s.exchanges; at = max s.moment b.now } }
+        j.origin.opening ≡ record { number = length s.exchanges; at = max s.time b.now } }
     ensures confirmable { (r : Entry) (s : Seen) (from : Endpoint) (m : Message) (j : Job) →
         BringsJob r s from m j → ((j.confirmable ≡ true) ↔ (m.kind ≡ Confirmable)) }
     ensures turn { (r : Entry) (s : Seen) (from : Endpoint) (m : Message) (j : Job) →

@@ -42,7 +42,7 @@ pub fn blocks_are_joined()
     ensures most { (h : History) (now : ℕ) (to : Endpoint) (m : Message) (r : Asked) (body : List ℕ) →
         asked_at (seen h) now to m r ≡ Opened m r body → length body ≤ 8208 }
     ensures few { (h : History) → length (transfers (seen h).additions) ≤ 16 }
-    ensures rises { (h : History) → RisesTo (seen h).moment (seen h).additions }
+    ensures rises { (h : History) → RisesTo (seen h).time (seen h).additions }
 {
     blocks_that_fit_are_joined();
     bodies_are_bounded();

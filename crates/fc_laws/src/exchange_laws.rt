@@ -90,9 +90,9 @@ pub fn message_ids_come_in_order()
 /// lease, whose notification has its own message ID.
 pub fn message_ids_are_drawn_where_needed()
     ensures needed { (h : History) (r : Entry) (id : ℕ) → first_id h < 65536 → NeedsId (seen h) r.event
-        → free_id (seen h).ids (seen (Then h r)).moment ≡ Some id
-        → draws_of (Then h r) ≡ record { id = id; at = (seen (Then h r)).moment } ∷ draws_of h }
-    ensures none_free { (h : History) (r : Entry) → free_id (seen h).ids (seen (Then h r)).moment ≡ None
+        → free_id (seen h).ids (seen (Then h r)).time ≡ Some id
+        → draws_of (Then h r) ≡ record { id = id; at = (seen (Then h r)).time } ∷ draws_of h }
+    ensures none_free { (h : History) (r : Entry) → free_id (seen h).ids (seen (Then h r)).time ≡ None
         → draws_of (Then h r) ≡ draws_of h }
     ensures others { (h : History) (r : Entry) → (NeedsId (seen h) r.event → ⊥) → draws_of (Then h r) ≡ draws_of h }
 {}
@@ -102,10 +102,10 @@ pub fn message_ids_are_drawn_where_needed()
 /// It is never sent later. Until then it is sent if its request was confirmable or a message ID of
 /// the server is available.
 pub fn answers_go_out_in_time()
-    ensures late { (s : Seen) (k now : ℕ) (e : Emission) → Emits s (Answer k now) (Some e)
-        → max s.moment now < opened_at s k + 247000 }
+    ensures overdue { (s : Seen) (k now : ℕ) (e : Emission) → Emits s (Answer k now) (Some e)
+        → max s.time now < opened_at s k + 247000 }
     ensures in_time { (s : Seen) (k now : ℕ) (content : Content) (o : Option Emission) → stage s k ≡ ToAnswer content
-        → max s.moment now < opened_at s k + 247000 → HasId s k now → Emits s (Answer k now) o → is_some o ≡ true }
+        → max s.time now < opened_at s k + 247000 → HasId s k now → Emits s (Answer k now) o → is_some o ≡ true }
 {}
 
 /// The stored answer of an exchange consists of the bytes that were sent.

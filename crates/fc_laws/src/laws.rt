@@ -5,7 +5,7 @@ ghost use Rattle.fc_core.specs.declared.event.Event.TheVariants.{Take, Commit, I
 ghost use Rattle.fc_core.specs.Stage.{ToTake, ToCommit, ToInstall, ToRaise, ToAnswer, ToTell, Gone};
 ghost use Rattle.fc_core.specs.TurnStage.{ToDraw, ToNote};
 ghost use Rattle.fc_core.specs.History.{Entry, History, Then, Seen, seen, and_then, did, job, slot_at, stage};
-ghost use Rattle.fc_core.specs.Laws.{HasCome, IsOfNewest, IsOvertaken, TakesAgain, answer_at, answers_of, is_stray, followed_by, slot_of, takings_of};
+ghost use Rattle.fc_core.specs.Laws.{HasCome, IsOfNewest, IsOvertaken, TakesAgain, answer_at, answers_of, is_noop, followed_by, slot_of, snapshots_of};
 ghost use Rattle.fc_observe.specs.declared.entry.Turn.{Turn};
 ghost use Rattle.fc_registry.specs.Calls.{commit_of, run_of};
 ghost use Rattle.fc_registry.specs.Slots.{Present, Ticket};
@@ -18,8 +18,8 @@ ghost use Rattle.std.specs.Prelude.{ℕ, ◌+◌, ◌<◌, ◌≤◌, List, None
 /// Nothing of the history's summary changes. The same holds for an event of a job that has ended or
 /// never arrived, and for a `Peek` of another head word than the job needs.
 pub fn strays_change_nothing()
-    ensures seen { (r : Entry) (s : Seen) → is_stray s r.event ≡ true → and_then r s ≡ s }
-    ensures emitted { (r : Entry) (s : Seen) → is_stray s r.event ≡ true → Emits s r.event r.emitted
+    ensures seen { (r : Entry) (s : Seen) → is_noop s r.event ≡ true → and_then r s ≡ s }
+    ensures emitted { (r : Entry) (s : Seen) → is_noop s r.event ≡ true → Emits s r.event r.emitted
         → r.emitted ≡ None }
 {}
 
@@ -46,13 +46,13 @@ pub fn only_the_named_slot_changes()
 ///
 /// If a run that wants to write finds at its commit that the slot has changed, its job takes
 /// another ticket; after the eighth it is answered 5.03 (Service Unavailable).
-pub fn takings_are_few()
-    ensures few { (h : History) (k : ℕ) → length (takings_of h k) ≤ 8 }
+pub fn snapshots_are_few()
+    ensures few { (h : History) (k : ℕ) → length (snapshots_of h k) ≤ 8 }
     ensures eighth { (h : History) (k now : ℕ) (o : Option Emission) → IsOvertaken (seen h) k
-        → length (takings_of h k) ≡ 8
+        → length (snapshots_of h k) ≡ 8
         → stage (seen (Then h (did (Commit k now) o))) k ≡ ToAnswer Unavailable }
     ensures earlier { (h : History) (k now : ℕ) (o : Option Emission) → IsOvertaken (seen h) k
-        → length (takings_of h k) < 8
+        → length (snapshots_of h k) < 8
         → TakesAgain (stage (seen (Then h (did (Commit k now) o))) k) }
 {}
 
@@ -61,9 +61,9 @@ pub fn takings_are_few()
 /// Its code is what the ticket's program means for the request and for the variables and readings
 /// of the snapshot. Its block is the requested one of the reply that the program means. Its serial
 /// is that of the snapshot.
-pub fn answers_are_of_the_last_taking()
+pub fn answers_are_of_the_last_snapshot()
     ensures { (h : History) (k : ℕ) (run : RunAnswer) → answer_at (stage (seen h) k) ≡ Some (Ran run)
-        → IsOfNewest (takings_of h k) run }
+        → IsOfNewest (snapshots_of h k) run }
 {}
 
 /// Each ticket of a job has a meaning, for a request as for a lease.
@@ -82,7 +82,7 @@ pub fn held_tickets_have_a_meaning()
 /// A snapshot has the readings that were passed to it, not those of an earlier one.
 ///
 /// Its run gets these readings, and its commit has them.
-pub fn takings_keep_their_readings()
+pub fn snapshots_keep_their_readings()
     ensures { (s : Seen) (k count : ℕ) (readings : List ℕ) (o : Option Emission) (p : Present) → stage s k ≡ ToTake count
         → (slot_at s (slot_of s k)).present ≡ Some p
         → (t : Ticket) × (stage (and_then (did (Take k true readings) o) s) k ≡ ToCommit (count + 1) t)
@@ -123,5 +123,5 @@ pub fn refused_memory_ends_a_job()
     ensures install { (s : Seen) (k : ℕ) (o : Option Emission) → stage s k ≡ ToInstall
         → stage (and_then (did (Install k false) o) s) k ≡ ToAnswer Unavailable }
     ensures later { (h : History) (rs : List Entry) (k : ℕ) (content : Content)
-        → stage (seen h) k ≡ ToAnswer content → takings_of (followed_by h rs) k ≡ takings_of h k }
+        → stage (seen h) k ≡ ToAnswer content → snapshots_of (followed_by h rs) k ≡ snapshots_of h k }
 {}

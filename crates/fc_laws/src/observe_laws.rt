@@ -3,7 +3,7 @@ ghost use Rattle.std.specs.Prelude.{◌≡◌, ℕ, ◌+◌, ◌*◌, ◌%◌, �
 ghost use Rattle.coap_msg.specs.declared.types.Emission.{Emission};
 ghost use Rattle.coap_msg.specs.declared.types.Endpoint.{Endpoint};
 ghost use Rattle.fc_help.specs.declared.request.Method.TheVariants.{Get};
-ghost use Rattle.fc_observe.specs.Observers.{after_ack, after_reset, after_tick, at_moment, cancelled, registered, turn_given, turn_given_up};
+ghost use Rattle.fc_observe.specs.Observers.{after_ack, after_reset, after_tick, list_at_time, cancelled, registered, turn_given, turn_given_up};
 ghost use Rattle.fc_observe.specs.declared.entry.Turn.{Turn};
 ghost use Rattle.fc_registry.specs.Calls.{szx_of};
 ghost use Rattle.fc_registry.specs.Slots.{Ticket};
@@ -13,7 +13,7 @@ ghost use Rattle.fc_core.specs.TurnStage.{TurnStage};
 ghost use Rattle.fc_core.specs.TurnStage.{ToDraw, ToNote};
 ghost use Rattle.fc_laws.specs.ExchangeLaws.{draws_of, first_id};
 ghost use Rattle.fc_core.specs.Ids.{free_id};
-ghost use Rattle.fc_core.specs.History.{Entry, History, Seen, Then, seen, and_then, did, due_in, is_due_at, is_late_at, late_in, slot_at, stage, watch};
+ghost use Rattle.fc_core.specs.History.{Entry, History, Seen, Then, seen, and_then, did, due_in, is_due_at, is_overdue_at, overdue_in, slot_at, stage, watch};
 ghost use Rattle.fc_core.specs.Laws.{followed_by, slot_of};
 ghost use Rattle.fc_laws.specs.ObserveLaws.{AsksToObserve, BringsTurn, NoneRegisters, Registers, is_among, is_held};
 ghost use Rattle.fc_core.specs.Stages.{run_content};
@@ -31,7 +31,7 @@ pub fn commits_register_and_cancel()
     ensures registered { (s : Seen) (k now n : ℕ) (t : Ticket) (o : Option Emission) → stage s k ≡ ToCommit n t
         → t.request.method ≡ Get → AsksToObserve t → watch (and_then (did (Commit k now) o) s) (slot_of s k)
         ≡ registered t.origin.endpoint t.token t.request (szx_of t.block) t.serial
-        (at_moment (max (s.shard_moment (slot_of s k % 8)) now) (watch s (slot_of s k))) }
+        (list_at_time (max (s.shard_time (slot_of s k % 8)) now) (watch s (slot_of s k))) }
     ensures told { (s : Seen) (k now n : ℕ) (t : Ticket) (o : Option Emission) → stage s k ≡ ToCommit n t
         → t.request.method ≡ Get → AsksToObserve t → stage (and_then (did (Commit k now) o) s) k
         ≡ ToAnswer (run_content t (is_among t (watch (and_then (did (Commit k now) o) s) (slot_of s k)))) }
@@ -78,16 +78,16 @@ pub fn turns_are_for_the_first_that_is_due()
     ensures found { (s : Seen) (i at k : ℕ) → due_in s i at ≡ Some k
         → (is_due_at s i at k ≡ true) × ((j : ℕ) → j < k → is_due_at s i at j ≡ false) }
     ensures not_found { (s : Seen) (i at : ℕ) → i < 8 → due_in s i at ≡ None → (j : ℕ) → j < 8 → is_due_at s i at j ≡ false }
-    ensures brings { (s : Seen) (i k now : ℕ) (o : Option Emission) → due_in s i (max (s.shard_moment i) now) ≡ Some k
-        → BringsTurn s (8 * k + i) (max (s.shard_moment i) now) (and_then (did (Due i now) o) s) }
-    ensures gives { (s : Seen) (i k now : ℕ) (o : Option Emission) → due_in s i (max (s.shard_moment i) now) ≡ Some k
+    ensures brings { (s : Seen) (i k now : ℕ) (o : Option Emission) → due_in s i (max (s.shard_time i) now) ≡ Some k
+        → BringsTurn s (8 * k + i) (max (s.shard_time i) now) (and_then (did (Due i now) o) s) }
+    ensures gives { (s : Seen) (i k now : ℕ) (o : Option Emission) → due_in s i (max (s.shard_time i) now) ≡ Some k
         → watch (and_then (did (Due i now) o) s) (8 * k + i)
-        ≡ turn_given (slot_at s (8 * k + i)).noticed (at_moment (max (s.shard_moment i) now) (watch s (8 * k + i))) }
-    ensures others { (s : Seen) (i k now : ℕ) (o : Option Emission) (n : ℕ) → due_in s i (max (s.shard_moment i) now) ≡ Some k
+        ≡ turn_given (slot_at s (8 * k + i)).notify_serial (list_at_time (max (s.shard_time i) now) (watch s (8 * k + i))) }
+    ensures others { (s : Seen) (i k now : ℕ) (o : Option Emission) (n : ℕ) → due_in s i (max (s.shard_time i) now) ≡ Some k
         → (n ≡ 8 * k + i → ⊥) → watch (and_then (did (Due i now) o) s) n ≡ watch s n }
-    ensures nobody { (s : Seen) (i now n : ℕ) (o : Option Emission) → due_in s i (max (s.shard_moment i) now) ≡ None
+    ensures nobody { (s : Seen) (i now n : ℕ) (o : Option Emission) → due_in s i (max (s.shard_time i) now) ≡ None
         → watch (and_then (did (Due i now) o) s) n ≡ watch s n }
-    ensures no_job { (s : Seen) (i now : ℕ) (o : Option Emission) → due_in s i (max (s.shard_moment i) now) ≡ None
+    ensures no_job { (s : Seen) (i now : ℕ) (o : Option Emission) → due_in s i (max (s.shard_time i) now) ≡ None
         → (and_then (did (Due i now) o) s).tasks ≡ s.tasks }
 {}
 
@@ -97,13 +97,13 @@ pub fn turns_are_for_the_first_that_is_due()
 pub fn turns_draw_message_ids()
     ensures drawn { (s : Seen) (k now id : ℕ) (turn : Turn) (found : Option Ticket) (o : Option Emission)
         → stage s k ≡ ToTell turn (ToDraw found)
-        → free_id s.ids (max s.moment now) ≡ Some id → stage (and_then (did (Fresh k now) o) s) k ≡ ToTell turn (ToNote found id) }
+        → free_id s.ids (max s.time now) ≡ Some id → stage (and_then (did (Fresh k now) o) s) k ≡ ToTell turn (ToNote found id) }
     ensures none { (s : Seen) (k now : ℕ) (turn : Turn) (found : Option Ticket) (o : Option Emission)
         → stage s k ≡ ToTell turn (ToDraw found)
-        → free_id s.ids (max s.moment now) ≡ None → stage (and_then (did (Fresh k now) o) s) k ≡ ToTell turn (ToDraw found) }
+        → free_id s.ids (max s.time now) ≡ None → stage (and_then (did (Fresh k now) o) s) k ≡ ToTell turn (ToDraw found) }
     ensures draws { (h : History) (k now id : ℕ) (turn : Turn) (found : Option Ticket) (o : Option Emission) → first_id h < 65536
-        → stage (seen h) k ≡ ToTell turn (ToDraw found) → free_id (seen h).ids (max (seen h).moment now) ≡ Some id
-        → draws_of (Then h (did (Fresh k now) o)) ≡ record { id = id; at = max (seen h).moment now } ∷ draws_of h }
+        → stage (seen h) k ≡ ToTell turn (ToDraw found) → free_id (seen h).ids (max (seen h).time now) ≡ Some id
+        → draws_of (Then h (did (Fresh k now) o)) ≡ record { id = id; at = max (seen h).time now } ∷ draws_of h }
 {}
 
 /// A lease that is released isn't out any more from its shard's time on.
@@ -113,7 +113,7 @@ pub fn turns_draw_message_ids()
 pub fn turns_are_given_up_or_lost()
     ensures given_up { (s : Seen) (k now : ℕ) (turn : Turn) (needs : TurnStage) (o : Option Emission) → stage s k ≡ ToTell turn needs
         → watch (and_then (did (GiveUp k now) o) s) (slot_of s k)
-        ≡ turn_given_up turn (at_moment (max (s.shard_moment (slot_of s k % 8)) now) (watch s (slot_of s k))) }
+        ≡ turn_given_up turn (list_at_time (max (s.shard_time (slot_of s k % 8)) now) (watch s (slot_of s k))) }
     ensures gone { (s : Seen) (k now : ℕ) (turn : Turn) (needs : TurnStage) (o : Option Emission) → stage s k ≡ ToTell turn needs
         → stage (and_then (did (GiveUp k now) o) s) k ≡ Gone }
     ensures elsewhere { (s : Seen) (k now m : ℕ) (o : Option Emission) → (m ≡ slot_of s k → ⊥)
@@ -124,15 +124,15 @@ pub fn turns_are_given_up_or_lost()
 /// A tick of a shard is for its first slot with a notification that has timed out.
 ///
 /// It is for no other slot.
-pub fn ticks_are_for_the_first_that_is_late()
-    ensures found { (s : Seen) (i at k : ℕ) → late_in s i at ≡ Some k
-        → (is_late_at s i at k ≡ true) × ((j : ℕ) → j < k → is_late_at s i at j ≡ false) }
-    ensures not_found { (s : Seen) (i at : ℕ) → i < 8 → late_in s i at ≡ None → (j : ℕ) → j < 8 → is_late_at s i at j ≡ false }
-    ensures first { (s : Seen) (i k now : ℕ) (o : Option Emission) → late_in s i (max (s.shard_moment i) now) ≡ Some k
+pub fn ticks_are_for_the_first_that_is_overdue()
+    ensures found { (s : Seen) (i at k : ℕ) → overdue_in s i at ≡ Some k
+        → (is_overdue_at s i at k ≡ true) × ((j : ℕ) → j < k → is_overdue_at s i at j ≡ false) }
+    ensures not_found { (s : Seen) (i at : ℕ) → i < 8 → overdue_in s i at ≡ None → (j : ℕ) → j < 8 → is_overdue_at s i at j ≡ false }
+    ensures first { (s : Seen) (i k now : ℕ) (o : Option Emission) → overdue_in s i (max (s.shard_time i) now) ≡ Some k
         → watch (and_then (did (ShardTick i now) o) s) (8 * k + i)
-        ≡ after_tick (at_moment (max (s.shard_moment i) now) (watch s (8 * k + i))) }
-    ensures others { (s : Seen) (i k n now : ℕ) (o : Option Emission) → late_in s i (max (s.shard_moment i) now) ≡ Some k
+        ≡ after_tick (list_at_time (max (s.shard_time i) now) (watch s (8 * k + i))) }
+    ensures others { (s : Seen) (i k n now : ℕ) (o : Option Emission) → overdue_in s i (max (s.shard_time i) now) ≡ Some k
         → (n ≡ 8 * k + i → ⊥) → watch (and_then (did (ShardTick i now) o) s) n ≡ watch s n }
-    ensures none { (s : Seen) (i n now : ℕ) (o : Option Emission) → late_in s i (max (s.shard_moment i) now) ≡ None
+    ensures none { (s : Seen) (i n now : ℕ) (o : Option Emission) → overdue_in s i (max (s.shard_time i) now) ≡ None
         → watch (and_then (did (ShardTick i now) o) s) n ≡ watch s n }
 {}

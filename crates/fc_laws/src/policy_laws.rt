@@ -5,7 +5,7 @@ ghost use Rattle.coap_msg.specs.declared.types.Emission.{Emission};
 ghost use Rattle.coap_msg.specs.declared.types.MessageType.TheVariants.{Confirmable, NonConfirmable};
 ghost use Rattle.coap_reply.specs.Responses.{Response};
 ghost use Rattle.fc_observe.specs.declared.entry.Turn.{Turn};
-ghost use Rattle.fc_laws.specs.TurnLaws.{NotifiesOf, moment_at, note_as};
+ghost use Rattle.fc_laws.specs.TurnLaws.{NotifiesOf, time_at, note_as};
 ghost use Rattle.coap_msg.specs.Reading.{reading_of};
 ghost use Rattle.coap_msg.specs.Wire.{Message};
 ghost use Rattle.coap_msg.specs.declared.types.Endpoint.{Endpoint};
@@ -90,8 +90,8 @@ pub fn forbidden_changes_are_refused()
 /// From the front's time on, at most `Limits::places` of them are less than 247,000 ms old, and at
 /// most `share` of each address.
 pub fn exchanges_are_within_limits()
-    ensures all { (h : History) (at : ℕ) → (seen h).moment ≤ at → length (held_at (seen h) at) ≤ places_of (seen h).policy.limits }
-    ensures shares { (h : History) (at : ℕ) (ip : List ℕ) → (seen h).moment ≤ at → shared_at (seen h) at ip ≤ (seen h).policy.limits.share }
+    ensures all { (h : History) (at : ℕ) → (seen h).time ≤ at → length (held_at (seen h) at) ≤ places_of (seen h).policy.limits }
+    ensures shares { (h : History) (at : ℕ) (ip : List ℕ) → (seen h).time ≤ at → shared_at (seen h) at ip ≤ (seen h).policy.limits.share }
 {}
 
 /// Each address keeps space for the exchanges of its share.
@@ -101,7 +101,7 @@ pub fn exchanges_are_within_limits()
 /// request from one of these addresses below its share finds space.
 pub fn shares_are_kept_free()
     ensures { (h : History) (now : ℕ) (to : Endpoint) (bytes : List ℕ) (m : Message) (ips : List (List ℕ))
-        → AreAmong ips (held_at (seen h) (max (seen h).moment now)) → IsOneOf to.ip ips
+        → AreAmong ips (held_at (seen h) (max (seen h).time now)) → IsOneOf to.ip ips
         → length ips * (seen h).policy.limits.share ≤ places_of (seen h).policy.limits
         → length (seen h).exchanges < 18446744073709551615 → IsCrowdedOut (seen h) now to bytes m → ⊥ }
 {}
@@ -125,10 +125,10 @@ pub fn requests_above_a_share_change_nothing()
 /// By default it is 86,400,000 ms, 24 hours.
 pub fn notifications_are_confirmable_in_time()
     ensures in_time { (s : Seen) (k now id : ℕ) (turn : Turn) (response : Response) (e : Emission) (n : NotifiesOf s k now turn id response e)
-        → n.entry.confirmed + s.policy.confirm_after ≤ moment_at s k now → e ≡ note_as Confirmable id n.entry response }
+        → n.entry.confirmed + s.policy.confirm_after ≤ time_at s k now → e ≡ note_as Confirmable id n.entry response }
     ensures early { (s : Seen) (k now id : ℕ) (turn : Turn) (response : Response) (e : Emission) (n : NotifiesOf s k now turn id response e)
-        → moment_at s k now < n.entry.confirmed + s.policy.confirm_after → e ≡ note_as NonConfirmable id n.entry response }
+        → time_at s k now < n.entry.confirmed + s.policy.confirm_after → e ≡ note_as NonConfirmable id n.entry response }
     ensures default { (s : Seen) (k now id : ℕ) (turn : Turn) (response : Response) (e : Emission) (n : NotifiesOf s k now turn id response e)
         → s.policy ≡ default_policy
-        → e ≡ note_as (if nat_le (n.entry.confirmed + 86400000) (moment_at s k now) then Confirmable else NonConfirmable) id n.entry response }
+        → e ≡ note_as (if nat_le (n.entry.confirmed + 86400000) (time_at s k now) then Confirmable else NonConfirmable) id n.entry response }
 {}

@@ -45,7 +45,7 @@ pub fn refusals_are_answered_by_their_code()
     ensures words { (s : Seen) (now : ℕ) (to : Endpoint) (bytes : Bor (List ℕ)) (o : Option Emission) →
         (and_then (did (Deliver now to bytes) o) s).words ≡ s.words }
     ensures shards { (s : Seen) (now i : ℕ) (to : Endpoint) (bytes : Bor (List ℕ)) (o : Option Emission) →
-        (and_then (did (Deliver now to bytes) o) s).shard_moment i ≡ s.shard_moment i }
+        (and_then (did (Deliver now to bytes) o) s).shard_time i ≡ s.shard_time i }
 {}
 
 /// An answer is sent to its client's endpoint, with the token of the request.
@@ -59,7 +59,7 @@ pub fn answers_go_to_their_clients()
         → IsAnswerTo (job s k) content Acknowledgement (job s k).origin.id e }
     ensures other { (s : Seen) (k now : ℕ) (content : Content) (e : Emission) → stage s k ≡ ToAnswer content
         → (job s k).confirmable ≡ false → Emits s (Answer k now) (Some e)
-        → (id : ℕ) × (free_id s.ids (max s.moment now) ≡ Some id) × IsAnswerTo (job s k) content NonConfirmable id e }
+        → (id : ℕ) × (free_id s.ids (max s.time now) ≡ Some id) × IsAnswerTo (job s k) content NonConfirmable id e }
     ensures at_once { (f : FrontState) (to : Endpoint) (m : Message) (response : Response) → m.kind ≡ Confirmable
         → told f to m response ≡ Some (sent_in (record { to = to; kind = Acknowledgement; id = m.id; token = m.token }) response) }
     ensures other_at_once { (f : FrontState) (to : Endpoint) (m : Message) (response : Response) (id : ℕ) → m.kind ≡ NonConfirmable

@@ -8,10 +8,10 @@ ghost use Rattle.fc_laws.specs.HeadLaws.{PublishesAt, raises_of};
 ghost use Rattle.fc_core.specs.Heads.{head_word, word_at};
 ghost use Rattle.fc_core.specs.declared.event.Event.TheVariants.{Peek};
 ghost use Rattle.fc_core.specs.Stage.{ToAnswer, ToMatch};
-ghost use Rattle.fc_core.specs.Laws.{HasCome, changes_by, slot_of, takings_of};
-ghost use Rattle.fc_laws.specs.SlotLaws.{AllOfImages, ChangesBy, IsOfImage, IsToInstall, IsToRaise, IsUnchanged, IsWritten, scene_installing, vars_at};
+ghost use Rattle.fc_core.specs.Laws.{HasCome, changes_by, slot_of, snapshots_of};
+ghost use Rattle.fc_laws.specs.SlotLaws.{AllOfImages, ChangesBy, IsOfImage, IsToInstall, IsToRaise, IsUnchanged, IsWritten, inputs_installing, vars_at};
 ghost use Rattle.fc_core.specs.Stages.{image_of};
-ghost use Rattle.fc_core.specs.Rows.{Scene, names, row};
+ghost use Rattle.fc_core.specs.Rows.{Inputs, names, row};
 ghost use Rattle.fc_core.specs.declared.event.Event.TheVariants.{Commit, Install};
 ghost use Rattle.fc_core.specs.Stage.{ToCommit, ToRaise};
 ghost use Rattle.fc_help.specs.declared.request.Method.TheVariants.{Get};
@@ -89,10 +89,10 @@ pub fn updates_keep_variables()
 ///
 /// It doesn't change the calls on its observers either.
 pub fn kept_variables_change_no_answer()
-    ensures answer { (k : ℕ) (memory : Bool) (x : Scene) (image : ArrayVec ℕ) →
-        (row (Install k memory) (scene_installing image Kept x)).stage ≡ (row (Install k memory) (scene_installing image Zeros x)).stage }
-    ensures calls { (k : ℕ) (memory : Bool) (x : Scene) (image : ArrayVec ℕ) →
-        (row (Install k memory) (scene_installing image Kept x)).calls ≡ (row (Install k memory) (scene_installing image Zeros x)).calls }
+    ensures answer { (k : ℕ) (memory : Bool) (x : Inputs) (image : ArrayVec ℕ) →
+        (row (Install k memory) (inputs_installing image Kept x)).stage ≡ (row (Install k memory) (inputs_installing image Zeros x)).stage }
+    ensures calls { (k : ℕ) (memory : Bool) (x : Inputs) (image : ArrayVec ℕ) →
+        (row (Install k memory) (inputs_installing image Kept x)).calls ≡ (row (Install k memory) (inputs_installing image Zeros x)).calls }
 {}
 
 /// Each program that was installed or is in a slot was accepted from some image.
@@ -117,7 +117,7 @@ pub fn commits_write_where_nothing_changed()
         → (seen (Then h (did (Commit k now) o))).changes (slot_of (seen h) k)
         ≡ (seen h).changes (slot_of (seen h) k) }
     ensures serial { (h : History) (k n : ℕ) (t : Ticket) → stage (seen h) k ≡ ToCommit n t
-        → IsUnchanged (takings_of h k) ((seen h).changes (slot_of (seen h) k))
+        → IsUnchanged (snapshots_of h k) ((seen h).changes (slot_of (seen h) k))
         → (slot_at (seen h) (slot_of (seen h) k)).serial ≡ t.serial }
 {}
 

@@ -5,16 +5,16 @@ ghost use Rattle.coap_msg.specs.declared.types.Emission.{Emission};
 ghost use Rattle.coap_msg.specs.declared.types.Endpoint.{Endpoint};
 ghost use Rattle.fc_observe.specs.declared.entry.Entry.{Entry as ObserverEntry};
 ghost use Rattle.fc_observe.specs.declared.entry.Turn.{Turn};
-ghost use Rattle.fc_observe.specs.Observers.{at_moment, entry_out};
+ghost use Rattle.fc_observe.specs.Observers.{list_at_time, entry_out};
 ghost use Rattle.fc_registry.specs.Calls.{meaning_at};
 ghost use Rattle.fc_registry.specs.Slots.{Ticket};
 ghost use Rattle.coap_reply.specs.Responses.{bare};
-ghost use Rattle.fc_core.specs.History.{Entry, History, Seen, Then, and_then, did, job, late_in, seen, stage, watch};
-ghost use Rattle.fc_core.specs.Laws.{HasCome, IsNewest, followed_by, slot_of, takings_of};
+ghost use Rattle.fc_core.specs.History.{Entry, History, Seen, Then, and_then, did, job, overdue_in, seen, stage, watch};
+ghost use Rattle.fc_core.specs.Laws.{HasCome, IsNewest, followed_by, slot_of, snapshots_of};
 ghost use Rattle.fc_core.specs.Legal.{Emits};
 ghost use Rattle.fc_laws.specs.ObserveLaws.{NoneRegisters, is_held};
 ghost use Rattle.fc_observe.specs.Entries.{is_entry_of};
-ghost use Rattle.fc_laws.specs.TurnLaws.{HasLapsed, IsNoContent, IsToHeld, NotifiesOf, Removes, Resends, moment_at, response_of};
+ghost use Rattle.fc_laws.specs.TurnLaws.{HasLapsed, IsNoContent, IsToHeld, NotifiesOf, Removes, Resends, time_at, response_of};
 ghost use Rattle.fc_core.specs.declared.event.Event.TheVariants.{GiveUp, Lose, Note, ShardTick};
 ghost use Rattle.fc_core.specs.Stage.{Gone, ToTell};
 ghost use Rattle.fc_core.specs.TurnStage.{TurnStage};
@@ -47,9 +47,9 @@ pub fn turns_stand_apart()
 /// cut as requested, and the snapshot's serial as its ETag and sequence number. A lease that found
 /// its slot empty sends a bare 4.04 (Not Found). A lease requests no block but the first, so the
 /// notification of a run that means a 2.05 (Content) has that code.
-pub fn notifications_are_of_the_last_taking()
+pub fn notifications_are_of_the_last_snapshot()
     ensures newest { (h : History) (k id : ℕ) (turn : Turn) (t : Ticket) → stage (seen h) k ≡ ToTell turn (ToNote (Some t) id)
-        → (length (takings_of h k) ≡ 1) × IsNewest (takings_of h k) t }
+        → (length (snapshots_of h k) ≡ 1) × IsNewest (snapshots_of h k) t }
     ensures found { (h : History) (k now random id : ℕ) (turn : Turn) (t : Ticket) (e : Emission)
         → stage (seen h) k ≡ ToTell turn (ToNote (Some t) id) → Emits (seen h) (Note k now random) (Some e)
         → NotifiesOf (seen h) k now turn id (response_of t) e }
@@ -66,7 +66,7 @@ pub fn notifications_are_of_the_last_taking()
 pub fn notes_emit_where_turns_are_out()
     ensures where_out { (h : History) (k now random id : ℕ) (turn : Turn) (found : Option Ticket) (o : Option Emission)
         → stage (seen h) k ≡ ToTell turn (ToNote found id) → Emits (seen h) (Note k now random) o
-        → is_some o ≡ is_some (entry_out turn (at_moment (moment_at (seen h) k now) (watch (seen h) (slot_of (seen h) k)))) }
+        → is_some o ≡ is_some (entry_out turn (list_at_time (time_at (seen h) k now) (watch (seen h) (slot_of (seen h) k)))) }
     ensures given_up { (h : History) (rs : List Entry) (k now next random : ℕ) (turn : Turn) (needs : TurnStage) (e o : Option Emission)
         → stage (seen h) k ≡ ToTell turn needs
         → Emits (seen (followed_by (Then h (did (GiveUp k now) e)) rs)) (Note k next random) o → o ≡ None }
@@ -75,7 +75,7 @@ pub fn notes_emit_where_turns_are_out()
         → Emits (seen (followed_by (Then h (did (Note k now random) e)) rs)) (Note k next again) o → o ≡ None }
     ensures lapsed { (h : History) (k now random id : ℕ) (turn : Turn) (found : Option Ticket) (o : Option Emission)
         → stage (seen h) k ≡ ToTell turn (ToNote found id) → Emits (seen h) (Note k now random) o
-        → All (HasLapsed turn (moment_at (seen h) k now)) (watch (seen h) (slot_of (seen h) k)).held → o ≡ None }
+        → All (HasLapsed turn (time_at (seen h) k now)) (watch (seen h) (slot_of (seen h) k)).held → o ≡ None }
 {}
 
 /// The serials that one observer is sent increase.
@@ -86,16 +86,16 @@ pub fn notes_emit_where_turns_are_out()
 pub fn serials_rise_for_observers()
     ensures above { (h : History) (k now id : ℕ) (turn : Turn) (t : Ticket) (o : ObserverEntry)
         → stage (seen h) k ≡ ToTell turn (ToNote (Some t) id)
-        → entry_out turn (at_moment now (watch (seen h) (slot_of (seen h) k))) ≡ Some o → o.serial < t.serial }
+        → entry_out turn (list_at_time now (watch (seen h) (slot_of (seen h) k))) ≡ Some o → o.serial < t.serial }
     ensures rise { (h : History) (rs : List Entry) (g : History) (k now random id j next other : ℕ) (turn next_turn : Turn)
         (t u : Ticket) (o x : ObserverEntry) (to : Endpoint) (token : List ℕ) (e : Option Emission)
         → stage (seen h) k ≡ ToTell turn (ToNote (Some t) id)
-        → entry_out turn (at_moment (moment_at (seen h) k now) (watch (seen h) (slot_of (seen h) k))) ≡ Some o
+        → entry_out turn (list_at_time (time_at (seen h) k now) (watch (seen h) (slot_of (seen h) k))) ≡ Some o
         → is_entry_of to token o ≡ true
         → NoneRegisters (Then h (did (Note k now random) e)) rs (slot_of (seen h) k) to token
         → g ≡ followed_by (Then h (did (Note k now random) e)) rs
         → stage (seen g) j ≡ ToTell next_turn (ToNote (Some u) other) → slot_of (seen g) j ≡ slot_of (seen h) k
-        → entry_out next_turn (at_moment next (watch (seen g) (slot_of (seen h) k))) ≡ Some x
+        → entry_out next_turn (list_at_time next (watch (seen g) (slot_of (seen h) k))) ≡ Some x
         → is_entry_of to token x ≡ true → t.serial < u.serial }
 {}
 
@@ -103,12 +103,12 @@ pub fn serials_rise_for_observers()
 ///
 /// This includes retransmissions. So an observer that was removed gets nothing more before it
 /// registers again.
-pub fn removed_observers_hear_nothing()
+pub fn removed_observers_receive_nothing()
     ensures notified { (h : History) (k now random id : ℕ) (turn : Turn) (found : Option Ticket) (e : Emission)
         → stage (seen h) k ≡ ToTell turn (ToNote found id) → Emits (seen h) (Note k now random) (Some e)
         → IsToHeld (watch (seen h) (slot_of (seen h) k)) e }
     ensures resent { (s : Seen) (i now : ℕ) (e : Emission) → Emits s (ShardTick i now) (Some e)
-        → (k : ℕ) × (late_in s i (max (s.shard_moment i) now) ≡ Some k) × Resends (watch s (8 * k + i)) e }
+        → (k : ℕ) × (overdue_in s i (max (s.shard_time i) now) ≡ Some k) × Resends (watch s (8 * k + i)) e }
 {}
 
 /// An observer stays in the list of its slot, with four exceptions:
@@ -128,12 +128,12 @@ pub fn observers_stay()
 pub fn errors_remove_their_observer()
     ensures { (s : Seen) (k now random id : ℕ) (turn : Turn) (found : Option Ticket) (x : ObserverEntry) (e : Emission)
         → stage s k ≡ ToTell turn (ToNote found id) → IsNoContent found
-        → entry_out turn (at_moment (moment_at s k now) (watch s (slot_of s k))) ≡ Some x
+        → entry_out turn (list_at_time (time_at s k now) (watch s (slot_of s k))) ≡ Some x
         → Emits s (Note k now random) (Some e)
         → is_held x.endpoint x.token.items (watch (and_then (did (Note k now random) (Some e)) s) (slot_of s k)) ≡ false }
 {}
 
 /// The time of a slot's observers is at most that of their shard.
 pub fn observers_follow_their_shard()
-    ensures { (h : History) (n : ℕ) → (watch (seen h) n).moment ≤ (seen h).shard_moment (n % 8) }
+    ensures { (h : History) (n : ℕ) → (watch (seen h) n).time ≤ (seen h).shard_time (n % 8) }
 {}

@@ -21,7 +21,7 @@ use Rattle.fc_core.specs.Stage.{Stage}
 use Rattle.fc_core.specs.Stage.{ToAnswer, ToTell}
 use Rattle.fc_core.specs.TurnStage as turns
 use Rattle.fc_core.specs.Stages.{content_at, drew, ended, needs_id, new_task}
-use Rattle.fc_calls.specs.Logged.{AdvancesFront, AnswersRequest, DrawsId, HearsDatagram}
+use Rattle.fc_calls.specs.Logged.{AdvancesFront, AnswersRequest, DrawsId, HandlesDatagram}
 use Rattle.fc_calls.specs.Doings.{AdvancesTo, AnswersAt}
 use Rattle.fc_server.specs.Serving.{Serves, next}
 use Rattle.fc_server.specs.States.{DrawsId as Draws, Responds, ServerState, front_after, front_drawn}
@@ -51,9 +51,9 @@ module _ (k : ℕ) (es : List LogEntry) (h : History) (end s : ServerState) (tas
 
   -- a delivery that produces no job.
   jobless : (now : ℕ) (from : Endpoint) (bytes : List ℕ) (d : Delivered) → job_in d ≡ None → jobs_by d ≡ [] → sent_by d ≡ reply_in d
-      → RightByParts end s tasks (entry_for k (Logged (HearsDatagram now from bytes d)) ∷ es) → After k (Logged (HearsDatagram now from bytes d)) es h end
+      → RightByParts end s tasks (entry_for k (Logged (HandlesDatagram now from bytes d)) ∷ es) → After k (Logged (HandlesDatagram now from bytes d)) es h end
   jobless now from bytes d none nobody sent st =
-      let op : Operation = Logged (HearsDatagram now from bytes d) in
+      let op : Operation = Logged (HandlesDatagram now from bytes d) in
       let r = st.front in
       let t : ServerState = record s { front = r.0 } in
       let still = spared k op end s tasks es st refl none in
@@ -74,13 +74,13 @@ module _ (k : ℕ) (es : List LogEntry) (h : History) (end s : ServerState) (tas
         };
       }
 
-  pub after_hear : (now : ℕ) (from : Endpoint) (bytes : List ℕ) (d : Delivered)
-      → RightByParts end s tasks (entry_for k (Logged (HearsDatagram now from bytes d)) ∷ es) → After k (Logged (HearsDatagram now from bytes d)) es h end
-  after_hear now from bytes Nothing st = jobless now from bytes Nothing refl refl refl st
-  after_hear now from bytes (Reply emission) st = jobless now from bytes (Reply emission) refl refl refl st
-  after_hear now from bytes (Signals id reset) st = jobless now from bytes (Signals id reset) refl refl refl st
-  after_hear now from bytes (Brings job) st =
-      let op : Operation = Logged (HearsDatagram now from bytes (Brings job)) in
+  pub after_handle : (now : ℕ) (from : Endpoint) (bytes : List ℕ) (d : Delivered)
+      → RightByParts end s tasks (entry_for k (Logged (HandlesDatagram now from bytes d)) ∷ es) → After k (Logged (HandlesDatagram now from bytes d)) es h end
+  after_handle now from bytes Nothing st = jobless now from bytes Nothing refl refl refl st
+  after_handle now from bytes (Reply emission) st = jobless now from bytes (Reply emission) refl refl refl st
+  after_handle now from bytes (Signals id reset) st = jobless now from bytes (Signals id reset) refl refl refl st
+  after_handle now from bytes (Brings job) st =
+      let op : Operation = Logged (HandlesDatagram now from bytes (Brings job)) in
       let r = st.front in
       let t : ServerState = record s { front = r.0 } in
       let b = brought k op job end s tasks es refl refl st in

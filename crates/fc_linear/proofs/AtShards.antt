@@ -12,7 +12,7 @@ use Rattle.fc_core.specs.declared.event.Event.TheVariants.{Due}
 use Rattle.fc_core.specs.History.{History}
 use Rattle.fc_core.specs.Legal.{resent}
 use Rattle.fc_core.specs.Stages.{new_task}
-use Rattle.fc_calls.specs.Logged.{AdvancesQuiet, AdvancesShard, GivesTurn, HandsSignal}
+use Rattle.fc_calls.specs.Logged.{AdvancesIdle, AdvancesShard, GivesTurn, HandsSignal}
 use Rattle.fc_calls.specs.Doings.{HandsOn}
 use Rattle.fc_server.specs.Serving.{Serves, next}
 use Rattle.fc_server.specs.States.{ServerState}
@@ -40,10 +40,10 @@ module _ (k : ℕ) (es : List LogEntry) (h : History) (end s : ServerState) (tas
         rest = record { front = st.front; shards = o.shards; words = st.words; jobs = st.jobs; to_come = st.to_come; numbered = st.numbered; events = st.events.1 };
       }
 
-  pub after_quiet : (shard now : ℕ) → RightByParts end s tasks (entry_for k (Logged (AdvancesQuiet shard now)) ∷ es) → After k (Logged (AdvancesQuiet shard now)) es h end
-  after_quiet shard now st =
+  pub after_idle : (shard now : ℕ) → RightByParts end s tasks (entry_for k (Logged (AdvancesIdle shard now)) ∷ es) → After k (Logged (AdvancesIdle shard now)) es h end
+  after_idle shard now st =
       let low = st.events.0 in
-      let o = on_shard k (Logged (AdvancesQuiet shard now)) end s tasks es st shard refl low (eight h s tasks v) in
+      let o = on_shard k (Logged (AdvancesIdle shard now)) end s tasks es st shard refl low (eight h s tasks v) in
       let t : ServerState = record s { shards = set s.shards shard o.after } in
       record {
         server = t;

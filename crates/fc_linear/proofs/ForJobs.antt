@@ -5,7 +5,7 @@ use Rattle.std.proofs.lemmas.Bool.Decides.{nat_tests}
 use Rattle.arrayvec.specs.ArrayVec.{ArrayVec}
 use Rattle.fc_observe.specs.declared.entry.Turn.{Turn}
 use Rattle.fc_registry.specs.declared.job.Job.{Job}
-use Rattle.fc_registry.specs.Calls.{readings_if, taking, taking_by, taking_calls_by}
+use Rattle.fc_registry.specs.Calls.{readings_if, snapshot, snapshot_by, snapshot_calls_by}
 use Rattle.fc_registry.specs.Shards.{shard_at}
 use Rattle.fc_registry.specs.Slots.{Present, Shard, slot_in}
 use Rattle.fc_registry.specs.Taken.{Taken}
@@ -23,17 +23,17 @@ use Rattle.fc_core.specs.TurnStage as turns
 use Rattle.fc_core.specs.Stages.{had_memory, listed, matched, took, turn_to_take, turn_took}
 use Rattle.fc_core.specs.Steps.{Lists, Matches}
 use Rattle.fc_core.proofs.Rejections.{same_slot}
-use Rattle.fc_core.proofs.TurnTakings.{turn_calls_at, turn_takes}
+use Rattle.fc_core.proofs.TurnSnapshots.{turn_calls_at, turn_takes}
 use Rattle.fc_calls.specs.Logged.{LooksAt, RaisesWord, TakesForJob}
 use Rattle.fc_calls.specs.Doings.{TakesTo}
 use Rattle.fc_server.specs.Serving.{Serves}
-use Rattle.fc_server.specs.States.{AtWork, Does, ServerState, common_in, scene_in}
-use Rattle.fc_server.proofs.Others.{does_quietly, peek_quiet, unwritten}
+use Rattle.fc_server.specs.States.{AtWork, Does, ServerState, common_in, inputs_in}
+use Rattle.fc_server.proofs.Others.{does_quietly, peek_idle, unwritten}
 use Rattle.fc_linear.specs.Operations.{Operation, Logged, LogEntry, WordsDo}
 use Rattle.fc_linear.specs.Parts.{LeadInOrder, RightByParts, of_words}
 use Rattle.fc_linear.proofs.Afters.{After, eight}
 use Rattle.fc_linear.proofs.Firsts.{entry_for, named, on_shard}
-use Rattle.fc_linear.proofs.OnJob.{does_there, fits_there, job_served, may_work, scene_with}
+use Rattle.fc_linear.proofs.OnJob.{does_there, fits_there, job_served, may_work, inputs_with}
 
 same_number : (n : ℕ) → (n == n) ≡ true
 same_number n = grind (arith, nat_tests)
@@ -45,13 +45,13 @@ below_eight n = omega arith
 
 module _ (s : ServerState) (task : Task) (k : ℕ) where
   abbrev looked_at : ℕ → Stage → Task
-  looked_at n x = task_moved task (row (Peek k n) (scene_with s task task.job.origin.slot x))
+  looked_at n x = task_moved task (row (Peek k n) (inputs_with s task task.job.origin.slot x))
 
   matches_there : (slot word : ℕ) (st : Stage) → slot ≡ task.job.origin.slot → task.stage ≡ ToMatch → word ≡ word_at s.words slot → st ≡ matched word task.job.etags.items
       → record { job = task.job; stage = st } ≡ looked_at slot task.stage
   matches_there slot word st at is found to =
       let n = task.job.origin.slot in
-      let sc = scene_with s task n ToMatch in
+      let sc = inputs_with s task n ToMatch in
       ap (λ (x : Stage). record { job = task.job; stage = x }) (to ∙ ap (λ (z : ℕ). matched z task.job.etags.items) (found ∙ ap (λ (i : ℕ). word_at s.words i) at))
       ∙ (ap (λ (b : Bool). task_moved task (move_of (Peek k n) sc (call_if b (Matches task.job.etags.items (word_at s.words n))))) (sym (same_number n))
       ∙ (ap (λ (i : ℕ). looked_at i ToMatch) (sym at) ∙ ap (λ (x : Stage). looked_at slot x) (sym is)))
@@ -60,7 +60,7 @@ module _ (s : ServerState) (task : Task) (k : ℕ) where
       → record { job = task.job; stage = st } ≡ looked_at slot task.stage
   lists_there seen slot word st at is found to =
       let n = length seen.items in
-      let sc = scene_with s task task.job.origin.slot (ToList seen) in
+      let sc = inputs_with s task task.job.origin.slot (ToList seen) in
       ap (λ (x : Stage). record { job = task.job; stage = x }) (to ∙ ap (λ (z : ℕ). listed (seen.items ++ z ∷ [])) (found ∙ ap (λ (i : ℕ). word_at s.words i) at))
       ∙ (ap (λ (b : Bool). task_moved task (move_of (Peek k n) sc (call_if b (Lists seen (word_at s.words n))))) (sym (same_number n))
       ∙ (ap (λ (i : ℕ). looked_at i (ToList seen)) (sym at) ∙ ap (λ (x : Stage). looked_at slot x) (sym is)))
@@ -72,14 +72,14 @@ module _ (k : ℕ) (es : List LogEntry) (h : History) (end s : ServerState) (tas
       let task = task_at tasks k in
       let n = named k (Logged (LooksAt slot word)) end s tasks es st refl refl in
       let later : Task = record { job = task.job; stage = n.stage } in
-      let is : later ≡ task_moved task (row (Peek k slot) (scene_in s task)) = ⊎_elim
+      let is : later ≡ task_moved task (row (Peek k slot) (inputs_in s task)) = ⊎_elim
       (λ m. matches_there s task k slot word n.stage m.0 m.1 r.1.0 m.2)
       (λ m. lists_there s task k m.0 slot word n.stage m.1 m.2 r.1.0 m.3)
       n.moves in
       record {
         server = s;
         tasks = set tasks k later;
-        serves = job_served h (Peek k slot) k (refl, refl, refl) s s tasks later None (does_quietly (Peek k slot) s s task later (row (Peek k slot) (scene_in s task)).stage (peek_quiet k slot (scene_in s task)) refl is refl) v;
+        serves = job_served h (Peek k slot) k (refl, refl, refl) s s tasks later None (does_quietly (Peek k slot) s s task later (row (Peek k slot) (inputs_in s task)).stage (peek_idle k slot (inputs_in s task)) refl is refl) v;
         rest = record { front = st.front; shards = st.shards; words = subst (λ (ws : List ℕ). LeadInOrder WordsDo (of_words es) ws end.words) r.1.1 r.2; jobs = n.jobs; to_come = n.to_come; numbered = n.numbered; events = st.events.1 };
       }
 
@@ -109,7 +109,7 @@ module _ (k : ℕ) (es : List LogEntry) (h : History) (end s : ServerState) (tas
 -- ---- a snapshot
 
 had : (memory : Bool) (readings : List ℕ) (job : Job) (serial : ℕ) (p : Option Present)
-    → let x = taking (readings_if memory readings) job serial p in x ≡ taking (readings_if (had_memory x) readings) job serial p
+    → let x = snapshot (readings_if memory readings) job serial p in x ≡ snapshot (readings_if (had_memory x) readings) job serial p
 had memory readings job serial None = refl
 had true readings job serial (Some p) = refl
 had false readings job serial (Some p) = refl
@@ -133,14 +133,14 @@ module _ (s : ServerState) (task : Task) (k : ℕ) (w : AtWork s task) (readings
       let slot = slot_in shard_here here in
       let watch = watch_at shard_here (here / 8) in
       let fits = fits_there s task (ToTake count) w is in
-      let found : taken ≡ taking (readings_if d.0.0 readings) task.job slot.serial slot.present = d.0.1 ∙ ap (λ (o : Option ℕ). taking_by o (readings_if d.0.0 readings) task.job slot shard_here.now watch) fits.1 in
-      let settled : taken ≡ taking (readings_if (had_memory taken) readings) task.job slot.serial slot.present =
-      found ∙ (had d.0.0 readings task.job slot.serial slot.present ∙ ap (λ (y : Taken). taking (readings_if (had_memory y) readings) task.job slot.serial slot.present) (sym found)) in
+      let found : taken ≡ snapshot (readings_if d.0.0 readings) task.job slot.serial slot.present = d.0.1 ∙ ap (λ (o : Option ℕ). snapshot_by o (readings_if d.0.0 readings) task.job slot shard_here.now watch) fits.1 in
+      let settled : taken ≡ snapshot (readings_if (had_memory taken) readings) task.job slot.serial slot.present =
+      found ∙ (had d.0.0 readings task.job slot.serial slot.present ∙ ap (λ (y : Taken). snapshot (readings_if (had_memory y) readings) task.job slot.serial slot.present) (sym found)) in
       does_there (Take k (had_memory taken) readings) s task here (ToTake count) (after_here after) later_here None refl is (record {
         front = refl;
         task_is = ap (λ (x : Stage). record { job = task.job; stage = x }) (to ∙ ap (λ (y : Taken). took count y) settled);
         shards = ap (λ (x : Shard). set s.shards (here % 8) x)
-            (d.1 ∙ (ap (λ (o : Option ℕ). with_calls (taking_calls_by o task.job slot shard_here.now watch) here shard_here) fits.1 ∙ ap (λ (x : Shard). with_calls [] here x) (sym (same_slot shard_here here))));
+            (d.1 ∙ (ap (λ (o : Option ℕ). with_calls (snapshot_calls_by o task.job slot shard_here.now watch) here shard_here) fits.1 ∙ ap (λ (x : Shard). with_calls [] here x) (sym (same_slot shard_here here))));
         words = refl;
         safe = tt;
         emits = refl;
@@ -156,8 +156,8 @@ module _ (s : ServerState) (task : Task) (k : ℕ) (w : AtWork s task) (readings
         front = refl;
         task_is = ap (λ (x : Stage). record { job = task.job; stage = x }) to ∙ turn_takes shard_here task turn to_take w.stage readings taken d.0 k common;
         shards = ap (λ (x : Shard). set s.shards (here % 8) x) (turn_calls_at shard_here task turn to_take w.stage after d.1 k (had_memory taken) readings common);
-        words = ap (λ (x : Stage). words_after (row e (scene_with s task here x)) task s.words) (sym is);
-        safe = subst (λ (x : Stage). AllSafe (row e (scene_with s task here x)).changes) (sym is) tt;
+        words = ap (λ (x : Stage). words_after (row e (inputs_with s task here x)) task s.words) (sym is);
+        safe = subst (λ (x : Stage). AllSafe (row e (inputs_with s task here x)).changes) (sym is) tt;
         emits = refl;
       }
 

@@ -7,7 +7,7 @@ use Rattle.fc_verify.specs.Accepted.{Accepts, Judgement}
 use Rattle.fc_verify.specs.declared.refusal.Refusal.TheVariants.{Broken}
 use Rattle.fc_verify.specs.Judged.{judged}
 use Rattle.fc_observe.specs.declared.entry.Turn.{Turn}
-use Rattle.fc_observe.specs.Observers.{ObserverList, at_moment}
+use Rattle.fc_observe.specs.Observers.{ObserverList, list_at_time}
 use Rattle.fc_registry.specs.declared.commit.CommitOutcome.{CommitOutcome}
 use Rattle.fc_registry.specs.declared.commit.CommitOutcome.TheVariants.{Writes, Keeps, Overtakes, Ends}
 use Rattle.fc_registry.specs.declared.commit.Committed.{Committed}
@@ -32,7 +32,7 @@ use Rattle.fc_core.specs.Contents.{Content, Unavailable}
 use Rattle.fc_core.specs.Ends.{refused}
 use Rattle.fc_core.specs.Fits.{FitsTurn, IsSafe, IsTicketOf}
 use Rattle.fc_core.specs.History.{History, task_at}
-use Rattle.fc_core.specs.Rows.{Move, Scene, install_call, install_if, move_of, moves, row, task_moved, words_after}
+use Rattle.fc_core.specs.Rows.{Move, Inputs, install_call, install_if, move_of, moves, row, task_moved, words_after}
 use Rattle.fc_core.specs.Sound.{AllSafe}
 use Rattle.fc_core.specs.Stage.{Stage}
 use Rattle.fc_core.specs.Stage.{ToCommit, ToInstall, ToRemove, ToDescribe, ToAnswer, ToTell, Gone}
@@ -46,14 +46,14 @@ use Rattle.fc_calls.specs.Logged.{CommitsRun, GivesUpTurn, InstallsProgram, Note
 use Rattle.fc_calls.specs.Doings.{CommitsAt, DescribesTo, GivesUpAt, InstallsTo, NotesAt, RemovesFrom}
 use Rattle.fc_calls.specs.Doings.{SaysFound}
 use Rattle.fc_server.specs.Serving.{Serves}
-use Rattle.fc_server.specs.States.{AtWork, Does, ServerState, scene_in, shards_moved}
+use Rattle.fc_server.specs.States.{AtWork, Does, ServerState, inputs_in, shards_moved}
 use Rattle.fc_server.proofs.Others.{does_quietly}
 use Rattle.fc_linear.specs.Operations.{Operation, Logged, LogEntry, LacksMemory, ReceiptMoves, RejectsImage}
 use Rattle.fc_linear.specs.Parts.{RightByParts}
 use Rattle.fc_linear.proofs.Afters.{After, eight}
 use Rattle.fc_linear.proofs.Firsts.{entry_for, named, on_shard}
 use Rattle.fc_linear.proofs.ForJobs.{below_eight}
-use Rattle.fc_linear.proofs.OnJob.{does_there, fits_there, job_served, may_work, scene_with}
+use Rattle.fc_linear.proofs.OnJob.{does_there, fits_there, job_served, may_work, inputs_with}
 
 -- ---- a commit
 
@@ -101,7 +101,7 @@ module _ (s : ServerState) (task : Task) (k : ℕ) (p : Program) (answer : Made)
       let i = task.job.origin.slot in
       let x = shard_at s.shards (i % 8) in
       let slot = slot_in x i in
-      let sc = scene_with s task i ToInstall in
+      let sc = inputs_with s task i ToInstall in
       let t : ServerState = record s { shards = set s.shards (i % 8) after } in
       let later : Task = record { job = task.job; stage = st } in
       let v = initial_vars_of task.job.ask in
@@ -174,7 +174,7 @@ module _ (s : ServerState) (task : Task) (k : ℕ) (receipt : Option Facts) (st 
       })
 
   -- a receipt that the stage doesn't need
-  elsewhere : (x : Scene) (y : Stage) → (y ≡ ToDescribe → ⊥) → row (Receipt k) (record x { stage = y }) ≡ moves y
+  elsewhere : (x : Inputs) (y : Stage) → (y ≡ ToDescribe → ⊥) → row (Receipt k) (record x { stage = y }) ≡ moves y
   elsewhere x ToDescribe apart = absurd (apart refl)
   elsewhere x other apart = refl
 
@@ -183,13 +183,13 @@ module _ (s : ServerState) (task : Task) (k : ℕ) (receipt : Option Facts) (st 
   passes_here apart to after d =
       let i = task.job.origin.slot in
       let x = shard_at s.shards (i % 8) in
-      let quiet : row (Receipt k) (scene_with s task i task.stage) ≡ moves task.stage = elsewhere (scene_with s task i task.stage) task.stage apart in
+      let idle : row (Receipt k) (inputs_with s task i task.stage) ≡ moves task.stage = elsewhere (inputs_with s task i task.stage) task.stage apart in
       does_there (Receipt k) s task i task.stage (record s { shards = set s.shards (i % 8) after }) (record { job = task.job; stage = st }) None refl refl (record {
         front = refl;
-        task_is = ap (λ (y : Stage). record { job = task.job; stage = y }) to ∙ ap (λ (m : Move). task_moved task m) (sym quiet);
-        shards = ap (λ (y : Shard). set s.shards (i % 8) y) (d.1 ∙ sym (same_slot x i)) ∙ ap (λ (m : Move). shards_moved m i s.shards) (sym quiet);
-        words = ap (λ (m : Move). words_after m task s.words) (sym quiet);
-        safe = subst (λ (m : Move). AllSafe m.changes) (sym quiet) tt;
+        task_is = ap (λ (y : Stage). record { job = task.job; stage = y }) to ∙ ap (λ (m : Move). task_moved task m) (sym idle);
+        shards = ap (λ (y : Shard). set s.shards (i % 8) y) (d.1 ∙ sym (same_slot x i)) ∙ ap (λ (m : Move). shards_moved m i s.shards) (sym idle);
+        words = ap (λ (m : Move). words_after m task s.words) (sym idle);
+        safe = subst (λ (m : Move). AllSafe m.changes) (sym idle) tt;
         emits = refl;
       })
 
@@ -260,7 +260,7 @@ module _ (s : ServerState) (task : Task) (k : ℕ) (w : AtWork s task) (turn : T
       let own = own_told said found turn id task.job (slot_in x i) says fits.0 fits.1 fits_turn in
       let is_told = told_found said found says in
       let sent : sent_of noted ≡ note_at turn id at found (watch_at x (i / 8)) =
-      note_sent said turn id (slot_in x i).serial (at_moment at (watch_at x (i / 8))) noted own d.is ∙ ap (λ (f : Option Ticket). note_at turn id at f (watch_at x (i / 8))) is_told in
+      note_sent said turn id (slot_in x i).serial (list_at_time at (watch_at x (i / 8))) noted own d.is ∙ ap (λ (f : Option Ticket). note_at turn id at f (watch_at x (i / 8))) is_told in
       does_there (Note k now random) s task i (ToTell turn (turns.ToNote found id)) (record s { shards = set s.shards (i % 8) after }) (record { job = task.job; stage = st }) (sent_of noted) fits.0 is (record {
         front = refl;
         task_is = ap (λ (y : Stage). record { job = task.job; stage = y }) to;
@@ -377,13 +377,13 @@ module _ (k : ℕ) (es : List LogEntry) (h : History) (end s : ServerState) (tas
       let later : Task = record { job = task.job; stage = n.stage } in
       let i = task.job.origin.slot in
       let slot = slot_in (shard_at s.shards (i % 8)) i in
-      let sc = scene_with s task i ToInstall in
+      let sc = inputs_with s task i ToInstall in
       let e = Install k true in
       let f = n.moves.1.0 in
       let initial = initial_vars_of task.job.ask in
       let rejects : Rejects (refused (Broken f)) ≡ install_call initial (judged (image_of task.job.ask)) slot = rejected_call (image_of task.job.ask) initial (judged (image_of task.job.ask)) f slot n.moves.1.1 in
-      let there : row e (scene_in s task) ≡ moves (ToAnswer (refused (Broken f))) =
-      ap (λ (x : Stage). row e (scene_with s task i x)) n.moves.2 ∙ ap (λ (c : Call). move_of e sc (Some c)) (sym rejects) in
+      let there : row e (inputs_in s task) ≡ moves (ToAnswer (refused (Broken f))) =
+      ap (λ (x : Stage). row e (inputs_with s task i x)) n.moves.2 ∙ ap (λ (c : Call). move_of e sc (Some c)) (sym rejects) in
       record {
         server = s;
         tasks = set tasks k later;
@@ -399,7 +399,7 @@ module _ (k : ℕ) (es : List LogEntry) (h : History) (end s : ServerState) (tas
       let n = named k op end s tasks es st refl refl in
       let later : Task = record { job = task.job; stage = n.stage } in
       let e = Install k false in
-      let there : row e (scene_in s task) ≡ moves (ToAnswer Unavailable) = ap (λ (x : Stage). row e (scene_with s task task.job.origin.slot x)) n.moves.1 in
+      let there : row e (inputs_in s task) ≡ moves (ToAnswer Unavailable) = ap (λ (x : Stage). row e (inputs_with s task task.job.origin.slot x)) n.moves.1 in
       record {
         server = s;
         tasks = set tasks k later;

@@ -8,7 +8,7 @@ use Rattle.fc_core.specs.declared.stage.Task.{Task}
 use Rattle.fc_core.specs.Stage.{Stage}
 use Rattle.fc_core.specs.Fits.{FitsStage}
 use Rattle.fc_core.specs.History.{History, seen, task_at}
-use Rattle.fc_core.specs.Rows.{Scene, around_of, row, sends, task_moved, words_after}
+use Rattle.fc_core.specs.Rows.{Inputs, around_of, row, sends, task_moved, words_after}
 use Rattle.fc_core.specs.Sound.{AllSafe}
 use Rattle.fc_server.specs.Serving.{Serves, next, with_tasks}
 use Rattle.fc_server.specs.States.{AtWork, Does, ServerState, common_in, shards_moved}
@@ -33,18 +33,18 @@ pub job_served : (h : History) (e : Event) (k : ℕ) → IsOfJob e k → (s t : 
 job_served h e k of s t tasks later out d v = served_on h e s tasks out t (set tasks k later) (does_done e k of s t tasks (set tasks k later) (task_at tasks k) later out refl refl d) v
 
 -- inputs at slot i, for a task at a stage.
-abbrev pub scene_with : ServerState → Task → ℕ → Stage → Scene
-scene_with s task i stage =
+abbrev pub inputs_with : ServerState → Task → ℕ → Stage → Inputs
+inputs_with s task i stage =
     let shard = shard_at s.shards (i % 8) in record { job = task.job; slot = slot_in shard i; around = around_of shard (common_in s.front s.words) i; stage = stage }
 
 -- its effect, by its own stage and slot.
 pub record DoesThere (e : Event) (s : ServerState) (task : Task) (i : ℕ) (stage : Stage) (t : ServerState) (later : Task) (out : Option Emission) : Type 0 where
   pub front : t.front ≡ s.front
-  pub task_is : later ≡ task_moved task (row e (scene_with s task i stage))
-  pub shards : t.shards ≡ shards_moved (row e (scene_with s task i stage)) i s.shards
-  pub words : t.words ≡ words_after (row e (scene_with s task i stage)) task s.words
-  pub safe : AllSafe (row e (scene_with s task i stage)).changes
-  pub emits : out ≡ sends e (scene_with s task i stage)
+  pub task_is : later ≡ task_moved task (row e (inputs_with s task i stage))
+  pub shards : t.shards ≡ shards_moved (row e (inputs_with s task i stage)) i s.shards
+  pub words : t.words ≡ words_after (row e (inputs_with s task i stage)) task s.words
+  pub safe : AllSafe (row e (inputs_with s task i stage)).changes
+  pub emits : out ≡ sends e (inputs_with s task i stage)
 
 there_is : (e : Event) (s : ServerState) (task : Task) (t : ServerState) (later : Task) (out : Option Emission) → DoesThere e s task task.job.origin.slot task.stage t later out → Does e s task t later out
 there_is e s task t later out d = record { front = d.front; task_is = d.task_is; shards = d.shards; words = d.words; safe = d.safe; emits = d.emits }

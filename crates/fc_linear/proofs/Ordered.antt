@@ -2,7 +2,7 @@
 use Rattle.std.proofs.Common.{ℕ, ◌%◌, List, [], ◌∷◌, refl, sym, ap, ◌∙◌}
 use Rattle.fc_core.specs.declared.stage.Task.{Task}
 use Rattle.fc_core.specs.History.{History}
-use Rattle.fc_calls.specs.Logged.{HearsDatagram, AdvancesFront, DrawsId, AnswersRequest, TellsReceipt, GivesReadings, LooksAt, TakesForJob, CommitsRun, InstallsProgram, RemovesProgram, HandsSignal, AdvancesQuiet, AdvancesShard, GivesTurn, NotesTurn, GivesUpTurn, RaisesWord}
+use Rattle.fc_calls.specs.Logged.{HandlesDatagram, AdvancesFront, DrawsId, AnswersRequest, TellsReceipt, GivesReadings, LooksAt, TakesForJob, CommitsRun, InstallsProgram, RemovesProgram, HandsSignal, AdvancesIdle, AdvancesShard, GivesTurn, NotesTurn, GivesUpTurn, RaisesWord}
 use Rattle.fc_registry.specs.Slots.{Shard, slot_in}
 use Rattle.fc_registry.specs.Watches.{watch_at}
 use Rattle.fc_server.specs.declared.server.Begin.{Begin}
@@ -13,14 +13,14 @@ use Rattle.fc_linear.specs.Operations.{Operation, Logged, LogEntry, LacksMemory,
 use Rattle.fc_linear.specs.Parts.{IsHistoryOf, LeavesServer, RightByParts, first_server, history_on}
 use Rattle.fc_linear.proofs.Afters.{After}
 use Rattle.fc_linear.proofs.Firsts.{entry_for}
-use Rattle.fc_linear.proofs.AtFront.{after_answer, after_draw, after_hear, after_tick}
-use Rattle.fc_linear.proofs.AtShards.{after_due, after_quiet, after_shard_tick, after_signal}
+use Rattle.fc_linear.proofs.AtFront.{after_answer, after_draw, after_handle, after_tick}
+use Rattle.fc_linear.proofs.AtShards.{after_due, after_idle, after_shard_tick, after_signal}
 use Rattle.fc_linear.proofs.ForJobs.{after_look, after_raise, after_take, below_eight}
 use Rattle.fc_linear.proofs.ForSlots.{after_give_up, after_install, after_lack, after_note, after_receipt, after_reject, after_remove, after_run}
 
 module _ (k : ℕ) (es : List LogEntry) (h : History) (end s : ServerState) (tasks : List Task) (v : Serves h s tasks) where
   after_first : (op : Operation) → RightByParts end s tasks (entry_for k op ∷ es) → After k op es h end
-  after_first (Logged (HearsDatagram now from bytes brings)) st = after_hear k es h end s tasks v now from bytes brings st
+  after_first (Logged (HandlesDatagram now from bytes brings)) st = after_handle k es h end s tasks v now from bytes brings st
   after_first (Logged (AdvancesFront now)) st = after_tick k es h end s tasks v now st
   after_first (Logged (DrawsId now id)) st = after_draw k es h end s tasks v now id st
   after_first (Logged (AnswersRequest now job content sent)) st = after_answer k es h end s tasks v now job content sent st
@@ -31,7 +31,7 @@ module _ (k : ℕ) (es : List LogEntry) (h : History) (end s : ServerState) (tas
   after_first (Logged (InstallsProgram job program made)) st = after_install k es h end s tasks v job program made st
   after_first (Logged (RemovesProgram job removal)) st = after_remove k es h end s tasks v job removal st
   after_first (Logged (HandsSignal shard from id reset)) st = after_signal k es h end s tasks v shard from id reset st
-  after_first (Logged (AdvancesQuiet shard now)) st = after_quiet k es h end s tasks v shard now st
+  after_first (Logged (AdvancesIdle shard now)) st = after_idle k es h end s tasks v shard now st
   after_first (Logged (AdvancesShard shard now ticked)) st = after_shard_tick k es h end s tasks v shard now ticked st
   after_first (Logged (GivesTurn shard now turn)) st = after_due k es h end s tasks v shard now turn st
   after_first (Logged (NotesTurn turn id now random told noted)) st = after_note k es h end s tasks v turn id now random told noted st
@@ -58,7 +58,7 @@ whole log b end right =
       means = l.serves.means;
       front = sym l.front ∙ a.front;
       slots = λ n lt. ap (λ (x : Shard). slot_in x n) (sym (l.shards (n % 8) (below_eight n))) ∙ a.shards.slot n lt;
-      moments = λ i low. ap (λ (x : Shard). x.now) (sym (l.shards i low)) ∙ a.shards.now i low;
+      times = λ i low. ap (λ (x : Shard). x.now) (sym (l.shards i low)) ∙ a.shards.now i low;
       observers = λ i k low lt. ap (λ (x : Shard). watch_at x k) (sym (l.shards i low)) ∙ a.shards.watch i k low lt;
       words = sym l.words ∙ a.words;
     }

@@ -31,9 +31,9 @@ use Rattle.fc_core.specs.Heads.{word_at, word_raised}
 use Rattle.fc_core.specs.Legal.{resent}
 use Rattle.fc_core.specs.Stages.{after_commit, had_memory, image_of, listed, made, matched, removed, told, took, turn_took, with_id}
 use Rattle.fc_calls.specs.Logged.{LoggedCall}
-use Rattle.fc_calls.specs.Logged.{HearsDatagram, AdvancesFront, DrawsId, AnswersRequest, TellsReceipt, GivesReadings, LooksAt, RaisesWord}
-use Rattle.fc_calls.specs.Logged.{TakesForJob, CommitsRun, InstallsProgram, RemovesProgram, HandsSignal, AdvancesQuiet, AdvancesShard, GivesTurn, NotesTurn, GivesUpTurn}
-use Rattle.fc_calls.specs.Doings.{AdvancesTo, AnswersAt, CommitsAt, DescribesTo, DrawsAt, GivesTurnAt, GivesUpAt, HandsOn, HearsAt, InstallsTo, NotesAt, PassesIfQuiet, RemovesFrom, TakesTo, TicksAt}
+use Rattle.fc_calls.specs.Logged.{HandlesDatagram, AdvancesFront, DrawsId, AnswersRequest, TellsReceipt, GivesReadings, LooksAt, RaisesWord}
+use Rattle.fc_calls.specs.Logged.{TakesForJob, CommitsRun, InstallsProgram, RemovesProgram, HandsSignal, AdvancesIdle, AdvancesShard, GivesTurn, NotesTurn, GivesUpTurn}
+use Rattle.fc_calls.specs.Doings.{AdvancesTo, AnswersAt, CommitsAt, DescribesTo, DrawsAt, GivesTurnAt, GivesUpAt, HandsOn, HandlesAt, InstallsTo, NotesAt, PassesIfIdle, RemovesFrom, TakesTo, TicksAt}
 use Rattle.fc_calls.specs.Doings.{SaysFound}
 
 -- a call that a thread's log has, or an image that isn't installed: it breaks a rule, or memory is
@@ -58,7 +58,7 @@ pub data ServerPart : Type 0 where
   NoPart : ServerPart
 
 abbrev pub part_by : LoggedCall → ServerPart
-part_by (HearsDatagram now from bytes brings) = FrontPart
+part_by (HandlesDatagram now from bytes brings) = FrontPart
 part_by (AdvancesFront now) = FrontPart
 part_by (DrawsId now id) = FrontPart
 part_by (AnswersRequest now job content sent) = FrontPart
@@ -70,7 +70,7 @@ part_by (CommitsRun now ran ticket committed) = ShardPart (ticket.origin.slot % 
 part_by (InstallsProgram job program made) = ShardPart (job.origin.slot % 8)
 part_by (RemovesProgram job removal) = ShardPart (job.origin.slot % 8)
 part_by (HandsSignal shard from id reset) = ShardPart shard
-part_by (AdvancesQuiet shard now) = ShardPart shard
+part_by (AdvancesIdle shard now) = ShardPart shard
 part_by (AdvancesShard shard now ticked) = ShardPart shard
 part_by (GivesTurn shard now turn) = ShardPart shard
 part_by (NotesTurn turn id now random told noted) = ShardPart (turn.slot % 8)
@@ -97,7 +97,7 @@ is_shard i other = false
 -- ---- its effect on that part
 
 abbrev pub FrontDoes : Operation → FrontState → FrontState → Type 0
-FrontDoes (Logged (HearsDatagram now from bytes brings)) f g = HearsAt now from bytes brings f g
+FrontDoes (Logged (HandlesDatagram now from bytes brings)) f g = HandlesAt now from bytes brings f g
 FrontDoes (Logged (AdvancesFront now)) f g = AdvancesTo now f g
 FrontDoes (Logged (DrawsId now id)) f g = DrawsAt now id f g
 FrontDoes (Logged (AnswersRequest now job content sent)) f g = AnswersAt now job content sent f g
@@ -110,7 +110,7 @@ ShardDoes (Logged (CommitsRun now ran ticket committed)) x y = CommitsAt now ran
 ShardDoes (Logged (InstallsProgram job program made)) x y = InstallsTo job program x made y
 ShardDoes (Logged (RemovesProgram job removal)) x y = RemovesFrom job x removal y
 ShardDoes (Logged (HandsSignal shard from id reset)) x y = HandsOn reset from id x y
-ShardDoes (Logged (AdvancesQuiet shard now)) x y = PassesIfQuiet now x true y
+ShardDoes (Logged (AdvancesIdle shard now)) x y = PassesIfIdle now x true y
 ShardDoes (Logged (AdvancesShard shard now ticked)) x y = TicksAt now x ticked y
 ShardDoes (Logged (GivesTurn shard now turn)) x y = GivesTurnAt now x turn y
 ShardDoes (Logged (NotesTurn turn id now random told noted)) x y = NotesAt turn id now random told x noted y
@@ -126,7 +126,7 @@ WordsDo other ws vs = ⊥
 abbrev pub IsEvent : Operation → Type 0
 IsEvent (Logged (GivesReadings readings)) = ⊥
 IsEvent (Logged (HandsSignal shard from id reset)) = shard < 8
-IsEvent (Logged (AdvancesQuiet shard now)) = shard < 8
+IsEvent (Logged (AdvancesIdle shard now)) = shard < 8
 IsEvent (Logged (AdvancesShard shard now ticked)) = shard < 8
 IsEvent (Logged (GivesTurn shard now turn)) = shard < 8
 IsEvent other = Unit {0}
@@ -139,17 +139,17 @@ job_in other = None
 
 -- the new job that it produces, if any.
 abbrev pub job_brought : Operation → Option Job
-job_brought (Logged (HearsDatagram now from bytes brings)) = job_in brings
+job_brought (Logged (HandlesDatagram now from bytes brings)) = job_in brings
 job_brought (Logged (GivesTurn shard now turn)) = turn
 job_brought other = None
 
 -- whether it is for a job that arrived before.
 abbrev pub is_for_job : Operation → Bool
-is_for_job (Logged (HearsDatagram now from bytes brings)) = false
+is_for_job (Logged (HandlesDatagram now from bytes brings)) = false
 is_for_job (Logged (AdvancesFront now)) = false
 is_for_job (Logged (GivesReadings readings)) = false
 is_for_job (Logged (HandsSignal shard from id reset)) = false
-is_for_job (Logged (AdvancesQuiet shard now)) = false
+is_for_job (Logged (AdvancesIdle shard now)) = false
 is_for_job (Logged (AdvancesShard shard now ticked)) = false
 is_for_job (Logged (GivesTurn shard now turn)) = false
 is_for_job other = true
@@ -190,7 +190,7 @@ abbrev pub borrowed : List ℕ → Bor (List ℕ)
 borrowed bytes = record { ref_ptr = (0, 0); now = bytes }
 
 abbrev pub event_by : ℕ → LoggedCall → Event
-event_by k (HearsDatagram now from bytes brings) = Deliver now from (borrowed bytes)
+event_by k (HandlesDatagram now from bytes brings) = Deliver now from (borrowed bytes)
 event_by k (AdvancesFront now) = Tick now
 event_by k (DrawsId now id) = Fresh k now
 event_by k (AnswersRequest now job content sent) = Answer k now
@@ -202,7 +202,7 @@ event_by k (CommitsRun now ran ticket committed) = Commit k now
 event_by k (InstallsProgram job program made) = Install k true
 event_by k (RemovesProgram job removal) = Remove k
 event_by k (HandsSignal shard from id reset) = Signal shard from id reset
-event_by k (AdvancesQuiet shard now) = ShardTick shard now
+event_by k (AdvancesIdle shard now) = ShardTick shard now
 event_by k (AdvancesShard shard now ticked) = ShardTick shard now
 event_by k (GivesTurn shard now turn) = Due shard now
 event_by k (NotesTurn turn id now random told noted) = Note k now random
@@ -222,7 +222,7 @@ reply_in (Reply emission) = Some emission
 reply_in other = None
 
 abbrev pub emitted_by : LoggedCall → Option Emission
-emitted_by (HearsDatagram now from bytes brings) = reply_in brings
+emitted_by (HandlesDatagram now from bytes brings) = reply_in brings
 emitted_by (AnswersRequest now job content sent) = sent
 emitted_by (AdvancesShard shard now ticked) = resent ticked
 emitted_by (NotesTurn turn id now random told noted) = sent_of noted

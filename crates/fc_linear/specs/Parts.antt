@@ -103,8 +103,8 @@ first_server b = record { front = first_front b.policy b.id; shards = first_shar
 pub record IsHistoryOf (h : History) (end : ServerState) : Type 0 where
   pub legal : IsLegal h
   pub means : AllMean h
-  pub front : end.front ≡ front_in (seen h) (seen h).moment
+  pub front : end.front ≡ front_in (seen h) (seen h).time
   pub slots : (n : ℕ) → n < 64 → slot_in_shards end.shards n ≡ slot_at (seen h) n
-  pub moments : (i : ℕ) → i < 8 → (shard_at end.shards i).now ≡ (seen h).shard_moment i
+  pub times : (i : ℕ) → i < 8 → (shard_at end.shards i).now ≡ (seen h).shard_time i
   pub observers : (i k : ℕ) → i < 8 → k < 8 → watch_at (shard_at end.shards i) k ≡ watch (seen h) (8 * k + i)
   pub words : end.words ≡ (seen h).words

@@ -93,8 +93,8 @@ no_fields text h = record { none = go }
     go (Device now readings) d = h.none _ _ _ (device_fields _ _ _ d)
 
 -- without a time there is no line
-pub no_moment : (text a b c : List ℕ) → AreFields text a b c → IsNoNumber a (2 ^ 64) → IsNoLine text
-no_moment text a b c f h = record { none = go }
+pub no_time : (text a b c : List ℕ) → AreFields text a b c → IsNoNumber a (2 ^ 64) → IsNoLine text
+no_time text a b c f h = record { none = go }
   where
     go : (line : Line) → IsLine text line → ⊥
     go (Deliver now peer bytes) d =

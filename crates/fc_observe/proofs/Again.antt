@@ -6,7 +6,7 @@ use Rattle.arrayvec.specs.ArrayVec.{ArrayVec}
 use Rattle.coap_msg.specs.declared.types.Emission.{Emission}
 use Rattle.fc_observe.specs.declared.entry.Entry.{Entry}
 use Rattle.fc_observe.specs.declared.observers.Ticked.TheVariants.{Resend}
-use Rattle.fc_observe.specs.Entries.{is_late}
+use Rattle.fc_observe.specs.Entries.{is_overdue}
 use Rattle.fc_observe.specs.Laws.{IsSentAt, resent_entry}
 use Rattle.fc_observe.specs.Observers.{ObserverList, ticked, ticked_at, ticked_by}
 use Rattle.fc_observe.proofs.Resending.{sent_again}
@@ -19,8 +19,8 @@ found_first : (p : Entry → Bool) (before after : List Entry) (o : Entry) → l
 found_first p [] after o none passes = ap (λ (b : Bool). cond b (Some o) (find p after)) passes
 found_first p (x ∷ before) after o none passes = first_by p x o before after (p x) refl none (λ rest. found_first p before after o rest passes)
 
-pub first_is_sent : (s wait : ℕ) (bytes : ArrayVec ℕ) (o : Entry) (at : List ℕ) (before after : List Entry) (t : ObserverList) → IsSentAt s wait bytes o → length at < 4 → is_late t.moment (resent_entry at o) ≡ true → t.held ≡ before ++ resent_entry at o ∷ after → list_any (is_late t.moment) before ≡ false → ticked t ≡ Resend (record { to = o.endpoint; bytes = bytes })
-first_is_sent s wait bytes o at before after t sent few late held none =
-    ap (λ (os : List Entry). ticked_at (find (is_late t.moment) os)) held
-    ∙ (ap (λ (x : Option Entry). ticked_at x) (found_first (is_late t.moment) before after (resent_entry at o) none late)
+pub first_is_sent : (s wait : ℕ) (bytes : ArrayVec ℕ) (o : Entry) (at : List ℕ) (before after : List Entry) (t : ObserverList) → IsSentAt s wait bytes o → length at < 4 → is_overdue t.time (resent_entry at o) ≡ true → t.held ≡ before ++ resent_entry at o ∷ after → list_any (is_overdue t.time) before ≡ false → ticked t ≡ Resend (record { to = o.endpoint; bytes = bytes })
+first_is_sent s wait bytes o at before after t sent few overdue held none =
+    ap (λ (os : List Entry). ticked_at (find (is_overdue t.time) os)) held
+    ∙ (ap (λ (x : Option Entry). ticked_at x) (found_first (is_overdue t.time) before after (resent_entry at o) none overdue)
     ∙ ap (λ (e : Option Emission). ticked_by e) (sent_again s wait bytes o at sent few))

@@ -12,9 +12,9 @@ use Rattle.coap_msg.specs.declared.types.Endpoint.{Endpoint}
 use Rattle.fc_observe.specs.declared.entry.Entry.{Entry}
 use Rattle.fc_observe.specs.declared.observers.Registered.{Registered}
 use Rattle.fc_observe.specs.declared.observers.Registered.TheVariants.{Entered, Replaced, Full}
-use Rattle.fc_observe.specs.Calls.{ObserverCall, Advance, Register, Cancel, NextDue, Miss, Notify, End, GiveUp, Reset, Acknowledge, Tick, changed_by, observers, observers_after}
-use Rattle.fc_observe.specs.Entries.{acknowledged, changed_if, given_up, has_last_id, is_due, is_entry_of, is_late, missed, must_confirm, new_entry, notified, notified_by, retransmission, retransmitted, timed_out, timed_out_by, with_turn}
-use Rattle.fc_observe.specs.Observers.{ObserverList, at_each, at_first, at_moment, entered_by, gives_turn, is_out, registration, registration_by, turn_given_by, without_those}
+use Rattle.fc_observe.specs.Calls.{ObserverCall, Advance, Register, Cancel, NextDue, MarkMissing, Notify, End, GiveUp, Reset, Acknowledge, Tick, changed_by, observers, observers_after}
+use Rattle.fc_observe.specs.Entries.{acknowledged, changed_if, given_up, has_last_id, is_due, is_entry_of, is_overdue, missed, must_confirm, new_entry, notified, notified_by, retransmission, retransmitted, timed_out, timed_out_by, with_turn}
+use Rattle.fc_observe.specs.Observers.{ObserverList, at_each, at_first, list_at_time, entered_by, gives_turn, is_out, registration, registration_by, turn_given_by, without_those}
 use Rattle.fc_observe.proofs.Lists.{fewer_without, no_more}
 
 -- ---- sums over the entries
@@ -48,9 +48,9 @@ pub sum_left : (m : Entry → ℕ) (p : Entry → Bool) (os : List Entry) → su
 sum_left m p [] = omega arith
 sum_left m p (o ∷ os) = left_by m o (without_those p os) os (p o) (sum_left m p os)
 
-given_sum : (m : Entry → ℕ) (t : ObserverList) (noticed : ℕ) (b : Bool) → ((o : Entry) → m (with_turn t.turns t.moment o) ≤ m o) → sum_by m (turn_given_by b noticed t).held ≤ sum_by m t.held
-given_sum m t noticed true here = sum_first m (is_due t.moment noticed) (λ o. with_turn t.turns t.moment o ∷ []) (λ o. let le = here o in omega (arith, le)) t.held
-given_sum m t noticed false here = omega arith
+given_sum : (m : Entry → ℕ) (t : ObserverList) (notify_serial : ℕ) (b : Bool) → ((o : Entry) → m (with_turn t.turns t.time o) ≤ m o) → sum_by m (turn_given_by b notify_serial t).held ≤ sum_by m t.held
+given_sum m t notify_serial true here = sum_first m (is_due t.time notify_serial) (λ o. with_turn t.turns t.time o ∷ []) (λ o. let le = here o in omega (arith, le)) t.held
+given_sum m t notify_serial false here = omega arith
 
 timed_sum : (m : Entry → ℕ) (now : ℕ) (o : Entry) (e : Option Emission) → m (retransmitted now o) ≤ m o → sum_by m (timed_out_by e now o) ≤ m o
 timed_sum m now o None le = omega arith
@@ -67,14 +67,14 @@ pub sum_after : (m : Entry → ℕ) (c : ObserverCall) (t : ObserverList) (n : �
 sum_after m (Advance now) t n here new le = le
 sum_after m (Register now to token request szx serial) t n here new le = new
 sum_after m (Cancel to token) t n here new le = let less = sum_left m (is_entry_of to token) t.held in omega (arith, less, le)
-sum_after m (NextDue now noticed) t n here new le = let less = given_sum m (at_moment now t) noticed (gives_turn noticed (at_moment now t)) here in omega (arith, less, le)
-sum_after m (Miss turn) t n here new le = let less = sum_first m (is_out turn t) (λ o. missed o ∷ []) (λ o. let l = here o in omega (arith, l)) t.held in omega (arith, less, le)
-sum_after m (Notify now turn id serial random bytes) t n here new le = let less = sum_first m (is_out turn (at_moment now t)) (λ o. notified t.confirm_after (max t.moment now) id serial random bytes o ∷ []) (λ o. let l = here o in omega (arith, l)) t.held in omega (arith, less, le)
+sum_after m (NextDue now notify_serial) t n here new le = let less = given_sum m (list_at_time now t) notify_serial (gives_turn notify_serial (list_at_time now t)) here in omega (arith, less, le)
+sum_after m (MarkMissing turn) t n here new le = let less = sum_first m (is_out turn t) (λ o. missed o ∷ []) (λ o. let l = here o in omega (arith, l)) t.held in omega (arith, less, le)
+sum_after m (Notify now turn id serial random bytes) t n here new le = let less = sum_first m (is_out turn (list_at_time now t)) (λ o. notified t.confirm_after (max t.time now) id serial random bytes o ∷ []) (λ o. let l = here o in omega (arith, l)) t.held in omega (arith, less, le)
 sum_after m (End turn) t n here new le = let less = sum_first m (is_out turn t) (λ o. []) (λ o. omega arith) t.held in omega (arith, less, le)
-sum_after m (GiveUp turn now) t n here new le = let less = sum_first m (is_out turn (at_moment now t)) (λ o. given_up (max t.moment now) o ∷ []) (λ o. let l = here o in omega (arith, l)) t.held in omega (arith, less, le)
+sum_after m (GiveUp turn now) t n here new le = let less = sum_first m (is_out turn (list_at_time now t)) (λ o. given_up (max t.time now) o ∷ []) (λ o. let l = here o in omega (arith, l)) t.held in omega (arith, less, le)
 sum_after m (Reset to id) t n here new le = let less = sum_left m (has_last_id to id) t.held in omega (arith, less, le)
 sum_after m (Acknowledge to id) t n here new le = let less = sum_each m (has_last_id to id) acknowledged here t.held in omega (arith, less, le)
-sum_after m (Tick now) t n here new le = let less = sum_first m (is_late (max t.moment now)) (timed_out (max t.moment now)) (λ o. timed_sum m (max t.moment now) o (retransmission o) (here o)) t.held in omega (arith, less, le)
+sum_after m (Tick now) t n here new le = let less = sum_first m (is_overdue (max t.time now)) (timed_out (max t.time now)) (λ o. timed_sum m (max t.time now) o (retransmission o) (here o)) t.held in omega (arith, less, le)
 
 -- ---- at most 32
 
@@ -92,7 +92,7 @@ entered_few to token o os false e le = room_by to token o os (nat_lt (length os)
 
 few_added : (c : ObserverCall) (t : ObserverList) → length t.held ≤ 32 → IfAdds (λ (o : Entry). 1) c t 32
 few_added (Register now to token request szx serial) t le =
-    let o = new_entry (max t.moment now) to token request szx serial in
+    let o = new_entry (max t.time now) to token request szx serial in
     let few = entered_few to token.items o t.held (list_any (is_entry_of to token.items) t.held) refl le in
     let sum = length-sum (observers_after (Register now to token request szx serial) t).held in
     omega (arith, few, sum)
@@ -116,7 +116,7 @@ kept_key_by to own token now id serial random bytes o false = refl
 
 -- a call keeps an entry's endpoint and token
 pub kept_key : (to : Endpoint) (token : List ℕ) (c : ObserverCall) (t : ObserverList) (o : Entry) → is_entry_of to token (changed_by c t o) ≡ is_entry_of to token o
-kept_key to token (Notify now turn id serial random bytes) t o = kept_key_by to to token (max t.moment now) id serial random bytes o (must_confirm t.confirm_after (max t.moment now) o)
+kept_key to token (Notify now turn id serial random bytes) t o = kept_key_by to to token (max t.time now) id serial random bytes o (must_confirm t.confirm_after (max t.time now) o)
 kept_key to token other t o = refl
 
 -- two keys of one entry are equal
@@ -162,7 +162,7 @@ entered_one to from token own Entered o os here le = joined_one to from token ow
 entered_one to from token own Replaced o os here le = joined_one to from token own o os (same_endpoint from to && pointwise nat_eq own token) refl here le
 
 one_added : (to : Endpoint) (token : List ℕ) (c : ObserverCall) (t : ObserverList) → count_by (is_entry_of to token) t.held ≤ 1 → IfAdds (λ (o : Entry). cond (is_entry_of to token o) 1 0) c t 1
-one_added to token (Register now from own request szx serial) t le = entered_one to from token own.items (registration from own.items (at_moment now t)) (new_entry (max t.moment now) from own request szx serial) t.held refl le
+one_added to token (Register now from own request szx serial) t le = entered_one to from token own.items (registration from own.items (list_at_time now t)) (new_entry (max t.time now) from own request szx serial) t.held refl le
 one_added to token other t le = tt
 
 pub one_of_key : (slot confirm_after : ℕ) (h : List ObserverCall) (to : Endpoint) (token : List ℕ) → count_by (is_entry_of to token) (observers slot confirm_after h).held ≤ 1

@@ -15,22 +15,22 @@ free_to now (TurnOut number at missing) e = let lt = ltb-true (at + 247000) now 
 free_to now (Outstanding sent_at timeout n bytes) e = absurd (cc e)
 
 free_from : (now : ℕ) (p : Phase) → (IsOutstanding p → ⊥) → (IsTurnOut now p → ⊥) → (IsGivenUpNow now p → ⊥) → is_free now p ≡ true
-free_from now Idle quiet back later = refl
-free_from now (GivenUp at) quiet back later = let f : now ≤ at → ⊥ = later in lt-ltb at now (omega (arith, f))
-free_from now (TurnOut number at missing) quiet back later =
+free_from now Idle idle back later = refl
+free_from now (GivenUp at) idle back later = let f : now ≤ at → ⊥ = later in lt-ltb at now (omega (arith, f))
+free_from now (TurnOut number at missing) idle back later =
     let f : now < at + 247000 → ⊥ = back in
     let g : now ≡ at + 247000 → ⊥ = later in
     lt-ltb (at + 247000) now (omega (arith, f, g))
-free_from now (Outstanding sent_at timeout n bytes) quiet back later = absurd (quiet tt)
+free_from now (Outstanding sent_at timeout n bytes) idle back later = absurd (idle tt)
 
-pub due_just : (now noticed : ℕ) (o : Entry) → (is_due now noticed o ≡ true) ↔ ((o.serial < noticed) × (IsOutstanding o.phase → ⊥) × (IsTurnOut now o.phase → ⊥) × (IsGivenUpNow now o.phase → ⊥))
-due_just now noticed o = (
+pub due_just : (now notify_serial : ℕ) (o : Entry) → (is_due now notify_serial o ≡ true) ↔ ((o.serial < notify_serial) × (IsOutstanding o.phase → ⊥) × (IsTurnOut now o.phase → ⊥) × (IsGivenUpNow now o.phase → ⊥))
+due_just now notify_serial o = (
   λ due.
-      let w = and_parts (nat_lt o.serial noticed) (is_free now o.phase) due in
+      let w = and_parts (nat_lt o.serial notify_serial) (is_free now o.phase) due in
       let f = free_to now o.phase w.1 in
-      (ltb-true o.serial noticed w.0, f.0, f.1, f.2),
+      (ltb-true o.serial notify_serial w.0, f.0, f.1, f.2),
   λ w.
-      let below : nat_lt o.serial noticed ≡ true = lt-ltb o.serial noticed w.0 in
+      let below : nat_lt o.serial notify_serial ≡ true = lt-ltb o.serial notify_serial w.0 in
       let free = free_from now o.phase w.1 w.2 w.3 in
       λ i. below i && free i,
 )

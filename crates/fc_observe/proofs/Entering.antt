@@ -31,7 +31,7 @@ others_stay p before after o is b a =
 
 module _ (to : Endpoint) (token : ArrayVec ℕ) (request : Request) (szx : Option ℕ) (serial : ℕ) (t : ObserverList) where
   abbrev own : Entry
-  own = new_entry t.moment to token request szx serial
+  own = new_entry t.time to token request szx serial
 
   abbrev IsIn : Registered → Type 0
   IsIn r = Any (IsRegistrationOf to token request szx serial) (entered_by r to token.items own t.held)

@@ -27,10 +27,10 @@ pub some_passes : (p : Entry → Bool) (before : List Entry) (o : Entry) (after 
 some_passes p [] o after is = ap (λ (b : Bool). b || list_any p after) is
 some_passes p (x ∷ xs) o after is = ap (λ (b : Bool). p x || b) (some_passes p xs o after is) ∙ or_true (p x)
 
-pub first_gets : (noticed : ℕ) (t : ObserverList) (before after : List Entry) (o : Entry) → t.turns < 18446744073709551615 → t.held ≡ before ++ o ∷ after → list_any (is_due t.moment noticed) before ≡ false → is_due t.moment noticed o ≡ true → (turn_given noticed t).held ≡ before ++ with_turn t.turns t.moment o ∷ after
-first_gets noticed t before after o lt held none is =
-    let due : list_any (is_due t.moment noticed) t.held ≡ true = ap (list_any (is_due t.moment noticed)) held ∙ some_passes (is_due t.moment noticed) before o after is in
-    ap (λ (b : Bool). (turn_given_by (b && list_any (is_due t.moment noticed) t.held) noticed t).held) (lt-ltb t.turns 18446744073709551615 lt)
-    ∙ (ap (λ (b : Bool). (turn_given_by b noticed t).held) due
-    ∙ (ap (at_first (is_due t.moment noticed) (λ x. with_turn t.turns t.moment x ∷ [])) held
-    ∙ first_passes (is_due t.moment noticed) (λ x. with_turn t.turns t.moment x ∷ []) before o after none is))
+pub first_gets : (notify_serial : ℕ) (t : ObserverList) (before after : List Entry) (o : Entry) → t.turns < 18446744073709551615 → t.held ≡ before ++ o ∷ after → list_any (is_due t.time notify_serial) before ≡ false → is_due t.time notify_serial o ≡ true → (turn_given notify_serial t).held ≡ before ++ with_turn t.turns t.time o ∷ after
+first_gets notify_serial t before after o lt held none is =
+    let due : list_any (is_due t.time notify_serial) t.held ≡ true = ap (list_any (is_due t.time notify_serial)) held ∙ some_passes (is_due t.time notify_serial) before o after is in
+    ap (λ (b : Bool). (turn_given_by (b && list_any (is_due t.time notify_serial) t.held) notify_serial t).held) (lt-ltb t.turns 18446744073709551615 lt)
+    ∙ (ap (λ (b : Bool). (turn_given_by b notify_serial t).held) due
+    ∙ (ap (at_first (is_due t.time notify_serial) (λ x. with_turn t.turns t.time x ∷ [])) held
+    ∙ first_passes (is_due t.time notify_serial) (λ x. with_turn t.turns t.time x ∷ []) before o after none is))

@@ -12,10 +12,10 @@ use Rattle.fc_observe.specs.declared.entry.Phase.{Phase}
 use Rattle.fc_observe.specs.declared.entry.Phase.TheVariants.{TurnOut, Outstanding}
 use Rattle.fc_observe.specs.declared.entry.Turn.{Turn}
 use Rattle.fc_observe.specs.declared.observers.Ticked.TheVariants.{Resend}
-use Rattle.fc_observe.specs.Calls.{ObserverCall, Advance, Register, NextDue, Miss, Notify, GiveUp, Acknowledge, Tick, after_calls, changed_by, is_registration_of, observers, observers_after}
-use Rattle.fc_observe.specs.Entries.{acknowledged_phase, has_turn, is_entry_of, is_late, is_out_in, missed_phase, must_confirm, notified_by, retransmission, retransmitted_phase}
+use Rattle.fc_observe.specs.Calls.{ObserverCall, Advance, Register, NextDue, MarkMissing, Notify, GiveUp, Acknowledge, Tick, after_calls, changed_by, is_registration_of, observers, observers_after}
+use Rattle.fc_observe.specs.Entries.{acknowledged_phase, has_turn, is_entry_of, is_overdue, is_out_in, missed_phase, must_confirm, notified_by, retransmission, retransmitted_phase}
 use Rattle.fc_observe.specs.Laws.{RegistersNone}
-use Rattle.fc_observe.specs.Observers.{ObserverList, at_moment, entry_out, gives_turn, is_out, late_entry, ticked, ticked_at, ticked_by, turn_given_by}
+use Rattle.fc_observe.specs.Observers.{ObserverList, list_at_time, entry_out, gives_turn, is_out, overdue_entry, ticked, ticked_at, ticked_by, turn_given_by}
 use Rattle.fc_observe.proofs.Counting.{kept_key}
 use Rattle.fc_observe.proofs.Keeping.{IfRegisters, all_after, any_of}
 
@@ -74,32 +74,32 @@ stays_gone to token h t none gone = none_any (is_entry_of to token) (after_calls
 -- ---- a lease that is no longer active
 
 -- the time after a call
-abbrev moment_after : ObserverCall → ObserverList → ℕ
-moment_after (Advance now) t = max t.moment now
-moment_after (Register now to token request szx serial) t = max t.moment now
-moment_after (NextDue now noticed) t = max t.moment now
-moment_after (Notify now turn id serial random bytes) t = max t.moment now
-moment_after (GiveUp turn now) t = max t.moment now
-moment_after (Tick now) t = max t.moment now
-moment_after other t = t.moment
+abbrev time_after : ObserverCall → ObserverList → ℕ
+time_after (Advance now) t = max t.time now
+time_after (Register now to token request szx serial) t = max t.time now
+time_after (NextDue now notify_serial) t = max t.time now
+time_after (Notify now turn id serial random bytes) t = max t.time now
+time_after (GiveUp turn now) t = max t.time now
+time_after (Tick now) t = max t.time now
+time_after other t = t.time
 
 -- the list after a call has the same slot, the same `confirm_after`, that time, and at least as
 -- many leases
 record GoesOn (t after : ObserverList) (now : ℕ) : Type 0 where
   slot : after.slot ≡ t.slot
   confirm_after : after.confirm_after ≡ t.confirm_after
-  moment : after.moment ≡ now
+  time : after.time ≡ now
   turns : t.turns ≤ after.turns
 
-goes_on_by : (t : ObserverList) (noticed : ℕ) (b : Bool) → GoesOn t (turn_given_by b noticed t) t.moment
-goes_on_by t noticed true = record { slot = refl; confirm_after = refl; moment = refl; turns = omega arith }
-goes_on_by t noticed false = record { slot = refl; confirm_after = refl; moment = refl; turns = omega arith }
+goes_on_by : (t : ObserverList) (notify_serial : ℕ) (b : Bool) → GoesOn t (turn_given_by b notify_serial t) t.time
+goes_on_by t notify_serial true = record { slot = refl; confirm_after = refl; time = refl; turns = omega arith }
+goes_on_by t notify_serial false = record { slot = refl; confirm_after = refl; time = refl; turns = omega arith }
 
-goes_on : (c : ObserverCall) (t : ObserverList) → GoesOn t (observers_after c t) (moment_after c t)
-goes_on (NextDue now noticed) t =
-    let g = goes_on_by (at_moment now t) noticed (gives_turn noticed (at_moment now t)) in
-    record { slot = g.slot; confirm_after = g.confirm_after; moment = g.moment; turns = g.turns }
-goes_on other t = record { slot = refl; confirm_after = refl; moment = refl; turns = omega arith }
+goes_on : (c : ObserverCall) (t : ObserverList) → GoesOn t (observers_after c t) (time_after c t)
+goes_on (NextDue now notify_serial) t =
+    let g = goes_on_by (list_at_time now t) notify_serial (gives_turn notify_serial (list_at_time now t)) in
+    record { slot = g.slot; confirm_after = g.confirm_after; time = g.time; turns = g.turns }
+goes_on other t = record { slot = refl; confirm_after = refl; time = refl; turns = omega arith }
 
 -- so the slot is that of the list's `new`, and a list that was called for a lease got the time
 pub slot_is : (slot confirm_after : ℕ) (h : List ObserverCall) → (observers slot confirm_after h).slot ≡ slot
@@ -111,17 +111,17 @@ pub confirm_after_is : (slot confirm_after : ℕ) (h : List ObserverCall) → (o
 confirm_after_is slot confirm_after [] = refl
 confirm_after_is slot confirm_after (c ∷ h) = let g = goes_on c (observers slot confirm_after h) in g.confirm_after ∙ confirm_after_is slot confirm_after h
 
-pub moment_is : (now noticed : ℕ) (t : ObserverList) → (observers_after (NextDue now noticed) t).moment ≡ max t.moment now
-moment_is now noticed t = let g = goes_on (NextDue now noticed) t in g.moment
+pub time_is : (now notify_serial : ℕ) (t : ObserverList) → (observers_after (NextDue now notify_serial) t).time ≡ max t.time now
+time_is now notify_serial t = let g = goes_on (NextDue now notify_serial) t in g.time
 
-later_moment : (c : ObserverCall) (t : ObserverList) → t.moment ≤ moment_after c t
-later_moment (Advance now) t = omega arith
-later_moment (Register now to token request szx serial) t = omega arith
-later_moment (NextDue now noticed) t = omega arith
-later_moment (Notify now turn id serial random bytes) t = omega arith
-later_moment (GiveUp turn now) t = omega arith
-later_moment (Tick now) t = omega arith
-later_moment other t = omega arith
+later_time : (c : ObserverCall) (t : ObserverList) → t.time ≤ time_after c t
+later_time (Advance now) t = omega arith
+later_time (Register now to token request szx serial) t = omega arith
+later_time (NextDue now notify_serial) t = omega arith
+later_time (Notify now turn id serial random bytes) t = omega arith
+later_time (GiveUp turn now) t = omega arith
+later_time (Tick now) t = omega arith
+later_time other t = omega arith
 
 lapsed : (m later x : ℕ) → m ≤ later → nat_lt m x ≡ false → nat_lt later x ≡ false
 lapsed m later x le over = false_from_ne_true (nat_lt later x) (λ e. let lt = ltb-true later x e in let yes : nat_lt m x ≡ true = lt-ltb m x (omega (arith, lt, le)) in absurd (cc (over, yes)))
@@ -160,33 +160,33 @@ another turns k m lt =
     let other : (turns == k) ≡ false = false_from_ne_true (turns == k) (λ e. let same = eqb-true turns k e in absurd (omega (arith, same, lt))) in
     ap (λ (b : Bool). b && nat_lt m (m + 247000)) other
 
-changed_over : (c : ObserverCall) (t : ObserverList) (k : ℕ) (o : Entry) → k < t.turns → is_out_in t.moment k o.phase ≡ false → is_out_in (moment_after c t) k (changed_by c t o).phase ≡ false
-changed_over (NextDue now noticed) t k o lt over = another t.turns k (max t.moment now) lt
-changed_over (Miss turn) t k o lt over = missed_over t.moment k o.phase over
-changed_over (Notify now turn id serial random bytes) t k o lt over = notified_in (max t.moment now) k (max t.moment now) id serial random bytes o (must_confirm t.confirm_after (max t.moment now) o)
+changed_over : (c : ObserverCall) (t : ObserverList) (k : ℕ) (o : Entry) → k < t.turns → is_out_in t.time k o.phase ≡ false → is_out_in (time_after c t) k (changed_by c t o).phase ≡ false
+changed_over (NextDue now notify_serial) t k o lt over = another t.turns k (max t.time now) lt
+changed_over (MarkMissing turn) t k o lt over = missed_over t.time k o.phase over
+changed_over (Notify now turn id serial random bytes) t k o lt over = notified_in (max t.time now) k (max t.time now) id serial random bytes o (must_confirm t.confirm_after (max t.time now) o)
 changed_over (GiveUp turn now) t k o lt over = refl
-changed_over (Acknowledge to id) t k o lt over = acknowledged_over t.moment k o.phase over
-changed_over (Tick now) t k o lt over = resent_over (max t.moment now) (max t.moment now) k o.phase (stays_over t.moment (max t.moment now) k o.phase (omega arith) over)
-changed_over (Advance now) t k o lt over = stays_over t.moment (max t.moment now) k o.phase (omega arith) over
-changed_over (Register now to token request szx serial) t k o lt over = stays_over t.moment (max t.moment now) k o.phase (omega arith) over
+changed_over (Acknowledge to id) t k o lt over = acknowledged_over t.time k o.phase over
+changed_over (Tick now) t k o lt over = resent_over (max t.time now) (max t.time now) k o.phase (stays_over t.time (max t.time now) k o.phase (omega arith) over)
+changed_over (Advance now) t k o lt over = stays_over t.time (max t.time now) k o.phase (omega arith) over
+changed_over (Register now to token request szx serial) t k o lt over = stays_over t.time (max t.time now) k o.phase (omega arith) over
 changed_over other t k o lt over = over
 
-new_over : (slot : ℕ) (turn : Turn) (c : ObserverCall) (t : ObserverList) → IfRegisters (λ o. has_turn slot (moment_after c t) turn o ≡ false) c t
+new_over : (slot : ℕ) (turn : Turn) (c : ObserverCall) (t : ObserverList) → IfRegisters (λ o. has_turn slot (time_after c t) turn o ≡ false) c t
 new_over slot turn (Register now to token request szx serial) t = and_right (turn.slot == slot) false refl
 new_over slot turn other t = tt
 
 over_after : (turn : Turn) (c : ObserverCall) (t : ObserverList) → turn.number < t.turns → entry_out turn t ≡ None → entry_out turn (observers_after c t) ≡ None
 over_after turn c t lt none =
     let g = goes_on c t in
-    let P = λ (o : Entry). has_turn t.slot t.moment turn o ≡ false in
-    let Q = λ (o : Entry). has_turn t.slot (moment_after c t) turn o ≡ false in
+    let P = λ (o : Entry). has_turn t.slot t.time turn o ≡ false in
+    let Q = λ (o : Entry). has_turn t.slot (time_after c t) turn o ≡ false in
     let all : All Q (observers_after c t).held = all_after P Q c t
-    (λ o here. over_if (turn.slot == t.slot) (is_out_in t.moment turn.number o.phase) (is_out_in (moment_after c t) turn.number o.phase) (stays_over t.moment (moment_after c t) turn.number o.phase (later_moment c t)) here)
-    (λ o here may. over_if (turn.slot == t.slot) (is_out_in t.moment turn.number o.phase) (is_out_in (moment_after c t) turn.number (changed_by c t o).phase) (changed_over c t turn.number o lt) here)
+    (λ o here. over_if (turn.slot == t.slot) (is_out_in t.time turn.number o.phase) (is_out_in (time_after c t) turn.number o.phase) (stays_over t.time (time_after c t) turn.number o.phase (later_time c t)) here)
+    (λ o here may. over_if (turn.slot == t.slot) (is_out_in t.time turn.number o.phase) (is_out_in (time_after c t) turn.number (changed_by c t o).phase) (changed_over c t turn.number o lt) here)
     (new_over t.slot turn c t) (all_unfound (is_out turn t) t.held none) in
     none_found (is_out turn (observers_after c t)) (observers_after c t).held
-    (subst (λ (m : ℕ). All (λ o. has_turn (observers_after c t).slot m turn o ≡ false) (observers_after c t).held) (sym g.moment)
-    (subst (λ (s : ℕ). All (λ o. has_turn s (moment_after c t) turn o ≡ false) (observers_after c t).held) (sym g.slot) all))
+    (subst (λ (m : ℕ). All (λ o. has_turn (observers_after c t).slot m turn o ≡ false) (observers_after c t).held) (sym g.time)
+    (subst (λ (s : ℕ). All (λ o. has_turn s (time_after c t) turn o ≡ false) (observers_after c t).held) (sym g.slot) all))
 
 pub more_turns : (h : List ObserverCall) (t : ObserverList) → t.turns ≤ (after_calls h t).turns
 more_turns [] t = omega arith
@@ -202,9 +202,9 @@ resend_is : (e : Emission) (o : Option Emission) → ticked_by o ≡ Resend e �
 resend_is e None told = absurd (cc told)
 resend_is e (Some own) told = let same : own ≡ e = cc in ap (λ (x : Emission). Some x) same
 
-resend_by : (e : Emission) (t : ObserverList) (o : Option Entry) → late_entry t ≡ o → ticked_at o ≡ Resend e → Any (λ (o : Entry). retransmission o ≡ Some e) t.held
+resend_by : (e : Emission) (t : ObserverList) (o : Option Entry) → overdue_entry t ≡ o → ticked_at o ≡ Resend e → Any (λ (o : Entry). retransmission o ≡ Some e) t.held
 resend_by e t None found told = absurd (cc told)
-resend_by e t (Some o) found told = any_of (λ (o : Entry). retransmission o ≡ Some e) t.held o (found_held (is_late t.moment) t.held o found) (resend_is e (retransmission o) told)
+resend_by e t (Some o) found told = any_of (λ (o : Entry). retransmission o ≡ Some e) t.held o (found_held (is_overdue t.time) t.held o found) (resend_is e (retransmission o) told)
 
 pub resent_of_held : (t : ObserverList) (e : Emission) → ticked t ≡ Resend e → Any (λ (o : Entry). retransmission o ≡ Some e) t.held
-resent_of_held t e told = resend_by e t (late_entry t) refl told
+resent_of_held t e told = resend_by e t (overdue_entry t) refl told

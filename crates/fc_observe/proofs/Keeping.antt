@@ -8,9 +8,9 @@ use Rattle.coap_msg.specs.declared.types.Endpoint.{Endpoint}
 use Rattle.fc_observe.specs.declared.entry.Entry.{Entry}
 use Rattle.fc_observe.specs.declared.observers.Registered.{Registered}
 use Rattle.fc_observe.specs.declared.observers.Registered.TheVariants.{Entered, Replaced, Full}
-use Rattle.fc_observe.specs.Calls.{ObserverCall, Advance, Register, Cancel, NextDue, Miss, Notify, End, GiveUp, Reset, Acknowledge, Tick, ComesFrom, changed_by, may_change, observers_after}
-use Rattle.fc_observe.specs.Entries.{acknowledged, changed_if, given_up, has_last_id, is_due, is_entry_of, is_late, missed, new_entry, notified, retransmission, retransmitted, timed_out, timed_out_by, with_turn}
-use Rattle.fc_observe.specs.Observers.{ObserverList, at_each, at_first, at_moment, entered_by, gives_turn, is_out, registration, turn_given_by, without_those}
+use Rattle.fc_observe.specs.Calls.{ObserverCall, Advance, Register, Cancel, NextDue, MarkMissing, Notify, End, GiveUp, Reset, Acknowledge, Tick, ComesFrom, changed_by, may_change, observers_after}
+use Rattle.fc_observe.specs.Entries.{acknowledged, changed_if, given_up, has_last_id, is_due, is_entry_of, is_overdue, missed, new_entry, notified, retransmission, retransmitted, timed_out, timed_out_by, with_turn}
+use Rattle.fc_observe.specs.Observers.{ObserverList, at_each, at_first, list_at_time, entered_by, gives_turn, is_out, registration, turn_given_by, without_those}
 
 -- ---- lists
 
@@ -39,7 +39,7 @@ all_without P Q p same os all = All-filter (λ o. not (p o)) Q os (All-weaker P 
 
 -- the property that an entry registered by the call must have
 abbrev pub IfRegisters : (Entry → Type 0) → ObserverCall → ObserverList → Type 0
-IfRegisters Q (Register now to token request szx serial) t = Q (new_entry (max t.moment now) to token request szx serial)
+IfRegisters Q (Register now to token request szx serial) t = Q (new_entry (max t.time now) to token request szx serial)
 IfRegisters Q other t = Unit {0}
 
 entered_all : (P Q : Entry → Type 0) (e : Registered) (to : Endpoint) (token : List ℕ) (o : Entry) → ((o : Entry) → P o → Q o) → Q o → (os : List Entry) → All P os → All Q (entered_by e to token o os)
@@ -47,9 +47,9 @@ entered_all P Q Full to token o same new os all = All-weaker P Q same os all
 entered_all P Q Entered to token o same new os all = All-append Q (without_those (is_entry_of to token) os) (o ∷ []) (all_without P Q (is_entry_of to token) same os all) (one Q o new)
 entered_all P Q Replaced to token o same new os all = All-append Q (without_those (is_entry_of to token) os) (o ∷ []) (all_without P Q (is_entry_of to token) same os all) (one Q o new)
 
-given_all : (P Q : Entry → Type 0) (t : ObserverList) (noticed : ℕ) (b : Bool) → gives_turn noticed t ≡ b → ((o : Entry) → P o → Q o) → ((o : Entry) → P o → (gives_turn noticed t && is_due t.moment noticed o) ≡ true → Q (with_turn t.turns t.moment o)) → All P t.held → All Q (turn_given_by b noticed t).held
-given_all P Q t noticed true gives same made all = all_first P Q (is_due t.moment noticed) (λ o. with_turn t.turns t.moment o ∷ []) same (λ o here due. one Q (with_turn t.turns t.moment o) (made o here (λ i. gives i && due i))) t.held all
-given_all P Q t noticed false gives same made all = All-weaker P Q same t.held all
+given_all : (P Q : Entry → Type 0) (t : ObserverList) (notify_serial : ℕ) (b : Bool) → gives_turn notify_serial t ≡ b → ((o : Entry) → P o → Q o) → ((o : Entry) → P o → (gives_turn notify_serial t && is_due t.time notify_serial o) ≡ true → Q (with_turn t.turns t.time o)) → All P t.held → All Q (turn_given_by b notify_serial t).held
+given_all P Q t notify_serial true gives same made all = all_first P Q (is_due t.time notify_serial) (λ o. with_turn t.turns t.time o ∷ []) same (λ o here due. one Q (with_turn t.turns t.time o) (made o here (λ i. gives i && due i))) t.held all
+given_all P Q t notify_serial false gives same made all = All-weaker P Q same t.held all
 
 timed_all : (Q : Entry → Type 0) (now : ℕ) (o : Entry) (e : Option Emission) → Q (retransmitted now o) → All Q (timed_out_by e now o)
 timed_all Q now o None made = All-nil Q
@@ -57,16 +57,16 @@ timed_all Q now o (Some emission) made = one Q (retransmitted now o) made
 
 pub all_after : (P Q : Entry → Type 0) (c : ObserverCall) (t : ObserverList) → ((o : Entry) → P o → Q o) → ((o : Entry) → P o → may_change c t o ≡ true → Q (changed_by c t o)) → IfRegisters Q c t → All P t.held → All Q (observers_after c t).held
 all_after P Q (Advance now) t same made new all = All-weaker P Q same t.held all
-all_after P Q (Register now to token request szx serial) t same made new all = entered_all P Q (registration to token.items (at_moment now t)) to token.items (new_entry (max t.moment now) to token request szx serial) same new t.held all
+all_after P Q (Register now to token request szx serial) t same made new all = entered_all P Q (registration to token.items (list_at_time now t)) to token.items (new_entry (max t.time now) to token request szx serial) same new t.held all
 all_after P Q (Cancel to token) t same made new all = all_without P Q (is_entry_of to token) same t.held all
-all_after P Q (NextDue now noticed) t same made new all = given_all P Q (at_moment now t) noticed (gives_turn noticed (at_moment now t)) refl same made all
-all_after P Q (Miss turn) t same made new all = all_first P Q (is_out turn t) (λ o. missed o ∷ []) same (λ o here out. one Q (missed o) (made o here out)) t.held all
-all_after P Q (Notify now turn id serial random bytes) t same made new all = all_first P Q (is_out turn (at_moment now t)) (λ o. notified t.confirm_after (max t.moment now) id serial random bytes o ∷ []) same (λ o here out. one Q (notified t.confirm_after (max t.moment now) id serial random bytes o) (made o here out)) t.held all
+all_after P Q (NextDue now notify_serial) t same made new all = given_all P Q (list_at_time now t) notify_serial (gives_turn notify_serial (list_at_time now t)) refl same made all
+all_after P Q (MarkMissing turn) t same made new all = all_first P Q (is_out turn t) (λ o. missed o ∷ []) same (λ o here out. one Q (missed o) (made o here out)) t.held all
+all_after P Q (Notify now turn id serial random bytes) t same made new all = all_first P Q (is_out turn (list_at_time now t)) (λ o. notified t.confirm_after (max t.time now) id serial random bytes o ∷ []) same (λ o here out. one Q (notified t.confirm_after (max t.time now) id serial random bytes o) (made o here out)) t.held all
 all_after P Q (End turn) t same made new all = all_first P Q (is_out turn t) (λ o. []) same (λ o here out. All-nil Q) t.held all
-all_after P Q (GiveUp turn now) t same made new all = all_first P Q (is_out turn (at_moment now t)) (λ o. given_up (max t.moment now) o ∷ []) same (λ o here out. one Q (given_up (max t.moment now) o) (made o here out)) t.held all
+all_after P Q (GiveUp turn now) t same made new all = all_first P Q (is_out turn (list_at_time now t)) (λ o. given_up (max t.time now) o ∷ []) same (λ o here out. one Q (given_up (max t.time now) o) (made o here out)) t.held all
 all_after P Q (Reset to id) t same made new all = all_without P Q (has_last_id to id) same t.held all
 all_after P Q (Acknowledge to id) t same made new all = all_each P Q (has_last_id to id) acknowledged same made t.held all
-all_after P Q (Tick now) t same made new all = all_first P Q (is_late (max t.moment now)) (timed_out (max t.moment now)) same (λ o here late. timed_all Q (max t.moment now) o (retransmission o) (made o here late)) t.held all
+all_after P Q (Tick now) t same made new all = all_first P Q (is_overdue (max t.time now)) (timed_out (max t.time now)) same (λ o here overdue. timed_all Q (max t.time now) o (retransmission o) (made o here overdue)) t.held all
 
 -- ---- the origin of entries
 

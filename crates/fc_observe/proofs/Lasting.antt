@@ -9,7 +9,7 @@ use Rattle.fc_observe.specs.declared.entry.Entry.{Entry}
 use Rattle.fc_observe.specs.declared.entry.Phase.{Phase}
 use Rattle.fc_observe.specs.declared.entry.Phase.TheVariants.{TurnOut}
 use Rattle.fc_observe.specs.declared.entry.Turn.{Turn}
-use Rattle.fc_observe.specs.Calls.{ObserverCall, Register, NextDue, Miss, Notify, GiveUp, Acknowledge, Tick, after_calls, changed_by, may_change, observers}
+use Rattle.fc_observe.specs.Calls.{ObserverCall, Register, NextDue, MarkMissing, Notify, GiveUp, Acknowledge, Tick, after_calls, changed_by, may_change, observers}
 use Rattle.fc_observe.specs.Entries.{has_missed_in, has_turn, is_out_in, missed, missed_phase, must_confirm}
 use Rattle.fc_observe.specs.Laws.{has_number, has_number_in}
 use Rattle.fc_observe.specs.Observers.{ObserverList, at_first, entry_out, is_missing, is_missing_by}
@@ -30,12 +30,12 @@ missed_true n at missing (TurnOut own since before) is = cc is
 missed_true n at missing other is = absurd (cc is)
 
 changed_missed : (c : ObserverCall) (t : ObserverList) (n : ℕ) (o : Entry) → n < t.turns → HasMissed n o → may_change c t o ≡ true → HasMissed n (changed_by c t o)
-changed_missed (NextDue now noticed) t n o lt w may = λ at missing is. let number : t.turns ≡ n = cc is in absurd (omega (arith, number, lt))
-changed_missed (Miss turn) t n o lt w may = λ at missing is. missed_true n at missing o.phase is
-changed_missed (Notify now turn id serial random bytes) t n o lt w may = λ at missing is. absurd (notified_out (max t.moment now) id serial random n at missing bytes o (must_confirm t.confirm_after (max t.moment now) o) is)
+changed_missed (NextDue now notify_serial) t n o lt w may = λ at missing is. let number : t.turns ≡ n = cc is in absurd (omega (arith, number, lt))
+changed_missed (MarkMissing turn) t n o lt w may = λ at missing is. missed_true n at missing o.phase is
+changed_missed (Notify now turn id serial random bytes) t n o lt w may = λ at missing is. absurd (notified_out (max t.time now) id serial random n at missing bytes o (must_confirm t.confirm_after (max t.time now) o) is)
 changed_missed (GiveUp turn now) t n o lt w may = λ at missing is. absurd (cc is)
 changed_missed (Acknowledge to id) t n o lt w may = λ at missing is. w at missing (acknowledged_out n at missing o.phase is)
-changed_missed (Tick now) t n o lt w may = λ at missing is. w at missing (resent_out (max t.moment now) n at missing o.phase is)
+changed_missed (Tick now) t n o lt w may = λ at missing is. w at missing (resent_out (max t.time now) n at missing o.phase is)
 changed_missed other t n o lt w may = absurd (cc may)
 
 new_missed : (n : ℕ) (c : ObserverCall) (t : ObserverList) → IfRegisters (HasMissed n) c t
@@ -97,10 +97,10 @@ all_missed : (slot m : ℕ) (turn : Turn) (os : List Entry) → count_by (has_nu
 all_missed slot m turn [] le out = absurd (cc out)
 all_missed slot m turn (o ∷ os) le out = all_missed_by slot m turn o os (has_turn slot m turn o) refl le (all_missed slot m turn os) out
 
-pub missed_begin : (turn : Turn) (slot confirm_after : ℕ) (h : List ObserverCall) → is_some (entry_out turn (observers slot confirm_after h)) ≡ true → All (HasMissed turn.number) (observers slot confirm_after (Miss turn ∷ h)).held
+pub missed_begin : (turn : Turn) (slot confirm_after : ℕ) (h : List ObserverCall) → is_some (entry_out turn (observers slot confirm_after h)) ≡ true → All (HasMissed turn.number) (observers slot confirm_after (MarkMissing turn ∷ h)).held
 missed_begin turn slot confirm_after h out =
     let t = observers slot confirm_after h in
-    all_missed t.slot t.moment turn t.held (one_turn slot confirm_after turn.number h) out
+    all_missed t.slot t.time turn t.held (one_turn slot confirm_after turn.number h) out
 
 -- ---- its result
 
@@ -116,4 +116,4 @@ missing_first slot m turn [] all = refl
 missing_first slot m turn (o ∷ os) all = missing_by slot m turn o (find (has_turn slot m turn) os) (has_turn slot m turn o) refl (All-head (HasMissed turn.number) o os all) (missing_first slot m turn os (All-tail (HasMissed turn.number) o os all))
 
 pub missing_where_out : (turn : Turn) (t : ObserverList) → All (HasMissed turn.number) t.held → is_missing turn t ≡ is_some (entry_out turn t)
-missing_where_out turn t all = missing_first t.slot t.moment turn t.held all
+missing_where_out turn t all = missing_first t.slot t.time turn t.held all

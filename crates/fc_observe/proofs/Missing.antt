@@ -8,9 +8,9 @@ use Rattle.fc_observe.specs.declared.entry.Entry.{Entry}
 use Rattle.fc_observe.specs.declared.entry.Phase.{Phase}
 use Rattle.fc_observe.specs.declared.entry.Phase.TheVariants.{TurnOut}
 use Rattle.fc_observe.specs.declared.entry.Turn.{Turn}
-use Rattle.fc_observe.specs.Calls.{ObserverCall, NextDue, Miss, observers, observers_after}
+use Rattle.fc_observe.specs.Calls.{ObserverCall, NextDue, MarkMissing, observers, observers_after}
 use Rattle.fc_observe.specs.Entries.{has_missed, has_missed_in, has_turn, is_out_in, missed, missed_phase}
-use Rattle.fc_observe.specs.Observers.{ObserverList, at_first, at_moment, entry_out, gives_turn, is_missing, is_missing_by, next_turn, next_turn_by}
+use Rattle.fc_observe.specs.Observers.{ObserverList, at_first, list_at_time, entry_out, gives_turn, is_missing, is_missing_by, next_turn, next_turn_by}
 use Rattle.fc_observe.proofs.Keeping.{all_after}
 use Rattle.fc_observe.proofs.Serials.{OutBelow, all_below, out_phase}
 
@@ -41,8 +41,8 @@ first_missed : (slot m : ℕ) (turn : Turn) (os : List Entry) → is_some (find 
 first_missed slot m turn [] out = absurd (cc out)
 first_missed slot m turn (o ∷ os) out = missed_by slot m turn o os (has_turn slot m turn o) refl (first_missed slot m turn os) out
 
-pub missing_after : (turn : Turn) (t : ObserverList) → is_some (entry_out turn t) ≡ true → is_missing turn (observers_after (Miss turn) t) ≡ true
-missing_after turn t out = first_missed t.slot t.moment turn t.held out
+pub missing_after : (turn : Turn) (t : ObserverList) → is_some (entry_out turn t) ≡ true → is_missing turn (observers_after (MarkMissing turn) t) ≡ true
+missing_after turn t out = first_missed t.slot t.time turn t.held out
 
 -- ---- a new lease
 
@@ -60,10 +60,10 @@ found_new p (o ∷ os) all =
 abbrev NewIn : ℕ → Entry → Type 0
 NewIn n o = (at : ℕ) (missing : Bool) → o.phase ≡ TurnOut n at missing → missing ≡ false
 
-all_new : (slot confirm_after now noticed : ℕ) (h : List ObserverCall) → All (NewIn (observers slot confirm_after h).turns) (observers slot confirm_after (NextDue now noticed ∷ h)).held
-all_new slot confirm_after now noticed h =
+all_new : (slot confirm_after now notify_serial : ℕ) (h : List ObserverCall) → All (NewIn (observers slot confirm_after h).turns) (observers slot confirm_after (NextDue now notify_serial ∷ h)).held
+all_new slot confirm_after now notify_serial h =
     let n = (observers slot confirm_after h).turns in
-    all_after (OutBelow slot confirm_after h) (NewIn n) (NextDue now noticed) (observers slot confirm_after h)
+    all_after (OutBelow slot confirm_after h) (NewIn n) (NextDue now notify_serial) (observers slot confirm_after h)
     (λ o below at missing out. let lt = (below n at missing out).0 in absurd (omega (arith, lt)))
     (λ o below may at missing out. cc out)
     tt (all_below slot confirm_after h)
@@ -81,9 +81,9 @@ number_of : (turn : Turn) (t : ObserverList) (b : Bool) → next_turn_by b t ≡
 number_of turn t true told = cc told
 number_of turn t false told = absurd (cc told)
 
-pub new_present : (slot confirm_after now noticed : ℕ) (turn : Turn) (h : List ObserverCall) → next_turn noticed (at_moment now (observers slot confirm_after h)) ≡ Some turn → is_missing turn (observers slot confirm_after (NextDue now noticed ∷ h)) ≡ false
-new_present slot confirm_after now noticed turn h told =
-    let before = at_moment now (observers slot confirm_after h) in
-    let after = observers slot confirm_after (NextDue now noticed ∷ h) in
-    let number = number_of turn before (gives_turn noticed before) told in
-    new_found after.slot after.moment turn after.held (subst (λ (n : ℕ). All (NewIn n) after.held) number (all_new slot confirm_after now noticed h))
+pub new_present : (slot confirm_after now notify_serial : ℕ) (turn : Turn) (h : List ObserverCall) → next_turn notify_serial (list_at_time now (observers slot confirm_after h)) ≡ Some turn → is_missing turn (observers slot confirm_after (NextDue now notify_serial ∷ h)) ≡ false
+new_present slot confirm_after now notify_serial turn h told =
+    let before = list_at_time now (observers slot confirm_after h) in
+    let after = observers slot confirm_after (NextDue now notify_serial ∷ h) in
+    let number = number_of turn before (gives_turn notify_serial before) told in
+    new_found after.slot after.time turn after.held (subst (λ (n : ℕ). All (NewIn n) after.held) number (all_new slot confirm_after now notify_serial h))

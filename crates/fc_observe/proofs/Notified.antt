@@ -19,7 +19,7 @@ notified_last now id serial random bytes o false = (refl, refl, refl)
 
 changed_last : (c : ObserverCall) (t : ObserverList) (o : Entry) → may_change c t o ≡ true → KeepsLast c t (changed_by c t o) o
 changed_last (Notify now turn id serial random bytes) t o may =
-    let w = notified_last (max t.moment now) id serial random bytes o (must_confirm t.confirm_after (max t.moment now) o) in
+    let w = notified_last (max t.time now) id serial random bytes o (must_confirm t.confirm_after (max t.time now) o) in
     inr (may, w.0, w.1, w.2)
 changed_last other t o may = (refl, refl, refl)
 

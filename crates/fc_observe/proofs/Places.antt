@@ -115,8 +115,8 @@ given_by : (t : ObserverList) (b : Bool) → is_some (next_turn_by b t) ≡ b
 given_by t true = refl
 given_by t false = refl
 
-pub is_some-next_turn : (noticed : ℕ) (t : ObserverList) → is_some (next_turn noticed t) ≡ gives_turn noticed t
-is_some-next_turn noticed t = given_by t (gives_turn noticed t)
+pub is_some-next_turn : (notify_serial : ℕ) (t : ObserverList) → is_some (next_turn notify_serial t) ≡ gives_turn notify_serial t
+is_some-next_turn notify_serial t = given_by t (gives_turn notify_serial t)
 
 -- ---- the entry with the active lease
 

@@ -11,7 +11,7 @@ use Rattle.fc_observe.specs.declared.entry.Turn.{Turn}
 use Rattle.fc_observe.specs.Calls.{ObserverCall, End, Notify, Register, after_calls, changed_by, is_registration_of, may_change, observers}
 use Rattle.fc_observe.specs.Entries.{is_entry_of, must_confirm, notified}
 use Rattle.fc_observe.specs.Laws.{RegistersNone}
-use Rattle.fc_observe.specs.Observers.{ObserverList, at_first, at_moment, entry_out, is_out}
+use Rattle.fc_observe.specs.Observers.{ObserverList, at_first, list_at_time, entry_out, is_out}
 use Rattle.fc_observe.proofs.Counting.{kept_key, one_of_key, unit}
 use Rattle.fc_observe.proofs.Keeping.{IfRegisters, all_after}
 use Rattle.fc_observe.proofs.Serials.{notified_keeps}
@@ -22,7 +22,7 @@ SentFrom m to token o = is_entry_of to token o ≡ true → m ≤ o.serial
 
 -- a notification has a later revision than the last one sent to its observer
 abbrev pub Above : ObserverCall → ObserverList → Entry → Type 0
-Above (Notify now turn id serial random bytes) t o = is_out turn (at_moment now t) o ≡ true → o.serial < serial
+Above (Notify now turn id serial random bytes) t o = is_out turn (list_at_time now t) o ≡ true → o.serial < serial
 Above other t o = Unit {0}
 
 -- the same for each of these calls
@@ -36,7 +36,7 @@ changed_from : (m : ℕ) (to : Endpoint) (token : List ℕ) (c : ObserverCall) (
 changed_from m to token (Notify now turn id serial random bytes) t o from above may = λ own.
     let before = from (sym (kept_key to token (Notify now turn id serial random bytes) t o) ∙ own) in
     let lt = above may in
-    let is = (notified_keeps (max t.moment now) id serial random bytes o (must_confirm t.confirm_after (max t.moment now) o)).1 in
+    let is = (notified_keeps (max t.time now) id serial random bytes o (must_confirm t.confirm_after (max t.time now) o)).1 in
     omega (arith, before, lt, is)
 changed_from m to token other t o from above may = from
 
@@ -89,12 +89,12 @@ module _ (p q : Entry → Bool) (g : Entry → List Entry) (Q : Entry → Type 0
   only (o ∷ os) few found = only_by o os (q o) few (only os) found
 
 module _ (slot confirm_after : ℕ) (turn : Turn) (h : List ObserverCall) (o : Entry) (to : Endpoint) (token : List ℕ) (own : is_entry_of to token o ≡ true) where
-  pub notified_from : (now id serial random : ℕ) (bytes : ArrayVec ℕ) → entry_out turn (at_moment now (observers slot confirm_after h)) ≡ Some o → All (SentFrom serial to token) (observers slot confirm_after (Notify now turn id serial random bytes ∷ h)).held
+  pub notified_from : (now id serial random : ℕ) (bytes : ArrayVec ℕ) → entry_out turn (list_at_time now (observers slot confirm_after h)) ≡ Some o → All (SentFrom serial to token) (observers slot confirm_after (Notify now turn id serial random bytes ∷ h)).held
   notified_from now id serial random bytes out =
-      let t = at_moment now (observers slot confirm_after h) in
-      let is = (notified_keeps t.moment id serial random bytes o (must_confirm t.confirm_after t.moment o)).1 in
-      only (is_entry_of to token) (is_out turn t) (λ x. notified t.confirm_after t.moment id serial random bytes x ∷ []) (λ (x : Entry). serial ≤ x.serial) o own
-      (All-cons (SentFrom serial to token) (notified t.confirm_after t.moment id serial random bytes o) [] (λ e. omega (arith, is)) (All-nil (SentFrom serial to token)))
+      let t = list_at_time now (observers slot confirm_after h) in
+      let is = (notified_keeps t.time id serial random bytes o (must_confirm t.confirm_after t.time o)).1 in
+      only (is_entry_of to token) (is_out turn t) (λ x. notified t.confirm_after t.time id serial random bytes x ∷ []) (λ (x : Entry). serial ≤ x.serial) o own
+      (All-cons (SentFrom serial to token) (notified t.confirm_after t.time id serial random bytes o) [] (λ e. omega (arith, is)) (All-nil (SentFrom serial to token)))
       t.held (one_of_key slot confirm_after h to token) out
 
   pub ended_from : (m : ℕ) → entry_out turn (observers slot confirm_after h) ≡ Some o → All (SentFrom m to token) (observers slot confirm_after (End turn ∷ h)).held

@@ -10,40 +10,40 @@ use Rattle.fc_observe.specs.declared.entry.Entry.{Entry}
 use Rattle.fc_observe.specs.declared.entry.Phase.{Phase}
 use Rattle.fc_observe.specs.declared.entry.Phase.TheVariants.{TurnOut, Outstanding}
 use Rattle.fc_observe.specs.declared.entry.Turn.{Turn}
-use Rattle.fc_observe.specs.Calls.{ComesFrom, IsRegisteredBy, ObserverCall, Register, NextDue, Miss, Notify, GiveUp, Acknowledge, Tick, changed_by, may_change, observers, observers_after}
+use Rattle.fc_observe.specs.Calls.{ComesFrom, IsRegisteredBy, ObserverCall, Register, NextDue, MarkMissing, Notify, GiveUp, Acknowledge, Tick, changed_by, may_change, observers, observers_after}
 use Rattle.fc_observe.specs.Entries.{acknowledged_phase, is_due, is_free, is_out_in, missed_phase, must_confirm, notified_by, retransmitted_phase}
 use Rattle.fc_observe.specs.Laws.{HandsInUpTo, KeepsSerial, noticed_for}
-use Rattle.fc_observe.specs.Observers.{ObserverList, at_moment, gives_turn, is_out, turn_given_by}
+use Rattle.fc_observe.specs.Observers.{ObserverList, list_at_time, gives_turn, is_out, turn_given_by}
 use Rattle.fc_observe.specs.Views.{interest_of}
 use Rattle.fc_observe.proofs.Keeping.{IfRegisters, all_after, come_from}
 
 -- for a lease that was granted: it was counted, and the last revision sent to its observer is below
 -- the noticed one
 abbrev pub IsGivenFor : ℕ → ℕ → ℕ → ℕ → Type 0
-IsGivenFor turns noticed n serial = (n < turns) × (serial < noticed)
+IsGivenFor turns notify_serial n serial = (n < turns) × (serial < notify_serial)
 
 abbrev pub OutBelow : ℕ → ℕ → List ObserverCall → Entry → Type 0
 OutBelow slot confirm_after h o = (n at : ℕ) (missing : Bool) → o.phase ≡ TurnOut n at missing → IsGivenFor (observers slot confirm_after h).turns (noticed_for n slot confirm_after h) n o.serial
 
 -- an older lease, if another may be granted
-older_by : (t : ObserverList) (noticed n old serial : ℕ) (b : Bool) → n < t.turns → serial < old → IsGivenFor (turn_given_by b noticed t).turns (cond (b && (t.turns == n)) noticed old) n serial
-older_by t noticed n old serial true lt below =
+older_by : (t : ObserverList) (notify_serial n old serial : ℕ) (b : Bool) → n < t.turns → serial < old → IsGivenFor (turn_given_by b notify_serial t).turns (cond (b && (t.turns == n)) notify_serial old) n serial
+older_by t notify_serial n old serial true lt below =
     let other : (t.turns == n) ≡ false = false_from_ne_true (t.turns == n) (λ e. let same = eqb-true t.turns n e in absurd (omega (arith, same, lt))) in
-    (omega (arith, lt), subst (λ (b : Bool). serial < cond b noticed old) (sym other) below)
-older_by t noticed n old serial false lt below = (lt, below)
+    (omega (arith, lt), subst (λ (b : Bool). serial < cond b notify_serial old) (sym other) below)
+older_by t notify_serial n old serial false lt below = (lt, below)
 
 stays_below : (slot confirm_after : ℕ) (h : List ObserverCall) (c : ObserverCall) (o : Entry) → OutBelow slot confirm_after h o → OutBelow slot confirm_after (c ∷ h) o
-stays_below slot confirm_after h (NextDue now noticed) o below = λ n at missing out.
+stays_below slot confirm_after h (NextDue now notify_serial) o below = λ n at missing out.
     let w = below n at missing out in
-    older_by (at_moment now (observers slot confirm_after h)) noticed n (noticed_for n slot confirm_after h) o.serial (gives_turn noticed (at_moment now (observers slot confirm_after h))) w.0 w.1
+    older_by (list_at_time now (observers slot confirm_after h)) notify_serial n (noticed_for n slot confirm_after h) o.serial (gives_turn notify_serial (list_at_time now (observers slot confirm_after h))) w.0 w.1
 stays_below slot confirm_after h other o below = below
 
 -- the new lease
-newest : (t : ObserverList) (noticed old serial : ℕ) (b : Bool) → b ≡ true → serial < noticed → IsGivenFor (turn_given_by b noticed t).turns (cond (b && (t.turns == t.turns)) noticed old) t.turns serial
-newest t noticed old serial true e below =
+newest : (t : ObserverList) (notify_serial old serial : ℕ) (b : Bool) → b ≡ true → serial < notify_serial → IsGivenFor (turn_given_by b notify_serial t).turns (cond (b && (t.turns == t.turns)) notify_serial old) t.turns serial
+newest t notify_serial old serial true e below =
     let same : (t.turns == t.turns) ≡ true = eq-eqb t.turns t.turns refl in
-    (omega arith, subst (λ (b : Bool). serial < cond b noticed old) (sym same) below)
-newest t noticed old serial false e below = absurd (cc e)
+    (omega arith, subst (λ (b : Bool). serial < cond b notify_serial old) (sym same) below)
+newest t notify_serial old serial false e below = absurd (cc e)
 
 -- other phases
 missed_out : (n at : ℕ) (missing : Bool) (p : Phase) → missed_phase p ≡ TurnOut n at missing → (before : Bool) × (p ≡ TurnOut n at before)
@@ -63,19 +63,19 @@ notified_out now id serial random n at missing bytes o true out = cc out
 notified_out now id serial random n at missing bytes o false out = cc out
 
 changed_below : (slot confirm_after : ℕ) (h : List ObserverCall) (c : ObserverCall) (o : Entry) → OutBelow slot confirm_after h o → may_change c (observers slot confirm_after h) o ≡ true → OutBelow slot confirm_after (c ∷ h) (changed_by c (observers slot confirm_after h) o)
-changed_below slot confirm_after h (NextDue now noticed) o below may = λ n at missing out.
-    let t = at_moment now (observers slot confirm_after h) in
-    let w = and_parts (gives_turn noticed t) (is_due t.moment noticed o) may in
-    let due = and_parts (nat_lt o.serial noticed) (is_free t.moment o.phase) w.1 in
-    let lt = ltb-true o.serial noticed due.0 in
+changed_below slot confirm_after h (NextDue now notify_serial) o below may = λ n at missing out.
+    let t = list_at_time now (observers slot confirm_after h) in
+    let w = and_parts (gives_turn notify_serial t) (is_due t.time notify_serial o) may in
+    let due = and_parts (nat_lt o.serial notify_serial) (is_free t.time o.phase) w.1 in
+    let lt = ltb-true o.serial notify_serial due.0 in
     let number : t.turns ≡ n = cc out in
-    subst (λ (k : ℕ). IsGivenFor (turn_given_by (gives_turn noticed t) noticed t).turns (cond (gives_turn noticed t && (t.turns == k)) noticed (noticed_for k slot confirm_after h)) k o.serial) number
-    (newest t noticed (noticed_for t.turns slot confirm_after h) o.serial (gives_turn noticed t) w.0 lt)
-changed_below slot confirm_after h (Miss turn) o below may = λ n at missing out. let w = missed_out n at missing o.phase out in below n at w.0 w.1
-changed_below slot confirm_after h (Notify now turn id serial random bytes) o below may = λ n at missing out. absurd (notified_out (max (observers slot confirm_after h).moment now) id serial random n at missing bytes o (must_confirm (observers slot confirm_after h).confirm_after (max (observers slot confirm_after h).moment now) o) out)
+    subst (λ (k : ℕ). IsGivenFor (turn_given_by (gives_turn notify_serial t) notify_serial t).turns (cond (gives_turn notify_serial t && (t.turns == k)) notify_serial (noticed_for k slot confirm_after h)) k o.serial) number
+    (newest t notify_serial (noticed_for t.turns slot confirm_after h) o.serial (gives_turn notify_serial t) w.0 lt)
+changed_below slot confirm_after h (MarkMissing turn) o below may = λ n at missing out. let w = missed_out n at missing o.phase out in below n at w.0 w.1
+changed_below slot confirm_after h (Notify now turn id serial random bytes) o below may = λ n at missing out. absurd (notified_out (max (observers slot confirm_after h).time now) id serial random n at missing bytes o (must_confirm (observers slot confirm_after h).confirm_after (max (observers slot confirm_after h).time now) o) out)
 changed_below slot confirm_after h (GiveUp turn now) o below may = λ n at missing out. absurd (cc out)
 changed_below slot confirm_after h (Acknowledge to id) o below may = λ n at missing out. below n at missing (acknowledged_out n at missing o.phase out)
-changed_below slot confirm_after h (Tick now) o below may = λ n at missing out. below n at missing (resent_out (max (observers slot confirm_after h).moment now) n at missing o.phase out)
+changed_below slot confirm_after h (Tick now) o below may = λ n at missing out. below n at missing (resent_out (max (observers slot confirm_after h).time now) n at missing o.phase out)
 changed_below slot confirm_after h other o below may = absurd (cc may)
 
 new_below : (slot confirm_after : ℕ) (h : List ObserverCall) (c : ObserverCall) → IfRegisters (OutBelow slot confirm_after (c ∷ h)) c (observers slot confirm_after h)
@@ -95,13 +95,13 @@ pub out_phase : (m k : ℕ) (p : Phase) → is_out_in m k p ≡ true → (at : �
 out_phase m k (TurnOut own at missing) out = (at, missing, ap (λ (n : ℕ). TurnOut n at missing) (out_phase_by m k own at (own == k) refl out))
 out_phase m k other out = absurd (cc out)
 
-pub sent_above : (slot confirm_after now : ℕ) (turn : Turn) (serial : ℕ) (h : List ObserverCall) → noticed_for turn.number slot confirm_after h ≤ serial → All (λ (o : Entry). is_out turn (at_moment now (observers slot confirm_after h)) o ≡ true → o.serial < serial) (observers slot confirm_after h).held
+pub sent_above : (slot confirm_after now : ℕ) (turn : Turn) (serial : ℕ) (h : List ObserverCall) → noticed_for turn.number slot confirm_after h ≤ serial → All (λ (o : Entry). is_out turn (list_at_time now (observers slot confirm_after h)) o ≡ true → o.serial < serial) (observers slot confirm_after h).held
 sent_above slot confirm_after now turn serial h le =
-    let t = at_moment now (observers slot confirm_after h) in
+    let t = list_at_time now (observers slot confirm_after h) in
     All-weaker (OutBelow slot confirm_after h) (λ (o : Entry). is_out turn t o ≡ true → o.serial < serial)
     (λ o below out.
-    let w = and_parts (turn.slot == t.slot) (is_out_in t.moment turn.number o.phase) out in
-    let p = out_phase t.moment turn.number o.phase w.1 in
+    let w = and_parts (turn.slot == t.slot) (is_out_in t.time turn.number o.phase) out in
+    let p = out_phase t.time turn.number o.phase w.1 in
     let lt = (below turn.number p.0 p.1 p.2).1 in
     omega (arith, lt, le))
     (observers slot confirm_after h).held (all_below slot confirm_after h)
@@ -114,7 +114,7 @@ notified_keeps now id serial random bytes o false = (refl, refl)
 
 changed_keeps : (c : ObserverCall) (t : ObserverList) (o : Entry) → may_change c t o ≡ true → KeepsSerial c t (changed_by c t o) o
 changed_keeps (Notify now turn id serial random bytes) t o may =
-    let w = notified_keeps (max t.moment now) id serial random bytes o (must_confirm t.confirm_after (max t.moment now) o) in
+    let w = notified_keeps (max t.time now) id serial random bytes o (must_confirm t.confirm_after (max t.time now) o) in
     (w.0, inr (may, w.1))
 changed_keeps other t o may = (refl, inl refl)
 
@@ -140,7 +140,7 @@ notified_serial n now id serial random bytes o true le = le
 notified_serial n now id serial random bytes o false le = le
 
 changed_serial : (n : ℕ) (c : ObserverCall) (t : ObserverList) (o : Entry) → HandsInUpTo n c → o.serial ≤ n → (changed_by c t o).serial ≤ n
-changed_serial n (Notify now turn id serial random bytes) t o le below = notified_serial n (max t.moment now) id serial random bytes o (must_confirm t.confirm_after (max t.moment now) o) le
+changed_serial n (Notify now turn id serial random bytes) t o le below = notified_serial n (max t.time now) id serial random bytes o (must_confirm t.confirm_after (max t.time now) o) le
 changed_serial n other t o le below = below
 
 pub serials_below : (n : ℕ) (c : ObserverCall) (t : ObserverList) → HandsInUpTo n c → All (λ (o : Entry). o.serial ≤ n) t.held → All (λ (o : Entry). o.serial ≤ n) (observers_after c t).held

@@ -11,9 +11,9 @@ use Rattle.coap_msg.specs.Endpoints.{same_endpoint}
 use Rattle.fc_observe.specs.declared.entry.Entry.{Entry}
 use Rattle.fc_observe.specs.declared.observers.Registered.{Registered}
 use Rattle.fc_observe.specs.declared.observers.Registered.TheVariants.{Entered, Replaced, Full}
-use Rattle.fc_observe.specs.Calls.{ObserverCall, Advance, Register, Cancel, NextDue, Miss, Notify, End, GiveUp, Reset, Acknowledge, Tick, observers_after}
-use Rattle.fc_observe.specs.Entries.{acknowledged, changed_if, given_up, has_last_id, is_due, is_entry_of, is_late, missed, new_entry, notified, retransmission, timed_out, timed_out_by, with_turn}
-use Rattle.fc_observe.specs.Observers.{ObserverList, at_each, at_first, at_moment, entered_by, entry_out, gives_turn, is_out, late_entry, registration, turn_given_by, without_those}
+use Rattle.fc_observe.specs.Calls.{ObserverCall, Advance, Register, Cancel, NextDue, MarkMissing, Notify, End, GiveUp, Reset, Acknowledge, Tick, observers_after}
+use Rattle.fc_observe.specs.Entries.{acknowledged, changed_if, given_up, has_last_id, is_due, is_entry_of, is_overdue, missed, new_entry, notified, retransmission, timed_out, timed_out_by, with_turn}
+use Rattle.fc_observe.specs.Observers.{ObserverList, at_each, at_first, list_at_time, entered_by, entry_out, gives_turn, is_out, overdue_entry, registration, turn_given_by, without_those}
 use Rattle.fc_observe.proofs.Counting.{kept_key}
 use Rattle.fc_observe.proofs.Hearing.{all_fail}
 use Rattle.fc_observe.proofs.Resets.{endpoint_is}
@@ -122,7 +122,7 @@ abbrev pub TakesAway : Endpoint → List ℕ → ObserverCall → ObserverList �
 TakesAway to token (Cancel from own) t = (same_endpoint from to && pointwise nat_eq own token) ≡ true
 TakesAway to token (End turn) t = (o : Entry) × (entry_out turn t ≡ Some o) × (is_entry_of to token o ≡ true)
 TakesAway to token (Reset from id) t = (o : Entry) × Contains t.held o × (is_entry_of to token o ≡ true) × (has_last_id from id o ≡ true)
-TakesAway to token (Tick now) t = (o : Entry) × (late_entry (at_moment now t) ≡ Some o) × (is_entry_of to token o ≡ true) × (retransmission o ≡ None)
+TakesAway to token (Tick now) t = (o : Entry) × (overdue_entry (list_at_time now t) ≡ Some o) × (is_entry_of to token o ≡ true) × (retransmission o ≡ None)
 TakesAway to token other t = ⊥
 
 module _ (to : Endpoint) (token : List ℕ) where
@@ -144,9 +144,9 @@ module _ (to : Endpoint) (token : List ℕ) where
   entered_stays Entered from own new os key some = replaced from own new os key some
   entered_stays Replaced from own new os key some = replaced from own new os key some
 
-  given_stays : (t : ObserverList) (noticed : ℕ) (b : Bool) → list_any p t.held ≡ true → list_any p (turn_given_by b noticed t).held ≡ true
-  given_stays t noticed true some = changed_stays p (is_due t.moment noticed) (with_turn t.turns t.moment) (λ o. refl) t.held some
-  given_stays t noticed false some = some
+  given_stays : (t : ObserverList) (notify_serial : ℕ) (b : Bool) → list_any p t.held ≡ true → list_any p (turn_given_by b notify_serial t).held ≡ true
+  given_stays t notify_serial true some = changed_stays p (is_due t.time notify_serial) (with_turn t.turns t.time) (λ o. refl) t.held some
+  given_stays t notify_serial false some = some
 
   timed_by : (now : ℕ) (o : Entry) (e : Option Emission) → retransmission o ≡ e → p o ≡ true → list_any p (timed_out_by e now o) ≡ false → retransmission o ≡ None
   timed_by now o None is own none = is
@@ -154,22 +154,22 @@ module _ (to : Endpoint) (token : List ℕ) where
 
   pub stays_or_goes : (c : ObserverCall) (t : ObserverList) → list_any p t.held ≡ true → (list_any p (observers_after c t).held ≡ true) ⊎ TakesAway to token c t
   stays_or_goes (Advance now) t some = inl some
-  stays_or_goes (Register now from own request szx serial) t some = inl (entered_stays (registration from own.items (at_moment now t)) from own.items (new_entry (max t.moment now) from own request szx serial) t.held refl some)
+  stays_or_goes (Register now from own request szx serial) t some = inl (entered_stays (registration from own.items (list_at_time now t)) from own.items (new_entry (max t.time now) from own request szx serial) t.held refl some)
   stays_or_goes (Cancel from own) t some = ⊎_elim
       (λ (w : list_any p (without_those (is_entry_of from own) t.held) ≡ true). inl w)
       (λ (w : (o : Entry) × Contains t.held o × (p o ≡ true) × (is_entry_of from own o ≡ true)). inr (two_keys to from token own w.0 w.2 w.3))
       (without_stays p (is_entry_of from own) t.held some)
-  stays_or_goes (NextDue now noticed) t some = inl (given_stays (at_moment now t) noticed (gives_turn noticed (at_moment now t)) some)
-  stays_or_goes (Miss turn) t some = inl (changed_stays p (is_out turn t) missed (λ o. refl) t.held some)
-  stays_or_goes (Notify now turn id serial random bytes) t some = inl (changed_stays p (is_out turn (at_moment now t)) (notified t.confirm_after (max t.moment now) id serial random bytes) (kept_key to token (Notify now turn id serial random bytes) t) t.held some)
+  stays_or_goes (NextDue now notify_serial) t some = inl (given_stays (list_at_time now t) notify_serial (gives_turn notify_serial (list_at_time now t)) some)
+  stays_or_goes (MarkMissing turn) t some = inl (changed_stays p (is_out turn t) missed (λ o. refl) t.held some)
+  stays_or_goes (Notify now turn id serial random bytes) t some = inl (changed_stays p (is_out turn (list_at_time now t)) (notified t.confirm_after (max t.time now) id serial random bytes) (kept_key to token (Notify now turn id serial random bytes) t) t.held some)
   stays_or_goes (End turn) t some = ⊎_elim
       (λ (w : list_any p (at_first (is_out turn t) (λ o. []) t.held) ≡ true). inl w)
       (λ (w : (o : Entry) × (entry_out turn t ≡ Some o) × (p o ≡ true) × (false ≡ false)). inr (w.0, w.1, w.2))
       (first_stays p (is_out turn t) (λ o. []) t.held some)
-  stays_or_goes (GiveUp turn now) t some = inl (changed_stays p (is_out turn (at_moment now t)) (given_up (max t.moment now)) (λ o. refl) t.held some)
+  stays_or_goes (GiveUp turn now) t some = inl (changed_stays p (is_out turn (list_at_time now t)) (given_up (max t.time now)) (λ o. refl) t.held some)
   stays_or_goes (Reset from id) t some = without_stays p (has_last_id from id) t.held some
   stays_or_goes (Acknowledge from id) t some = inl (each_stays p (has_last_id from id) acknowledged (λ o. refl) t.held ∙ some)
   stays_or_goes (Tick now) t some = ⊎_elim
-      (λ (w : list_any p (at_first (is_late (max t.moment now)) (timed_out (max t.moment now)) t.held) ≡ true). inl w)
-      (λ (w : (o : Entry) × (late_entry (at_moment now t) ≡ Some o) × (p o ≡ true) × (list_any p (timed_out (max t.moment now) o) ≡ false)). inr (w.0, w.1, w.2, timed_by (max t.moment now) w.0 (retransmission w.0) refl w.2 w.3))
-      (first_stays p (is_late (max t.moment now)) (timed_out (max t.moment now)) t.held some)
+      (λ (w : list_any p (at_first (is_overdue (max t.time now)) (timed_out (max t.time now)) t.held) ≡ true). inl w)
+      (λ (w : (o : Entry) × (overdue_entry (list_at_time now t) ≡ Some o) × (p o ≡ true) × (list_any p (timed_out (max t.time now) o) ≡ false)). inr (w.0, w.1, w.2, timed_by (max t.time now) w.0 (retransmission w.0) refl w.2 w.3))
+      (first_stays p (is_overdue (max t.time now)) (timed_out (max t.time now)) t.held some)

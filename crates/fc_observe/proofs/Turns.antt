@@ -13,10 +13,10 @@ use Rattle.fc_observe.specs.declared.entry.Phase.TheVariants.{TurnOut, Outstandi
 use Rattle.fc_observe.specs.declared.entry.Turn.{Turn}
 use Rattle.fc_observe.specs.declared.observers.Registered.{Registered}
 use Rattle.fc_observe.specs.declared.observers.Registered.TheVariants.{Entered, Replaced, Full}
-use Rattle.fc_observe.specs.Calls.{ObserverCall, Register, NextDue, Miss, Notify, End, GiveUp, Acknowledge, Tick, changed_by, observers}
+use Rattle.fc_observe.specs.Calls.{ObserverCall, Register, NextDue, MarkMissing, Notify, End, GiveUp, Acknowledge, Tick, changed_by, observers}
 use Rattle.fc_observe.specs.Entries.{acknowledged_phase, given_up, has_turn, is_due, is_entry_of, is_out_in, missed_phase, must_confirm, new_entry, notified, notified_by, retransmitted_phase, with_turn}
 use Rattle.fc_observe.specs.Laws.{has_number, has_number_in}
-use Rattle.fc_observe.specs.Observers.{ObserverList, at_first, at_moment, entered_by, entry_out, gives_turn, is_out, registration, turn_given_by, without_those}
+use Rattle.fc_observe.specs.Observers.{ObserverList, at_first, list_at_time, entered_by, entry_out, gives_turn, is_out, registration, turn_given_by, without_those}
 use Rattle.fc_observe.proofs.Counting.{IfAdds, sum_after, sum_first, sum_left, unit}
 use Rattle.fc_observe.proofs.Serials.{all_below}
 use Rattle.fc_observe.proofs.Hearing.{notified_in}
@@ -45,16 +45,16 @@ resent_number n now other = omega arith
 
 -- the property that a call must have that grants no lease
 abbrev IfGivesNone : ℕ → ObserverCall → ObserverList → Type 0
-IfGivesNone n (NextDue now noticed) t = Unit {0}
+IfGivesNone n (NextDue now notify_serial) t = Unit {0}
 IfGivesNone n c t = (o : Entry) → turns_of n (changed_by c t o) ≤ turns_of n o
 
 no_more_turns : (n : ℕ) (c : ObserverCall) (t : ObserverList) → IfGivesNone n c t
-no_more_turns n (NextDue now noticed) t = tt
-no_more_turns n (Miss turn) t = λ o. missed_number n o.phase
-no_more_turns n (Notify now turn id serial random bytes) t = λ o. notified_number n (max t.moment now) id serial random bytes o (must_confirm t.confirm_after (max t.moment now) o)
+no_more_turns n (NextDue now notify_serial) t = tt
+no_more_turns n (MarkMissing turn) t = λ o. missed_number n o.phase
+no_more_turns n (Notify now turn id serial random bytes) t = λ o. notified_number n (max t.time now) id serial random bytes o (must_confirm t.confirm_after (max t.time now) o)
 no_more_turns n (GiveUp turn now) t = λ o. omega arith
 no_more_turns n (Acknowledge to id) t = λ o. acknowledged_number n o.phase
-no_more_turns n (Tick now) t = λ o. resent_number n (max t.moment now) o.phase
+no_more_turns n (Tick now) t = λ o. resent_number n (max t.time now) o.phase
 no_more_turns n other t = λ o. omega arith
 
 entered_turns : (n : ℕ) (e : Registered) (to : Endpoint) (token : List ℕ) (o : Entry) (os : List Entry) → turns_of n o ≡ 0 → sum_by (turns_of n) os ≤ 1 → sum_by (turns_of n) (entered_by e to token o os) ≤ 1
@@ -63,7 +63,7 @@ entered_turns n Entered to token o os none le = let few = sum_left (turns_of n) 
 entered_turns n Replaced to token o os none le = let few = sum_left (turns_of n) (is_entry_of to token) os in let joined = sum_by-append (turns_of n) (without_those (is_entry_of to token) os) (o ∷ []) in omega (arith, few, joined, none, le)
 
 turns_added : (n : ℕ) (c : ObserverCall) (t : ObserverList) → sum_by (turns_of n) t.held ≤ 1 → IfAdds (turns_of n) c t 1
-turns_added n (Register now to token request szx serial) t le = entered_turns n (registration to token.items (at_moment now t)) to token.items (new_entry (max t.moment now) to token request szx serial) t.held refl le
+turns_added n (Register now to token request szx serial) t le = entered_turns n (registration to token.items (list_at_time now t)) to token.items (new_entry (max t.time now) to token request szx serial) t.held refl le
 turns_added n other t le = tt
 
 -- ---- the call that grants one
@@ -88,15 +88,15 @@ unit_least : (b : Bool) → unit b ≤ 1
 unit_least true = omega arith
 unit_least false = omega arith
 
-given_number : (n : ℕ) (t : ObserverList) (noticed : ℕ) (b same : Bool) → (t.turns == n) ≡ same → (same ≡ true → sum_by (turns_of n) t.held ≡ 0) → sum_by (turns_of n) t.held ≤ 1 → sum_by (turns_of n) (turn_given_by b noticed t).held ≤ 1
-given_number n t noticed false same e none le = le
-given_number n t noticed true true e none le =
+given_number : (n : ℕ) (t : ObserverList) (notify_serial : ℕ) (b same : Bool) → (t.turns == n) ≡ same → (same ≡ true → sum_by (turns_of n) t.held ≡ 0) → sum_by (turns_of n) t.held ≤ 1 → sum_by (turns_of n) (turn_given_by b notify_serial t).held ≤ 1
+given_number n t notify_serial false same e none le = le
+given_number n t notify_serial true true e none le =
     let before = none refl in
-    let after = one_more (turns_of n) (is_due t.moment noticed) (λ o. with_turn t.turns t.moment o ∷ []) (λ o. let l = unit_least (t.turns == n) in omega (arith, l)) t.held in
+    let after = one_more (turns_of n) (is_due t.time notify_serial) (λ o. with_turn t.turns t.time o ∷ []) (λ o. let l = unit_least (t.turns == n) in omega (arith, l)) t.held in
     omega (arith, before, after)
-given_number n t noticed true false e none le =
+given_number n t notify_serial true false e none le =
     let other : unit (t.turns == n) ≡ 0 = ap unit e in
-    let after = sum_first (turns_of n) (is_due t.moment noticed) (λ o. with_turn t.turns t.moment o ∷ []) (λ o. omega (arith, other)) t.held in
+    let after = sum_first (turns_of n) (is_due t.time notify_serial) (λ o. with_turn t.turns t.time o ∷ []) (λ o. omega (arith, other)) t.held in
     omega (arith, after, le)
 
 number_below : (n turns : ℕ) (p : Phase) → ((k at : ℕ) (missing : Bool) → p ≡ TurnOut k at missing → k < turns) → turns ≡ n → unit (has_number_in n p) ≡ 0
@@ -106,9 +106,9 @@ number_below n turns (TurnOut own at missing) below same =
 number_below n turns other below same = refl
 
 one_after : (n slot confirm_after : ℕ) (h : List ObserverCall) (c : ObserverCall) → count_by (has_number n) (observers slot confirm_after h).held ≤ 1 → count_by (has_number n) (observers slot confirm_after (c ∷ h)).held ≤ 1
-one_after n slot confirm_after h (NextDue now noticed) le =
-    let t = at_moment now (observers slot confirm_after h) in
-    given_number n t noticed (gives_turn noticed t) (t.turns == n) refl
+one_after n slot confirm_after h (NextDue now notify_serial) le =
+    let t = list_at_time now (observers slot confirm_after h) in
+    given_number n t notify_serial (gives_turn notify_serial t) (t.turns == n) refl
     (λ e. zero_sum (turns_of n) t.held (λ k d lt. number_below n t.turns _ (λ m at missing out. (all_below slot confirm_after h k d lt m at missing out).0) (eqb-true t.turns n e))) le
 one_after n slot confirm_after h other le = sum_after (turns_of n) other (observers slot confirm_after h) 1 (no_more_turns n other (observers slot confirm_after h)) (turns_added n other (observers slot confirm_after h) le) le
 
@@ -159,22 +159,22 @@ one_out turn slot m os le = let fewer = sum_by-le-sum_by (λ (o : Entry). unit (
 
 pub notified_over : (slot confirm_after now id serial random : ℕ) (turn : Turn) (bytes : ArrayVec ℕ) (h : List ObserverCall) → entry_out turn (observers slot confirm_after (Notify now turn id serial random bytes ∷ h)) ≡ None
 notified_over slot confirm_after now id serial random turn bytes h =
-    let t = at_moment now (observers slot confirm_after h) in
+    let t = list_at_time now (observers slot confirm_after h) in
     unfound (is_out turn t) (observers slot confirm_after (Notify now turn id serial random bytes ∷ h)).held
-    (first_gone (is_out turn t) (λ o. notified t.confirm_after t.moment id serial random bytes o ∷ [])
-    (λ o. let out = ap unit (and_right (turn.slot == t.slot) (is_out_in t.moment turn.number (notified t.confirm_after t.moment id serial random bytes o).phase) (notified_in t.moment turn.number t.moment id serial random bytes o (must_confirm t.confirm_after t.moment o))) in omega (arith, out))
-    t.held (one_out turn t.slot t.moment t.held (one_turn slot confirm_after turn.number h)))
+    (first_gone (is_out turn t) (λ o. notified t.confirm_after t.time id serial random bytes o ∷ [])
+    (λ o. let out = ap unit (and_right (turn.slot == t.slot) (is_out_in t.time turn.number (notified t.confirm_after t.time id serial random bytes o).phase) (notified_in t.time turn.number t.time id serial random bytes o (must_confirm t.confirm_after t.time o))) in omega (arith, out))
+    t.held (one_out turn t.slot t.time t.held (one_turn slot confirm_after turn.number h)))
 
 pub ended_over : (slot confirm_after : ℕ) (turn : Turn) (h : List ObserverCall) → entry_out turn (observers slot confirm_after (End turn ∷ h)) ≡ None
 ended_over slot confirm_after turn h =
     let t = observers slot confirm_after h in
     unfound (is_out turn t) (observers slot confirm_after (End turn ∷ h)).held
-    (first_gone (is_out turn t) (λ o. []) (λ o. refl) t.held (one_out turn t.slot t.moment t.held (one_turn slot confirm_after turn.number h)))
+    (first_gone (is_out turn t) (λ o. []) (λ o. refl) t.held (one_out turn t.slot t.time t.held (one_turn slot confirm_after turn.number h)))
 
 pub given_up_over : (slot confirm_after now : ℕ) (turn : Turn) (h : List ObserverCall) → entry_out turn (observers slot confirm_after (GiveUp turn now ∷ h)) ≡ None
 given_up_over slot confirm_after now turn h =
-    let t = at_moment now (observers slot confirm_after h) in
+    let t = list_at_time now (observers slot confirm_after h) in
     unfound (is_out turn t) (observers slot confirm_after (GiveUp turn now ∷ h)).held
-    (first_gone (is_out turn t) (λ o. given_up t.moment o ∷ [])
+    (first_gone (is_out turn t) (λ o. given_up t.time o ∷ [])
     (λ o. let out = ap unit (and_right (turn.slot == t.slot) false refl) in omega (arith, out))
-    t.held (one_out turn t.slot t.moment t.held (one_turn slot confirm_after turn.number h)))
+    t.held (one_out turn t.slot t.time t.held (one_turn slot confirm_after turn.number h)))

@@ -62,7 +62,7 @@ is_free now (Outstanding sent_at timeout retransmissions bytes) = false
 -- the entry has a pending notification: the noticed revision is above the last one sent to it, and
 -- its phase is free.
 abbrev pub is_due : ℕ → ℕ → Entry → Bool
-is_due now noticed o = nat_lt o.serial noticed && is_free now o.phase
+is_due now notify_serial o = nat_lt o.serial notify_serial && is_free now o.phase
 
 -- the lease with this number is active from now on, and its snapshot is still to be taken.
 abbrev pub with_turn : ℕ → ℕ → Entry → Entry
@@ -117,13 +117,13 @@ abbrev pub backoff : ℕ → ℕ → ℕ
 backoff timeout retransmissions = timeout * 2 ^ min retransmissions 4
 
 -- the timeout of the phase has passed.
-abbrev pub is_late_in : ℕ → Phase → Bool
-is_late_in now (Outstanding sent_at timeout retransmissions bytes) = nat_le (sent_at + backoff timeout retransmissions) now
-is_late_in now other = false
+abbrev pub is_overdue_in : ℕ → Phase → Bool
+is_overdue_in now (Outstanding sent_at timeout retransmissions bytes) = nat_le (sent_at + backoff timeout retransmissions) now
+is_overdue_in now other = false
 
 -- the entry's notification is outstanding, and its timeout has passed.
-abbrev pub is_late : ℕ → Entry → Bool
-is_late now o = is_late_in now o.phase
+abbrev pub is_overdue : ℕ → Entry → Bool
+is_overdue now o = is_overdue_in now o.phase
 
 -- the same bytes again, if they were retransmitted less than four times.
 abbrev pub retransmission_in : Endpoint → Phase → Option Emission

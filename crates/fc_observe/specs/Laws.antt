@@ -6,7 +6,7 @@ use Rattle.coap_msg.specs.declared.types.Endpoint.{Endpoint}
 use Rattle.fc_help.specs.Request.{Request}
 use Rattle.fc_observe.specs.Calls.{ObserverCall, NextDue, Notify, Register, is_registration_of, observers}
 use Rattle.fc_observe.specs.Entries.{retransmitted}
-use Rattle.fc_observe.specs.Observers.{ObserverList, at_moment, gives_turn, is_out}
+use Rattle.fc_observe.specs.Observers.{ObserverList, list_at_time, gives_turn, is_out}
 use Rattle.fc_observe.specs.Views.{interest_of}
 use Rattle.fc_observe.specs.declared.entry.Entry.{Entry}
 use Rattle.fc_observe.specs.declared.entry.Phase.{Phase}
@@ -20,9 +20,9 @@ RegistersNone to token (c ∷ h) = (is_registration_of to token c ≡ false) × 
 -- the noticed revision for which the lease with this number was granted.
 abbrev pub noticed_for : ℕ → ℕ → ℕ → List ObserverCall → ℕ
 noticed_for number slot confirm_after [] = 0
-noticed_for number slot confirm_after (NextDue now noticed ∷ h) =
-    if gives_turn noticed (at_moment now (observers slot confirm_after h)) && ((observers slot confirm_after h).turns == number)
-    then noticed
+noticed_for number slot confirm_after (NextDue now notify_serial ∷ h) =
+    if gives_turn notify_serial (list_at_time now (observers slot confirm_after h)) && ((observers slot confirm_after h).turns == number)
+    then notify_serial
     else noticed_for number slot confirm_after h
 noticed_for number slot confirm_after (other ∷ h) = noticed_for number slot confirm_after h
 
@@ -40,7 +40,7 @@ resent_entry (now ∷ before) o = retransmitted now (resent_entry before o)
 
 -- the call notifies the entry's lease, with this revision.
 abbrev pub IsNotified : ObserverCall → ObserverList → Entry → ℕ → Type 0
-IsNotified (Notify now turn id sent random bytes) t o serial = (is_out turn (at_moment now t) o ≡ true) × (serial ≡ sent)
+IsNotified (Notify now turn id sent random bytes) t o serial = (is_out turn (list_at_time now t) o ≡ true) × (serial ≡ sent)
 IsNotified other t o serial = ⊥
 
 -- an entry after a call has the same observer, and its last revision is unchanged or that of the
@@ -85,7 +85,7 @@ has_number number o = has_number_in number o.phase
 
 -- the call registers the entry at its time: no notification was sent yet.
 abbrev pub IsNewAt : ObserverCall → ObserverList → Entry → Type 0
-IsNewAt (Register now to token request szx serial) t o = (o.id ≡ None) × (o.confirmed ≡ max t.moment now)
+IsNewAt (Register now to token request szx serial) t o = (o.id ≡ None) × (o.confirmed ≡ max t.time now)
 IsNewAt other t o = ⊥
 
 -- the time of the last confirmable notification after one at `now`: `now`, if `confirm_after` ms
@@ -97,7 +97,7 @@ confirmed_at confirm_after now before = if nat_le (before + confirm_after) now t
 -- unchanged.
 abbrev pub KeepsLast : ObserverCall → ObserverList → Entry → Entry → Type 0
 KeepsLast (Notify now turn id serial random bytes) t o before =
-    (o ≡ before) ⊎ ((is_out turn (at_moment now t) before ≡ true) × (interest_of o ≡ interest_of before) × (o.id ≡ Some id) × (o.confirmed ≡ confirmed_at t.confirm_after (max t.moment now) before.confirmed))
+    (o ≡ before) ⊎ ((is_out turn (list_at_time now t) before ≡ true) × (interest_of o ≡ interest_of before) × (o.id ≡ Some id) × (o.confirmed ≡ confirmed_at t.confirm_after (max t.time now) before.confirmed))
 KeepsLast other t o before = (interest_of o ≡ interest_of before) × (o.id ≡ before.id) × (o.confirmed ≡ before.confirmed)
 
 -- ---- an acknowledgement

@@ -11,24 +11,24 @@ use Rattle.fc_observe.specs.declared.observers.Registered.{Registered}
 use Rattle.fc_observe.specs.declared.observers.Registered.TheVariants.{Entered, Replaced, Full}
 use Rattle.fc_observe.specs.declared.observers.Ticked.{Ticked}
 use Rattle.fc_observe.specs.declared.observers.Ticked.TheVariants.{Resend, Removed, Quiet}
-use Rattle.fc_observe.specs.Entries.{acknowledged, changed_if, given_up, has_last_id, has_missed, has_turn, is_due, is_entry_of, is_late, missed, must_confirm, new_entry, notified, retransmission, timed_out, with_turn}
+use Rattle.fc_observe.specs.Entries.{acknowledged, changed_if, given_up, has_last_id, has_missed, has_turn, is_due, is_entry_of, is_overdue, missed, must_confirm, new_entry, notified, retransmission, timed_out, with_turn}
 
 -- the slot, the interval of confirmable notifications in ms, the greatest time passed, how many
 -- leases were granted, and the entries, in order of registration.
 pub record ObserverList : Type 0 where
   pub slot : ℕ
   pub confirm_after : ℕ
-  pub moment : ℕ
+  pub time : ℕ
   pub turns : ℕ
   pub held : List Entry
 
 -- a new list.
 abbrev pub no_observers : ℕ → ℕ → ObserverList
-no_observers slot confirm_after = record { slot = slot; confirm_after = confirm_after; moment = 0; turns = 0; held = [] }
+no_observers slot confirm_after = record { slot = slot; confirm_after = confirm_after; time = 0; turns = 0; held = [] }
 
 -- the clock is advanced, never backwards.
-abbrev pub at_moment : ℕ → ObserverList → ObserverList
-at_moment now t = record t { moment = max t.moment now }
+abbrev pub list_at_time : ℕ → ObserverList → ObserverList
+list_at_time now t = record t { time = max t.time now }
 
 -- the list with these entries.
 abbrev pub with_held : List Entry → ObserverList → ObserverList
@@ -68,7 +68,7 @@ entered_by Replaced to token o held = without_those (is_entry_of to token) held 
 
 -- the list after a registration.
 abbrev pub registered : Endpoint → ArrayVec ℕ → Request → Option ℕ → ℕ → ObserverList → ObserverList
-registered to token request szx serial t = with_held (entered_by (registration to token.items t) to token.items (new_entry t.moment to token request szx serial) t.held) t
+registered to token request szx serial t = with_held (entered_by (registration to token.items t) to token.items (new_entry t.time to token request szx serial) t.held) t
 
 -- the list after a cancellation (RFC 7641, section 3.6).
 abbrev pub cancelled : Endpoint → List ℕ → ObserverList → ObserverList
@@ -78,7 +78,7 @@ cancelled to token t = with_held (without_those (is_entry_of to token) t.held) t
 
 -- an observer has a pending notification, and the count of leases isn't at its maximum.
 abbrev pub gives_turn : ℕ → ObserverList → Bool
-gives_turn noticed t = nat_lt t.turns 18446744073709551615 && list_any (is_due t.moment noticed) t.held
+gives_turn notify_serial t = nat_lt t.turns 18446744073709551615 && list_any (is_due t.time notify_serial) t.held
 
 -- the next lease, numbered by how many were granted.
 abbrev pub next_turn_by : Bool → ObserverList → Option Turn
@@ -87,20 +87,20 @@ next_turn_by false t = None
 
 -- the lease that is granted for the noticed revision.
 abbrev pub next_turn : ℕ → ObserverList → Option Turn
-next_turn noticed t = next_turn_by (gives_turn noticed t) t
+next_turn notify_serial t = next_turn_by (gives_turn notify_serial t) t
 
 -- the first observer with a pending notification gets the lease.
 abbrev pub turn_given_by : Bool → ℕ → ObserverList → ObserverList
-turn_given_by true noticed t = record t { turns = t.turns + 1; held = at_first (is_due t.moment noticed) (λ o. with_turn t.turns t.moment o ∷ []) t.held }
-turn_given_by false noticed t = t
+turn_given_by true notify_serial t = record t { turns = t.turns + 1; held = at_first (is_due t.time notify_serial) (λ o. with_turn t.turns t.time o ∷ []) t.held }
+turn_given_by false notify_serial t = t
 
 -- the list after the grant.
 abbrev pub turn_given : ℕ → ObserverList → ObserverList
-turn_given noticed t = turn_given_by (gives_turn noticed t) noticed t
+turn_given notify_serial t = turn_given_by (gives_turn notify_serial t) notify_serial t
 
 -- the entry has this lease, and the lease is active.
 abbrev pub is_out : Turn → ObserverList → Entry → Bool
-is_out turn t o = has_turn t.slot t.moment turn o
+is_out turn t o = has_turn t.slot t.time turn o
 
 -- the entry that has this active lease.
 abbrev pub entry_out : Turn → ObserverList → Option Entry
@@ -126,11 +126,11 @@ must_confirm_by (Some o) confirm_after now = must_confirm confirm_after now o
 
 -- the same, for the entry that has the lease.
 abbrev pub must_confirm_turn : Turn → ObserverList → Bool
-must_confirm_turn turn t = must_confirm_by (entry_out turn t) t.confirm_after t.moment
+must_confirm_turn turn t = must_confirm_by (entry_out turn t) t.confirm_after t.time
 
 -- the lease ends with this notification.
 abbrev pub turn_notified : Turn → ℕ → ℕ → ℕ → ArrayVec ℕ → ObserverList → ObserverList
-turn_notified turn id serial random bytes t = with_held (at_first (is_out turn t) (λ o. notified t.confirm_after t.moment id serial random bytes o ∷ []) t.held) t
+turn_notified turn id serial random bytes t = with_held (at_first (is_out turn t) (λ o. notified t.confirm_after t.time id serial random bytes o ∷ []) t.held) t
 
 -- the lease ends with the removal of its entry.
 abbrev pub turn_ended : Turn → ObserverList → ObserverList
@@ -138,7 +138,7 @@ turn_ended turn t = with_held (at_first (is_out turn t) (λ o. []) t.held) t
 
 -- the lease is released.
 abbrev pub turn_given_up : Turn → ObserverList → ObserverList
-turn_given_up turn t = with_held (at_first (is_out turn t) (λ o. given_up t.moment o ∷ []) t.held) t
+turn_given_up turn t = with_held (at_first (is_out turn t) (λ o. given_up t.time o ∷ []) t.held) t
 
 -- ---- signals and time
 
@@ -151,8 +151,8 @@ abbrev pub after_ack : Endpoint → ℕ → ObserverList → ObserverList
 after_ack to id t = with_held (at_each (has_last_id to id) acknowledged t.held) t
 
 -- the first entry whose notification timed out.
-abbrev pub late_entry : ObserverList → Option Entry
-late_entry t = find (is_late t.moment) t.held
+abbrev pub overdue_entry : ObserverList → Option Entry
+overdue_entry t = find (is_overdue t.time) t.held
 
 -- the effect of a tick: it retransmits a notification, removes the entry, or does nothing.
 abbrev pub ticked_by : Option Emission → Ticked
@@ -166,8 +166,8 @@ ticked_at (Some o) = ticked_by (retransmission o)
 
 -- the effect at the list's time.
 abbrev pub ticked : ObserverList → Ticked
-ticked t = ticked_at (late_entry t)
+ticked t = ticked_at (overdue_entry t)
 
 -- the list after a tick.
 abbrev pub after_tick : ObserverList → ObserverList
-after_tick t = with_held (at_first (is_late t.moment) (timed_out t.moment) t.held) t
+after_tick t = with_held (at_first (is_overdue t.time) (timed_out t.time) t.held) t

@@ -1,7 +1,7 @@
 //! An entry in the list of observers.
 ghost use Rattle.std.specs.Prelude.{◌≡◌, ℕ, ◌<◌, false, is_some};
-ghost use Rattle.fc_observe.specs.Entries.{acknowledged, backoff, changed_if, first_timeout, given_up, has_last_id, has_missed, has_turn, is_due, is_entry_of, is_free, is_late, is_late_in, missed, must_confirm, notified, retransmission, retransmitted, with_turn};
-ghost use Rattle.fc_observe.specs.Quiet.{IsQuietUntil};
+ghost use Rattle.fc_observe.specs.Entries.{acknowledged, backoff, changed_if, first_timeout, given_up, has_last_id, has_missed, has_turn, is_due, is_entry_of, is_free, is_overdue, is_overdue_in, missed, must_confirm, notified, retransmission, retransmitted, with_turn};
+ghost use Rattle.fc_observe.specs.Quiet.{IsIdleUntil};
 ghost use Rattle.fc_observe.specs.Views.{interest, interest_of};
 
 use coap_msg::{Datagram, Emission, Endpoint, Token, WINDOW};
@@ -157,11 +157,11 @@ impl Entry {
         }
     }
 
-    // Returns whether the entry has a pending notification about revision `noticed`.
-    pub(crate) fn is_due(&self, now: u64, noticed: u64) -> bool
-        ensures { result ≡ is_due now noticed self.now }
+    // Returns whether the entry has a pending notification about revision `notify_serial`.
+    pub(crate) fn is_due(&self, now: u64, notify_serial: u64) -> bool
+        ensures { result ≡ is_due now notify_serial self.now }
     {
-        self.serial < noticed && is_free(now, &self.phase)
+        self.serial < notify_serial && is_free(now, &self.phase)
     }
 
     // Returns whether its next notification is confirmable, if one is every `confirm_after`
@@ -173,8 +173,8 @@ impl Entry {
     }
 
     // Returns whether its notification is outstanding, and its timeout has passed.
-    pub(crate) fn is_late(&self, now: u64) -> bool
-        ensures { result ≡ is_late now self.now }
+    pub(crate) fn is_overdue(&self, now: u64) -> bool
+        ensures { result ≡ is_overdue now self.now }
     {
         match &self.phase {
             Phase::Outstanding {
@@ -187,16 +187,16 @@ impl Entry {
         }
     }
 
-    // Returns a time before which no retransmission and no notification about revision `noticed` is
+    // Returns a time before which no retransmission and no notification about revision `notify_serial` is
     // pending.
-    pub(crate) fn quiet_until(&self, noticed: u64) -> u64
-        ensures { IsQuietUntil result noticed self.now }
+    pub(crate) fn idle_until(&self, notify_serial: u64) -> u64
+        ensures { IsIdleUntil result notify_serial self.now }
     {
-        let late = late_from(&self.phase);
-        if self.serial < noticed {
-            late.min(free_from(&self.phase))
+        let overdue = overdue_from(&self.phase);
+        if self.serial < notify_serial {
+            overdue.min(free_from(&self.phase))
         } else {
-            late
+            overdue
         }
     }
 
@@ -212,7 +212,7 @@ impl Entry {
     }
 
     // Records that the snapshot of its lease found the slot empty.
-    pub(crate) fn miss(&mut self)
+    pub(crate) fn mark_missing(&mut self)
         ensures { self.new ≡ missed self.old }
     {
         if let Phase::TurnOut { missing, .. } = &mut self.phase {
@@ -318,8 +318,8 @@ fn free_from(phase: &Phase) -> u64
 }
 
 // Returns a time before which no retransmission is due.
-fn late_from(phase: &Phase) -> u64
-    ensures { (now : ℕ) → now < result → is_late_in now phase.now ≡ false }
+fn overdue_from(phase: &Phase) -> u64
+    ensures { (now : ℕ) → now < result → is_overdue_in now phase.now ≡ false }
 {
     match phase {
         Phase::Outstanding {

@@ -7,10 +7,10 @@ ghost use Rattle.arrayvec.specs.ArrayVec.{ArrayVec};
 ghost use Rattle.coap_msg.specs.declared.types.Emission.{Emission};
 ghost use Rattle.coap_msg.specs.declared.types.Endpoint.{Endpoint};
 ghost use Rattle.fc_help.specs.Request.{Request};
-ghost use Rattle.fc_observe.specs.Calls.{ComesFrom, IsRegisteredBy, ObserverCall, NextDue, Notify, Miss, End, GiveUp, after_calls, observers, observers_after};
-ghost use Rattle.fc_observe.specs.Entries.{given_up, is_due, is_entry_of, is_late, must_confirm, notified, retransmission, timed_out, with_turn};
+ghost use Rattle.fc_observe.specs.Calls.{ComesFrom, IsRegisteredBy, ObserverCall, NextDue, Notify, MarkMissing, End, GiveUp, after_calls, observers, observers_after};
+ghost use Rattle.fc_observe.specs.Entries.{given_up, is_due, is_entry_of, is_overdue, must_confirm, notified, retransmission, timed_out, with_turn};
 ghost use Rattle.fc_observe.specs.Laws.{HandsInUpTo, IsAcknowledged, IsGivenUpNow, IsNewAt, IsOutstanding, IsRegistrationOf, IsSentAt, IsTurnOut, KeepsLast, KeepsSerial, RegistersNone, StandsLast, has_number, noticed_for, resent_entry};
-ghost use Rattle.fc_observe.specs.Observers.{ObserverList, after_ack, after_reset, at_moment, cancelled, entry_out, is_missing, is_out, must_confirm_turn, next_turn, registered, ticked, turn_given};
+ghost use Rattle.fc_observe.specs.Observers.{ObserverList, after_ack, after_reset, list_at_time, cancelled, entry_out, is_missing, is_out, must_confirm_turn, next_turn, registered, ticked, turn_given};
 ghost use Rattle.fc_observe.specs.declared.entry.Entry.{Entry};
 ghost use Rattle.fc_observe.specs.declared.entry.Phase.TheVariants.{TurnOut};
 ghost use Rattle.fc_observe.specs.declared.entry.Turn.{Turn};
@@ -31,8 +31,8 @@ pub fn entries_are_few()
 /// - None of its confirmable notifications is outstanding.
 /// - None of its leases is active, and none was released at this time.
 pub fn observers_are_due()
-    ensures { (now noticed : ℕ) (o : Entry) → ((is_due now noticed o ≡ true)
-        ↔ ((o.serial < noticed) × (IsOutstanding o.phase → ⊥) × (IsTurnOut now o.phase → ⊥)
+    ensures { (now notify_serial : ℕ) (o : Entry) → ((is_due now notify_serial o ≡ true)
+        ↔ ((o.serial < notify_serial) × (IsOutstanding o.phase → ⊥) × (IsTurnOut now o.phase → ⊥)
         × (IsGivenUpNow now o.phase → ⊥))) }
 {}
 
@@ -56,10 +56,10 @@ pub fn turns_end_once()
 /// A new lease isn't.
 pub fn turns_keep_what_they_missed()
     ensures missed { (turn : Turn) (t : ObserverList) → is_some (entry_out turn t) ≡ true →
-        is_missing turn (observers_after (Miss turn) t) ≡ true }
-    ensures new { (slot confirm_after now noticed : ℕ) (turn : Turn) (h : List ObserverCall) →
-        next_turn noticed (at_moment now (observers slot confirm_after h)) ≡ Some turn →
-        is_missing turn (observers slot confirm_after (NextDue now noticed ∷ h)) ≡ false }
+        is_missing turn (observers_after (MarkMissing turn) t) ≡ true }
+    ensures new { (slot confirm_after now notify_serial : ℕ) (turn : Turn) (h : List ObserverCall) →
+        next_turn notify_serial (list_at_time now (observers slot confirm_after h)) ≡ Some turn →
+        is_missing turn (observers slot confirm_after (NextDue now notify_serial ∷ h)) ≡ false }
 {}
 
 /// The origin of each entry after a call.
@@ -81,15 +81,15 @@ pub fn notifications_are_retransmitted()
         must_confirm confirm_after now o ≡ true →
         IsSentAt now (2000 + random % 1001) bytes (notified confirm_after now id serial random bytes o) }
     ensures first { (later s t : ℕ) (bytes : ArrayVec ℕ) (o : Entry) → IsSentAt s t bytes o →
-        is_late later o ≡ nat_le (s + t) later }
+        is_overdue later o ≡ nat_le (s + t) later }
     ensures second { (later s t a : ℕ) (bytes : ArrayVec ℕ) (o : Entry) → IsSentAt s t bytes o →
-        is_late later (resent_entry (a ∷ []) o) ≡ nat_le (a + 2 * t) later }
+        is_overdue later (resent_entry (a ∷ []) o) ≡ nat_le (a + 2 * t) later }
     ensures third { (later s t a b : ℕ) (bytes : ArrayVec ℕ) (o : Entry) → IsSentAt s t bytes o →
-        is_late later (resent_entry (b ∷ a ∷ []) o) ≡ nat_le (b + 4 * t) later }
+        is_overdue later (resent_entry (b ∷ a ∷ []) o) ≡ nat_le (b + 4 * t) later }
     ensures fourth { (later s t a b c : ℕ) (bytes : ArrayVec ℕ) (o : Entry) → IsSentAt s t bytes o →
-        is_late later (resent_entry (c ∷ b ∷ a ∷ []) o) ≡ nat_le (c + 8 * t) later }
+        is_overdue later (resent_entry (c ∷ b ∷ a ∷ []) o) ≡ nat_le (c + 8 * t) later }
     ensures last { (later s t a b c d : ℕ) (bytes : ArrayVec ℕ) (o : Entry) → IsSentAt s t bytes o →
-        is_late later (resent_entry (d ∷ c ∷ b ∷ a ∷ []) o) ≡ nat_le (d + 16 * t) later }
+        is_overdue later (resent_entry (d ∷ c ∷ b ∷ a ∷ []) o) ≡ nat_le (d + 16 * t) later }
     ensures same { (s t : ℕ) (bytes : ArrayVec ℕ) (o : Entry) (at : List ℕ) → IsSentAt s t bytes o →
         length at < 4 →
         retransmission (resent_entry at o) ≡ Some (record { to = o.endpoint; bytes = bytes }) }
@@ -103,14 +103,14 @@ pub fn notifications_are_retransmitted()
 /// if its revision is below the noticed one. A lease that is active for 247,000 ms is released at
 /// that millisecond.
 pub fn given_up_turns_wait()
-    ensures same { (now noticed : ℕ) (o : Entry) → is_due now noticed (given_up now o) ≡ false }
-    ensures later { (now later noticed : ℕ) (o : Entry) → now < later →
-        is_due later noticed (given_up now o) ≡ nat_lt o.serial noticed }
-    ensures out { (now number at noticed : ℕ) (missing : Bool) (o : Entry) →
-        o.phase ≡ TurnOut number at missing → now ≤ at + 247000 → is_due now noticed o ≡ false }
-    ensures lapsed { (now number at noticed : ℕ) (missing : Bool) (o : Entry) →
+    ensures same { (now notify_serial : ℕ) (o : Entry) → is_due now notify_serial (given_up now o) ≡ false }
+    ensures later { (now later notify_serial : ℕ) (o : Entry) → now < later →
+        is_due later notify_serial (given_up now o) ≡ nat_lt o.serial notify_serial }
+    ensures out { (now number at notify_serial : ℕ) (missing : Bool) (o : Entry) →
+        o.phase ≡ TurnOut number at missing → now ≤ at + 247000 → is_due now notify_serial o ≡ false }
+    ensures lapsed { (now number at notify_serial : ℕ) (missing : Bool) (o : Entry) →
         o.phase ≡ TurnOut number at missing → at + 247000 < now →
-        is_due now noticed o ≡ nat_lt o.serial noticed }
+        is_due now notify_serial o ≡ nat_lt o.serial notify_serial }
 {}
 
 /// A Reset removes just the entries whose last notification it matches.
@@ -136,7 +136,7 @@ pub fn cancellations_remove_their_own()
 /// No entry has its endpoint and token before it registers again, and a lease that is no longer
 /// active stays so. Only stored entries have active leases, and only their notifications are
 /// retransmitted.
-pub fn removed_observers_hear_nothing()
+pub fn removed_observers_receive_nothing()
     ensures gone { (to : Endpoint) (token : List ℕ) (h : List ObserverCall) (t : ObserverList) →
         RegistersNone to token h → list_any (is_entry_of to token) t.held ≡ false →
         list_any (is_entry_of to token) (after_calls h t).held ≡ false }
@@ -160,7 +160,7 @@ pub fn serials_rise()
         (observers_after c t).held }
     ensures above { (slot confirm_after now : ℕ) (turn : Turn) (serial : ℕ) (h : List ObserverCall) →
         noticed_for turn.number slot confirm_after h ≤ serial →
-        All (λ (o : Entry). is_out turn (at_moment now (observers slot confirm_after h)) o ≡ true →
+        All (λ (o : Entry). is_out turn (list_at_time now (observers slot confirm_after h)) o ≡ true →
         o.serial < serial) (observers slot confirm_after h).held }
 {}
 
@@ -177,10 +177,10 @@ pub fn serials_stay_below()
 ///
 /// The lease is numbered by how many were granted before it. The other entries don't change.
 pub fn the_first_due_gets_the_turn()
-    ensures { (noticed : ℕ) (t : ObserverList) (before after : List Entry) (o : Entry) →
+    ensures { (notify_serial : ℕ) (t : ObserverList) (before after : List Entry) (o : Entry) →
         t.turns < 18446744073709551615 → t.held ≡ before ++ o ∷ after →
-        list_any (is_due t.moment noticed) before ≡ false → is_due t.moment noticed o ≡ true →
-        (turn_given noticed t).held ≡ before ++ with_turn t.turns t.moment o ∷ after }
+        list_any (is_due t.time notify_serial) before ≡ false → is_due t.time notify_serial o ≡ true →
+        (turn_given notify_serial t).held ≡ before ++ with_turn t.turns t.time o ∷ after }
 {}
 
 /// An entry's message ID is that of its last notification.
@@ -194,7 +194,7 @@ pub fn entries_keep_their_last_notification()
     ensures confirmable { (confirm_after now : ℕ) (o : Entry) →
         ((must_confirm confirm_after now o ≡ true) ↔ (o.confirmed + confirm_after ≤ now)) }
     ensures turn { (turn : Turn) (t : ObserverList) (o : Entry) → entry_out turn t ≡ Some o →
-        must_confirm_turn turn t ≡ must_confirm t.confirm_after t.moment o }
+        must_confirm_turn turn t ≡ must_confirm t.confirm_after t.time o }
     ensures same { (slot confirm_after : ℕ) (h : List ObserverCall) → (observers slot confirm_after h).confirm_after ≡ confirm_after }
 {}
 
@@ -240,10 +240,10 @@ pub fn registrations_stand_last()
 /// A tick retransmits the first notification in the list that timed out.
 ///
 /// The same bytes go to the same endpoint, if they were retransmitted less than four times.
-pub fn late_notifications_are_sent_again()
+pub fn overdue_notifications_are_sent_again()
     ensures { (s wait : ℕ) (bytes : ArrayVec ℕ) (o : Entry) (at : List ℕ) (before after : List Entry) (t : ObserverList) →
-        IsSentAt s wait bytes o → length at < 4 → is_late t.moment (resent_entry at o) ≡ true →
-        t.held ≡ before ++ resent_entry at o ∷ after → list_any (is_late t.moment) before ≡ false →
+        IsSentAt s wait bytes o → length at < 4 → is_overdue t.time (resent_entry at o) ≡ true →
+        t.held ≡ before ++ resent_entry at o ∷ after → list_any (is_overdue t.time) before ≡ false →
         ticked t ≡ Resend (record { to = o.endpoint; bytes = bytes }) }
 {}
 

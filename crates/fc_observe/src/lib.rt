@@ -4,7 +4,7 @@
 //! is that of its last change that requires notifications. After such a change, observers have
 //! pending notifications. Each of them gets a notification lease by [`Observers::next_due`], and
 //! its request is executed again. The lease records whether its snapshot of the slot found it empty
-//! ([`Observers::miss`]).
+//! ([`Observers::mark_missing`]).
 //!
 //! A lease ends with its notification ([`Observers::sent`]), with the removal of its observer
 //! ([`Observers::end`]), or by its release. [`Observers::tick`] retransmits a confirmable
@@ -39,19 +39,19 @@
 //! fn notify(
 //!     observers: &mut Observers,
 //!     now: u64,
-//!     noticed: u64,
+//!     notify_serial: u64,
 //!     id: u16,
 //!     serial: u64,
 //!     bytes: &Datagram,
 //! ) -> Option<Endpoint> {
-//!     let turn = observers.next_due(now, noticed)?;
+//!     let turn = observers.next_due(now, notify_serial)?;
 //!     let endpoint = observers.out(turn)?.endpoint;
 //!     observers.sent(now, turn, id, serial, 0, bytes);
 //!     Some(endpoint)
 //! }
 //!
 //! /// Returns the notification to retransmit at `now`, if there is one.
-//! fn late(observers: &mut Observers, now: u64) -> Option<Emission> {
+//! fn overdue(observers: &mut Observers, now: u64) -> Option<Emission> {
 //!     match observers.tick(now) {
 //!         Ticked::Resend(emission) => Some(emission),
 //!         Ticked::Removed | Ticked::Quiet => None,
@@ -81,12 +81,12 @@
 //!   Reset removes just those. A removed observer gets nothing before it registers again.
 //! - The revisions sent to an observer increase, if each notification's is at least the noticed
 //!   revision of its lease.
-//! - `check_quiet` returns `true` exactly if no notification has timed out, and no observer has a
-//!   pending one, whatever it cached before. Before the time that `quiet_until` returns, that holds
+//! - `check_idle` returns `true` exactly if no notification has timed out, and no observer has a
+//!   pending one, whatever it cached before. Before the time that `idle_until` returns, that holds
 //!   unless the list is called.
 //!
-//! By the contracts of `Observers::register`, `next_due`, `check_quiet`, `quiet_until`, `out`,
-//! `miss`, `sent`, `end`, `give_up`, `reset`, `acked`, `tick`, `laws`.
+//! By the contracts of `Observers::register`, `next_due`, `check_idle`, `idle_until`, `out`,
+//! `mark_missing`, `sent`, `end`, `give_up`, `reset`, `acked`, `tick`, `laws`.
 #![tactic(auto)]
 
 pub mod entry;

@@ -2,9 +2,9 @@
 ghost use Rattle.std.specs.Prelude.{◌≡◌, ◌<◌, ◌≤◌, ◌↔◌, [], length, max, true, ◌&&◌, is_none, is_some, IfOk, IfSome, IsTrue, vec_capacity};
 ghost use Rattle.std.specs.List.{All, list_any, position};
 ghost use Rattle.std.specs.Option.{option_map};
-ghost use Rattle.fc_observe.specs.Entries.{acknowledged, has_last_id, has_turn, is_due, is_entry_of, is_late};
-ghost use Rattle.fc_observe.specs.Observers.{after_ack, after_reset, after_tick, at_each, at_moment, cancelled, entry_out, is_missing, is_out, late_entry, must_confirm_turn, next_turn, no_observers, registered, registration, ticked, turn_ended, turn_given, turn_given_up, turn_missed, turn_notified, without_those};
-ghost use Rattle.fc_observe.specs.Quiet.{AreQuietUntil, IsQuiet};
+ghost use Rattle.fc_observe.specs.Entries.{acknowledged, has_last_id, has_turn, is_due, is_entry_of, is_overdue};
+ghost use Rattle.fc_observe.specs.Observers.{after_ack, after_reset, after_tick, at_each, list_at_time, cancelled, entry_out, is_missing, is_out, overdue_entry, must_confirm_turn, next_turn, no_observers, registered, registration, ticked, turn_ended, turn_given, turn_given_up, turn_missed, turn_notified, without_those};
+ghost use Rattle.fc_observe.specs.Quiet.{AreIdleUntil, IsIdle};
 ghost use Rattle.fc_observe.specs.Views.{interest, interest_of};
 
 use crate::entry::{Entry, Observer, Phase, Turn, copy_token};
@@ -48,32 +48,32 @@ pub enum Ticked {
 pub struct Observers {
     slot: u8,
     confirm_after: u64,
-    moment: u64,
+    time: u64,
     turns: u64,
     held: Vec<Entry>,
     // Cached: before this time no entry has timed out, and none has a pending notification about
     // this revision.
-    quiet_until: u64,
-    quiet_for: u64,
+    idle_until: u64,
+    idle_for: u64,
 }
 
 impl Model for Observers {
     ghost use Rattle.std.specs.Prelude.{◌≤◌, length, vec_capacity};
     ghost use Rattle.fc_observe.specs.Observers.{ObserverList};
-    ghost use Rattle.fc_observe.specs.Quiet.{AreQuietUntil};
+    ghost use Rattle.fc_observe.specs.Quiet.{AreIdleUntil};
 
     ghost Value = { ObserverList };
 
     ghost view = { λ x. record {
       slot = x.slot;
       confirm_after = x.confirm_after;
-      moment = x.moment;
+      time = x.time;
       turns = x.turns;
       held = x.held.items;
     } };
 
     ghost invariant = { λ x. (length x.held.items ≤ 32) × (32 ≤ vec_capacity x.held)
-        × AreQuietUntil x.quiet_until x.quiet_for x.held.items };
+        × AreIdleUntil x.idle_until x.idle_for x.held.items };
 }
 
 impl Observers {
@@ -91,19 +91,19 @@ impl Observers {
         Ok(Observers {
             slot,
             confirm_after,
-            moment: 0,
+            time: 0,
             turns: 0,
             held: Vec::with_capacity(alloc, OBSERVERS)?,
-            quiet_until: 0,
-            quiet_for: 0,
+            idle_until: 0,
+            idle_for: 0,
         })
     }
 
     /// Advances the clock to `now`, never backwards.
     pub fn advance(&mut self, now: u64)
-        ensures { self.new ≡ at_moment now self.old }
+        ensures { self.new ≡ list_at_time now self.old }
     {
-        self.moment = self.moment.max(now);
+        self.time = self.time.max(now);
     }
 
     /// Registers an observer as the last entry (RFC 7641, section 4.1).
@@ -120,7 +120,7 @@ impl Observers {
     ) -> Registered
         ensures answer { result ≡ registration endpoint token.now.items self.old }
         ensures after { self.new
-            ≡ registered endpoint token.now request.now szx serial (at_moment now self.old) }
+            ≡ registered endpoint token.now request.now szx serial (list_at_time now self.old) }
     {
         self.advance(now);
         let known = is_known(&self.held, endpoint, token);
@@ -128,7 +128,7 @@ impl Observers {
             return Registered::Full;
         }
         remove_of(&mut self.held, endpoint, token);
-        self.quiet_until = 0;
+        self.idle_until = 0;
         self.held.push_reserved(Entry {
             endpoint,
             token: copy_token(token),
@@ -136,7 +136,7 @@ impl Observers {
             szx,
             serial,
             id: None,
-            confirmed: self.moment,
+            confirmed: self.time,
             phase: Phase::Idle,
         });
         if known {
@@ -157,22 +157,22 @@ impl Observers {
 
     /// Grants a lease to the first observer with a pending notification.
     ///
-    /// `noticed` is the slot's noticed revision. An observer has a pending notification if these
-    /// conditions hold: the last revision sent to it is below `noticed`; none of its confirmable
+    /// `notify_serial` is the slot's noticed revision. An observer has a pending notification if these
+    /// conditions hold: the last revision sent to it is below `notify_serial`; none of its confirmable
     /// notifications is outstanding; none of its leases is active, and none was released at this
     /// time. Returns `None` if no observer has one, or if 2^64 - 1 leases were granted already.
-    pub fn next_due(&mut self, now: u64, noticed: u64) -> Option<Turn>
-        ensures turn { result ≡ next_turn noticed (at_moment now self.old) }
-        ensures after { self.new ≡ turn_given noticed (at_moment now self.old) }
+    pub fn next_due(&mut self, now: u64, notify_serial: u64) -> Option<Turn>
+        ensures turn { result ≡ next_turn notify_serial (list_at_time now self.old) }
+        ensures after { self.new ≡ turn_given notify_serial (list_at_time now self.old) }
     {
         self.advance(now);
         if self.turns == u64::MAX {
             return None;
         }
-        let place = first_due(&self.held, self.moment, noticed)?;
+        let place = first_due(&self.held, self.time, notify_serial)?;
         let number = self.turns;
-        self.quiet_until = 0;
-        self.held[place].take_turn(number, self.moment);
+        self.idle_until = 0;
+        self.held[place].take_turn(number, self.time);
         self.turns += 1;
         Some(Turn {
             slot: self.slot,
@@ -181,13 +181,13 @@ impl Observers {
     }
 
     /// Returns whether `next_due` would grant a lease.
-    pub fn is_due(&self, now: u64, noticed: u64) -> bool
-        ensures { result ≡ is_some (next_turn noticed (at_moment now self.now)) }
+    pub fn is_due(&self, now: u64, notify_serial: u64) -> bool
+        ensures { result ≡ is_some (next_turn notify_serial (list_at_time now self.now)) }
     {
-        if self.is_at_rest(now, noticed) {
+        if self.is_at_rest(now, notify_serial) {
             return false;
         }
-        self.turns != u64::MAX && first_due(&self.held, self.moment.max(now), noticed).is_some()
+        self.turns != u64::MAX && first_due(&self.held, self.time.max(now), notify_serial).is_some()
     }
 
     /// Returns the observer that has this lease.
@@ -207,7 +207,7 @@ impl Observers {
         ensures confirmable { IfSome result (λ o. o.confirmable ≡ must_confirm_turn turn self.now) }
     {
         let place = self.at(turn)?;
-        Some(self.held[place].observer(self.confirm_after, self.moment))
+        Some(self.held[place].observer(self.confirm_after, self.time))
     }
 
     // Returns the place of the entry that has this lease, if the lease is active.
@@ -215,7 +215,7 @@ impl Observers {
         ensures place { result ≡ position (is_out turn self.now) self.now.held }
         ensures within { IfSome result (λ i. i < length self.now.held) }
     {
-        first_out(&self.held, self.slot, self.moment, turn)
+        first_out(&self.held, self.slot, self.time, turn)
     }
 
     /// Returns whether this lease is active, so that `out` returns its observer.
@@ -226,12 +226,12 @@ impl Observers {
     }
 
     /// Records that the snapshot of an active lease found the slot empty.
-    pub fn miss(&mut self, turn: Turn)
+    pub fn mark_missing(&mut self, turn: Turn)
         ensures { self.new ≡ turn_missed turn self.old }
     {
         if let Some(place) = self.at(turn) {
-            self.quiet_until = 0;
-            self.held[place].miss();
+            self.idle_until = 0;
+            self.held[place].mark_missing();
         }
     }
 
@@ -255,15 +255,15 @@ impl Observers {
         ensures { result ≡ must_confirm_turn turn self.now }
     {
         match self.at(turn) {
-            Some(place) => self.held[place].must_confirm(self.confirm_after, self.moment),
+            Some(place) => self.held[place].must_confirm(self.confirm_after, self.time),
             None => false,
         }
     }
 
     /// Advances the clock to `now`, and returns the result of `must_confirm`.
     pub fn confirmable(&mut self, now: u64, turn: Turn) -> bool
-        ensures answer { result ≡ must_confirm_turn turn (at_moment now self.old) }
-        ensures after { self.new ≡ at_moment now self.old }
+        ensures answer { result ≡ must_confirm_turn turn (list_at_time now self.old) }
+        ensures after { self.new ≡ list_at_time now self.old }
     {
         self.advance(now);
         self.must_confirm(turn)
@@ -283,12 +283,12 @@ impl Observers {
         bytes: &Datagram,
     )
         ensures { self.new
-            ≡ turn_notified turn id serial random bytes.now (at_moment now self.old) }
+            ≡ turn_notified turn id serial random bytes.now (list_at_time now self.old) }
     {
         self.advance(now);
         if let Some(place) = self.at(turn) {
-            self.quiet_until = 0;
-            self.held[place].notify(self.confirm_after, self.moment, id, serial, random, bytes);
+            self.idle_until = 0;
+            self.held[place].notify(self.confirm_after, self.time, id, serial, random, bytes);
         }
     }
 
@@ -299,7 +299,7 @@ impl Observers {
         ensures { self.new ≡ turn_ended turn self.old }
     {
         if let Some(place) = self.at(turn) {
-            self.quiet_until = 0;
+            self.idle_until = 0;
             let _removed = self.held.remove(place);
         }
     }
@@ -308,12 +308,12 @@ impl Observers {
     ///
     /// Its observer has a pending notification again at a later time.
     pub fn give_up(&mut self, turn: Turn, now: u64)
-        ensures { self.new ≡ turn_given_up turn (at_moment now self.old) }
+        ensures { self.new ≡ turn_given_up turn (list_at_time now self.old) }
     {
         self.advance(now);
         if let Some(place) = self.at(turn) {
-            self.quiet_until = 0;
-            self.held[place].give_up(self.moment);
+            self.idle_until = 0;
+            self.held[place].give_up(self.time);
         }
     }
 
@@ -334,7 +334,7 @@ impl Observers {
         ensures { self.new ≡ after_ack endpoint id self.old }
     {
         if is_last_sent(&self.held, endpoint, id) {
-            self.quiet_until = 0;
+            self.idle_until = 0;
             acknowledge_each(&mut self.held, endpoint, id);
         }
     }
@@ -344,15 +344,15 @@ impl Observers {
     /// If it was retransmitted four times already, removes its observer instead (RFC 7252, section
     /// 4.2; RFC 7641, section 4.5).
     pub fn tick(&mut self, now: u64) -> Ticked
-        ensures answer { result ≡ ticked (at_moment now self.old) }
-        ensures after { self.new ≡ after_tick (at_moment now self.old) }
+        ensures answer { result ≡ ticked (list_at_time now self.old) }
+        ensures after { self.new ≡ after_tick (list_at_time now self.old) }
     {
         self.advance(now);
-        let Some(place) = first_late(&self.held, self.moment) else {
+        let Some(place) = first_overdue(&self.held, self.time) else {
             return Ticked::Quiet;
         };
-        self.quiet_until = 0;
-        match self.held[place].retransmit(self.moment) {
+        self.idle_until = 0;
+        match self.held[place].retransmit(self.time) {
             Some(emission) => Ticked::Resend(emission),
             None => {
                 let _removed = self.held.remove(place);
@@ -362,11 +362,11 @@ impl Observers {
     }
 
     /// Returns whether `tick` would retransmit a notification or remove an observer.
-    pub fn is_late(&self, now: u64) -> bool
-        ensures { result ≡ is_some (late_entry (at_moment now self.now)) }
+    pub fn is_overdue(&self, now: u64) -> bool
+        ensures { result ≡ is_some (overdue_entry (list_at_time now self.now)) }
     {
-        !self.is_at_rest(now, self.quiet_for)
-            && first_late(&self.held, self.moment.max(now)).is_some()
+        !self.is_at_rest(now, self.idle_for)
+            && first_overdue(&self.held, self.time.max(now)).is_some()
     }
 
     /// Returns whether there is no observer.
@@ -377,54 +377,56 @@ impl Observers {
     }
 
     /// Returns whether neither `tick` nor `next_due` has anything to do.
-    pub fn is_quiet(&self, now: u64, noticed: u64) -> bool
-        ensures { let w = at_moment now self.now in
-            result ≡ (is_none (late_entry w) && is_none (next_turn noticed w)) }
+    pub fn is_idle(&self, now: u64, notify_serial: u64) -> bool
+        ensures { let w = list_at_time now self.now in
+            result ≡ (is_none (overdue_entry w) && is_none (next_turn notify_serial w)) }
     {
-        self.is_at_rest(now, noticed) || (!self.is_late(now) && !self.is_due(now, noticed))
+        self.is_at_rest(now, notify_serial)
+            || (!self.is_overdue(now) && !self.is_due(now, notify_serial))
     }
 
-    /// Returns the result of `is_quiet`, and caches until when it holds.
+    /// Returns the result of `is_idle`, and caches until when it holds.
     ///
     /// So the next call is short.
-    pub fn check_quiet(&mut self, now: u64, noticed: u64) -> bool
-        ensures quiet { let w = at_moment now self.old in
-            result ≡ (is_none (late_entry w) && is_none (next_turn noticed w)) }
+    pub fn check_idle(&mut self, now: u64, notify_serial: u64) -> bool
+        ensures idle { let w = list_at_time now self.old in
+            result ≡ (is_none (overdue_entry w) && is_none (next_turn notify_serial w)) }
         ensures after { self.new ≡ self.old }
     {
-        let quiet = self.is_quiet(now, noticed);
-        if quiet && !self.is_at_rest(now, noticed) {
-            self.quiet_until = quiet_until(&self.held, noticed);
-            self.quiet_for = noticed;
+        let idle = self.is_idle(now, notify_serial);
+        if idle && !self.is_at_rest(now, notify_serial) {
+            self.idle_until = idle_until(&self.held, notify_serial);
+            self.idle_for = notify_serial;
         }
-        quiet
+        idle
     }
 
-    /// Returns a time before which the list is idle for revision `noticed`.
+    /// Returns a time before which the list is idle for revision `notify_serial`.
     ///
     /// Before it no entry has timed out, and none has a pending notification. It needn't be the
     /// latest such time. 2^64 - 1 means that neither is expected.
-    pub fn quiet_until(&self, noticed: u64) -> u64
-        ensures { AreQuietUntil result noticed self.now.held }
+    pub fn idle_until(&self, notify_serial: u64) -> u64
+        ensures { AreIdleUntil result notify_serial self.now.held }
     {
-        quiet_until(&self.held, noticed)
+        idle_until(&self.held, notify_serial)
     }
 
     // Returns whether the cache shows, without a look at the entries, that no entry has timed out
-    // at `now`, and none has a pending notification about revision `noticed`.
-    fn is_at_rest(&self, now: u64, noticed: u64) -> bool
-        ensures { result ≡ true → All (IsQuiet (max self.now.moment now) noticed) self.now.held }
+    // at `now`, and none has a pending notification about revision `notify_serial`.
+    fn is_at_rest(&self, now: u64, notify_serial: u64) -> bool
+        ensures { result ≡ true → All (IsIdle (max self.now.time now) notify_serial) self.now.held }
     {
-        self.moment.max(now) < self.quiet_until && noticed <= self.quiet_for
+        self.time.max(now) < self.idle_until && notify_serial <= self.idle_for
     }
 }
 
 // Returns the first observer with a pending notification.
-fn first_due(held: &[Entry], now: u64, noticed: u64) -> Option<usize>
-    ensures place { result ≡ position (is_due now noticed) held.now }
+fn first_due(held: &[Entry], now: u64, notify_serial: u64) -> Option<usize>
+    ensures place { result ≡ position (is_due now notify_serial) held.now }
     ensures within { IfSome result (λ i. i < length held.now) }
 {
-    held.iter().position(|entry| entry.is_due(now, noticed))
+    held.iter()
+        .position(|entry| entry.is_due(now, notify_serial))
 }
 
 // Returns the first entry that has this lease, if the lease is active.
@@ -437,11 +439,11 @@ fn first_out(held: &[Entry], slot: u8, now: u64, turn: Turn) -> Option<usize>
 }
 
 // Returns the first entry whose notification timed out.
-fn first_late(held: &[Entry], now: u64) -> Option<usize>
-    ensures place { result ≡ position (is_late now) held.now }
+fn first_overdue(held: &[Entry], now: u64) -> Option<usize>
+    ensures place { result ≡ position (is_overdue now) held.now }
     ensures within { IfSome result (λ i. i < length held.now) }
 {
-    held.iter().position(|entry| entry.is_late(now))
+    held.iter().position(|entry| entry.is_overdue(now))
 }
 
 // Returns whether there is an entry of this endpoint and token.
@@ -490,13 +492,13 @@ fn acknowledge_each(held: &mut [Entry], endpoint: Endpoint, id: u16)
 }
 
 // Returns a time before which none of these entries has timed out, or has a pending notification
-// about revision `noticed`.
-fn quiet_until(held: &[Entry], noticed: u64) -> u64
-    ensures { AreQuietUntil result noticed held.now }
+// about revision `notify_serial`.
+fn idle_until(held: &[Entry], notify_serial: u64) -> u64
+    ensures { AreIdleUntil result notify_serial held.now }
 {
     let mut until = u64::MAX;
     for entry in held {
-        until = until.min(entry.quiet_until(noticed));
+        until = until.min(entry.idle_until(notify_serial));
     }
     until
 }

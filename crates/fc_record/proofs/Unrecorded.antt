@@ -1,17 +1,17 @@
 -- Calls that record nothing, and their effect on the server.
 use Rattle.std.proofs.Common.{◌≡◌, ◌∙◌, Bool, true, false, ap, subst}
 use Rattle.std.specs.Prelude.{MatchBool}
-use Rattle.fc_server.specs.declared.alone.Alone.{Alone}
+use Rattle.fc_server.specs.declared.alone.SingleThread.{SingleThread}
 use Rattle.fc_record.specs.Recording.{Recording}
 
 -- a call has this effect on the server, and the log of records is unchanged
-pub unrecorded : (Did : Alone → Alone → Type 0) (inside old : Recording) (new : Alone) → inside ≡ old → Did inside.alone new
+pub unrecorded : (Did : SingleThread → SingleThread → Type 0) (inside old : Recording) (new : SingleThread) → inside ≡ old → Did inside.alone new
     → Did old.alone new × (inside.log ≡ old.log)
 unrecorded Did inside old new is did = (subst (λ (r : Recording). Did r.alone new) is did, ap (λ (r : Recording). r.log) is)
 
 -- the same for a call that has the effect, or leaves the server unchanged
-pub unrecorded_if : (Did : Alone → Alone → Type 0) (inside old : Recording) (new : Alone) (does : Bool) → inside ≡ old
+pub unrecorded_if : (Did : SingleThread → SingleThread → Type 0) (inside old : Recording) (new : SingleThread) (does : Bool) → inside ≡ old
     → MatchBool does (Did inside.alone new) (new ≡ inside.alone)
     → MatchBool does (Did old.alone new × (inside.log ≡ old.log)) (record inside { alone = new } ≡ old)
 unrecorded_if Did inside old new true is did = unrecorded Did inside old new is did
-unrecorded_if Did inside old new false is same = ap (λ (a : Alone). record inside { alone = a }) same ∙ is
+unrecorded_if Did inside old new false is same = ap (λ (a : SingleThread). record inside { alone = a }) same ∙ is

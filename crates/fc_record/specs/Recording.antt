@@ -6,14 +6,14 @@ use Rattle.coap_msg.specs.declared.types.Endpoint.{Endpoint}
 use Rattle.fc_registry.specs.declared.job.Ask.{Ask}
 use Rattle.fc_registry.specs.declared.job.Ask.TheVariants.{Install, Remove}
 use Rattle.fc_registry.specs.declared.job.Job.{Job}
-use Rattle.fc_core.specs.declared.front.Heard.{Heard}
+use Rattle.fc_core.specs.declared.front.Handled.{Handled}
 use Rattle.fc_core.specs.Exchanges.{advanced}
 use Rattle.fc_core.specs.Receiving.{delivered, emission_if}
 use Rattle.fc_calls.specs.Logged.{AnswersRequest, LoggedCall}
-use Rattle.fc_server.specs.Alone.{HearsAlone, NotifiesAlone, PassesAlone, PassesOverAlone, ResendsAlone, StaysQuietAlone}
-use Rattle.fc_server.specs.Intakes.{IntakeCalls, is_reply}
+use Rattle.fc_server.specs.SingleThread.{HandlesAlone, NotifiesAlone, PassesAlone, PassesOverAlone, ResendsAlone, StaysIdleAlone}
+use Rattle.fc_server.specs.Ingresses.{IngressCalls, is_reply}
 use Rattle.fc_server.specs.Shown.{IsShown}
-use Rattle.fc_server.specs.declared.alone.Alone.{Alone}
+use Rattle.fc_server.specs.declared.alone.SingleThread.{SingleThread}
 use Rattle.fc_workers.specs.declared.call_log.CallLog.{CallLog}
 use Rattle.fc_workers.specs.Logs.{IsUnfiled, TrackedLog}
 use Rattle.fc_record.specs.ProgramRequests.{Requested, IsRequestOf}
@@ -47,24 +47,24 @@ IsRecordedCall Logged Recorded other before after = Logged other before after
 
 -- a single-threaded server, and the log of its records.
 pub record Recording : Type 0 where
-  pub alone : Alone
+  pub alone : SingleThread
   pub log : CallLog
 
 module _ (Recorded : Requested → CallLog → CallLog → Type 0) where
   -- a datagram was received. Then the change that it asked for is recorded, if it produced such a
   -- job.
-  abbrev pub HearsRecorded : ℕ → Endpoint → Bor (List ℕ) → Recording → Recording → Heard → Emission → Type 0
-  HearsRecorded now from bytes old new heard reply =
-      HearsAlone now from bytes old.alone new.alone heard reply
-      × IsShown (IsRecorded Recorded) (delivered (advanced old.alone.engine.front now) from bytes.now) (emission_if (is_reply heard) reply) old.log new.log
+  abbrev pub HandlesRecorded : ℕ → Endpoint → Bor (List ℕ) → Recording → Recording → Handled → Emission → Type 0
+  HandlesRecorded now from bytes old new handled reply =
+      HandlesAlone now from bytes old.alone new.alone handled reply
+      × IsShown (IsRecorded Recorded) (delivered (advanced old.alone.engine.front now) from bytes.now) (emission_if (is_reply handled) reply) old.log new.log
 
   -- the other calls record nothing.
-  abbrev pub recorded_calls : IntakeCalls Recording
+  abbrev pub recorded_calls : IngressCalls Recording
   recorded_calls = record {
-    hears = HearsRecorded;
+    handles = HandlesRecorded;
     passes = λ now old new. PassesAlone now old.alone new.alone × (new.log ≡ old.log);
     resends = λ shard now old new ticked. ResendsAlone shard now old.alone new.alone ticked × (new.log ≡ old.log);
     passes_over = λ shard now old new. PassesOverAlone shard now old.alone new.alone × (new.log ≡ old.log);
     notifies = λ shard now old new told. NotifiesAlone shard now old.alone new.alone told × (new.log ≡ old.log);
-    stays_quiet = λ shard now until. StaysQuietAlone shard now.alone until;
+    stays_idle = λ shard now until. StaysIdleAlone shard now.alone until;
   }

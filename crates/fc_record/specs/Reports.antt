@@ -3,8 +3,8 @@ use Rattle.std.specs.Prelude.{◌+◌, ◌==◌, ℕ, Bool, true, false, List, �
 use Rattle.std.specs.Fmt.{decimal}
 use Rattle.coap_msg.specs.Codes.{code}
 use Rattle.coap_msg.specs.declared.types.Emission.{Emission}
-use Rattle.fc_core.specs.declared.front.Heard.{Heard}
-use Rattle.fc_core.specs.declared.front.Heard.TheVariants.{Reply}
+use Rattle.fc_core.specs.declared.front.Handled.{Handled}
+use Rattle.fc_core.specs.declared.front.Handled.TheVariants.{Reply}
 use Rattle.fc_observe.specs.declared.observers.Ticked.{Ticked}
 use Rattle.fc_observe.specs.declared.observers.Ticked.TheVariants.{Quiet, Removed, Resend}
 use Rattle.fc_server.specs.Notified.{Notified, is_given}
@@ -33,7 +33,7 @@ response_counted reply r = record r {
 }
 
 -- one more datagram, and its immediate response, if it has one.
-abbrev pub datagram_counted : Heard → Emission → Report → Report
+abbrev pub datagram_counted : Handled → Emission → Report → Report
 datagram_counted Reply reply r = response_counted reply (record r { received = saturated (r.received + 1) })
 datagram_counted other reply r = record r { received = saturated (r.received + 1) }
 

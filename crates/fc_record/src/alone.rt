@@ -4,11 +4,11 @@ ghost use Rattle.fc_record.specs.Recording.{recorded_calls};
 
 use crate::recorder::{ChangeLog, Recorder};
 use coap_msg::{Emission, Endpoint};
-use fc_core::Heard;
+use fc_core::Handled;
 use fc_help::Readings;
 use fc_observe::Ticked;
 use fc_server::engine::NotifyOutcome;
-use fc_server::{Alone, Intake};
+use fc_server::{Ingress, SingleThread};
 use std::marker::Model;
 
 /// A single-threaded server that records each change after its response.
@@ -16,7 +16,7 @@ use std::marker::Model;
 /// Contracts see the server, and the log of its records.
 #[derive(Drop)]
 pub struct RecordedAlone<'a, C: Recorder> {
-    alone: Alone,
+    alone: SingleThread,
     changes: ChangeLog<'a, C>,
 }
 
@@ -30,7 +30,7 @@ impl<'a, C: Recorder> Model for RecordedAlone<'a, C> {
 
 impl<'a, C: Recorder> RecordedAlone<'a, C> {
     /// Wraps a server, whose changes are recorded from now on.
-    pub fn new(alone: Alone, recorder: &'a C) -> RecordedAlone<'a, C>
+    pub fn new(alone: SingleThread, recorder: &'a C) -> RecordedAlone<'a, C>
         ensures { result.alone ≡ alone }
     {
         RecordedAlone {
@@ -41,7 +41,7 @@ impl<'a, C: Recorder> RecordedAlone<'a, C> {
 
     /// Sets the readings and the random word for jobs that run from now on.
     ///
-    /// See [`Alone::set_handed`].
+    /// See [`SingleThread::set_handed`].
     pub fn set_handed(&mut self, readings: &Readings, random: u16)
         ensures engine { self.new.alone.engine ≡ self.old.alone.engine }
         ensures handed { self.new.alone.handed ≡ record { readings = readings.now; random = random } }
@@ -51,12 +51,12 @@ impl<'a, C: Recorder> RecordedAlone<'a, C> {
     }
 }
 
-impl<'a, C: Recorder> Intake for RecordedAlone<'a, C> {
+impl<'a, C: Recorder> Ingress for RecordedAlone<'a, C> {
     ghost calls = { recorded_calls C.recorded };
 
-    fn hear(&mut self, now: u64, from: Endpoint, bytes: &[u8], reply: &mut Emission) -> Heard {
+    fn handle(&mut self, now: u64, from: Endpoint, bytes: &[u8], reply: &mut Emission) -> Handled {
         self.alone
-            .hear_with(now, from, bytes, reply, &mut self.changes)
+            .handle_with(now, from, bytes, reply, &mut self.changes)
     }
 
     fn tick(&mut self, now: u64) {
@@ -67,12 +67,12 @@ impl<'a, C: Recorder> Intake for RecordedAlone<'a, C> {
         self.alone.resend(shard, now)
     }
 
-    fn advance_if_quiet(&mut self, shard: u8, now: u64) -> bool {
-        self.alone.advance_if_quiet(shard, now)
+    fn advance_if_idle(&mut self, shard: u8, now: u64) -> bool {
+        self.alone.advance_if_idle(shard, now)
     }
 
-    fn quiet_until(&self, shard: u8) -> u64 {
-        self.alone.quiet_until(shard)
+    fn idle_until(&self, shard: u8) -> u64 {
+        self.alone.idle_until(shard)
     }
 
     fn notify(&mut self, shard: u8, now: u64, emission: &mut Emission) -> NotifyOutcome {

@@ -3,14 +3,14 @@ ghost use Rattle.fc_record.specs.Recording.{IsRecordedCall};
 
 use crate::recorder::{Recorder, record_answer};
 use coap_msg::{Emission, Endpoint};
-use fc_core::{Answer, Heard};
+use fc_core::{Answer, Handled};
 use fc_heads::HeadSeat;
 use fc_help::Readings;
 use fc_machine::Outcome;
 use fc_observe::{Ticked, Turn};
 use fc_registry::{
-    Committed, Found, Job, Made, NoteOutcome, Notification, Receipt, Removal, SlotNumber, Taken,
-    Ticket,
+    Committed, Job, Made, NoteOutcome, Notification, Receipt, Removal, SlotNumber, SlotSnapshot,
+    Taken, Ticket,
 };
 use fc_verify::Verified;
 use fc_workers::{Bench, TrackLog};
@@ -38,7 +38,7 @@ impl<'a, B: Bench, C: Recorder> Bench for RecordedBench<'a, B, C> {
 
     ghost logged = { IsRecordedCall B.logged C.recorded };
 
-    fn hear<R: Wait>(
+    fn handle<R: Wait>(
         &self,
         rt: &R,
         now: u64,
@@ -47,8 +47,8 @@ impl<'a, B: Bench, C: Recorder> Bench for RecordedBench<'a, B, C> {
         job: &mut Job,
         reply: &mut Emission,
         log: &mut TrackLog<B::Book>,
-    ) -> Heard {
-        self.bench.hear(rt, now, endpoint, bytes, job, reply, log)
+    ) -> Handled {
+        self.bench.handle(rt, now, endpoint, bytes, job, reply, log)
     }
 
     fn tick<R: Wait>(&self, rt: &R, now: u64, log: &mut TrackLog<B::Book>) {
@@ -68,7 +68,7 @@ impl<'a, B: Bench, C: Recorder> Bench for RecordedBench<'a, B, C> {
         rt: &R,
         job: &Job,
         readings: &Readings,
-        found: &mut Found,
+        found: &mut SlotSnapshot,
         tallies: &mut B::Tallies,
         log: &mut TrackLog<B::Book>,
     ) -> Taken {
@@ -97,18 +97,18 @@ impl<'a, B: Bench, C: Recorder> Bench for RecordedBench<'a, B, C> {
         self.bench.tick_shard(rt, shard, now, log)
     }
 
-    fn advance_if_quiet<R: Wait>(
+    fn advance_if_idle<R: Wait>(
         &self,
         rt: &R,
         shard: u8,
         now: u64,
         log: &mut TrackLog<B::Book>,
     ) -> bool {
-        self.bench.advance_if_quiet(rt, shard, now, log)
+        self.bench.advance_if_idle(rt, shard, now, log)
     }
 
-    fn quiet_until<R: Wait>(&self, rt: &R, shard: u8) -> u64 {
-        self.bench.quiet_until(rt, shard)
+    fn idle_until<R: Wait>(&self, rt: &R, shard: u8) -> u64 {
+        self.bench.idle_until(rt, shard)
     }
 
     fn next_due<R: Wait>(

@@ -6,7 +6,7 @@ ghost use Rattle.hex.specs.Hex.{encode_lower};
 ghost use Rattle.sha2.specs.Sha256.{sha256};
 ghost use Rattle.coap_msg.specs.declared.types.Emission.{Emission};
 ghost use Rattle.coap_msg.specs.declared.types.Endpoint.{Endpoint};
-ghost use Rattle.fc_core.specs.declared.front.Heard.TheVariants.{Job, Nothing, Reply};
+ghost use Rattle.fc_core.specs.declared.front.Handled.TheVariants.{Job, Nothing, Reply};
 ghost use Rattle.fc_observe.specs.declared.observers.Ticked.TheVariants.{Quiet, Removed, Resend};
 ghost use Rattle.fc_record.specs.ProgramRequests.{Coded, request_text};
 ghost use Rattle.fc_record.specs.Reports.{datagram_counted, lease_counted, nothing_counted, report_text, tick_counted};
@@ -62,7 +62,7 @@ pub fn reports_count_calls()
     ensures ignored { (last : Emission) → datagram_counted Nothing last nothing_counted ≡ record nothing_counted { received = 1 } }
     ensures resent { (emission : Emission) → tick_counted (Resend emission) nothing_counted ≡ record nothing_counted { resent = 1 } }
     ensures removed { tick_counted Removed nothing_counted ≡ record nothing_counted { removed = 1 } }
-    ensures quiet { tick_counted Quiet nothing_counted ≡ nothing_counted }
+    ensures idle { tick_counted Quiet nothing_counted ≡ nothing_counted }
     ensures granted { (lease_counted Unsent nothing_counted ≡ record nothing_counted { notified = 1 }) × (lease_counted Starved nothing_counted ≡ record nothing_counted { notified = 1 }) }
     ensures nobody { lease_counted Nobody nothing_counted ≡ nothing_counted }
 {}

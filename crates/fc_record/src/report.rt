@@ -4,7 +4,7 @@ ghost use Rattle.fc_record.specs.Reports.{datagram_counted, lease_counted, nothi
 ghost use Rattle.fc_server.specs.Notified.{notified_as};
 
 use coap_msg::{Code, Emission};
-use fc_core::Heard;
+use fc_core::Handled;
 use fc_observe::Ticked;
 use fc_server::engine::NotifyOutcome;
 use std::fmt;
@@ -45,14 +45,14 @@ impl Report {
 
     /// Counts a datagram that was handled, and its immediate response.
     ///
-    /// The response is `reply` if `heard` is `Reply`.
-    pub fn count_datagram(&mut self, heard: Heard, reply: &Emission)
-        ensures { self.new ≡ datagram_counted heard reply.now self.old }
+    /// The response is `reply` if `handled` is `Reply`.
+    pub fn count_datagram(&mut self, handled: Handled, reply: &Emission)
+        ensures { self.new ≡ datagram_counted handled reply.now self.old }
     {
         self.received = self.received.saturating_add(1);
-        match heard {
-            Heard::Reply => self.count_response(reply),
-            Heard::Nothing | Heard::Job | Heard::Signal { .. } => {}
+        match handled {
+            Handled::Reply => self.count_response(reply),
+            Handled::Nothing | Handled::Job | Handled::Signal { .. } => {}
         }
     }
 

@@ -25,7 +25,7 @@ use Rattle.fc_registry.specs.declared.note.Notification.{Notification}
 use Rattle.fc_registry.specs.declared.note.Notification.TheVariants as tells
 use Rattle.fc_registry.specs.declared.slot.SlotState.{SlotState}
 use Rattle.fc_registry.specs.declared.job.InitialVars.{InitialVars}
-use Rattle.fc_registry.specs.Calls.{IsCommit, IsOwnCommit, clear_by, commit_calls, commits, install_in, is_cancellation, is_out_at, is_registration, miss_calls, observe_calls_by, put_by, remove_from, turn_calls}
+use Rattle.fc_registry.specs.Calls.{IsCommit, IsOwnCommit, clear_by, commit_calls, commits, install_in, is_cancellation, is_out_at, is_registration, mark_missing_calls, observe_calls_by, put_by, remove_from, turn_calls}
 use Rattle.fc_registry.specs.Changes.{after_changes}
 use Rattle.fc_registry.specs.Notes.{IsNotedIn, keeps_observer, note_calls, sent_of, ticket_told, told_call}
 use Rattle.fc_registry.specs.Slots.{Present, Slot, Ticket, last_serial, new_slot}
@@ -45,7 +45,7 @@ sent_after n (c ∷ cs) w up sent = serials_below n c (after_calls cs w) up.0 (s
 pub sent_more : (m n : ℕ) (w : ObserverList) → m ≤ n → IsSentUpTo m w → IsSentUpTo n w
 sent_more m n w le sent = All-weaker (λ (o : Entry). o.serial ≤ m) (λ (o : Entry). o.serial ≤ n) (λ o low. omega (arith, low, le)) w.held sent
 
-missed_in : (n : ℕ) (out : Bool) (turn : Turn) (present : Option Present) (at : ℕ) → AreUpTo n (miss_calls out turn present ++ Advance at ∷ [])
+missed_in : (n : ℕ) (out : Bool) (turn : Turn) (present : Option Present) (at : ℕ) → AreUpTo n (mark_missing_calls out turn present ++ Advance at ∷ [])
 missed_in n true turn None at = (tt, (tt, tt))
 missed_in n true turn (Some p) at = (tt, tt)
 missed_in n false turn present at = (tt, tt)

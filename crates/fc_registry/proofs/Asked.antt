@@ -9,7 +9,7 @@ use Rattle.fc_observe.specs.declared.entry.Entry.{Entry}
 use Rattle.fc_observe.specs.declared.entry.Turn.{Turn}
 use Rattle.fc_observe.specs.Calls.{IsRegisteredBy, NextDue, Register, observers_after}
 use Rattle.fc_observe.specs.Laws.{KeepsSerial}
-use Rattle.fc_observe.specs.Observers.{ObserverList, at_moment, entry_out, is_out, next_turn}
+use Rattle.fc_observe.specs.Observers.{ObserverList, list_at_time, entry_out, is_out, next_turn}
 use Rattle.fc_observe.specs.Views.{Interest, interest_of}
 use Rattle.fc_observe.proofs.Hearing.{found_held}
 use Rattle.fc_observe.proofs.Serials.{serials_kept}
@@ -50,16 +50,16 @@ given_by n (Some turn) w j is =
     (m.0, found_held (is_out turn w) w.held m.0 m.1, m.2)
 
 -- and was in it before.
-before_by : (now noticed : ℕ) (w : ObserverList) (j : Job) (o : Entry) → IsTurnFor j (interest_of o) →
-    IsRegisteredBy (NextDue now noticed) w o ⊎ Any (KeepsSerial (NextDue now noticed) w o) w.held → Any (λ (x : Entry). IsTurnFor j (interest_of x)) w.held
-before_by now noticed w j o for (inl new) = absurd new
-before_by now noticed w j o for (inr kept) = (kept.0, kept.1, kept.2, kept.3, subst (IsTurnFor j) kept.4.0 for)
+before_by : (now notify_serial : ℕ) (w : ObserverList) (j : Job) (o : Entry) → IsTurnFor j (interest_of o) →
+    IsRegisteredBy (NextDue now notify_serial) w o ⊎ Any (KeepsSerial (NextDue now notify_serial) w o) w.held → Any (λ (x : Entry). IsTurnFor j (interest_of x)) w.held
+before_by now notify_serial w j o for (inl new) = absurd new
+before_by now notify_serial w j o for (inr kept) = (kept.0, kept.1, kept.2, kept.3, subst (IsTurnFor j) kept.4.0 for)
 
 pub turn_asks : (shard : Shard) (k : ℕ) (j : Job) → due_job (Some k) shard ≡ Some j → Any (λ (o : Entry). IsTurnFor j (interest_of o)) (watch_at shard k).held
 turn_asks shard k j is =
     let w = watch_at shard k in
     let c = NextDue shard.now (noticed_at shard k) in
-    let g = given_by (8 * k + shard.index) (next_turn (noticed_at shard k) (at_moment shard.now w)) (observers_after c w) j is in
+    let g = given_by (8 * k + shard.index) (next_turn (noticed_at shard k) (list_at_time shard.now w)) (observers_after c w) j is in
     let P = λ (o : Entry). IsRegisteredBy c w o ⊎ Any (KeepsSerial c w o) w.held in
     before_by shard.now (noticed_at shard k) w j g.0 g.2 (All-contains P (observers_after c w).held g.0 (serials_kept c w) g.1)
 

@@ -2,7 +2,7 @@
 use Rattle.std.proofs.Common.{◌≡◌, ℕ, ◌+◌, ◌≤◌, Bool, true, false, if◌then◌else◌, List, [], ◌∷◌, length, refl, arith}
 use Rattle.fc_registry.specs.Slots.{new_slot}
 use Rattle.fc_registry.specs.Changes.{Change, Installed, Committed, Removed, after_changes}
-use Rattle.fc_registry.specs.Laws.{noticed_serial}
+use Rattle.fc_registry.specs.Laws.{notify_serial}
 use Rattle.fc_registry.proofs.Installs.{serials_count}
 
 -- a change is noticed or isn't.
@@ -18,13 +18,13 @@ chosen_within false m n le = omega (arith, le)
 counted : (serial : ℕ) (c : Change) (cs : List Change) → (after_changes (new_slot serial) cs).serial + 1 ≡ serial + length (c ∷ cs)
 counted serial c cs = omega (arith, serials_count serial cs)
 
-pub noticed_is : (serial : ℕ) (cs : List Change) → (after_changes (new_slot serial) cs).noticed ≡ noticed_serial serial cs
+pub noticed_is : (serial : ℕ) (cs : List Change) → (after_changes (new_slot serial) cs).notify_serial ≡ notify_serial serial cs
 noticed_is serial [] = refl
 noticed_is serial (Installed p v ∷ cs) = counted serial (Installed p v) cs
 noticed_is serial (Committed c ∷ cs) = chosen c.notice _ _ _ _ (counted serial (Committed c) cs) (noticed_is serial cs)
 noticed_is serial (Removed ∷ cs) = counted serial Removed cs
 
-pub noticed_within : (serial : ℕ) (cs : List Change) → (after_changes (new_slot serial) cs).noticed ≤ (after_changes (new_slot serial) cs).serial
+pub noticed_within : (serial : ℕ) (cs : List Change) → (after_changes (new_slot serial) cs).notify_serial ≤ (after_changes (new_slot serial) cs).serial
 noticed_within serial [] = omega arith
 noticed_within serial (Installed p v ∷ cs) = omega arith
 noticed_within serial (Committed c ∷ cs) = chosen_within c.notice _ _ (noticed_within serial cs)

@@ -20,13 +20,13 @@ place_found p r k lt passes is =
 
 -- ---- two searches together
 
-pub quiet_place : {X Y : Type 0} (x : Option X) (y : Option Y) → true ≡ is_none x && is_none y → (is_some x ≡ false) × (is_some y ≡ false)
-quiet_place None None e = (refl, refl)
-quiet_place (Some x) y e = absurd (cc e)
-quiet_place None (Some y) e = absurd (cc e)
+pub idle_place : {X Y : Type 0} (x : Option X) (y : Option Y) → true ≡ is_none x && is_none y → (is_some x ≡ false) × (is_some y ≡ false)
+idle_place None None e = (refl, refl)
+idle_place (Some x) y e = absurd (cc e)
+idle_place None (Some y) e = absurd (cc e)
 
-pub quiet_places : {X Y : Type 0} (x : Option X) (y : Option Y) → x ≡ None → y ≡ None → true ≡ is_none x && is_none y
-quiet_places x y none other = λ i. is_none (sym none i) && is_none (sym other i)
+pub idle_places : {X Y : Type 0} (x : Option X) (y : Option Y) → x ≡ None → y ≡ None → true ≡ is_none x && is_none y
+idle_places x y none other = λ i. is_none (sym none i) && is_none (sym other i)
 
 and_false : (b : Bool) → (b && false) ≡ false
 and_false true = refl
@@ -34,6 +34,6 @@ and_false false = refl
 
 -- one of them ends at a place.
 pub busy_place : {X Y : Type 0} (p q : ℕ → Bool) (r s : Option ℕ) (k : ℕ) (x : Option X) (y : Option Y) → k < 8 → p k ≡ is_some x → q k ≡ is_some y → false ≡ is_none x && is_none y → r ≡ place_from p (8 - k) k → s ≡ place_from q (8 - k) k → false ≡ is_none r && is_none s
-busy_place p q r s k (Some x) y lt late due e first second = ap (λ (o : Option ℕ). is_none o && is_none s) (sym (place_found p r k lt late first))
-busy_place p q r s k None (Some y) lt late due e first second = sym (and_false (is_none r)) ∙ ap (λ (o : Option ℕ). is_none r && is_none o) (sym (place_found q s k lt due second))
-busy_place p q r s k None None lt late due e first second = absurd (cc e)
+busy_place p q r s k (Some x) y lt overdue due e first second = ap (λ (o : Option ℕ). is_none o && is_none s) (sym (place_found p r k lt overdue first))
+busy_place p q r s k None (Some y) lt overdue due e first second = sym (and_false (is_none r)) ∙ ap (λ (o : Option ℕ). is_none r && is_none o) (sym (place_found q s k lt due second))
+busy_place p q r s k None None lt overdue due e first second = absurd (cc e)

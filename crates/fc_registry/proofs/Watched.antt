@@ -9,18 +9,18 @@ use Rattle.coap_msg.specs.declared.types.Endpoint.{Endpoint}
 use Rattle.fc_observe.specs.declared.entry.Entry.{Entry}
 use Rattle.fc_observe.specs.declared.entry.Turn.{Turn}
 use Rattle.fc_observe.specs.Calls.{Advance, observers_after}
-use Rattle.fc_observe.specs.Entries.{is_due, is_late}
-use Rattle.fc_observe.specs.Observers.{ObserverList, at_moment, next_turn_by, no_observers}
+use Rattle.fc_observe.specs.Entries.{is_due, is_overdue}
+use Rattle.fc_observe.specs.Observers.{ObserverList, list_at_time, next_turn_by, no_observers}
 use Rattle.fc_observe.proofs.Nobody.{EnterNone, EntersNone, stays_empty}
-use Rattle.fc_registry.specs.Calls.{is_out_at, miss_calls, turn_calls}
+use Rattle.fc_registry.specs.Calls.{is_out_at, mark_missing_calls, turn_calls}
 use Rattle.fc_registry.specs.Notes.{keeps_observer, note_calls, serial_told, told_call}
 use Rattle.fc_registry.specs.Slots.{Present, Shard, Ticket}
-use Rattle.fc_registry.specs.Watches.{AreWatched, has_due, has_late, is_quiet, noticed_at, place_from, signal_call, watch_at}
+use Rattle.fc_registry.specs.Watches.{AreWatched, has_due, has_overdue, is_idle, noticed_at, place_from, signal_call, watch_at}
 use Rattle.fc_registry.proofs.Ahead.{mapped_at}
 
 -- ---- calls that register no observer
 
-missed_enters : (out : Bool) (turn : Turn) (present : Option Present) (at : ℕ) → EnterNone (miss_calls out turn present ++ Advance at ∷ [])
+missed_enters : (out : Bool) (turn : Turn) (present : Option Present) (at : ℕ) → EnterNone (mark_missing_calls out turn present ++ Advance at ∷ [])
 missed_enters true turn None at = (tt, (tt, tt))
 missed_enters true turn (Some p) at = (tt, tt)
 missed_enters false turn present at = (tt, tt)
@@ -79,17 +79,17 @@ nowhere : (p : ℕ → Bool) (n k : ℕ) → ((j : ℕ) → p j ≡ false) → p
 nowhere p zero k none = refl
 nowhere p (suc n) k none = ap (λ (b : Bool). if b then Some k else place_from p n (k + 1)) (none k) ∙ nowhere p n (k + 1) none
 
-late_nowhere : (shard : Shard) → AreWatched false shard.watches → (k : ℕ) → has_late shard k ≡ false
-late_nowhere shard none k = ap (λ (os : List Entry). is_some (find (is_late (max (watch_at shard k).moment shard.now)) os)) (none k)
+overdue_nowhere : (shard : Shard) → AreWatched false shard.watches → (k : ℕ) → has_overdue shard k ≡ false
+overdue_nowhere shard none k = ap (λ (os : List Entry). is_some (find (is_overdue (max (watch_at shard k).time shard.now)) os)) (none k)
 
 due_nowhere : (shard : Shard) → AreWatched false shard.watches → (k : ℕ) → has_due shard k ≡ false
 due_nowhere shard none k =
-    let w = at_moment shard.now (watch_at shard k) in
-    let due = is_due w.moment (noticed_at shard k) in
+    let w = list_at_time shard.now (watch_at shard k) in
+    let due = is_due w.time (noticed_at shard k) in
     let nobody : list_any due w.held ≡ false = ap (list_any due) (none k) in
     ap (λ (b : Bool). is_some (next_turn_by b w)) (and_right (nat_lt w.turns 18446744073709551615) (list_any due w.held) nobody)
 
-pub unwatched_quiet : (b : Bool) (ws : List ObserverList) (shard : Shard) → b ≡ false → AreWatched b ws → ws ≡ shard.watches → is_quiet shard ≡ true
-unwatched_quiet b ws shard is watched same =
+pub unwatched_idle : (b : Bool) (ws : List ObserverList) (shard : Shard) → b ≡ false → AreWatched b ws → ws ≡ shard.watches → is_idle shard ≡ true
+unwatched_idle b ws shard is watched same =
     let none = subst (AreWatched false) same (subst (λ (x : Bool). AreWatched x ws) is watched) in
-    λ i. is_none (nowhere (has_late shard) 8 0 (late_nowhere shard none) i) && is_none (nowhere (has_due shard) 8 0 (due_nowhere shard none) i)
+    λ i. is_none (nowhere (has_overdue shard) 8 0 (overdue_nowhere shard none) i) && is_none (nowhere (has_due shard) 8 0 (due_nowhere shard none) i)

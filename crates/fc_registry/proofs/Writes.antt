@@ -35,14 +35,14 @@ module _ (index now : ℕ) (items : List SlotState) (watches : List ObserverList
       ap as_seen is ∙ (sym (get_or-map as_seen items k s (new_slot 0) short) ∙ ap (λ (xs : List Slot). get_or xs k (new_slot 0)) slots_are)
 
   -- a write at a place is a write of its view.
-  pub slot_write : (k early late : ℕ) (t : SlotState) (v : Slot) → early ≡ late → as_seen t ≡ v → seen index early (set items k t) watches ≡ record shard { now = late; slots = set shard.slots k v }
-  slot_write k early late t v passes is =
+  pub slot_write : (k early overdue : ℕ) (t : SlotState) (v : Slot) → early ≡ overdue → as_seen t ≡ v → seen index early (set items k t) watches ≡ record shard { now = overdue; slots = set shard.slots k v }
+  slot_write k early overdue t v passes is =
       let slots : map as_seen (set items k t) ≡ set shard.slots k v = map-set as_seen items k t ∙ (λ i. set (slots_are i) k (is i)) in
       λ i. record { index = (view_is i).index; now = passes i; slots = slots i; watches = (view_is i).watches }
 
   -- the same, and the observers at the place after calls on them.
-  pub slot_and_watch_write : (k early late : ℕ) (t : SlotState) (v : Slot) (cs : List ObserverCall) (old new : ObserverList) → early ≡ late → as_seen t ≡ v → old ≡ get_or watches k (no_observers 0 0) → new ≡ after_calls cs old → seen index early (set items k t) (set watches k new) ≡ record shard { now = late; slots = set shard.slots k v; watches = watches_called cs k shard.watches }
-  slot_and_watch_write k early late t v cs old new passes is was calls =
+  pub slot_and_watch_write : (k early overdue : ℕ) (t : SlotState) (v : Slot) (cs : List ObserverCall) (old new : ObserverList) → early ≡ overdue → as_seen t ≡ v → old ≡ get_or watches k (no_observers 0 0) → new ≡ after_calls cs old → seen index early (set items k t) (set watches k new) ≡ record shard { now = overdue; slots = set shard.slots k v; watches = watches_called cs k shard.watches }
+  slot_and_watch_write k early overdue t v cs old new passes is was calls =
       let slots : map as_seen (set items k t) ≡ set shard.slots k v = map-set as_seen items k t ∙ (λ i. set (slots_are i) k (is i)) in
       let called : set watches k new ≡ watches_called cs k shard.watches = ap (set watches k) (calls ∙ ap (after_calls cs) was) ∙ (watches_written cs k watches ∙ ap (λ (s : Shard). watches_called cs k s.watches) view_is) in
       λ i. record { index = (view_is i).index; now = passes i; slots = slots i; watches = called i }

@@ -11,8 +11,8 @@ use Rattle.fc_machine.specs.Ran.{Ran, meaning_of}
 use Rattle.fc_observe.specs.declared.observers.Registered.{Registered}
 use Rattle.fc_observe.specs.declared.observers.Registered.TheVariants.{Full}
 use Rattle.fc_observe.specs.declared.entry.Turn.{Turn}
-use Rattle.fc_observe.specs.Calls.{ObserverCall, Advance, Cancel, Miss, Register}
-use Rattle.fc_observe.specs.Observers.{ObserverList, at_moment, entry_out, registration}
+use Rattle.fc_observe.specs.Calls.{ObserverCall, Advance, Cancel, MarkMissing, Register}
+use Rattle.fc_observe.specs.Observers.{ObserverList, list_at_time, entry_out, registration}
 use Rattle.fc_registry.specs.declared.observe.TheConstants as observe
 use Rattle.fc_registry.specs.declared.job.Ask.{Ask}
 use Rattle.fc_registry.specs.declared.job.Ask.TheVariants.{Run, Install}
@@ -53,71 +53,71 @@ readings_if false readings = None
 
 -- a snapshot gives a ticket of the slot's contents, if there is memory for it; an empty slot needs
 -- no memory.
-abbrev pub taking : Option (List ℕ) → Job → ℕ → Option Present → Taken
-taking kept job serial None = Missing
-taking (Some readings) job serial (Some found) = Given (ticket_of job readings serial found)
-taking None job serial (Some found) = Refused
+abbrev pub snapshot : Option (List ℕ) → Job → ℕ → Option Present → Taken
+snapshot kept job serial None = Missing
+snapshot (Some readings) job serial (Some found) = Given (ticket_of job readings serial found)
+snapshot None job serial (Some found) = Refused
 
 -- the lease with this number of the observers of a job's slot.
 abbrev pub turn_of : Job → ℕ → Turn
 turn_of job number = record { slot = job.origin.slot; number = number }
 
 -- the snapshot of a lease that isn't active is stale, whatever the slot's contents.
-abbrev pub turn_taking : Bool → Option (List ℕ) → Job → ℕ → Option Present → Taken
-turn_taking true kept job serial present = taking kept job serial present
-turn_taking false kept job serial present = Stale
+abbrev pub turn_snapshot : Bool → Option (List ℕ) → Job → ℕ → Option Present → Taken
+turn_snapshot true kept job serial present = snapshot kept job serial present
+turn_snapshot false kept job serial present = Stale
 
 -- an active lease whose snapshot finds the slot empty is marked as missing.
-abbrev pub miss_calls : Bool → Turn → Option Present → List ObserverCall
-miss_calls true turn None = Miss turn ∷ []
-miss_calls out turn present = []
+abbrev pub mark_missing_calls : Bool → Turn → Option Present → List ObserverCall
+mark_missing_calls true turn None = MarkMissing turn ∷ []
+mark_missing_calls out turn present = []
 
 -- the lease is active at a time.
 abbrev pub is_out_at : Turn → ℕ → ObserverList → Bool
-is_out_at turn at w = is_some (entry_out turn (at_moment at w))
+is_out_at turn at w = is_some (entry_out turn (list_at_time at w))
 
 -- the calls of a lease's snapshot on the observers, the newest first.
 abbrev pub turn_calls : Turn → ℕ → Option Present → ObserverList → List ObserverCall
-turn_calls turn at present w = miss_calls (is_out_at turn at w) turn present ++ Advance at ∷ []
+turn_calls turn at present w = mark_missing_calls (is_out_at turn at w) turn present ++ Advance at ∷ []
 
 -- the snapshot of a slot with these observers, at a time: a request's, or that of the lease with a
 -- number.
-abbrev pub taking_by : Option ℕ → Option (List ℕ) → Job → Slot → ℕ → ObserverList → Taken
-taking_by None kept job slot at w = taking kept job slot.serial slot.present
-taking_by (Some number) kept job slot at w = turn_taking (is_out_at (turn_of job number) at w) kept job slot.serial slot.present
+abbrev pub snapshot_by : Option ℕ → Option (List ℕ) → Job → Slot → ℕ → ObserverList → Taken
+snapshot_by None kept job slot at w = snapshot kept job slot.serial slot.present
+snapshot_by (Some number) kept job slot at w = turn_snapshot (is_out_at (turn_of job number) at w) kept job slot.serial slot.present
 
 -- its calls on the observers, the newest first.
-abbrev pub taking_calls_by : Option ℕ → Job → Slot → ℕ → ObserverList → List ObserverCall
-taking_calls_by None job slot at w = []
-taking_calls_by (Some number) job slot at w = turn_calls (turn_of job number) at slot.present w
+abbrev pub snapshot_calls_by : Option ℕ → Job → Slot → ℕ → ObserverList → List ObserverCall
+snapshot_calls_by None job slot at w = []
+snapshot_calls_by (Some number) job slot at w = turn_calls (turn_of job number) at slot.present w
 
 -- the snapshot of a job.
-abbrev pub taking_at : Option (List ℕ) → Job → Slot → ℕ → ObserverList → Taken
-taking_at kept job slot at w = taking_by job.turn kept job slot at w
+abbrev pub snapshot_at : Option (List ℕ) → Job → Slot → ℕ → ObserverList → Taken
+snapshot_at kept job slot at w = snapshot_by job.turn kept job slot at w
 
 -- the calls of a job's snapshot on the observers, the newest first.
-abbrev pub taking_calls : Job → Slot → ℕ → ObserverList → List ObserverCall
-taking_calls job slot at w = taking_calls_by job.turn job slot at w
+abbrev pub snapshot_calls : Job → Slot → ℕ → ObserverList → List ObserverCall
+snapshot_calls job slot at w = snapshot_calls_by job.turn job slot at w
 
 -- a job's snapshot of a slot: there was memory, or it was refused.
 abbrev pub IsFinding : Job → List ℕ → Slot → Taken → Type 0
-IsFinding job readings slot taken = (memory : Bool) × (taken ≡ taking (readings_if memory readings) job slot.serial slot.present)
+IsFinding job readings slot taken = (memory : Bool) × (taken ≡ snapshot (readings_if memory readings) job slot.serial slot.present)
 
 -- the same for a lease, which is stale if it isn't active.
-abbrev pub IsTurnTaking : Turn → ℕ → ObserverList → Job → List ℕ → Slot → Taken → Type 0
-IsTurnTaking turn at w job readings slot taken = (memory : Bool) × (taken ≡ turn_taking (is_out_at turn at w) (readings_if memory readings) job slot.serial slot.present)
+abbrev pub IsTurnSnapshot : Turn → ℕ → ObserverList → Job → List ℕ → Slot → Taken → Type 0
+IsTurnSnapshot turn at w job readings slot taken = (memory : Bool) × (taken ≡ turn_snapshot (is_out_at turn at w) (readings_if memory readings) job slot.serial slot.present)
 
 -- the same for the job of a request or of a lease.
-abbrev pub IsTaking : Job → List ℕ → Slot → ℕ → ObserverList → Taken → Type 0
-IsTaking job readings slot at w taken = (memory : Bool) × (taken ≡ taking_at (readings_if memory readings) job slot at w)
+abbrev pub IsSnapshot : Job → List ℕ → Slot → ℕ → ObserverList → Taken → Type 0
+IsSnapshot job readings slot at w taken = (memory : Bool) × (taken ≡ snapshot_at (readings_if memory readings) job slot at w)
 
 -- a snapshot at a shard, with these readings: of the job's slot and its observers.
 abbrev pub TakesAt : Job → List ℕ → Shard → Taken → Type 0
-TakesAt job readings shard taken = IsTaking job readings (slot_in shard job.origin.slot) shard.now (watch_at shard (job.origin.slot / 8)) taken
+TakesAt job readings shard taken = IsSnapshot job readings (slot_in shard job.origin.slot) shard.now (watch_at shard (job.origin.slot / 8)) taken
 
 -- the shard after it.
-abbrev pub after_taking : Job → Shard → Shard
-after_taking job shard = with_calls (taking_calls job (slot_in shard job.origin.slot) shard.now (watch_at shard (job.origin.slot / 8))) job.origin.slot shard
+abbrev pub after_snapshot : Job → Shard → Shard
+after_snapshot job shard = with_calls (snapshot_calls job (slot_in shard job.origin.slot) shard.now (watch_at shard (job.origin.slot / 8))) job.origin.slot shard
 
 -- the result of a call, and the changes that it makes.
 pub record Called (A : Type 0) : Type 0 where

@@ -52,9 +52,9 @@ installed slot program initial = record { program = program; version = slot.seri
 
 -- each change raises the serial by one; a commit sets the variables to those that it left.
 abbrev pub changed : Slot → Change → Slot
-changed slot (Installed program initial) = record { serial = slot.serial + 1; noticed = slot.serial + 1; present = Some (installed slot program initial); ring = [] }
-changed slot (Committed commit) = record { serial = slot.serial + 1; noticed = if commit.notice then slot.serial + 1 else slot.noticed; present = with_vars commit.after slot.present; ring = keep_last 8 (slot.ring ++ entry_of (slot.serial + 1) commit ∷ []) }
-changed slot Removed = record { serial = slot.serial + 1; noticed = slot.serial + 1; present = None; ring = [] }
+changed slot (Installed program initial) = record { serial = slot.serial + 1; notify_serial = slot.serial + 1; present = Some (installed slot program initial); ring = [] }
+changed slot (Committed commit) = record { serial = slot.serial + 1; notify_serial = if commit.notice then slot.serial + 1 else slot.notify_serial; present = with_vars commit.after slot.present; ring = keep_last 8 (slot.ring ++ entry_of (slot.serial + 1) commit ∷ []) }
+changed slot Removed = record { serial = slot.serial + 1; notify_serial = slot.serial + 1; present = None; ring = [] }
 
 -- the slot that these changes, the newest first, leave of another.
 abbrev pub after_changes : Slot → List Change → Slot

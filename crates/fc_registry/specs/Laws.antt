@@ -38,9 +38,9 @@ RingBegins serial cs slot = (p : Present) → slot.present ≡ Some p → HasRin
 
 -- the serial of the newest change that observers are notified of, or the first serial if there is
 -- none.
-abbrev pub noticed_serial : ℕ → List Change → ℕ
-noticed_serial serial [] = serial
-noticed_serial serial (c ∷ cs) = if is_noticed c then serial + length (c ∷ cs) else noticed_serial serial cs
+abbrev pub notify_serial : ℕ → List Change → ℕ
+notify_serial serial [] = serial
+notify_serial serial (c ∷ cs) = if is_noticed c then serial + length (c ∷ cs) else notify_serial serial cs
 
 -- the changes of a slot, the newest first, have the install of this program, and only commits after
 -- it. The version is the serial of that install. The variables are those that the install or the

@@ -12,7 +12,7 @@ use Rattle.coap_reply.specs.Responses.{Envelope, Response, bare, ran_response, s
 use Rattle.fc_machine.specs.Ran.{Ran}
 use Rattle.fc_observe.specs.declared.entry.Turn.{Turn}
 use Rattle.fc_observe.specs.Calls.{ObserverCall, Advance, End, Notify}
-use Rattle.fc_observe.specs.Observers.{ObserverList, at_moment, entry_out, is_missing, must_confirm_turn}
+use Rattle.fc_observe.specs.Observers.{ObserverList, list_at_time, entry_out, is_missing, must_confirm_turn}
 use Rattle.fc_observe.specs.Views.{Interest, interest_of}
 use Rattle.fc_registry.specs.declared.note.NoteOutcome.{NoteOutcome}
 use Rattle.fc_registry.specs.declared.note.NoteOutcome.TheVariants as outcomes
@@ -69,7 +69,7 @@ note_in turn id found w = option_map (note_to id (must_confirm_turn turn w) foun
 
 -- the same, at a time.
 abbrev pub note_at : Turn → ℕ → ℕ → Option Ticket → ObserverList → Option Emission
-note_at turn id at found w = note_in turn id found (at_moment at w)
+note_at turn id at found w = note_in turn id found (list_at_time at w)
 
 -- ---- the end of the lease
 
@@ -136,7 +136,7 @@ IsNotedIn told turn id serial w (Send emission) = IsOfTurn turn serial told × (
 
 -- the same, at a time.
 abbrev pub IsNoted : Notification → Turn → ℕ → ℕ → ℕ → ObserverList → Noted → Type 0
-IsNoted told turn id at serial w noted = IsNotedIn told turn id serial (at_moment at w) noted
+IsNoted told turn id at serial w noted = IsNotedIn told turn id serial (list_at_time at w) noted
 
 -- a notification at a time, of the observers of the lease's slot alone.
 pub record NotesTo (told : Notification) (turn : Turn) (id random : ℕ) (old : Shard) (now : ℕ) (noted : Noted) (new : Shard) : Type 0 where

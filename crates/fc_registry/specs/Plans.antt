@@ -61,7 +61,7 @@ IsProgramState serial k p = (0 < k.version) × (k.version ≤ serial) × (length
 -- a slot in the stored state: the noticed serial is its serial, and its ring is empty.
 pub record IsRestored (k : StoredSlot) (slot : Slot) : Type 0 where
   pub state : IsStoredOf slot k
-  pub noticed : slot.noticed ≡ slot.serial
+  pub notify_serial : slot.notify_serial ≡ slot.serial
   pub ring : slot.ring ≡ []
 
 -- slot n is restored, and no other slot changes.

@@ -29,7 +29,7 @@ vars_in (Some p) = p.vars
 -- first.
 pub record Slot : Type 0 where
   pub serial : ℕ
-  pub noticed : ℕ
+  pub notify_serial : ℕ
   pub present : Option Present
   pub ring : List Entry
 
@@ -39,7 +39,7 @@ last_serial = 9223372036854775807
 
 -- a slot in which nothing was installed, at its first serial.
 abbrev pub new_slot : ℕ → Slot
-new_slot serial = record { serial = serial; noticed = serial; present = None; ring = [] }
+new_slot serial = record { serial = serial; notify_serial = serial; present = None; ring = [] }
 
 -- a shard: the greatest time passed to it, and its slots and their observers. Those of slot n are
 -- at place n / 8.

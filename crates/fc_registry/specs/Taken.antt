@@ -20,7 +20,7 @@ pub data Taken : Type 0 where
 
 -- the data that a snapshot writes: a ticket without its program, whose handle is the snapshot's
 -- result.
-pub record Found : Type 0 where
+pub record SlotSnapshot : Type 0 where
   pub origin : Origin
   pub turn : Option ℕ
   pub token : ArrayVec ℕ
@@ -33,7 +33,7 @@ pub record Found : Type 0 where
   pub readings : List ℕ
 
 -- together with a program it is the ticket.
-abbrev pub ticket_with : Program → Found → Ticket
+abbrev pub ticket_with : Program → SlotSnapshot → Ticket
 ticket_with p f = record {
   origin = f.origin;
   turn = f.turn;
@@ -47,5 +47,5 @@ ticket_with p f = record {
 }
 
 -- the variables are as many as the program has.
-abbrev pub IsSized : Program → Found → Type 0
+abbrev pub IsSized : Program → SlotSnapshot → Type 0
 IsSized p f = length f.vars ≡ p.vars_size

@@ -5,7 +5,7 @@ use Rattle.std.specs.Option.{option_map}
 use Rattle.coap_opts.specs.Values.{Place}
 use Rattle.fc_observe.specs.declared.entry.Turn.{Turn}
 use Rattle.fc_observe.specs.Calls.{NextDue, observers_after}
-use Rattle.fc_observe.specs.Observers.{ObserverList, at_moment, entry_out, next_turn}
+use Rattle.fc_observe.specs.Observers.{ObserverList, list_at_time, entry_out, next_turn}
 use Rattle.fc_observe.specs.Views.{Interest, interest_of}
 use Rattle.fc_registry.specs.declared.job.Ask.TheVariants.{Run}
 use Rattle.fc_registry.specs.declared.job.Job.{Job}
@@ -38,7 +38,7 @@ job_of_turn n (Some turn) w = option_map (turn_job n turn.number) (option_map in
 -- the job of the lease that is granted at a time to one of these observers of slot n, about this
 -- noticed serial.
 abbrev pub turn_given_to : ℕ → ℕ → ℕ → ObserverList → Option Job
-turn_given_to n now noticed w = job_of_turn n (next_turn noticed (at_moment now w)) (observers_after (NextDue now noticed) w)
+turn_given_to n now notify_serial w = job_of_turn n (next_turn notify_serial (list_at_time now w)) (observers_after (NextDue now notify_serial) w)
 
 -- the job that was written, if one was.
 abbrev pub written_if : Bool → Job → Option Job

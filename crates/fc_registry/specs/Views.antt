@@ -4,7 +4,7 @@ use Rattle.fc_registry.specs.declared.body.Body.{Body}
 use Rattle.fc_registry.specs.declared.slot.SlotState.{SlotState}
 use Rattle.fc_registry.specs.Slots.{Slot, Present}
 use Rattle.fc_registry.specs.Taken as spec
-use Rattle.fc_registry.specs.Taken.{Found, IsSized, ticket_with}
+use Rattle.fc_registry.specs.Taken.{SlotSnapshot, IsSized, ticket_with}
 use Rattle.fc_registry.specs.declared.shard.Taken.{Taken}
 use Rattle.fc_registry.specs.declared.shard.Taken.TheVariants.{Given, Missing, Stale, Refused}
 
@@ -15,16 +15,16 @@ present_of (Some b) = Some (record { program = b.program.value; version = b.vers
 
 -- the view of a slot.
 abbrev pub as_seen : SlotState → Slot
-as_seen s = record { serial = s.serial; noticed = s.noticed; present = present_of s.body; ring = s.ring }
+as_seen s = record { serial = s.serial; notify_serial = s.notify_serial; present = present_of s.body; ring = s.ring }
 
 -- the result of a snapshot, with the data that it wrote.
-abbrev pub taken_with : Taken → Found → spec.Taken
+abbrev pub taken_with : Taken → SlotSnapshot → spec.Taken
 taken_with (Given program) f = spec.Given (ticket_with program.value f)
 taken_with Missing f = spec.Missing
 taken_with Stale f = spec.Stale
 taken_with Refused f = spec.Refused
 
 -- a program that a snapshot gives has as many variables as were written.
-abbrev pub HasSize : Taken → Found → Type 0
+abbrev pub HasSize : Taken → SlotSnapshot → Type 0
 HasSize (Given program) f = IsSized program.value f
 HasSize other f = Unit {0}

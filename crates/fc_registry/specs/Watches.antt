@@ -6,8 +6,8 @@ use Rattle.fc_observe.specs.declared.entry.Turn.{Turn}
 use Rattle.fc_observe.specs.declared.observers.Ticked.{Ticked}
 use Rattle.fc_observe.specs.declared.observers.Ticked.TheVariants.{Quiet}
 use Rattle.fc_observe.specs.Calls.{ObserverCall, Acknowledge, GiveUp, NextDue, Reset, Tick, after_calls, observers_after}
-use Rattle.fc_observe.specs.Observers.{ObserverList, at_moment, late_entry, next_turn, no_observers, ticked}
-use Rattle.fc_observe.specs.Quiet.{AreQuietUntil}
+use Rattle.fc_observe.specs.Observers.{ObserverList, list_at_time, overdue_entry, next_turn, no_observers, ticked}
+use Rattle.fc_observe.specs.Quiet.{AreIdleUntil}
 use Rattle.fc_registry.specs.Slots.{Shard, Slot, new_slot}
 
 -- the observers at the first places of a new shard: those at place k are of slot 8 k + index.
@@ -25,7 +25,7 @@ watch_at shard k = slice_index_or shard.watches k (no_observers 0 0)
 
 -- the noticed serial of the slot at a place.
 abbrev pub noticed_at : Shard → ℕ → ℕ
-noticed_at shard k = (slice_index_or shard.slots k (new_slot 0)).noticed
+noticed_at shard k = (slice_index_or shard.slots k (new_slot 0)).notify_serial
 
 -- the shard after a call on the observers at a place, and on no others.
 abbrev pub watch_called : ObserverCall → ℕ → Shard → Shard
@@ -48,17 +48,17 @@ place_from p (suc n) k = if p k then Some k else place_from p n (k + 1)
 -- ---- time
 
 -- a notification at a place has timed out.
-abbrev pub has_late : Shard → ℕ → Bool
-has_late shard k = is_some (late_entry (at_moment shard.now (watch_at shard k)))
+abbrev pub has_overdue : Shard → ℕ → Bool
+has_overdue shard k = is_some (overdue_entry (list_at_time shard.now (watch_at shard k)))
 
 -- the first such place.
-abbrev pub late_place : Shard → Option ℕ
-late_place shard = place_from (has_late shard) 8 0
+abbrev pub overdue_place : Shard → Option ℕ
+overdue_place shard = place_from (has_overdue shard) 8 0
 
 -- the effect of a tick at a place.
 abbrev pub ticked_in : Option ℕ → Shard → Ticked
 ticked_in None shard = Quiet
-ticked_in (Some k) shard = ticked (at_moment shard.now (watch_at shard k))
+ticked_in (Some k) shard = ticked (list_at_time shard.now (watch_at shard k))
 
 -- the shard after it.
 abbrev pub shard_after_tick : Option ℕ → Shard → Shard
@@ -69,20 +69,20 @@ shard_after_tick (Some k) shard = watch_called (Tick shard.now) k shard
 
 -- an observer at a place has a pending notification.
 abbrev pub has_due : Shard → ℕ → Bool
-has_due shard k = is_some (next_turn (noticed_at shard k) (at_moment shard.now (watch_at shard k)))
+has_due shard k = is_some (next_turn (noticed_at shard k) (list_at_time shard.now (watch_at shard k)))
 
 -- the first such place.
 abbrev pub due_place : Shard → Option ℕ
 due_place shard = place_from (has_due shard) 8 0
 
 -- no notification at a place has timed out, and no observer there has a pending one.
-abbrev pub is_quiet_at : Shard → ℕ → Bool
-is_quiet_at shard k =
-    is_none (late_entry (at_moment shard.now (watch_at shard k))) && is_none (next_turn (noticed_at shard k) (at_moment shard.now (watch_at shard k)))
+abbrev pub is_idle_at : Shard → ℕ → Bool
+is_idle_at shard k =
+    is_none (overdue_entry (list_at_time shard.now (watch_at shard k))) && is_none (next_turn (noticed_at shard k) (list_at_time shard.now (watch_at shard k)))
 
 -- nor at any other place: the shard is idle.
-abbrev pub is_quiet : Shard → Bool
-is_quiet shard = is_none (late_place shard) && is_none (due_place shard)
+abbrev pub is_idle : Shard → Bool
+is_idle shard = is_none (overdue_place shard) && is_none (due_place shard)
 
 -- the shard after a lease was granted there.
 abbrev pub after_due : Option ℕ → Shard → Shard
@@ -113,8 +113,8 @@ AreWatched false watches = (k : ℕ) → (slice_index_or watches k (no_observers
 
 -- before this time no notification at any place has timed out, and no observer has a pending one,
 -- unless the shard is called.
-abbrev pub StaysQuietUntil : ℕ → Shard → Type 0
-StaysQuietUntil until shard = (k : ℕ) → k < 8 → AreQuietUntil until (noticed_at shard k) (watch_at shard k).held
+abbrev pub StaysIdleUntil : ℕ → Shard → Type 0
+StaysIdleUntil until shard = (k : ℕ) → k < 8 → AreIdleUntil until (noticed_at shard k) (watch_at shard k).held
 
 -- ---- serials sent to observers
 

@@ -4,7 +4,7 @@
 ghost use Rattle.circular_buffer.specs.Buffer.{keep_last};
 ghost use Rattle.fc_registry.specs.Changes.{Change, Commit, Committed, Installed, after_changes, changed};
 ghost use Rattle.coap_msg.specs.declared.types.Emission.{Emission};
-ghost use Rattle.fc_registry.specs.Laws.{AllCommits, FollowsInstall, IsTicketOfJob, IsTurnFor, RingBegins, noticed_serial, vars_begun};
+ghost use Rattle.fc_registry.specs.Laws.{AllCommits, FollowsInstall, IsTicketOfJob, IsTurnFor, RingBegins, notify_serial, vars_begun};
 ghost use Rattle.coap_opts.specs.Values.{Place};
 ghost use Rattle.fc_observe.specs.Calls.{Advance, End, Notify, Register};
 ghost use Rattle.fc_observe.specs.Views.{interest_of};
@@ -20,14 +20,14 @@ ghost use Rattle.fc_store.specs.Stored.{StoredSlot};
 ghost use Rattle.fc_store.specs.declared.store.SlotUpdate.{SlotUpdate};
 ghost use Rattle.fc_registry.specs.Slots.{Present, Shard, Slot, Ticket, new_slot, vars_in};
 ghost use Rattle.fc_registry.specs.Turns.{due_job};
-ghost use Rattle.fc_registry.specs.Watches.{after_due, shard_after_tick, due_place, is_quiet, late_place, ticked_in, watch_at};
+ghost use Rattle.fc_registry.specs.Watches.{after_due, shard_after_tick, due_place, is_idle, overdue_place, ticked_in, watch_at};
 ghost use Rattle.fc_registry.specs.declared.commit.CommitOutcome.{CommitOutcome};
 ghost use Rattle.fc_registry.specs.declared.job.Job.{Job};
 ghost use Rattle.fc_registry.specs.declared.job.InitialVars.{InitialVars};
 ghost use Rattle.fc_registry.specs.declared.job.InitialVars.TheVariants.{Kept, Zeros};
 ghost use Rattle.fc_kinds.specs.Meaning.{Program};
 ghost use Rattle.fc_registry.specs.Taken.{Given};
-ghost use Rattle.fc_registry.specs.Calls.{HasGiven, ComesTo, IsTaking, install_in, is_registration, meaning_at, observe_calls, outcome};
+ghost use Rattle.fc_registry.specs.Calls.{HasGiven, ComesTo, IsSnapshot, install_in, is_registration, meaning_at, observe_calls, outcome};
 ghost use Rattle.std.specs.List.{Any};
 ghost use Rattle.std.specs.Prelude.{List, [], None, Some, length, replicate, true, ℕ, ◌∷◌, ◌++◌, ◌+◌, ◌≤◌, ◌≡◌};
 
@@ -41,9 +41,9 @@ pub fn serials_count_changes()
 /// Such a change is an install, a removal, or a commit whose run set the notify flag. Without one,
 /// the noticed serial is the slot's first serial. It is never above the slot's serial.
 pub fn noticed_serials_are_of_notices()
-    ensures serial { (serial : ℕ) (cs : List Change) → (after_changes (new_slot serial) cs).noticed
-        ≡ noticed_serial serial cs }
-    ensures limit { (serial : ℕ) (cs : List Change) → (after_changes (new_slot serial) cs).noticed
+    ensures serial { (serial : ℕ) (cs : List Change) → (after_changes (new_slot serial) cs).notify_serial
+        ≡ notify_serial serial cs }
+    ensures limit { (serial : ℕ) (cs : List Change) → (after_changes (new_slot serial) cs).notify_serial
         ≤ (after_changes (new_slot serial) cs).serial }
 {}
 
@@ -98,10 +98,10 @@ pub fn serials_decide()
 ///
 /// At its time a tick sends nothing, no observer has a pending notification, and neither call
 /// changes the shard.
-pub fn quiet_shards_do_nothing()
-    ensures tick { (shard : Shard) → is_quiet shard ≡ true →
-        (ticked_in (late_place shard) shard ≡ Quiet) × (shard_after_tick (late_place shard) shard ≡ shard) }
-    ensures due { (shard : Shard) → is_quiet shard ≡ true →
+pub fn idle_shards_do_nothing()
+    ensures tick { (shard : Shard) → is_idle shard ≡ true →
+        (ticked_in (overdue_place shard) shard ≡ Quiet) × (shard_after_tick (overdue_place shard) shard ≡ shard) }
+    ensures due { (shard : Shard) → is_idle shard ≡ true →
         (due_job (due_place shard) shard ≡ None) × (after_due (due_place shard) shard ≡ shard) }
 {}
 
@@ -111,7 +111,7 @@ pub fn quiet_shards_do_nothing()
 /// and the request that the slot's program is to answer.
 pub fn tickets_are_of_their_jobs()
     ensures { (job : Job) (readings : List ℕ) (slot : Slot) (at : ℕ) (w : ObserverList) (t : Ticket) →
-        IsTaking job readings slot at w (Given t) → IsTicketOfJob job t }
+        IsSnapshot job readings slot at w (Given t) → IsTicketOfJob job t }
 {}
 
 /// A notification ends its lease.

@@ -52,7 +52,7 @@
 //! - A lease that isn't active sends nothing. The ticket of another lease is refused.
 //! - No observer was sent a serial above its slot's. An idle shard has no retransmission to send,
 //!   and no observer with a pending notification. Unless it is called, it has none before the time
-//!   that `quiet_until` returns.
+//!   that `idle_until` returns.
 //! - Before a change is made, its update is known: the slot's next serial, and the variables that
 //!   the change leaves. A store that applies the update, with an image of the program, has the
 //!   state of the changed slot.
@@ -61,8 +61,8 @@
 //!   restored doesn't change.
 //!
 //! By the contracts of `plan_install`, `plan_commit`, `plan_removal`, `Shard::restore`, `take`,
-//! `write_taking`, `would_write`, `commit`, `install`, `remove`, `receipt`, `next_due`, `note`,
-//! `give_up`, `signal`, `tick`, `advance_if_quiet`, `quiet_until`, `rings_are_chains`,
+//! `take_into`, `would_write`, `commit`, `install`, `remove`, `receipt`, `next_due`, `note`,
+//! `give_up`, `signal`, `tick`, `advance_if_idle`, `idle_until`, `rings_are_chains`,
 //! `no_observer_is_ahead`, `laws`.
 #![tactic(auto)]
 
@@ -95,4 +95,4 @@ pub use shard::{Made, Removal, Shard, Taken, Took};
 pub use shards::make_shards;
 pub use slot::LAST_SERIAL;
 pub use slot_number::{SHARDS, SLOTS, SlotNumber};
-pub use ticket::{Found, Mark, Ticket};
+pub use ticket::{Mark, SlotSnapshot, Ticket};

@@ -3,15 +3,15 @@ ghost use Rattle.std.specs.Prelude.{◌≡◌, ◌↔◌, IsTrue, if◌then◌el
 ghost use Rattle.fc_registry.specs.Shards.{empty_shard};
 ghost use Rattle.fc_registry.specs.Slots.{IsOwned, slot_in, with_slot, last_serial, version_in, vars_in};
 ghost use Rattle.fc_registry.specs.Changes.{after_changes, vars_installed};
-ghost use Rattle.fc_registry.specs.Calls.{TakesAt, CommitsTo, WouldWrite, install_in, receipt_at, remove_from, after_taking};
+ghost use Rattle.fc_registry.specs.Calls.{TakesAt, CommitsTo, WouldWrite, install_in, receipt_at, remove_from, after_snapshot};
 ghost use Rattle.fc_registry.specs.Views.{HasSize, as_seen, taken_with};
 ghost use Rattle.fc_registry.specs.Plans.{IsRestoreError, RestoresTo};
 ghost use Rattle.fc_registry.specs.Record.{IsRecord};
 ghost use Rattle.fc_observe.specs.Calls.{observers_after};
-ghost use Rattle.fc_observe.specs.Quiet.{AreQuietUntil};
+ghost use Rattle.fc_observe.specs.Quiet.{AreIdleUntil};
 ghost use Rattle.fc_registry.specs.Notes.{IsKeptUnlessSent, NotesTo, noted_as};
 ghost use Rattle.fc_registry.specs.Turns.{due_job, written_if};
-ghost use Rattle.fc_registry.specs.Watches.{AreWatched, IsSentUpTo, StaysQuietUntil, after_due, after_given_up, shard_after_tick, due_place, at_time, has_due, has_late, is_quiet, is_quiet_at, late_place, new_watches, noticed_at, signal_call, signalled, ticked_in, watch_at};
+ghost use Rattle.fc_registry.specs.Watches.{AreWatched, IsSentUpTo, StaysIdleUntil, after_due, after_given_up, shard_after_tick, due_place, at_time, has_due, has_overdue, is_idle, is_idle_at, overdue_place, new_watches, noticed_at, signal_call, signalled, ticked_in, watch_at};
 
 use crate::commit::Committed;
 use crate::job::{InitialVars, Job};
@@ -23,7 +23,7 @@ use crate::slot::{
     serial_of, take_turn, vars_installed, vars_of, version_of, would_write,
 };
 use crate::slot_number::{SHARDS, SlotNumber};
-use crate::ticket::{Found, Ticket};
+use crate::ticket::{SlotSnapshot, Ticket};
 use crate::turn::{next_turn, no_job};
 use coap_msg::{Datagram, Emission, Endpoint};
 use fc_help::Readings;
@@ -73,7 +73,7 @@ impl Model for Shard {
 /// The result of a snapshot.
 #[derive(Drop)]
 pub enum Taken {
-    /// A handle of the slot's program; [`Found`] has the rest.
+    /// A handle of the slot's program; [`SlotSnapshot`] has the rest.
     Given(Arc<Verified>),
     /// The slot is empty.
     Missing,
@@ -89,7 +89,7 @@ pub enum Taken {
 #[derive(Drop)]
 pub struct Took {
     pub taken: Taken,
-    pub found: Found,
+    pub found: SlotSnapshot,
 }
 
 impl Model for Took {
@@ -172,10 +172,10 @@ impl Shard {
     pub fn take(&mut self, job: &Job, readings: &Readings) -> Took
         requires { IsOwned self.old job.now.origin.slot }
         ensures taken { TakesAt job.now readings.now self.old result }
-        ensures after { self.new ≡ after_taking job.now self.old }
+        ensures after { self.new ≡ after_snapshot job.now self.old }
     {
-        let mut found = Found::blank();
-        let taken = self.write_taking(job, readings, &mut found);
+        let mut found = SlotSnapshot::blank();
+        let taken = self.take_into(job, readings, &mut found);
         Took { taken, found }
     }
 
@@ -183,11 +183,11 @@ impl Shard {
     ///
     /// The data is written in place, and isn't moved. If the result is a program, this program and
     /// `found` are the ticket.
-    pub fn write_taking(&mut self, job: &Job, readings: &Readings, found: &mut Found) -> Taken
+    pub fn take_into(&mut self, job: &Job, readings: &Readings, found: &mut SlotSnapshot) -> Taken
         requires { IsOwned self.old job.now.origin.slot }
         ensures taken { TakesAt job.now readings.now self.old (taken_with result found.new) }
         ensures size { HasSize result found.new }
-        ensures after { self.new ≡ after_taking job.now self.old }
+        ensures after { self.new ≡ after_snapshot job.now self.old }
     {
         let place = job.origin.slot.place();
         match job.turn {
@@ -317,8 +317,8 @@ impl Shard {
     ///
     /// It is the serial of the last change that observers are notified of: an install, a removal,
     /// or a commit whose run set the notify flag. Before any, it is the first serial.
-    pub fn noticed(&self, slot: SlotNumber) -> u64
-        ensures { result ≡ (slot_in self.entry.now slot).noticed }
+    pub fn notify_serial(&self, slot: SlotNumber) -> u64
+        ensures { result ≡ (slot_in self.entry.now slot).notify_serial }
     {
         let state = &self.slots[slot.place()];
         noticed_of(state)
@@ -385,10 +385,10 @@ impl Shard {
         let Some(place) = self.due_place(self.now) else {
             return false;
         };
-        let noticed = self.noticed_at(place);
+        let notify_serial = self.noticed_at(place);
         let slot = SlotNumber::new(SHARDS * place as u8 + self.index);
         let watch = &mut self.watches[place];
-        next_turn(watch, self.now, noticed, slot, job)
+        next_turn(watch, self.now, notify_serial, slot, job)
     }
 
     /// Notifies the observer that has this lease.
@@ -472,11 +472,11 @@ impl Shard {
     /// Notifications are in the order of their slots, and then of their observers' registrations.
     /// The time is in milliseconds.
     pub fn tick(&mut self, now: u64) -> Ticked
-        ensures answer { result ≡ ticked_in (late_place (at_time self.old now)) (at_time self.old now) }
-        ensures after { self.new ≡ shard_after_tick (late_place (at_time self.old now)) (at_time self.old now) }
+        ensures answer { result ≡ ticked_in (overdue_place (at_time self.old now)) (at_time self.old now) }
+        ensures after { self.new ≡ shard_after_tick (overdue_place (at_time self.old now)) (at_time self.old now) }
     {
         self.now = self.now.max(now);
-        match self.late_place(self.now) {
+        match self.overdue_place(self.now) {
             None => Ticked::Quiet,
             Some(place) => self.watches[place].tick(self.now),
         }
@@ -496,29 +496,29 @@ impl Shard {
     /// It is idle if no notification has timed out and no observer has a pending one. Then `tick`
     /// and `next_due` would do nothing but advance the clock. Returns whether the clock was
     /// advanced.
-    pub fn advance_if_quiet(&mut self, now: u64) -> bool
-        ensures quiet { result ≡ is_quiet (at_time self.old now) }
+    pub fn advance_if_idle(&mut self, now: u64) -> bool
+        ensures idle { result ≡ is_idle (at_time self.old now) }
         ensures after { self.new ≡ (if result then at_time self.old now else self.old) }
     {
         let now = self.now.max(now);
-        let quiet = self.check_quiet(now);
-        if quiet {
+        let idle = self.check_idle(now);
+        if idle {
             self.now = now;
         }
-        quiet
+        idle
     }
 
     /// Returns a time before which the shard stays idle, unless it is called.
     ///
     /// Before it no notification has timed out, and no observer has a pending one. It is the
     /// earliest time known at which this may change, in milliseconds, or 2^64 - 1 if none is known.
-    pub fn quiet_until(&self) -> u64
-        ensures { StaysQuietUntil result self.entry.now }
+    pub fn idle_until(&self) -> u64
+        ensures { StaysIdleUntil result self.entry.now }
     {
         let mut until = u64::MAX;
         if self.watched {
             for place in 0..PLACES {
-                until = until.min(self.quiet_until_at(place));
+                until = until.min(self.idle_until_at(place));
             }
         }
         until
@@ -526,24 +526,24 @@ impl Shard {
 
     // Returns a time before which no notification at a place has timed out, and no observer there
     // has a pending one.
-    fn quiet_until_at(&self, place: usize) -> u64
+    fn idle_until_at(&self, place: usize) -> u64
         requires { place < 8 }
-        ensures { AreQuietUntil result (noticed_at self.entry.now place) (watch_at self.entry.now place).held }
+        ensures { AreIdleUntil result (noticed_at self.entry.now place) (watch_at self.entry.now place).held }
     {
-        self.watches[place].quiet_until(self.noticed_at(place))
+        self.watches[place].idle_until(self.noticed_at(place))
     }
 
     // Returns whether the shard is idle at a time. If it is, looks again whether there are
     // observers.
-    fn check_quiet(&mut self, now: u64) -> bool
-        ensures quiet { result ≡ is_quiet (record self.old { now = now }) }
+    fn check_idle(&mut self, now: u64) -> bool
+        ensures idle { result ≡ is_idle (record self.old { now = now }) }
         ensures after { self.new ≡ self.old }
     {
         if !self.watched {
             return true;
         }
         for place in 0..PLACES {
-            if !self.check_quiet_at(now, place) {
+            if !self.check_idle_at(now, place) {
                 return false;
             }
         }
@@ -553,14 +553,14 @@ impl Shard {
 
     // Returns whether no notification at a place has timed out at a time, and no observer there has
     // a pending one.
-    fn check_quiet_at(&mut self, now: u64, place: usize) -> bool
+    fn check_idle_at(&mut self, now: u64, place: usize) -> bool
         requires { place < 8 }
-        ensures quiet { result ≡ is_quiet_at (record self.old { now = now }) place }
+        ensures idle { result ≡ is_idle_at (record self.old { now = now }) place }
         ensures after { self.new ≡ self.old }
     {
-        let noticed = self.noticed_at(place);
+        let notify_serial = self.noticed_at(place);
         let watch = &mut self.watches[place];
-        watch.check_quiet(now, noticed)
+        watch.check_idle(now, notify_serial)
     }
 
     // Returns whether an observer at a place has a pending notification at a time.
@@ -572,11 +572,11 @@ impl Shard {
     }
 
     // Returns whether a notification at a place has timed out at a time.
-    fn is_late_at(&self, now: u64, place: usize) -> bool
+    fn is_overdue_at(&self, now: u64, place: usize) -> bool
         requires { place < 8 }
-        ensures { result ≡ has_late (record self.entry.now { now = now }) place }
+        ensures { result ≡ has_overdue (record self.entry.now { now = now }) place }
     {
-        self.watches[place].is_late(now)
+        self.watches[place].is_overdue(now)
     }
 
     // Returns the first place with an observer that has a pending notification at a time.
@@ -588,11 +588,11 @@ impl Shard {
     }
 
     // Returns the first place with a notification that has timed out at a time.
-    fn late_place(&self, now: u64) -> Option<usize>
-        ensures place { result ≡ late_place (record self.entry.now { now = now }) }
+    fn overdue_place(&self, now: u64) -> Option<usize>
+        ensures place { result ≡ overdue_place (record self.entry.now { now = now }) }
         ensures within { IfSome result (λ k. k < 8) }
     {
-        (0..PLACES).find(|place| self.is_late_at(now, *place))
+        (0..PLACES).find(|place| self.is_overdue_at(now, *place))
     }
 
     /// The ring of each slot is a chain, after any calls in any order.

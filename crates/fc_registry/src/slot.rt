@@ -3,7 +3,7 @@ ghost use Rattle.std.specs.Prelude.{◌≡◌, ◌+◌, ◌<◌, ◌≤◌, ◌�
 ghost use Rattle.fc_machine.specs.Ran.{meaning_of};
 ghost use Rattle.fc_registry.specs.Slots.{new_slot, last_serial, version_in, vars_in};
 ghost use Rattle.fc_registry.specs.Changes.{Committed as Wrote, after_changes, vars_installed};
-ghost use Rattle.fc_registry.specs.Calls.{IsCommit, ComesTo, IsOwn, IsCurrent, commit_calls, commit_of, is_observed, is_post, observe_calls, mark_of, install_in, receipt_at, remove_from, run_of, wants_by, IsFinding, IsTurnTaking, WouldWrite, turn_calls};
+ghost use Rattle.fc_registry.specs.Calls.{IsCommit, ComesTo, IsOwn, IsCurrent, commit_calls, commit_of, is_observed, is_post, observe_calls, mark_of, install_in, receipt_at, remove_from, run_of, wants_by, IsFinding, IsTurnSnapshot, WouldWrite, turn_calls};
 ghost use Rattle.fc_registry.specs.Plans.{IsRestoreError, IsRestored};
 ghost use Rattle.fc_registry.specs.Record.{IsRecord};
 ghost use Rattle.fc_registry.specs.Views.{HasSize, as_seen, present_of, taken_with};
@@ -17,7 +17,7 @@ use crate::receipt::Receipt;
 use crate::restore::{RestoreError, restored};
 use crate::ring::{Entry, Ring};
 use crate::shard::{Made, Removal, Taken};
-use crate::ticket::{Found, Mark, Ticket, is_run_of};
+use crate::ticket::{Mark, SlotSnapshot, Ticket, is_run_of};
 use fc_help::vars::VARS;
 use fc_help::{Method, Readings, Vars};
 use fc_machine::Outcome;
@@ -38,7 +38,7 @@ pub const LAST_SERIAL: u64 = 9_223_372_036_854_775_807;
 #[derive(Drop)]
 pub(crate) struct SlotState {
     pub(crate) serial: u64,
-    pub(crate) noticed: u64,
+    pub(crate) notify_serial: u64,
     pub(crate) body: Option<Body>,
     pub(crate) ring: Ring,
 }
@@ -49,7 +49,7 @@ pub(crate) fn empty_slot(alloc: Global, serial: u64) -> Result<SlotState, AllocE
 {
     Ok(SlotState {
         serial,
-        noticed: serial,
+        notify_serial: serial,
         body: None,
         ring: Ring::new(alloc)?,
     })
@@ -64,9 +64,9 @@ pub(crate) fn serial_of(slot: &SlotState) -> u64
 
 // Returns the serial of its last change that observers are notified of.
 pub(crate) fn noticed_of(slot: &SlotState) -> u64
-    ensures { result ≡ (as_seen slot.now).noticed }
+    ensures { result ≡ (as_seen slot.now).notify_serial }
 {
-    slot.noticed
+    slot.notify_serial
 }
 
 // Returns the version of its program, or `None` if it is empty.
@@ -97,9 +97,9 @@ pub(crate) fn take_turn(
     job: &Job,
     readings: &Readings,
     slot: &SlotState,
-    found: &mut Found,
+    found: &mut SlotSnapshot,
 ) -> Taken
-    ensures taken { IsTurnTaking turn now watch.old job.now readings.now (as_seen slot.now) (taken_with result found.new) }
+    ensures taken { IsTurnSnapshot turn now watch.old job.now readings.now (as_seen slot.now) (taken_with result found.new) }
     ensures size { HasSize result found.new }
     ensures watch { watch.new ≡ after_calls (turn_calls turn now (as_seen slot.now).present watch.old) watch.old }
 {
@@ -108,13 +108,18 @@ pub(crate) fn take_turn(
         return Taken::Stale;
     }
     if slot.body.is_none() {
-        watch.miss(turn);
+        watch.mark_missing(turn);
     }
     find(job, readings, slot, found)
 }
 
 // Takes a job's snapshot of a slot, and writes it over an earlier one.
-pub(crate) fn find(job: &Job, readings: &Readings, slot: &SlotState, found: &mut Found) -> Taken
+pub(crate) fn find(
+    job: &Job,
+    readings: &Readings,
+    slot: &SlotState,
+    found: &mut SlotSnapshot,
+) -> Taken
     ensures taken { IsFinding job.now readings.now (as_seen slot.now) (taken_with result found.new) }
     ensures size { HasSize result found.new }
 {
@@ -181,10 +186,10 @@ pub(crate) fn install(slot: &mut SlotState, program: Arc<Verified>, initial: Ini
 // Sets the program of a slot with its variables, or none, at a serial that observers are notified
 // of. The ring starts empty.
 fn put(slot: &mut SlotState, serial: u64, body: Option<Body>)
-    ensures { as_seen slot.new ≡ record { serial = serial; noticed = serial; present = present_of body; ring = [] } }
+    ensures { as_seen slot.new ≡ record { serial = serial; notify_serial = serial; present = present_of body; ring = [] } }
 {
     slot.serial = serial;
-    slot.noticed = serial;
+    slot.notify_serial = serial;
     slot.ring.clear();
     slot.body = body;
 }
@@ -348,7 +353,7 @@ fn write(slot: &mut SlotState, outcome: &Outcome<'_>, ticket: &Ticket<'_>) -> Ma
 {
     slot.serial += 1;
     if outcome.notice() {
-        slot.noticed = slot.serial;
+        slot.notify_serial = slot.serial;
     }
     if let Some(body) = &mut slot.body {
         body.vars = vars_after(outcome);

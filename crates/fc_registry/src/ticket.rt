@@ -17,7 +17,7 @@ use std::marker::Model;
 /// With the handle of the program, which is the snapshot's result, it is a ticket. It is written
 /// over the data of the last snapshot. Later installs and commits don't change it.
 #[derive(Drop)]
-pub struct Found {
+pub struct SlotSnapshot {
     origin: Origin,
     turn: Option<u64>,
     token: Token,
@@ -30,10 +30,10 @@ pub struct Found {
     readings: Readings,
 }
 
-impl Model for Found {
+impl Model for SlotSnapshot {
     ghost use Rattle.fc_registry.specs.Taken as spec;
 
-    ghost Value = { spec.Found };
+    ghost Value = { spec.SlotSnapshot };
 
     ghost view = { λ f. record {
       origin = f.origin;
@@ -49,10 +49,10 @@ impl Model for Found {
     } };
 }
 
-impl Found {
+impl SlotSnapshot {
     /// Makes a value for a snapshot to write over.
-    pub fn blank() -> Found {
-        Found {
+    pub fn blank() -> SlotSnapshot {
+        SlotSnapshot {
             origin: Origin::default(),
             turn: None,
             token: Token::new(),
@@ -119,7 +119,7 @@ fn write_request(ask: &Ask, request: &mut Request)
 #[derive(Drop)]
 pub struct Ticket<'a> {
     program: &'a Verified,
-    found: &'a Found,
+    found: &'a SlotSnapshot,
 }
 
 impl<'a> Model for Ticket<'a> {
@@ -136,7 +136,7 @@ impl<'a> Model for Ticket<'a> {
 
 impl<'a> Ticket<'a> {
     /// Makes the ticket of a snapshot's program and data.
-    pub fn of(program: &'a Verified, found: &'a Found) -> Ticket<'a>
+    pub fn of(program: &'a Verified, found: &'a SlotSnapshot) -> Ticket<'a>
         requires { IsSized program.now found.now }
         ensures { result ≡ ticket_with program.now found.now }
     {
@@ -248,7 +248,7 @@ pub(crate) fn is_run_of(outcome: &Outcome<'_>, ticket: &Ticket<'_>, serial: u64)
 /// The mark of a commit: a token that the response of its run consumes.
 ///
 /// No such response is made without its commit. Only a commit makes a mark, a mark can't be copied,
-/// and only `spend` consumes it.
+/// and only `into_serial` consumes it.
 #[must_use]
 pub struct Mark {
     pub(crate) origin: Origin,
@@ -303,7 +303,7 @@ impl Mark {
     }
 
     /// Consumes the mark, and returns the serial that the job's snapshot found.
-    pub fn spend(self) -> u64
+    pub fn into_serial(self) -> u64
         ensures { result ≡ self.found }
     {
         let Mark {

@@ -18,15 +18,15 @@ use fc_observe::{Observer, Observers};
 pub(crate) fn next_turn(
     watch: &mut Observers,
     now: u64,
-    noticed: u64,
+    notify_serial: u64,
     slot: SlotNumber,
     job: &mut Job,
 ) -> bool
-    ensures job { written_if result job.new ≡ turn_given_to slot now noticed watch.old }
+    ensures job { written_if result job.new ≡ turn_given_to slot now notify_serial watch.old }
     ensures kept { result ≡ false → job.new ≡ job.old }
-    ensures watch { watch.new ≡ observers_after (NextDue now noticed) watch.old }
+    ensures watch { watch.new ≡ observers_after (NextDue now notify_serial) watch.old }
 {
-    let Some(turn) = watch.next_due(now, noticed) else {
+    let Some(turn) = watch.next_due(now, notify_serial) else {
         return false;
     };
     let Some(observer) = watch.out(turn) else {

@@ -54,8 +54,8 @@ HasFlag parts key flag = HasPart parts key (flag_digit flag)
 abbrev pub HasJob : List Bytes → ℕ → Type 0
 HasJob parts job = HasNumber parts (codes "job") (2 ^ 64) job
 
-abbrev pub HasMoment : List Bytes → ℕ → Type 0
-HasMoment parts now = HasNumber parts (codes "now") (2 ^ 64) now
+abbrev pub HasTime : List Bytes → ℕ → Type 0
+HasTime parts now = HasNumber parts (codes "now") (2 ^ 64) now
 
 abbrev pub HasShard : List Bytes → ℕ → Type 0
 HasShard parts shard = HasNumber parts (codes "shard") 256 shard
@@ -74,14 +74,14 @@ pub record HasData (words : List Bytes) (bytes : List ℕ) : Type 0 where
 
 -- in addition to a snapshot's job and memory, one part is `readings=hex`, with 128 hex digits; or
 -- there is none, and the readings are zeros.
-pub record AreSpelled (parts : List Bytes) (readings : List ℕ) : Type 0 where
+pub record AreEncoded (parts : List Bytes) (readings : List ℕ) : Type 0 where
   pub digits : Bytes
   pub part : HasPart parts (codes "readings") digits
   pub bytes_are : decode_sized digits 64 ≡ Ok readings
   pub count : length parts ≡ 3
 
 abbrev pub HasReadings : List Bytes → List ℕ → Type 0
-HasReadings parts readings = AreSpelled parts readings ⊎ ((length parts ≡ 2) × (readings ≡ no_readings))
+HasReadings parts readings = AreEncoded parts readings ⊎ ((length parts ≡ 2) × (readings ≡ no_readings))
 
 -- a name with this many parts.
 abbrev pub IsForm : Bytes → List Bytes → Bytes → ℕ → Type 0
@@ -90,26 +90,26 @@ IsForm name parts wanted count = (name ≡ wanted) × (length parts ≡ count)
 -- a name and its parts, in any order, are this event.
 abbrev pub IsEventOf : Bytes → List Bytes → Event → Type 0
 IsEventOf name parts (Deliver now endpoint sent) =
-    IsForm name parts (codes "Deliver") 3 × HasMoment parts now × HasEndpoint parts endpoint × HasData (name ∷ parts) sent.now
+    IsForm name parts (codes "Deliver") 3 × HasTime parts now × HasEndpoint parts endpoint × HasData (name ∷ parts) sent.now
 IsEventOf name parts (Peek job slot) = IsForm name parts (codes "Peek") 2 × HasJob parts job × HasNumber parts (codes "slot") 256 slot
 IsEventOf name parts (Take job memory readings) =
     (name ≡ codes "Take") × HasJob parts job × HasFlag parts (codes "memory") memory × HasReadings parts readings
-IsEventOf name parts (Commit job now) = IsForm name parts (codes "Commit") 2 × HasJob parts job × HasMoment parts now
+IsEventOf name parts (Commit job now) = IsForm name parts (codes "Commit") 2 × HasJob parts job × HasTime parts now
 IsEventOf name parts (Install job memory) = IsForm name parts (codes "Install") 2 × HasJob parts job × HasFlag parts (codes "memory") memory
 IsEventOf name parts (Remove job) = IsForm name parts (codes "Remove") 1 × HasJob parts job
 IsEventOf name parts (Receipt job) = IsForm name parts (codes "Receipt") 1 × HasJob parts job
 IsEventOf name parts (Raise job) = IsForm name parts (codes "Raise") 1 × HasJob parts job
-IsEventOf name parts (Answer job now) = IsForm name parts (codes "Answer") 2 × HasJob parts job × HasMoment parts now
-IsEventOf name parts (Due shard now) = IsForm name parts (codes "Due") 2 × HasShard parts shard × HasMoment parts now
-IsEventOf name parts (Fresh job now) = IsForm name parts (codes "Fresh") 2 × HasJob parts job × HasMoment parts now
+IsEventOf name parts (Answer job now) = IsForm name parts (codes "Answer") 2 × HasJob parts job × HasTime parts now
+IsEventOf name parts (Due shard now) = IsForm name parts (codes "Due") 2 × HasShard parts shard × HasTime parts now
+IsEventOf name parts (Fresh job now) = IsForm name parts (codes "Fresh") 2 × HasJob parts job × HasTime parts now
 IsEventOf name parts (Note job now random) =
-    IsForm name parts (codes "Note") 3 × HasJob parts job × HasMoment parts now × HasNumber parts (codes "random") 65536 random
-IsEventOf name parts (GiveUp job now) = IsForm name parts (codes "GiveUp") 2 × HasJob parts job × HasMoment parts now
+    IsForm name parts (codes "Note") 3 × HasJob parts job × HasTime parts now × HasNumber parts (codes "random") 65536 random
+IsEventOf name parts (GiveUp job now) = IsForm name parts (codes "GiveUp") 2 × HasJob parts job × HasTime parts now
 IsEventOf name parts (Signal shard endpoint mid reset) =
     IsForm name parts (codes "Signal") 4 × HasShard parts shard × HasEndpoint parts endpoint
     × HasNumber parts (codes "mid") 65536 mid × HasFlag parts (codes "reset") reset
-IsEventOf name parts (Tick now) = IsForm name parts (codes "Tick") 1 × HasMoment parts now
-IsEventOf name parts (ShardTick shard now) = IsForm name parts (codes "ShardTick") 2 × HasShard parts shard × HasMoment parts now
+IsEventOf name parts (Tick now) = IsForm name parts (codes "Tick") 1 × HasTime parts now
+IsEventOf name parts (ShardTick shard now) = IsForm name parts (codes "ShardTick") 2 × HasShard parts shard × HasTime parts now
 IsEventOf name parts (Lose job) = IsForm name parts (codes "Lose") 1 × HasJob parts job
 
 -- the words are this event: the first is the name.

@@ -40,10 +40,10 @@ live_before : (m at : ℕ) → m ≤ at → (e : Exchange) → is_held at e ≡ 
 live_before m at le e held = let lt : at < e.at + 247000 = ltb-true at (e.at + 247000) held in lt-ltb m (e.at + 247000) (omega arith)
 
 -- a front that advances has the exchanges that are live then.
-pub front_advances : (s : Seen) (now : ℕ) → advanced (front_in s s.moment) now ≡ front_at s now
+pub front_advances : (s : Seen) (now : ℕ) → advanced (front_in s s.time) now ≡ front_at s now
 front_advances s now =
-    let le : s.moment ≤ max s.moment now = omega arith in
-    λ i. record (front_at s now) { held = filter_of_filter (is_held (max s.moment now)) (is_held s.moment) (live_before s.moment (max s.moment now) le) s.exchanges i }
+    let le : s.time ≤ max s.time now = omega arith in
+    λ i. record (front_at s now) { held = filter_of_filter (is_held (max s.time now)) (is_held s.time) (live_before s.time (max s.time now) le) s.exchanges i }
 
 -- ---- an exchange is opened
 

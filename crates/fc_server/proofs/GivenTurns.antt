@@ -7,13 +7,13 @@ use Rattle.std.proofs.lemmas.List.{get_or-set_same}
 use Rattle.coap_msg.specs.declared.types.Emission.{Emission}
 use Rattle.fc_observe.specs.declared.entry.Entry.{Entry}
 use Rattle.fc_observe.specs.declared.entry.Turn.{Turn}
-use Rattle.fc_observe.specs.Calls.{Advance, Miss, NextDue, ObserverCall, after_calls, observers_after}
-use Rattle.fc_observe.specs.Observers.{ObserverList, at_moment, entry_out, gives_turn, is_missing, is_missing_by, must_confirm_turn, next_turn_by, no_observers, turn_missed}
+use Rattle.fc_observe.specs.Calls.{Advance, MarkMissing, NextDue, ObserverCall, after_calls, observers_after}
+use Rattle.fc_observe.specs.Observers.{ObserverList, list_at_time, entry_out, gives_turn, is_missing, is_missing_by, must_confirm_turn, next_turn_by, no_observers, turn_missed}
 use Rattle.fc_observe.specs.Views.{Interest, interest_of}
-use Rattle.fc_observe.proofs.Hearing.{moment_is, slot_is}
+use Rattle.fc_observe.proofs.Hearing.{time_is, slot_is}
 use Rattle.fc_observe.proofs.Missing.{missing_after}
 use Rattle.fc_registry.specs.declared.job.Job.{Job}
-use Rattle.fc_registry.specs.Calls.{is_out_at, miss_calls, readings_if, turn_of, turn_taking}
+use Rattle.fc_registry.specs.Calls.{is_out_at, mark_missing_calls, readings_if, turn_of, turn_snapshot}
 use Rattle.fc_registry.specs.Notes.{note_at, note_in, note_to}
 use Rattle.fc_registry.specs.Shards.{AreShards, no_shard, shard_at, slot_in_shards}
 use Rattle.fc_registry.specs.Slots.{Shard, slot_in}
@@ -24,7 +24,7 @@ use Rattle.fc_core.specs.declared.event.Event.{Event}
 use Rattle.fc_core.specs.declared.event.Event.TheVariants.{Note, Take}
 use Rattle.fc_core.specs.declared.stage.Task.{Task}
 use Rattle.fc_core.specs.History.{Seen}
-use Rattle.fc_core.specs.Rows.{Move, Scene, call_at, handed, move_of, notification, row, sends}
+use Rattle.fc_core.specs.Rows.{Move, Inputs, call_at, handed, move_of, notification, row, sends}
 use Rattle.fc_core.specs.Stage.{Stage, ToTell}
 use Rattle.fc_core.specs.Stages.{drew, first_or_turn, needs_id, new_task}
 use Rattle.fc_core.specs.Steps.{TakesTurn}
@@ -32,7 +32,7 @@ use Rattle.fc_core.specs.TurnStage as turns
 use Rattle.fc_core.proofs.Places.{place_below}
 use Rattle.fc_server.specs.Agreement.{ShardsAgree}
 use Rattle.fc_server.specs.Serving.{IsOutToTake}
-use Rattle.fc_server.specs.States.{ServerState, scene_in, shards_moved}
+use Rattle.fc_server.specs.States.{ServerState, inputs_in, shards_moved}
 use Rattle.fc_server.specs.Steps.{shard_asked, shard_turn}
 use Rattle.fc_server.proofs.Places.{now_here, watch_here}
 
@@ -62,7 +62,7 @@ asked_there shard k = observers_after (NextDue shard.now (noticed_at shard k)) (
 placed : (shard : Shard) (p : Option ℕ) (job : Job) → due_job p shard ≡ Some job → (k : ℕ) × (p ≡ Some k) × IsOf (8 * k + shard.index) (turn_at_place shard k) (asked_there shard k) job
 placed shard None job is = absurd (cc is)
 placed shard (Some k) job is =
-    let t = at_moment shard.now (watch_at shard k) in
+    let t = list_at_time shard.now (watch_at shard k) in
     (k, refl, given_by (8 * k + shard.index) (gives_turn (noticed_at shard k) t) t (asked_there shard k) job is)
 
 -- ---- it is out at the shard
@@ -106,11 +106,11 @@ module _ (s : Seen) (i now : ℕ) (low : i < 8) (old new : List Shard) (a : Shar
       ap (λ (n : ℕ). let t : Turn = record { slot = n; number = (watch_at asked place).turns } in t) own
 
   -- the time was passed already.
-  rests : at_moment asked.now (asked_there asked place) ≡ asked_there asked place
+  rests : list_at_time asked.now (asked_there asked place) ≡ asked_there asked place
   rests =
       let w = asked_there asked place in
-      let is = moment_is asked.now (noticed_at asked place) (watch_at asked place) in
-      ap (λ (m : ℕ). record w { moment = m }) (omega (arith, is))
+      let is = time_is asked.now (noticed_at asked place) (watch_at asked place) in
+      ap (λ (m : ℕ). record w { time = m }) (omega (arith, is))
 
   out_there : is_out_at (turn_of job (watch_at asked place).turns) (after_due (Some place) asked).now (watch_at (after_due (Some place) asked) place) ≡ true
   out_there =
@@ -154,46 +154,46 @@ module _ (k now random : ℕ) (memory : Bool) (readings : List ℕ) (server : Se
   abbrev w : ObserverList
   w = watch_at (shard_at server.shards (n % 8)) (n / 8)
 
-  abbrev scene : Scene
-  scene = scene_in server task
+  abbrev inputs : Inputs
+  inputs = inputs_in server task
 
   abbrev take : Event
   take = Take k memory readings
 
   -- its snapshot finds that.
-  taken : row take scene ≡ move_of take scene (Some (TakesTurn o.turn Missing))
+  taken : row take inputs ≡ move_of take inputs (Some (TakesTurn o.turn Missing))
   taken =
-      ap (λ (st : Stage). move_of take scene (call_at take scene st)) o.stage
-      ∙ (λ j. move_of take scene (Some (TakesTurn o.turn (turn_taking (o.out j) (readings_if memory readings) task.job scene.slot.serial (none j)))))
+      ap (λ (st : Stage). move_of take inputs (call_at take inputs st)) o.stage
+      ∙ (λ j. move_of take inputs (Some (TakesTurn o.turn (turn_snapshot (o.out j) (readings_if memory readings) task.job inputs.slot.serial (none j)))))
 
-  pub stage_taken : (row take scene).stage ≡ ToTell o.turn (turns.ToDraw None)
+  pub stage_taken : (row take inputs).stage ≡ ToTell o.turn (turns.ToDraw None)
   stage_taken = ap (λ (m : Move). m.stage) taken
 
-  calls_taken : (row take scene).calls ≡ Miss o.turn ∷ Advance at ∷ []
-  calls_taken = ap (λ (m : Move). m.calls) taken ∙ (λ j. miss_calls (o.out j) o.turn (none j) ++ Advance at ∷ [])
+  calls_taken : (row take inputs).calls ≡ MarkMissing o.turn ∷ Advance at ∷ []
+  calls_taken = ap (λ (m : Move). m.calls) taken ∙ (λ j. mark_missing_calls (o.out j) o.turn (none j) ++ Advance at ∷ [])
 
   -- and it notifies, if it drew a message ID.
-  missed : is_missing o.turn (turn_missed o.turn (at_moment at w)) ≡ true
-  missed = missing_after o.turn (at_moment at w) o.out
+  missed : is_missing o.turn (turn_missed o.turn (list_at_time at w)) ≡ true
+  missed = missing_after o.turn (list_at_time at w) o.out
 
-  noted : (id later : ℕ) → later ≡ at → is_some (note_at o.turn id later None (turn_missed o.turn (at_moment at w))) ≡ true
+  noted : (id later : ℕ) → later ≡ at → is_some (note_at o.turn id later None (turn_missed o.turn (list_at_time at w))) ≡ true
   noted id later same =
-      let v = turn_missed o.turn (at_moment at w) in
-      let rests : at_moment at v ≡ v = ap (λ (m : ℕ). record v { moment = m }) (omega arith) in
+      let v = turn_missed o.turn (list_at_time at w) in
+      let rests : list_at_time at v ≡ v = ap (λ (m : ℕ). record v { time = m }) (omega arith) in
       ap (λ (m : ℕ). is_some (note_at o.turn id m None v)) same
       ∙ ap (λ (x : ObserverList). is_some (note_in o.turn id None x)) rests
       ∙ some_entry (note_to id (must_confirm_turn o.turn v) None) (entry_out o.turn v) missed
 
-  pub is_told : (later : ServerState) (next : Task) (id : ℕ) → later.shards ≡ shards_moved (row take scene) n server.shards → next.job ≡ task.job → next.stage ≡ ToTell o.turn (turns.ToNote None id)
-      → is_some (sends (Note k now random) (scene_in later next)) ≡ true
+  pub is_told : (later : ServerState) (next : Task) (id : ℕ) → later.shards ≡ shards_moved (row take inputs) n server.shards → next.job ≡ task.job → next.stage ≡ ToTell o.turn (turns.ToNote None id)
+      → is_some (sends (Note k now random) (inputs_in later next)) ≡ true
   is_told later next id shards job stage =
-      let moved = shards_moved (row take scene) n server.shards in
-      let watched = watch_here server.shards are n low (row take scene) ∙ ap (λ (cs : List ObserverCall). after_calls cs w) calls_taken in
-      let moment = now_here server.shards are n low (row take scene) ∙ ap (λ (m : Move). handed m.hands at) taken in
+      let moved = shards_moved (row take inputs) n server.shards in
+      let watched = watch_here server.shards are n low (row take inputs) ∙ ap (λ (cs : List ObserverCall). after_calls cs w) calls_taken in
+      let time = now_here server.shards are n low (row take inputs) ∙ ap (λ (m : Move). handed m.hands at) taken in
       let past = o.handed in
-      (λ j. is_some (notification now (scene_in (record later { shards = shards j }) (record { job = job j; stage = stage j })) (stage j)))
+      (λ j. is_some (notification now (inputs_in (record later { shards = shards j }) (record { job = job j; stage = stage j })) (stage j)))
       ∙ ap (λ (x : ObserverList). is_some (note_at o.turn id (max (shard_at moved (n % 8)).now now) None x)) watched
-      ∙ noted id (max (shard_at moved (n % 8)).now now) (omega (arith, moment, past))
+      ∙ noted id (max (shard_at moved (n % 8)).now now) (omega (arith, time, past))
 
   -- a lease that needs no message ID then has drawn one.
   pub has_drawn : (free : Option ℕ) (st : Stage) → st ≡ ToTell o.turn (turns.ToDraw None) → needs_id (drew free st) ≡ false → (id : ℕ) × (drew free st ≡ ToTell o.turn (turns.ToNote None id))

@@ -7,4 +7,4 @@ pub mod Beginning
 pub mod Served
 pub mod Quiet
 mod GivenTurns
-pub mod SettlingSteps
+pub mod FlushingSteps

@@ -16,7 +16,7 @@ use Rattle.fc_core.specs.declared.event.Event.{Event}
 use Rattle.fc_core.specs.declared.event.Event.TheVariants.{Deliver, Peek, Take, Commit, Install, Remove, Receipt, Raise, Answer, Due, Fresh, Note, GiveUp, Signal, Tick, ShardTick}
 use Rattle.fc_core.specs.declared.front.Delivered.{Delivered}
 use Rattle.fc_core.specs.declared.front.Delivered.TheVariants.{Reply, Job as Brings, Signal as Signals}
-use Rattle.fc_registry.specs.Taken.{Found}
+use Rattle.fc_registry.specs.Taken.{SlotSnapshot}
 use Rattle.fc_core.specs.Contents.{Content}
 use Rattle.fc_core.specs.Room.{stage_of}
 use Rattle.fc_core.specs.declared.stage.Step.{Step}
@@ -29,7 +29,7 @@ use Rattle.fc_core.specs.Receiving as x
 use Rattle.fc_core.specs.Receiving.{Received, after_delivered, brought, delivered, handed_on, next_opening, received, reply_or_nothing, sent}
 use Rattle.fc_core.specs.Stages.{first_stage, new_task}
 use Rattle.fc_server.specs.Agreement.{Agrees, Parts}
-use Rattle.fc_server.specs.Serving.{TurnGiven, Delivers, Heard, Hears, IsReachable, AsksForTurn, Passes, TicksShard, Serves, next, signalled_below, turned, with_tasks, worked, IsBegun, IsSignalled, WorksOff}
+use Rattle.fc_server.specs.Serving.{TurnGiven, Delivers, Handled, Handles, IsReachable, AsksForTurn, Passes, TicksShard, Serves, next, signalled_below, turned, with_tasks, worked, IsBegun, IsSignalled, WorksOff}
 use Rattle.fc_server.specs.States.{Responds, AtWork, Does, DrawsId, ServerState}
 use Rattle.fc_server.specs.Steps.{DeliveredTo, Done, IsOfJob, IsReached, resent_if, shard_asked, shard_changed, shard_resent, shard_ticked, shard_turn, turn_if}
 use Rattle.fc_server.proofs.Others.{delivered_done, does_done, draws_done, responds_done, shard_done, ticked_done}
@@ -206,25 +206,25 @@ IsJobless (Brings job) = ⊥
 IsJobless (Signals id reset) = ⊥
 IsJobless other = Unit {0}
 
-heard_jobless : (readings : List ℕ) (h : History) (k now : ℕ) (to : Endpoint) (b : Bor (List ℕ)) (new : ServerState) (out : Option Emission) (d : Delivered) → IsJobless d → Delivers h (Deliver now to b) new out → Heard readings h k now to b d new out
-heard_jobless readings h k now to b new out (Brings job) none w = absurd none
-heard_jobless readings h k now to b new out (Signals id reset) none w = absurd none
-heard_jobless readings h k now to b new out other none w = w
+handled_jobless : (readings : List ℕ) (h : History) (k now : ℕ) (to : Endpoint) (b : Bor (List ℕ)) (new : ServerState) (out : Option Emission) (d : Delivered) → IsJobless d → Delivers h (Deliver now to b) new out → Handled readings h k now to b d new out
+handled_jobless readings h k now to b new out (Brings job) none w = absurd none
+handled_jobless readings h k now to b new out (Signals id reset) none w = absurd none
+handled_jobless readings h k now to b new out other none w = w
 
 -- a delivery that produces no job.
-pub heard_on : (readings : List ℕ) (now : ℕ) (to : Endpoint) (b : Bor (List ℕ)) (old new : ServerState) (d : Delivered) (out : Option Emission) → IsJobless d → out ≡ sent_by d → delivered (advanced old.front now) to b.now ≡ d → new.front ≡ after_delivered (advanced old.front now) to b.now → new.shards ≡ old.shards → new.words ≡ old.words → Hears readings now to b (delivered (advanced old.front now) to b.now) old new out
-heard_on readings now to b old new d out none emits is front shards words h tasks v =
+pub handled_on : (readings : List ℕ) (now : ℕ) (to : Endpoint) (b : Bor (List ℕ)) (old new : ServerState) (d : Delivered) (out : Option Emission) → IsJobless d → out ≡ sent_by d → delivered (advanced old.front now) to b.now ≡ d → new.front ≡ after_delivered (advanced old.front now) to b.now → new.shards ≡ old.shards → new.words ≡ old.words → Handles readings now to b (delivered (advanced old.front now) to b.now) old new out
+handled_on readings now to b old new d out none emits is front shards words h tasks v =
     let serves = subst (λ (o : Option Emission). Serves (next h (Deliver now to b) o) new (tasks ++ map new_task (jobs_by d))) (sym emits) (delivered_on now to b old new d is front shards words h tasks v) in
-    subst (λ (y : Delivered). Heard readings h (length tasks) now to b y new out) (sym is) (heard_jobless readings h (length tasks) now to b new out d none (record { tasks = tasks ++ map new_task (jobs_by d); serves = serves }))
+    subst (λ (y : Delivered). Handled readings h (length tasks) now to b y new out) (sym is) (handled_jobless readings h (length tasks) now to b new out d none (record { tasks = tasks ++ map new_task (jobs_by d); serves = serves }))
 
 -- a delivery that produces a job, which runs.
 module _ (now : ℕ) (to : Endpoint) (b : Bor (List ℕ)) (old mid : ServerState) (job : Job) (is : delivered (advanced old.front now) to b.now ≡ Brings job) (front : mid.front ≡ after_delivered (advanced old.front now) to b.now) (shards : mid.shards ≡ old.shards) (words : mid.words ≡ old.words) where
   pub begun_by : IsReachable old → IsBegun mid (new_task job)
   begun_by s = record { history = next s.history (Deliver now to b) None; rest = s.tasks; serves = delivered_on now to b old mid (Brings job) is front shards words s.history s.tasks s.serves }
 
-  pub heard_job : (readings : List ℕ) (new : ServerState) (out : Option Emission) → WorksOff readings (first_stage job) now mid (new_task job) new out → Hears readings now to b (delivered (advanced old.front now) to b.now) old new out
-  heard_job readings new out works h tasks v =
-      subst (λ (y : Delivered). Heard readings h (length tasks) now to b y new out) (sym is)
+  pub handled_job : (readings : List ℕ) (new : ServerState) (out : Option Emission) → WorksOff readings (first_stage job) now mid (new_task job) new out → Handles readings now to b (delivered (advanced old.front now) to b.now) old new out
+  handled_job readings new out works h tasks v =
+      subst (λ (y : Delivered). Handled readings h (length tasks) now to b y new out) (sym is)
       (works (next h (Deliver now to b) None) tasks (delivered_on now to b old mid (Brings job) is front shards words h tasks v))
 
 -- a delivery that is a signal, which each shard gets.
@@ -232,19 +232,19 @@ module _ (now : ℕ) (to : Endpoint) (b : Bor (List ℕ)) (old mid : ServerState
   pub reached_by : IsReachable old → IsReachable mid
   reached_by s = record { history = next s.history (Deliver now to b) None; tasks = s.tasks ++ []; serves = delivered_on now to b old mid (Signals id reset) is front shards words s.history s.tasks s.serves }
 
-  pub heard_signal : (readings : List ℕ) (new : ServerState) → IsSignalled to id reset mid new → Hears readings now to b (delivered (advanced old.front now) to b.now) old new None
-  heard_signal readings new signals h tasks v =
-      subst (λ (y : Delivered). Heard readings h (length tasks) now to b y new None) (sym is)
+  pub handled_signal : (readings : List ℕ) (new : ServerState) → IsSignalled to id reset mid new → Handles readings now to b (delivered (advanced old.front now) to b.now) old new None
+  handled_signal readings new signals h tasks v =
+      subst (λ (y : Delivered). Handled readings h (length tasks) now to b y new None) (sym is)
       (refl, record { tasks = tasks ++ []; serves = signals (next h (Deliver now to b) None) (tasks ++ []) (delivered_on now to b old mid (Signals id reset) is front shards words h tasks v) })
 
 -- a server that handled a datagram is in a state that some history leaves.
-heard_served : (readings : List ℕ) (h : History) (k now : ℕ) (to : Endpoint) (b : Bor (List ℕ)) (new : ServerState) (out : Option Emission) (d : Delivered) → Heard readings h k now to b d new out → IsReachable new
-heard_served readings h k now to b new out (Brings job) w = record { history = worked readings (first_stage job) job.origin.slot k w.memory now out (next h (Deliver now to b) None); tasks = w.tasks; serves = w.serves }
-heard_served readings h k now to b new out (Signals id reset) w = record { history = signalled_below to id reset 8 (next h (Deliver now to b) None); tasks = w.1.tasks; serves = w.1.serves }
-heard_served readings h k now to b new out other w = record { history = next h (Deliver now to b) out; tasks = w.tasks; serves = w.serves }
+handled_served : (readings : List ℕ) (h : History) (k now : ℕ) (to : Endpoint) (b : Bor (List ℕ)) (new : ServerState) (out : Option Emission) (d : Delivered) → Handled readings h k now to b d new out → IsReachable new
+handled_served readings h k now to b new out (Brings job) w = record { history = worked readings (first_stage job) job.origin.slot k w.memory now out (next h (Deliver now to b) None); tasks = w.tasks; serves = w.serves }
+handled_served readings h k now to b new out (Signals id reset) w = record { history = signalled_below to id reset 8 (next h (Deliver now to b) None); tasks = w.1.tasks; serves = w.1.serves }
+handled_served readings h k now to b new out other w = record { history = next h (Deliver now to b) out; tasks = w.tasks; serves = w.serves }
 
-pub still_served : (readings : List ℕ) (now : ℕ) (to : Endpoint) (b : Bor (List ℕ)) (d : Delivered) (old new : ServerState) (out : Option Emission) → IsReachable old → Hears readings now to b d old new out → IsReachable new
-still_served readings now to b d old new out s hears = heard_served readings s.history (length s.tasks) now to b new out d (hears s.history s.tasks s.serves)
+pub still_served : (readings : List ℕ) (now : ℕ) (to : Endpoint) (b : Bor (List ℕ)) (d : Delivered) (old new : ServerState) (out : Option Emission) → IsReachable old → Handles readings now to b d old new out → IsReachable new
+still_served readings now to b d old new out s handles = handled_served readings s.history (length s.tasks) now to b new out d (handles s.history s.tasks s.serves)
 
 -- ---- a tick
 
@@ -269,7 +269,7 @@ notified_served readings shard now random old new given out s notifies = asked_s
 -- ---- a job that is to be answered
 
 -- at a stage that is none of these there is no call before the answer.
-pub worked_at_once : (readings : List ℕ) (step : Step) (f : Found) (seen : ArrayVec ℕ) (content : Content) (slot k : ℕ) (memory : Bool)
+pub worked_at_once : (readings : List ℕ) (step : Step) (f : SlotSnapshot) (seen : ArrayVec ℕ) (content : Content) (slot k : ℕ) (memory : Bool)
     (now : ℕ) (out : Option Emission) (h : History) → step ≢ steps.ToMatch → ((count : ℕ) → step ≢ steps.ToTake count) → step ≢ steps.ToInstall
     → step ≢ steps.ToRemove → step ≢ steps.ToDescribe → step ≢ steps.ToList
     → worked readings (stage_of step f seen content) slot k memory now out h ≡ next h (Answer k now) out

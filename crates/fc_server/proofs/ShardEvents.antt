@@ -6,13 +6,13 @@ use Rattle.std.proofs.lemmas.Bool.{and_from, and_left, cases_eq, cases_lt, eq-eq
 use Rattle.std.proofs.lemmas.List.{get_or-map, get_or-set_other, get_or-set_same, length-map, length-set}
 use Rattle.coap_msg.specs.declared.types.Endpoint.{Endpoint}
 use Rattle.fc_observe.specs.Calls.{ObserverCall, NextDue, Tick as TickObservers, observers, observers_after}
-use Rattle.fc_observe.specs.Observers.{at_moment, late_entry, next_turn, no_observers, ticked}
+use Rattle.fc_observe.specs.Observers.{list_at_time, overdue_entry, next_turn, no_observers, ticked}
 use Rattle.fc_registry.specs.Shards.{AreShards, no_shard, shard_at}
 use Rattle.fc_registry.specs.Slots.{Shard, Slot, new_slot}
 use Rattle.fc_registry.specs.declared.job.Job.{Job}
 use Rattle.fc_registry.specs.Turns.{due_job, turn_given_to}
-use Rattle.fc_registry.specs.Watches.{after_due, shard_after_tick, due_place, at_time as shard_handed, has_due as is_due_here, has_late as is_late_here, late_place, noticed_at, place_from, signal_call, signalled, ticked_in, watch_at, watch_called}
-use Rattle.fc_core.specs.History.{AtShard, AsksTurn, Signals, Ticks, Calm, Seen, calls_by, due_in, hands_by, is_due_at, is_late_at, is_place_of, late_in, slot_at, turn_at, turns_by}
+use Rattle.fc_registry.specs.Watches.{after_due, shard_after_tick, due_place, at_time as shard_handed, has_due as is_due_here, has_overdue as is_overdue_here, overdue_place, noticed_at, place_from, signal_call, signalled, ticked_in, watch_at, watch_called}
+use Rattle.fc_core.specs.History.{AtShard, AsksTurn, Signals, Ticks, Calm, Seen, calls_by, due_in, hands_by, is_due_at, is_overdue_at, is_place_of, overdue_in, slot_at, turn_at, turns_by}
 use Rattle.fc_core.specs.Legal.{resent, resent_at, resent_in}
 use Rattle.fc_core.specs.Stages.{new_task}
 use Rattle.fc_core.specs.Rows.{handed}
@@ -22,14 +22,14 @@ use Rattle.fc_server.specs.Steps.{resent_by, resent_if, shard_asked, shard_by, s
 
 -- the shards of the history after it.
 abbrev pub shard_seen : AtShard → Seen → Seen
-shard_seen y s = record s { shard_moment = λ i. handed (hands_by y i) (s.shard_moment i); calls = λ n. calls_by y s n ++ s.calls n }
+shard_seen y s = record s { shard_time = λ i. handed (hands_by y i) (s.shard_time i); calls = λ n. calls_by y s n ++ s.calls n }
 
 -- if it passes no shard a time, and calls nothing, they are unchanged.
 rest_agrees : (y : AtShard) (s : Seen) (shards : List Shard) → ((i : ℕ) → i < 8 → hands_by y i ≡ None) → ((n : ℕ) → calls_by y s n ≡ []) → ShardsAgree s shards → ShardsAgree (shard_seen y s) shards
 rest_agrees y s shards hands calls a = record {
   are = a.are;
   slot = a.slot;
-  now = λ i lt. a.now i lt ∙ ap (λ (p : Option ℕ). handed p (s.shard_moment i)) (sym (hands i lt));
+  now = λ i lt. a.now i lt ∙ ap (λ (p : Option ℕ). handed p (s.shard_time i)) (sym (hands i lt));
   watch = λ i k low lt. let n = 8 * k + i in a.watch i k low lt ∙ ap (λ (cs : List ObserverCall). observers n s.policy.confirm_after (cs ++ s.calls n)) (sym (calls n));
 }
 
@@ -62,15 +62,15 @@ module _ (shards : List Shard) (are : AreShards shards) (i : ℕ) (low : i < 8) 
 
   -- the agreement, if the rest is that of the event.
   put_agrees : (s : Seen) (y : AtShard) → ShardsAgree s shards → x.index ≡ (shard_at shards i).index → x.slots ≡ (shard_at shards i).slots → length x.watches ≡ 8 →
-      x.now ≡ handed (hands_by y i) (s.shard_moment i) → ((j : ℕ) → (j ≡ i → ⊥) → hands_by y j ≡ None) →
+      x.now ≡ handed (hands_by y i) (s.shard_time i) → ((j : ℕ) → (j ≡ i → ⊥) → hands_by y j ≡ None) →
       ((k : ℕ) → k < 8 → watch_at x k ≡ observers (8 * k + i) s.policy.confirm_after (calls_by y s (8 * k + i) ++ s.calls (8 * k + i))) → ((j k : ℕ) → j < 8 → k < 8 → (j ≡ i → ⊥) → calls_by y s (8 * k + j) ≡ []) →
       ShardsAgree (shard_seen y s) put
   put_agrees s y a index slots eight now others here there = record {
     are = are_put index slots eight;
     slot = λ n lt. kept (λ (y : Shard). get_or y.slots (n / 8) (new_slot 0)) (ap (λ (ss : List Slot). get_or ss (n / 8) (new_slot 0)) slots) (n % 8) ∙ a.slot n lt;
     now = λ j lt. ⊎_elim
-        (λ (q : j ≡ i). subst (λ (m : ℕ). (shard_at put m).now ≡ handed (hands_by y m) (s.shard_moment m)) (sym q) (ap (λ (z : Shard). z.now) at_place ∙ now))
-        (λ (ne : j ≡ i → ⊥). ap (λ (z : Shard). z.now) (elsewhere j ne) ∙ (a.now j lt ∙ ap (λ (p : Option ℕ). handed p (s.shard_moment j)) (sym (others j ne))))
+        (λ (q : j ≡ i). subst (λ (m : ℕ). (shard_at put m).now ≡ handed (hands_by y m) (s.shard_time m)) (sym q) (ap (λ (z : Shard). z.now) at_place ∙ now))
+        (λ (ne : j ≡ i → ⊥). ap (λ (z : Shard). z.now) (elsewhere j ne) ∙ (a.now j lt ∙ ap (λ (p : Option ℕ). handed p (s.shard_time j)) (sym (others j ne))))
         (cases_eq j i);
     watch = λ j k jl kl. ⊎_elim
         (λ (q : j ≡ i). subst (λ (m : ℕ). watch_at (shard_at put m) k ≡ observers (8 * k + m) s.policy.confirm_after (calls_by y s (8 * k + m) ++ s.calls (8 * k + m))) (sym q) (ap (λ (z : Shard). watch_at z k) at_place ∙ here k kl))
@@ -112,7 +112,7 @@ place_same p q (suc n) k same = λ i. if same k (omega arith) i then Some k else
 
 module _ (s : Seen) (i now : ℕ) (low : i < 8) (shards : List Shard) (a : ShardsAgree s shards) where
   abbrev at : ℕ
-  at = max (s.shard_moment i) now
+  at = max (s.shard_time i) now
 
   abbrev here : Shard
   here = shard_handed (shard_at shards i) now
@@ -121,17 +121,17 @@ module _ (s : Seen) (i now : ℕ) (low : i < 8) (shards : List Shard) (a : Shard
   at_is = ap (λ (m : ℕ). max m now) (a.now i low)
 
   -- the notification that has timed out at the shard is that of the history.
-  late_is : late_place here ≡ late_in s i at
-  unfolding late_in
-  late_is = place_same (is_late_here here) (is_late_at s i at) 8 0 (λ k lt. λ j. is_some (late_entry (at_moment (at_is j) (a.watch i k low lt j)))) ∙ ap (λ (b : Bool). if b then place_from (is_late_at s i at) 8 0 else None) (sym (lt-ltb i 8 low))
+  overdue_is : overdue_place here ≡ overdue_in s i at
+  unfolding overdue_in
+  overdue_is = place_same (is_overdue_here here) (is_overdue_at s i at) 8 0 (λ k lt. λ j. is_some (overdue_entry (list_at_time (at_is j) (a.watch i k low lt j)))) ∙ ap (λ (b : Bool). if b then place_from (is_overdue_at s i at) 8 0 else None) (sym (lt-ltb i 8 low))
 
-  late_below : (k : ℕ) → late_place here ≡ Some k → k < 8
-  late_below k e = place_below (is_late_here here) 8 0 k e
+  overdue_below : (k : ℕ) → overdue_place here ≡ Some k → k < 8
+  overdue_below k e = place_below (is_overdue_here here) 8 0 k e
 
   -- the retransmission.
   resent_is : (p : Option ℕ) → ((k : ℕ) → p ≡ Some k → k < 8) → resent (ticked_in p here) ≡ resent_at p s i at
   resent_is None below = refl
-  resent_is (Some k) below = λ j. resent (ticked (at_moment (at_is j) (a.watch i k low (below k refl) j)))
+  resent_is (Some k) below = λ j. resent (ticked (list_at_time (at_is j) (a.watch i k low (below k refl) j)))
 
   -- the calls of a tick at a place
   abbrev tick_calls : Bool → List ObserverCall
@@ -177,38 +177,38 @@ module _ (s : Seen) (i now : ℕ) (low : i < 8) (shards : List Shard) (a : Shard
   hands_there : (j : ℕ) → (j ≡ i → ⊥) → hands_by (Ticks i now) j ≡ None
   hands_there j ne = ap (λ (b : Bool). if b then Some now else None) (and_left (i == j) (nat_lt j 8) (ne_eqb i j (λ q. ne (sym q))))
 
-  tick_agrees : (p : Option ℕ) → p ≡ late_in s i at → ShardsAgree (shard_seen (Ticks i now) s) (set shards i (shard_after_tick p here))
+  tick_agrees : (p : Option ℕ) → p ≡ overdue_in s i at → ShardsAgree (shard_seen (Ticks i now) s) (set shards i (shard_after_tick p here))
   tick_agrees p is = put_agrees shards a.are i low (shard_after_tick p here) s (Ticks i now) a (after_index p) (after_slots p) (after_length p)
-      (after_now p ∙ (at_is ∙ ap (λ (o : Option ℕ). handed o (s.shard_moment i)) (sym hands_here)))
+      (after_now p ∙ (at_is ∙ ap (λ (o : Option ℕ). handed o (s.shard_time i)) (sym hands_here)))
       hands_there
       (λ k lt. ticked_here p k lt ∙ ap (λ (q : Option ℕ). observers (8 * k + i) s.policy.confirm_after (tick_calls (is_place_of q i (8 * k + i)) ++ s.calls (8 * k + i))) is)
       (λ j k jl kl ne. ap (λ (q : Option ℕ). tick_calls (is_place_of q i (8 * k + j))) (sym is) ∙ elsewhere_none p j k jl ne)
 
 -- a shard above 7 has no notification that has timed out.
-none_late : (s : Seen) (i at : ℕ) → 8 ≤ i → late_in s i at ≡ None
-unfolding late_in
-none_late s i at high = ap (λ (b : Bool). if b then place_from (is_late_at s i at) 8 0 else None) (le-ltb i 8 high)
+none_overdue : (s : Seen) (i at : ℕ) → 8 ≤ i → overdue_in s i at ≡ None
+unfolding overdue_in
+none_overdue s i at high = ap (λ (b : Bool). if b then place_from (is_overdue_at s i at) 8 0 else None) (le-ltb i 8 high)
 
 -- effect of a tick on the shards, and its emission.
 record TicksAt (s : Seen) (i now : ℕ) (shards : List Shard) (b : Bool) : Type 0 where
-  sends : resent_if b (shard_resent now (shard_at shards i)) ≡ resent_at (late_in s i (max (s.shard_moment i) now)) s i (max (s.shard_moment i) now)
+  sends : resent_if b (shard_resent now (shard_at shards i)) ≡ resent_at (overdue_in s i (max (s.shard_time i) now)) s i (max (s.shard_time i) now)
   agrees : ShardsAgree (shard_seen (Ticks i now) s) (shard_changed b i (shard_ticked now) shards)
 
 ticks_at : (s : Seen) (i now : ℕ) (shards : List Shard) → ShardsAgree s shards → TicksAt s i now shards (nat_lt i 8)
 ticks_at s i now shards a = ⊎_elim
     (λ (low : i < 8).
-    let place = late_is s i now low shards a in
+    let place = overdue_is s i now low shards a in
     subst (TicksAt s i now shards) (sym (lt-ltb i 8 low)) (record {
-      sends = resent_is s i now low shards a (late_place (shard_handed (shard_at shards i) now)) (late_below s i now low shards a) ∙ ap (λ (p : Option ℕ). resent_at p s i (max (s.shard_moment i) now)) place;
-      agrees = tick_agrees s i now low shards a (late_place (shard_handed (shard_at shards i) now)) place;
+      sends = resent_is s i now low shards a (overdue_place (shard_handed (shard_at shards i) now)) (overdue_below s i now low shards a) ∙ ap (λ (p : Option ℕ). resent_at p s i (max (s.shard_time i) now)) place;
+      agrees = tick_agrees s i now low shards a (overdue_place (shard_handed (shard_at shards i) now)) place;
     }))
     (λ (high : 8 ≤ i).
-    let none = none_late s i (max (s.shard_moment i) now) high in
+    let none = none_overdue s i (max (s.shard_time i) now) high in
     subst (TicksAt s i now shards) (sym (le-ltb i 8 high)) (record {
-      sends = ap (λ (p : Option ℕ). resent_at p s i (max (s.shard_moment i) now)) (sym none);
+      sends = ap (λ (p : Option ℕ). resent_at p s i (max (s.shard_time i) now)) (sym none);
       agrees = rest_agrees (Ticks i now) s shards
           (λ j lt. ap (λ (b : Bool). if b then Some now else None) (and_left (i == j) (nat_lt j 8) (ne_eqb i j (λ q. absurd (omega (arith, q, lt, high))))))
-          (λ n. ap (λ (p : Option ℕ). if is_place_of p i n then TickObservers (max (s.shard_moment i) now) ∷ [] else []) none)
+          (λ n. ap (λ (p : Option ℕ). if is_place_of p i n then TickObservers (max (s.shard_time i) now) ∷ [] else []) none)
           a;
     }))
     (cases_lt i 8)
@@ -217,7 +217,7 @@ ticks_at s i now shards a = ⊎_elim
 
 module _ (s : Seen) (i now : ℕ) (low : i < 8) (shards : List Shard) (a : ShardsAgree s shards) where
   abbrev then_at : ℕ
-  then_at = max (s.shard_moment i) now
+  then_at = max (s.shard_time i) now
 
   abbrev asked : Shard
   asked = shard_handed (shard_at shards i) now
@@ -226,16 +226,16 @@ module _ (s : Seen) (i now : ℕ) (low : i < 8) (shards : List Shard) (a : Shard
   then_is = ap (λ (m : ℕ). max m now) (a.now i low)
 
   -- the last noticed serial at a place is that of the history.
-  noticed_is : (k : ℕ) → k < 8 → noticed_at asked k ≡ (slot_at s (8 * k + i)).noticed
+  noticed_is : (k : ℕ) → k < 8 → noticed_at asked k ≡ (slot_at s (8 * k + i)).notify_serial
   noticed_is k lt =
       let shard : (8 * k + i) % 8 ≡ i = omega (arith, low) in
       let place : (8 * k + i) / 8 ≡ k = omega (arith, low) in
-      (λ j. (get_or (shard_at shards (sym shard j)).slots (sym place j) (new_slot 0)).noticed) ∙ ap (λ (x : Slot). x.noticed) (a.slot (8 * k + i) (omega (arith, low, lt)))
+      (λ j. (get_or (shard_at shards (sym shard j)).slots (sym place j) (new_slot 0)).notify_serial) ∙ ap (λ (x : Slot). x.notify_serial) (a.slot (8 * k + i) (omega (arith, low, lt)))
 
   -- the observer with a pending notification at the shard is that of the history.
   due_is : due_place asked ≡ due_in s i then_at
   unfolding due_in
-  due_is = place_same (is_due_here asked) (is_due_at s i then_at) 8 0 (λ k lt. λ j. is_some (next_turn (noticed_is k lt j) (at_moment (then_is j) (a.watch i k low lt j)))) ∙ ap (λ (b : Bool). if b then place_from (is_due_at s i then_at) 8 0 else None) (sym (lt-ltb i 8 low))
+  due_is = place_same (is_due_here asked) (is_due_at s i then_at) 8 0 (λ k lt. λ j. is_some (next_turn (noticed_is k lt j) (list_at_time (then_is j) (a.watch i k low lt j)))) ∙ ap (λ (b : Bool). if b then place_from (is_due_at s i then_at) 8 0 else None) (sym (lt-ltb i 8 low))
 
   due_below : (k : ℕ) → due_place asked ≡ Some k → k < 8
   due_below k e = place_below (is_due_here asked) 8 0 k e
@@ -250,7 +250,7 @@ module _ (s : Seen) (i now : ℕ) (low : i < 8) (shards : List Shard) (a : Shard
 
   -- the calls of a lease at a place.
   abbrev turn_calls : Bool → ℕ → List ObserverCall
-  turn_calls b n = if b then NextDue then_at (slot_at s n).noticed ∷ [] else []
+  turn_calls b n = if b then NextDue then_at (slot_at s n).notify_serial ∷ [] else []
 
   -- the observers at a place after it
   given_here : (p : Option ℕ) (k : ℕ) → k < 8 → watch_at (after_due p asked) k ≡ observers (8 * k + i) s.policy.confirm_after (turn_calls (is_place_of p i (8 * k + i)) (8 * k + i) ++ s.calls (8 * k + i))
@@ -287,7 +287,7 @@ module _ (s : Seen) (i now : ℕ) (low : i < 8) (shards : List Shard) (a : Shard
 
   turn_agrees : (p : Option ℕ) → p ≡ due_in s i then_at → ShardsAgree (shard_seen (AsksTurn i now) s) (set shards i (after_due p asked))
   turn_agrees p is = put_agrees shards a.are i low (after_due p asked) s (AsksTurn i now) a (due_index p) (due_slots p) (due_length p)
-      (due_now p ∙ (then_is ∙ ap (λ (o : Option ℕ). handed o (s.shard_moment i)) (sym (hands_here s i now low shards a))))
+      (due_now p ∙ (then_is ∙ ap (λ (o : Option ℕ). handed o (s.shard_time i)) (sym (hands_here s i now low shards a))))
       (hands_there s i now low shards a)
       (λ k lt. given_here p k lt ∙ ap (λ (q : Option ℕ). observers (8 * k + i) s.policy.confirm_after (turn_calls (is_place_of q i (8 * k + i)) (8 * k + i) ++ s.calls (8 * k + i))) is)
       (λ j k jl kl ne. ap (λ (q : Option ℕ). turn_calls (is_place_of q i (8 * k + j)) (8 * k + j)) (sym is) ∙ none_elsewhere p j k jl ne)
@@ -299,7 +299,7 @@ none_due s i at high = ap (λ (b : Bool). if b then place_from (is_due_at s i at
 
 -- effect of a request for a lease on the shards, and its job.
 record TurnAt (s : Seen) (i now : ℕ) (shards : List Shard) (b : Bool) : Type 0 where
-  brings : turn_if b (shard_turn now (shard_at shards i)) ≡ turn_at (due_in s i (max (s.shard_moment i) now)) s i (max (s.shard_moment i) now)
+  brings : turn_if b (shard_turn now (shard_at shards i)) ≡ turn_at (due_in s i (max (s.shard_time i) now)) s i (max (s.shard_time i) now)
   agrees : ShardsAgree (shard_seen (AsksTurn i now) s) (shard_changed b i (shard_asked now) shards)
 
 asks_at : (s : Seen) (i now : ℕ) (shards : List Shard) → ShardsAgree s shards → TurnAt s i now shards (nat_lt i 8)
@@ -307,16 +307,16 @@ asks_at s i now shards a = ⊎_elim
     (λ (low : i < 8).
     let place = due_is s i now low shards a in
     subst (TurnAt s i now shards) (sym (lt-ltb i 8 low)) (record {
-      brings = job_is s i now low shards a (due_place (shard_handed (shard_at shards i) now)) (due_below s i now low shards a) ∙ ap (λ (p : Option ℕ). turn_at p s i (max (s.shard_moment i) now)) place;
+      brings = job_is s i now low shards a (due_place (shard_handed (shard_at shards i) now)) (due_below s i now low shards a) ∙ ap (λ (p : Option ℕ). turn_at p s i (max (s.shard_time i) now)) place;
       agrees = turn_agrees s i now low shards a (due_place (shard_handed (shard_at shards i) now)) place;
     }))
     (λ (high : 8 ≤ i).
-    let none = none_due s i (max (s.shard_moment i) now) high in
+    let none = none_due s i (max (s.shard_time i) now) high in
     subst (TurnAt s i now shards) (sym (le-ltb i 8 high)) (record {
-      brings = ap (λ (p : Option ℕ). turn_at p s i (max (s.shard_moment i) now)) (sym none);
+      brings = ap (λ (p : Option ℕ). turn_at p s i (max (s.shard_time i) now)) (sym none);
       agrees = rest_agrees (AsksTurn i now) s shards
           (λ j lt. ap (λ (b : Bool). if b then Some now else None) (and_left (i == j) (nat_lt j 8) (ne_eqb i j (λ q. absurd (omega (arith, q, lt, high))))))
-          (λ n. ap (λ (p : Option ℕ). if is_place_of p i n then NextDue (max (s.shard_moment i) now) (slot_at s n).noticed ∷ [] else []) none)
+          (λ n. ap (λ (p : Option ℕ). if is_place_of p i n then NextDue (max (s.shard_time i) now) (slot_at s n).notify_serial ∷ [] else []) none)
           a;
     }))
     (cases_lt i 8)

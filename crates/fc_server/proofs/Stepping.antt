@@ -22,19 +22,19 @@ use Rattle.fc_core.specs.Answering.{after_answered_by}
 use Rattle.fc_core.specs.Contents.{Content}
 use Rattle.fc_core.specs.Exchanges.{FrontState, opening_is_live}
 use Rattle.fc_core.specs.Fits.{FitsSlot}
-use Rattle.fc_core.specs.History.{AtFront, Receives, Answers, Draws, Passes, Rests, AtShard, Calm, Seen, additions_by, and_then, answered_in, at_front, at_shard, calls_by, calls_named, changes_after, common, did, exchanges_by, front_at, front_in, hands_by, ids_answered, ids_by, job, moment_by, received_at, scene, shard_moment_after, stage, task_at, tasks_by, tasks_moved, watch, words_seen}
+use Rattle.fc_core.specs.History.{AtFront, Receives, Answers, Draws, Passes, Rests, AtShard, Calm, Seen, additions_by, and_then, answered_in, at_front, at_shard, calls_by, calls_named, changes_after, common, did, exchanges_by, front_at, front_in, hands_by, ids_answered, ids_by, job, time_by, received_at, inputs, shard_time_after, stage, task_at, tasks_by, tasks_moved, watch, words_seen}
 use Rattle.fc_core.specs.Ids.{drawn, drawn_for}
 use Rattle.fc_core.specs.Legal.{AnswerEmits, EmitsBy, sends_in, FindsMeaning, FoundMeans, IsAnswered, TakesMeaning}
 use Rattle.fc_core.specs.Receiving.{AskWithin, added_by, after_added, after_received, brought, drawn_by, id_in, keeping, kept_of, next_opening, opened_by, received, sent}
 use Rattle.fc_core.specs.Sound.{AllSafe, IsSafelySeen, IsSoundlySeen}
 use Rattle.fc_core.specs.Stages.{content_at, needs_id, new_task}
-use Rattle.fc_core.specs.Rows.{Move, Scene, handed, names, row, sends, scene_at, task_moved, words_after}
+use Rattle.fc_core.specs.Rows.{Move, Inputs, handed, names, row, sends, inputs_at, task_moved, words_after}
 use Rattle.fc_core.proofs.Fitting.{after_changes-append, is_input}
 use Rattle.fc_core.proofs.Keeping.{IsSafeMove, still_safe, still_sound}
 use Rattle.fc_core.proofs.OnShards.{named_calm}
 use Rattle.fc_core.proofs.Watches.{after_append}
 use Rattle.fc_server.specs.Agreement.{Parts, ShardsAgree}
-use Rattle.fc_server.specs.States.{front_after, front_drawn, scene_in, shards_moved}
+use Rattle.fc_server.specs.States.{front_after, front_drawn, inputs_in, shards_moved}
 use Rattle.fc_server.specs.Steps.{Done, EmitsAt, IsSafeIn, Steps, brought_by, front_by, move_in, sends_at, server_in, shard_by, shards_in, tasks_in, words_in}
 use Rattle.fc_server.proofs.Fronts.{front_advances, front_keeps, front_of, front_opens, transfers_added}
 use Rattle.fc_server.proofs.Places.{are_written, now_here, now_there, slot_here, slot_there, watch_here, watch_there}
@@ -46,25 +46,25 @@ found_means : (j : Job) (readings : List ℕ) (slot : Slot) (p : Option Present)
 found_means j readings slot None within fits = tt
 found_means j readings slot (Some p) within fits = record { run = fits.safe.runs.run _ (is_input j p _ _ within refl fits); longest = fits.safe.longest; cost = fits.safe.runs.cost }
 
-finds_by : (readings : List ℕ) (x : Scene) (st : Stage) → AskWithin x.job.ask → FitsSlot x.slot.present → FindsMeaning readings x st
+finds_by : (readings : List ℕ) (x : Inputs) (st : Stage) → AskWithin x.job.ask → FitsSlot x.slot.present → FindsMeaning readings x st
 finds_by readings x (ToTake n) within fits = found_means x.job readings x.slot x.slot.present within fits
 finds_by readings x (ToTell turn turns.ToTake) within fits = found_means x.job readings x.slot x.slot.present within fits
 finds_by readings x other within fits = tt
 
 takes_mean : (e : Event) (s : Seen) → IsSoundlySeen s → IsSafelySeen s → TakesMeaning s e
-takes_mean (Take k memory readings) s a f = finds_by readings (scene s k) (stage s k) (a.within k).1 (f.slots (job s k).origin.slot)
+takes_mean (Take k memory readings) s a f = finds_by readings (inputs s k) (stage s k) (a.within k).1 (f.slots (job s k).origin.slot)
 takes_mean other s a f = tt
 
 -- ---- the front
 
 -- the front of the history after an event's effect on it.
 abbrev front_seen : AtFront → Option Emission → Seen → FrontState
-front_seen x out s = record { managers = s.policy.managers; limits = s.policy.limits; now = moment_by x s; opened = length (exchanges_by x out s); held = filter (is_held (moment_by x s)) (exchanges_by x out s); transfers = transfers (additions_by x s ++ s.additions); ids = ids_by x s }
+front_seen x out s = record { managers = s.policy.managers; limits = s.policy.limits; now = time_by x s; opened = length (exchanges_by x out s); held = filter (is_held (time_by x s)) (exchanges_by x out s); transfers = transfers (additions_by x s ++ s.additions); ids = ids_by x s }
 
 front_received : (s : Seen) (now : ℕ) (to : Endpoint) (bytes : List ℕ) (out : Option Emission) → out ≡ sent (received_at s now to bytes) (front_at s now) to → after_received (received_at s now to bytes) (front_at s now) to ≡ front_seen (Receives now to bytes) out s
 front_received s now to bytes out e =
     let x = received_at s now to bytes in
-    let at = max s.moment now in
+    let at = max s.time now in
     let n = length s.exchanges in
     let ids = drawn_by x s.ids at in
     let all = s.exchanges ++ opened_by x (next_opening (front_at s now)) to in
@@ -75,45 +75,45 @@ front_received s now to bytes out e =
     ∙ λ i. front_of s.policy at (answered_in n (kept_of x (sym e i)) all) (sym (transfers_added new s.additions) i) ids)
 
 -- by the content of the answer, if there is one
-front_answered : (s : Seen) (now : ℕ) (j : Job) (out : Option Emission) (live : Bool) (c : Option Content) → opening_is_live (max s.moment now) j.origin.opening ≡ live → AnswerEmits c j (front_at s now) out →
-    front_after c j out (front_in s s.moment) now
-    ≡ front_of s.policy (if is_some c then max s.moment now else s.moment) (if is_some c then answered_in j.origin.opening.number out s.exchanges else s.exchanges) (transfers s.additions) (ids_answered c live j.confirmable s.ids (max s.moment now))
+front_answered : (s : Seen) (now : ℕ) (j : Job) (out : Option Emission) (live : Bool) (c : Option Content) → opening_is_live (max s.time now) j.origin.opening ≡ live → AnswerEmits c j (front_at s now) out →
+    front_after c j out (front_in s s.time) now
+    ≡ front_of s.policy (if is_some c then max s.time now else s.time) (if is_some c then answered_in j.origin.opening.number out s.exchanges else s.exchanges) (transfers s.additions) (ids_answered c live j.confirmable s.ids (max s.time now))
 front_answered s now j out live None is emits = refl
 front_answered s now j out true (Some content) is emits =
-    let at = max s.moment now in
+    let at = max s.time now in
     (λ i. after_answered_by (opening_is_live (front_advances s now i).now j.origin.opening) j out (front_advances s now i))
     ∙ (ap (λ (b : Bool). after_answered_by b j out (front_at s now)) is
     ∙ front_keeps s.policy at j.origin.opening.number out s.exchanges (transfers s.additions) (drawn_for j.confirmable s.ids at))
 front_answered s now j out false (Some content) is emits =
-    let late : out ≡ None = subst (λ (b : Bool). IsAnswered b (id_in (front_at s now) j.confirmable j.origin.id) j content out) is emits in
+    let overdue : out ≡ None = subst (λ (b : Bool). IsAnswered b (id_in (front_at s now) j.confirmable j.origin.id) j content out) is emits in
     (λ i. after_answered_by (opening_is_live (front_advances s now i).now j.origin.opening) j out (front_advances s now i))
     ∙ (ap (λ (b : Bool). after_answered_by b j out (front_at s now)) is
-    ∙ ap (λ (em : Option Emission). front_of s.policy (max s.moment now) (answered_in j.origin.opening.number em s.exchanges) (transfers s.additions) s.ids) (sym late))
+    ∙ ap (λ (em : Option Emission). front_of s.policy (max s.time now) (answered_in j.origin.opening.number em s.exchanges) (transfers s.additions) s.ids) (sym overdue))
 
 front_drew : (s : Seen) (now : ℕ) (b : Bool) →
-    front_drawn b (front_in s s.moment) now
-    ≡ front_of s.policy (if b then max s.moment now else s.moment) s.exchanges (transfers s.additions) (if b then drawn s.ids (max s.moment now) else s.ids)
-front_drew s now true = ap (λ (f : FrontState). record f { ids = drawn s.ids (max s.moment now) }) (front_advances s now)
+    front_drawn b (front_in s s.time) now
+    ≡ front_of s.policy (if b then max s.time now else s.time) s.exchanges (transfers s.additions) (if b then drawn s.ids (max s.time now) else s.ids)
+front_drew s now true = ap (λ (f : FrontState). record f { ids = drawn s.ids (max s.time now) }) (front_advances s now)
 front_drew s now false = refl
 
 -- ---- a state that agrees with the history, by its shards
 
 abbrev state_seen : Seen → List Shard → Parts
-state_seen s shards = record { front = front_in s s.moment; shards = shards; words = s.words; tasks = s.tasks }
+state_seen s shards = record { front = front_in s s.time; shards = shards; words = s.words; tasks = s.tasks }
 
 -- ---- the named job
 
 module _ (s : Seen) (e : Event) (shards : List Shard) (a : ShardsAgree s shards) (sound : IsSoundlySeen s) where
   -- the shards of the history after it.
   abbrev shards_seen : Option ℕ → AtShard → Seen
-  shards_seen o y = record s { changes = λ n. changes_after o e s n; shard_moment = λ i. handed (hands_by y i) (shard_moment_after o e s i); calls = λ n. calls_named o e s n ++ (calls_by y s n ++ s.calls n) }
+  shards_seen o y = record s { changes = λ n. changes_after o e s n; shard_time = λ i. handed (hands_by y i) (shard_time_after o e s i); calls = λ n. calls_named o e s n ++ (calls_by y s n ++ s.calls n) }
 
   module _ (k : ℕ) where
     abbrev n : ℕ
     n = (job s k).origin.slot
 
     abbrev m : Move
-    m = row e (scene s k)
+    m = row e (inputs s k)
 
     low : n < 64
     low = (sound.within k).0
@@ -125,17 +125,17 @@ module _ (s : Seen) (e : Event) (shards : List Shard) (a : ShardsAgree s shards)
         a.watch (n % 8) (n / 8) (omega arith) (omega (arith, low)) ∙ ap (watch s) number
 
     -- the server's inputs of the task are those of the history.
-    scene_is : scene_in (server_in (state_seen s shards)) (task_at s.tasks k) ≡ scene s k
-    scene_is = λ i. scene_at (task_at s.tasks k) (a.slot n low i) (record { common = common s; moment = a.now (n % 8) (omega arith) i; watch = watch_is i })
+    inputs_is : inputs_in (server_in (state_seen s shards)) (task_at s.tasks k) ≡ inputs s k
+    inputs_is = λ i. inputs_at (task_at s.tasks k) (a.slot n low i) (record { common = common s; time = a.now (n % 8) (omega arith) i; watch = watch_is i })
 
     move_is : move_in e (state_seen s shards) k ≡ m
-    move_is = λ i. row e (scene_is i)
+    move_is = λ i. row e (inputs_is i)
 
     changes_if : (i : ℕ) (b : Bool) → (n == i) ≡ b → changes_after (Some k) e s i ≡ (if b then m.changes ++ s.changes i else s.changes i)
     changes_if i b is = ap (λ (c : Bool). if c then m.changes ++ s.changes i else s.changes i) is
 
-    moment_if : (i : ℕ) (b : Bool) → (n % 8 == i) ≡ b → shard_moment_after (Some k) e s i ≡ (if b then handed m.hands (s.shard_moment i) else s.shard_moment i)
-    moment_if i b is = ap (λ (c : Bool). if c then handed m.hands (s.shard_moment i) else s.shard_moment i) is
+    time_if : (i : ℕ) (b : Bool) → (n % 8 == i) ≡ b → shard_time_after (Some k) e s i ≡ (if b then handed m.hands (s.shard_time i) else s.shard_time i)
+    time_if i b is = ap (λ (c : Bool). if c then handed m.hands (s.shard_time i) else s.shard_time i) is
 
     calls_if : (i : ℕ) (b : Bool) → (n == i) ≡ b → calls_named (Some k) e s i ≡ (if b then m.calls else [])
     calls_if i b is = ap (λ (c : Bool). if c then m.calls else []) is
@@ -167,9 +167,9 @@ module _ (s : Seen) (e : Event) (shards : List Shard) (a : ShardsAgree s shards)
           (λ (ne : i ≡ n → ⊥). slot_there shards a.are n low m i ne ∙ (a.slot i lt ∙ ap (after_changes (new_slot s.first_serial)) (sym (changes_if i false (ne_eqb n i (λ q. ne (sym q)))))))
           (cases_eq i n);
       now = λ i lt. ⊎_elim
-          (λ (q : i ≡ n % 8). subst (λ (j : ℕ). (shard_at (shards_moved m n shards) j).now ≡ shard_moment_after (Some k) e s j) (sym q)
-          (now_here shards a.are n low m ∙ (ap (handed m.hands) (a.now (n % 8) (subst (λ (j : ℕ). j < 8) q lt)) ∙ sym (moment_if (n % 8) true (eq-eqb (n % 8) (n % 8) refl)))))
-          (λ (ne : i ≡ n % 8 → ⊥). now_there shards a.are n low m i ne ∙ (a.now i lt ∙ sym (moment_if i false (ne_eqb (n % 8) i (λ q. ne (sym q))))))
+          (λ (q : i ≡ n % 8). subst (λ (j : ℕ). (shard_at (shards_moved m n shards) j).now ≡ shard_time_after (Some k) e s j) (sym q)
+          (now_here shards a.are n low m ∙ (ap (handed m.hands) (a.now (n % 8) (subst (λ (j : ℕ). j < 8) q lt)) ∙ sym (time_if (n % 8) true (eq-eqb (n % 8) (n % 8) refl)))))
+          (λ (ne : i ≡ n % 8 → ⊥). now_there shards a.are n low m i ne ∙ (a.now i lt ∙ sym (time_if i false (ne_eqb (n % 8) i (λ q. ne (sym q))))))
           (cases_eq i (n % 8));
       watch = λ i p il pl. ⊎_elim (watch_own i p il) (watch_other i p il pl) (cases_eq (8 * p + i) n);
     }
@@ -204,7 +204,7 @@ module _ (s : Seen) (e : Event) (shards : List Shard) (a : ShardsAgree s shards)
 module _ (s : Seen) (shards : List Shard) (a : ShardsAgree s shards) (sound : IsSoundlySeen s) (out : Option Emission) where
   sends_agree : (o : Option ℕ) (e : Event) → sends_at o e (state_seen s shards) ≡ sends_in o e s
   sends_agree None e = shard_sends (at_shard e) s shards a
-  sends_agree (Some k) e = ap (sends e) (scene_is s e shards a sound k)
+  sends_agree (Some k) e = ap (sends e) (inputs_is s e shards a sound k)
 
   emits_agree : (x : AtFront) (e : Event) → EmitsAt x e (state_seen s shards) out → EmitsBy x e s out
   emits_agree (Receives now to bytes) e w = subst (λ (f : FrontState). out ≡ sent (received f to bytes) f to) (front_advances s now) w
@@ -215,7 +215,7 @@ module _ (s : Seen) (shards : List Shard) (a : ShardsAgree s shards) (sound : Is
 
   front_agrees : (x : AtFront) (e : Event) → EmitsBy x e s out → front_by x (state_seen s shards) out ≡ front_seen x out s
   front_agrees (Receives now to bytes) e w = ap (λ (f : FrontState). after_received (received f to bytes) f to) (front_advances s now) ∙ front_received s now to bytes out w
-  front_agrees (Answers k now) e w = front_answered s now (job s k) out (opening_is_live (max s.moment now) (job s k).origin.opening) (content_at (stage s k)) refl w
+  front_agrees (Answers k now) e w = front_answered s now (job s k) out (opening_is_live (max s.time now) (job s k).origin.opening) (content_at (stage s k)) refl w
   front_agrees (Draws k now) e w = front_drew s now (needs_id (stage s k))
   front_agrees (Passes now) e w = front_advances s now
   front_agrees Rests e w = refl

@@ -22,13 +22,13 @@ pub record Parts : Type 0 where
 pub record ShardsAgree (s : Seen) (shards : List Shard) : Type 0 where
   pub are : AreShards shards
   pub slot : (n : ℕ) → n < 64 → slot_in_shards shards n ≡ slot_at s n
-  pub now : (i : ℕ) → i < 8 → (shard_at shards i).now ≡ s.shard_moment i
+  pub now : (i : ℕ) → i < 8 → (shard_at shards i).now ≡ s.shard_time i
   pub watch : (i k : ℕ) → i < 8 → k < 8 → watch_at (shard_at shards i) k ≡ watch s (8 * k + i)
 
 -- the front has the live exchanges with their answers; each head word is the greatest one raised;
 -- each job is at its stage.
 pub record Agrees (s : Seen) (p : Parts) : Type 0 where
-  pub front : p.front ≡ front_in s s.moment
+  pub front : p.front ≡ front_in s s.time
   pub tasks : p.tasks ≡ s.tasks
   pub words : p.words ≡ s.words
   pub shards : ShardsAgree s p.shards

@@ -3,7 +3,7 @@ pub mod Agreement
 pub mod Steps
 pub mod Serving
 pub mod Notified
-pub mod Intakes
-pub mod Alone
-pub mod Settling
+pub mod Ingresses
+pub mod SingleThread
+pub mod Flushing
 pub mod Shown

@@ -87,15 +87,15 @@ IsSignalled to id reset old new = (h : History) → (tasks : List Task) → Serv
 
 -- a datagram that produces a job: it is delivered, and then the job runs; one that is a signal: it
 -- is delivered, and then each shard gets the signal; any other datagram: it is delivered.
-abbrev pub Heard : List ℕ → History → ℕ → ℕ → Endpoint → Bor (List ℕ) → Delivered → ServerState → Option Emission → Type 0
-Heard readings h k now to bytes (Brings job) new out =
+abbrev pub Handled : List ℕ → History → ℕ → ℕ → Endpoint → Bor (List ℕ) → Delivered → ServerState → Option Emission → Type 0
+Handled readings h k now to bytes (Brings job) new out =
     Worked readings (next h (Deliver now to bytes) None) k (first_stage job) job.origin.slot now new out
-Heard readings h k now to bytes (Signals id reset) new out = (out ≡ None) × Signalled (next h (Deliver now to bytes) None) to id reset new
-Heard readings h k now to bytes other new out = Delivers h (Deliver now to bytes) new out
+Handled readings h k now to bytes (Signals id reset) new out = (out ≡ None) × Signalled (next h (Deliver now to bytes) None) to id reset new
+Handled readings h k now to bytes other new out = Delivers h (Deliver now to bytes) new out
 
 -- for every history so far; the job gets the next number.
-abbrev pub Hears : List ℕ → ℕ → Endpoint → Bor (List ℕ) → Delivered → ServerState → ServerState → Option Emission → Type 0
-Hears readings now to bytes brings old new out = (h : History) → (tasks : List Task) → Serves h old tasks → Heard readings h (length tasks) now to bytes brings new out
+abbrev pub Handles : List ℕ → ℕ → Endpoint → Bor (List ℕ) → Delivered → ServerState → ServerState → Option Emission → Type 0
+Handles readings now to bytes brings old new out = (h : History) → (tasks : List Task) → Serves h old tasks → Handled readings h (length tasks) now to bytes brings new out
 
 -- the history leaves this server, with some jobs.
 pub record Reaches (h : History) (new : ServerState) : Type 0 where

@@ -16,7 +16,7 @@ use Rattle.fc_server.specs.declared.server.Begin.{Begin}
 use Rattle.fc_core.specs.Legal.{AnswerEmits}
 use Rattle.fc_core.specs.Sound.{AllSafe}
 use Rattle.fc_core.specs.Stages.{content_at, drew, ended, needs_id}
-use Rattle.fc_core.specs.Rows.{Common, Move, Scene, moves, task_moved, row, scene_of, sends, shard_moved, words_after}
+use Rattle.fc_core.specs.Rows.{Common, Move, Inputs, moves, task_moved, row, inputs_of, sends, shard_moved, words_after}
 
 -- a valid initial state: slots may begin with its serial.
 pub record CanBegin (b : Begin) : Type 0 where
@@ -37,8 +37,8 @@ abbrev pub common_in : FrontState → List ℕ → Common
 common_in f words = record { words = words; free = λ now. free_id f.ids (max f.now now) }
 
 -- inputs of a task's transition.
-abbrev pub scene_in : ServerState → Task → Scene
-scene_in s task = scene_of (shard_at s.shards (task.job.origin.slot % 8)) (common_in s.front s.words) task
+abbrev pub inputs_in : ServerState → Task → Inputs
+inputs_in s task = inputs_of (shard_at s.shards (task.job.origin.slot % 8)) (common_in s.front s.words) task
 
 -- the shards after a transition of a job of slot n.
 abbrev pub shards_moved : Move → ℕ → List Shard → List Shard
@@ -55,11 +55,11 @@ pub record AtWork (s : ServerState) (task : Task) : Type 0 where
 -- change by the event's transition; an installed program is safe.
 pub record Does (e : Event) (old : ServerState) (task : Task) (new : ServerState) (next : Task) (emitted : Option Emission) : Type 0 where
   pub front : new.front ≡ old.front
-  pub task_is : next ≡ task_moved task (row e (scene_in old task))
-  pub shards : new.shards ≡ shards_moved (row e (scene_in old task)) task.job.origin.slot old.shards
-  pub words : new.words ≡ words_after (row e (scene_in old task)) task old.words
-  pub safe : AllSafe (row e (scene_in old task)).changes
-  pub emits : emitted ≡ sends e (scene_in old task)
+  pub task_is : next ≡ task_moved task (row e (inputs_in old task))
+  pub shards : new.shards ≡ shards_moved (row e (inputs_in old task)) task.job.origin.slot old.shards
+  pub words : new.words ≡ words_after (row e (inputs_in old task)) task old.words
+  pub safe : AllSafe (row e (inputs_in old task)).changes
+  pub emits : emitted ≡ sends e (inputs_in old task)
 
 -- the front after an answer with this content, if there is one, that sent this datagram.
 abbrev pub front_after : Option Content → Job → Option Emission → FrontState → ℕ → FrontState

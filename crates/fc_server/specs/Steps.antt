@@ -8,7 +8,7 @@ use Rattle.fc_registry.specs.declared.job.Job.{Job}
 use Rattle.fc_registry.specs.Shards.{shard_at}
 use Rattle.fc_registry.specs.Slots.{Shard}
 use Rattle.fc_registry.specs.Turns.{due_job}
-use Rattle.fc_registry.specs.Watches.{after_due, shard_after_tick, due_place, at_time, late_place, signal_call, signalled, ticked_in}
+use Rattle.fc_registry.specs.Watches.{after_due, shard_after_tick, due_place, at_time, overdue_place, signal_call, signalled, ticked_in}
 use Rattle.fc_core.specs.declared.event.Event.{Event}
 use Rattle.fc_core.specs.declared.stage.Task.{Task}
 use Rattle.fc_core.specs.Exchanges.{FrontState, advanced}
@@ -19,7 +19,7 @@ use Rattle.fc_core.specs.Sound.{AllSafe}
 use Rattle.fc_core.specs.Stages.{content_at, needs_id, new_task}
 use Rattle.fc_core.specs.Rows.{Move, names, row, sends, task_moved, words_after}
 use Rattle.fc_server.specs.Agreement.{Agrees, Parts}
-use Rattle.fc_server.specs.States.{ServerState, front_after, front_drawn, scene_in, shards_moved}
+use Rattle.fc_server.specs.States.{ServerState, front_after, front_drawn, inputs_in, shards_moved}
 
 -- ---- by an event's effect on the front
 
@@ -41,7 +41,7 @@ abbrev pub server_in : Parts → ServerState
 server_in p = record { front = p.front; shards = p.shards; words = p.words }
 
 abbrev pub move_in : Event → Parts → ℕ → Move
-move_in e p k = row e (scene_in (server_in p) (task_at p.tasks k))
+move_in e p k = row e (inputs_in (server_in p) (task_at p.tasks k))
 
 abbrev pub tasks_in : Option ℕ → Event → Parts → List Task
 tasks_in None e p = p.tasks
@@ -67,10 +67,10 @@ shard_changed false i f shards = shards
 
 -- a shard after a tick, the tick's result, and its retransmission.
 abbrev pub shard_ticked : ℕ → Shard → Shard
-shard_ticked now shard = shard_after_tick (late_place (at_time shard now)) (at_time shard now)
+shard_ticked now shard = shard_after_tick (overdue_place (at_time shard now)) (at_time shard now)
 
 abbrev pub shard_told : ℕ → Shard → Ticked
-shard_told now shard = ticked_in (late_place (at_time shard now)) (at_time shard now)
+shard_told now shard = ticked_in (overdue_place (at_time shard now)) (at_time shard now)
 
 abbrev pub shard_resent : ℕ → Shard → Option Emission
 shard_resent now shard = resent (shard_told now shard)
@@ -109,7 +109,7 @@ resent_by other shards = None
 
 abbrev pub sends_at : Option ℕ → Event → Parts → Option Emission
 sends_at None e p = resent_by (at_shard e) p.shards
-sends_at (Some k) e p = sends e (scene_in (server_in p) (task_at p.tasks k))
+sends_at (Some k) e p = sends e (inputs_in (server_in p) (task_at p.tasks k))
 
 abbrev pub EmitsAt : AtFront → Event → Parts → Option Emission → Type 0
 EmitsAt (Receives now to bytes) e p emitted = emitted ≡ sent (received (advanced p.front now) to bytes) (advanced p.front now) to

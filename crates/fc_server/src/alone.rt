@@ -5,18 +5,18 @@ ghost use Rattle.std.specs.Prelude.{◌≡◌, [], IfOk};
 ghost use Rattle.fc_help.specs.Region.{no_readings};
 ghost use Rattle.fc_core.specs.Exchanges.{advanced};
 ghost use Rattle.fc_core.specs.Receiving.{delivered, emission_if};
-ghost use Rattle.fc_server.specs.Alone.{HearsAlone, alone_calls};
-ghost use Rattle.fc_server.specs.Intakes.{is_reply};
+ghost use Rattle.fc_server.specs.SingleThread.{HandlesAlone, alone_calls};
+ghost use Rattle.fc_server.specs.Ingresses.{is_reply};
 ghost use Rattle.fc_server.specs.Serving.{Serves};
 ghost use Rattle.fc_server.specs.Shown.{IsShown};
 ghost use Rattle.fc_server.specs.States.{CanBegin, begin_of};
 
 use crate::engine::{Engine, NotifyOutcome};
-use crate::intake::Intake;
+use crate::ingress::Ingress;
 use crate::server::Begin;
 use crate::witness::{NoWitness, Witness};
 use coap_msg::{Emission, Endpoint};
-use fc_core::Heard;
+use fc_core::Handled;
 use fc_help::{NO_READINGS, Readings};
 use fc_observe::Ticked;
 use fc_registry::SHARDS;
@@ -36,23 +36,23 @@ pub struct Handed {
 ///
 /// Its calls take the number of a shard modulo 8.
 #[derive(Drop)]
-pub struct Alone {
+pub struct SingleThread {
     alloc: Global,
     engine: Engine,
     handed: Handed,
 }
 
-impl Alone {
+impl SingleThread {
     /// Makes a server with empty slots, as [`Engine::new`] does; its jobs get zeros.
     ///
     /// # Errors
     /// Returns `AllocError` if memory can't be allocated.
-    pub fn new(alloc: Global, begin: &Begin) -> Result<Alone, AllocError>
+    pub fn new(alloc: Global, begin: &Begin) -> Result<SingleThread, AllocError>
         requires { CanBegin begin.now }
         ensures begins { IfOk result (λ alone. Serves (begin_of begin.now) alone.engine []) }
         ensures handed { IfOk result (λ alone. alone.handed ≡ record { readings = no_readings; random = 0 }) }
     {
-        Ok(Alone {
+        Ok(SingleThread {
             alloc,
             engine: Engine::new(alloc, begin)?,
             handed: Handed {
@@ -73,39 +73,39 @@ impl Alone {
         };
     }
 
-    /// Handles a datagram as [`Intake::hear`] does, and shows its job to a witness.
+    /// Handles a datagram as [`Ingress::handle`] does, and shows its job to a witness.
     ///
     /// The job is shown once, after its answer, with the response to send, if there is one. If the
     /// datagram produces no job, the witness doesn't change.
-    pub fn hear_with<W: Witness>(
+    pub fn handle_with<W: Witness>(
         &mut self,
         now: u64,
         from: Endpoint,
         bytes: &[u8],
         reply: &mut Emission,
         witness: &mut W,
-    ) -> Heard
-        ensures hears { HearsAlone now from bytes.entry self.old self.new result reply.new }
+    ) -> Handled
+        ensures handles { HandlesAlone now from bytes.entry self.old self.new result reply.new }
         ensures shown { IsShown W.shown (delivered (advanced self.old.engine.front now) from bytes.now)
             (emission_if (is_reply result) reply.new) witness.old witness.new }
     {
         let readings = &self.handed.readings;
         if self
             .engine
-            .hear(self.alloc, now, from, bytes, readings, reply, witness)
+            .handle(self.alloc, now, from, bytes, readings, reply, witness)
         {
-            Heard::Reply
+            Handled::Reply
         } else {
-            Heard::Nothing
+            Handled::Nothing
         }
     }
 }
 
-impl Intake for Alone {
+impl Ingress for SingleThread {
     ghost calls = { alone_calls };
 
-    fn hear(&mut self, now: u64, from: Endpoint, bytes: &[u8], reply: &mut Emission) -> Heard {
-        self.hear_with(now, from, bytes, reply, &mut NoWitness)
+    fn handle(&mut self, now: u64, from: Endpoint, bytes: &[u8], reply: &mut Emission) -> Handled {
+        self.handle_with(now, from, bytes, reply, &mut NoWitness)
     }
 
     fn tick(&mut self, now: u64) {
@@ -116,12 +116,12 @@ impl Intake for Alone {
         self.engine.resend(shard % SHARDS, now)
     }
 
-    fn advance_if_quiet(&mut self, shard: u8, now: u64) -> bool {
-        self.engine.advance_if_quiet(shard % SHARDS, now)
+    fn advance_if_idle(&mut self, shard: u8, now: u64) -> bool {
+        self.engine.advance_if_idle(shard % SHARDS, now)
     }
 
-    fn quiet_until(&self, shard: u8) -> u64 {
-        self.engine.quiet_until(shard % SHARDS)
+    fn idle_until(&self, shard: u8) -> u64 {
+        self.engine.idle_until(shard % SHARDS)
     }
 
     fn notify(&mut self, shard: u8, now: u64, emission: &mut Emission) -> NotifyOutcome {

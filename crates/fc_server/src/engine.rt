@@ -3,13 +3,13 @@ ghost use Rattle.std.specs.Prelude.{◌≡◌, ℕ, ◌<◌, ◌≤◌, List, []
 ghost use Rattle.arrayvec.specs.ArrayVec.{ArrayVec};
 ghost use Rattle.coap_msg.specs.declared.types.Emission.{Emission as Emitted};
 ghost use Rattle.fc_registry.specs.Shards.{shard_at, slot_in_shards};
-ghost use Rattle.fc_registry.specs.Watches.{StaysQuietUntil, at_time, is_quiet};
+ghost use Rattle.fc_registry.specs.Watches.{StaysIdleUntil, at_time, is_idle};
 ghost use Rattle.fc_core.specs.Stage.{Stage};
 ghost use Rattle.fc_core.specs.Exchanges.{advanced};
 ghost use Rattle.fc_core.specs.Ids.{free_id};
 ghost use Rattle.fc_core.specs.Receiving.{delivered, emission_if};
 ghost use Rattle.fc_core.specs.Legal.{resent};
-ghost use Rattle.fc_server.specs.Serving.{FindsProgram, Hears, IsBegun, IsOutToTake, IsReachable, AsksForTurn, Passes, TicksShard, Serves, Turns, WorksOff, WorksOffUnread};
+ghost use Rattle.fc_server.specs.Serving.{FindsProgram, Handles, IsBegun, IsOutToTake, IsReachable, AsksForTurn, Passes, TicksShard, Serves, Turns, WorksOff, WorksOffUnread};
 ghost use Rattle.fc_server.specs.Notified.{Starved, Unsent, is_given, notification_in, notified_as};
 ghost use Rattle.fc_server.specs.Serving.{IsSignalled};
 ghost use Rattle.fc_server.specs.Shown.{IsShown};
@@ -19,7 +19,7 @@ ghost use Rattle.fc_server.specs.Steps.{shard_told};
 use crate::server::{Begin, Server};
 use crate::witness::Witness;
 use coap_msg::{Emission, Endpoint};
-use fc_core::{Heard, Step, Task};
+use fc_core::{Handled, Step, Task};
 use fc_help::Readings;
 use fc_observe::Ticked;
 use fc_registry::{SHARDS, SLOTS};
@@ -82,7 +82,7 @@ impl Engine {
     /// - Any other datagram: no further event.
     ///
     /// The witness observes the job once, after its answer.
-    pub fn hear<W: Witness>(
+    pub fn handle<W: Witness>(
         &mut self,
         alloc: Global,
         now: u64,
@@ -92,22 +92,22 @@ impl Engine {
         reply: &mut Emission,
         witness: &mut W,
     ) -> bool
-        ensures hears { Hears readings.now now endpoint bytes.entry (delivered (advanced self.old.front now) endpoint bytes.now)
+        ensures handles { Handles readings.now now endpoint bytes.entry (delivered (advanced self.old.front now) endpoint bytes.now)
             self.old self.new (emission_if result reply.new) }
         ensures shown { IsShown W.shown (delivered (advanced self.old.front now) endpoint bytes.now)
             (emission_if result reply.new) witness.old witness.new }
     {
         match self
             .server
-            .hear(now, endpoint, bytes, &mut self.task.job, reply)
+            .handle(now, endpoint, bytes, &mut self.task.job, reply)
         {
-            Heard::Nothing => false,
-            Heard::Reply => true,
-            Heard::Signal { mid, reset } => {
+            Handled::Nothing => false,
+            Handled::Reply => true,
+            Handled::Signal { mid, reset } => {
                 signal(&mut self.server, endpoint, mid, reset);
                 false
             }
-            Heard::Job => {
+            Handled::Job => {
                 self.task.begin();
                 let is_sent = work_off(
                     &mut self.server,
@@ -147,23 +147,23 @@ impl Engine {
     /// It is idle if no notification has timed out by then and no observer has a pending
     /// notification. Then the effect is the event `ShardTick`, after which `Due` would do nothing.
     /// Returns whether the shard was advanced.
-    pub fn advance_if_quiet(&mut self, shard: u8, now: u64) -> bool
+    pub fn advance_if_idle(&mut self, shard: u8, now: u64) -> bool
         requires { shard < 8 }
-        ensures quiet { result ≡ is_quiet (at_time (shard_at self.old.shards shard) now) }
+        ensures idle { result ≡ is_idle (at_time (shard_at self.old.shards shard) now) }
         ensures after { MatchBool result (TicksShard shard now self.old self.new None) (self.new ≡ self.old) }
     {
-        self.server.advance_if_quiet(shard, now)
+        self.server.advance_if_idle(shard, now)
     }
 
     /// Returns a time before which a shard, 0 to 7, is idle if nothing is called.
     ///
     /// Before it no notification times out and no observer has a pending one. It needn't be the
     /// latest such time. It is in milliseconds; 2^64 - 1 means that neither is expected.
-    pub fn quiet_until(&self, shard: u8) -> u64
+    pub fn idle_until(&self, shard: u8) -> u64
         requires { shard < 8 }
-        ensures { StaysQuietUntil result (shard_at self.now.shards shard) }
+        ensures { StaysIdleUntil result (shard_at self.now.shards shard) }
     {
-        self.server.quiet_until(shard)
+        self.server.idle_until(shard)
     }
 
     /// Notifies the first observer of a shard, 0 to 7, that has a pending notification.

@@ -3,9 +3,9 @@
 //! - [`Server`] consists of them. Each of its calls applies one event to a task, as the stages of
 //!   jobs define.
 //! - [`Engine`] runs the job of each datagram to its response.
-//! - [`Alone`] is an engine with the input for its jobs. It implements [`Intake`], the trait of
+//! - [`SingleThread`] is an engine with the input for its jobs. It implements [`Ingress`], the trait of
 //!   servers that handle datagrams.
-//! - [`settle::Settling`] takes the remaining steps at one time, for any intake.
+//! - [`flush::Flushing`] takes the remaining steps at one time, for any ingress.
 //!
 //! ```rust
 //! use coap_msg::{Emission, Endpoint};
@@ -24,7 +24,7 @@
 //! ) -> Option<Emission> {
 //!     let mut reply = blank_emission();
 //!     let readings = &NO_READINGS;
-//!     if engine.hear(alloc, now, from, bytes, readings, &mut reply, &mut NoWitness) {
+//!     if engine.handle(alloc, now, from, bytes, readings, &mut reply, &mut NoWitness) {
 //!         Some(reply)
 //!     } else {
 //!         None
@@ -47,24 +47,24 @@
 //!   a slot that has a program.
 //! - Before the time that a shard returns, no notification times out there and no observer has a
 //!   pending one, unless the server is called.
-//! - **Settling** goes over the shards in order: at each, first until no notification has timed
+//! - **Flushing** goes over the shards in order: at each, first until no notification has timed
 //!   out, then until no observer has a pending one. At its end each shard was found so, or no
-//!   message ID was available. The time that `settle::quiet_until` returns is the earliest of those
+//!   message ID was available. The time that `flush::idle_until` returns is the earliest of those
 //!   that the shards return.
 //!
-//! By the contracts of `Server`, `Engine::hear`, `tick`, `resend`, `notify`, `quiet_until`,
-//! `Alone`, `Settling::begin`, `step`, `settle::quiet_until`.
+//! By the contracts of `Server`, `Engine::handle`, `tick`, `resend`, `notify`, `idle_until`,
+//! `SingleThread`, `Flushing::begin`, `step`, `flush::idle_until`.
 #![tactic(auto)]
 
 pub mod alone;
 pub mod engine;
-pub mod intake;
+pub mod flush;
+pub mod ingress;
 pub mod server;
-pub mod settle;
 pub mod witness;
 
-pub use alone::Alone;
+pub use alone::SingleThread;
 pub use engine::Engine;
-pub use intake::Intake;
+pub use ingress::Ingress;
 pub use server::{Begin, DEFAULT_BEGIN, Server};
 pub use witness::{NoWitness, Witness};

@@ -2,17 +2,17 @@
 ghost use Rattle.std.specs.Prelude.{◌≡◌, ℕ, List, ◌<◌, ◌≤◌, if◌then◌else◌, [], false, length, slice_set, IfOk, OnOk};
 ghost use Rattle.fc_registry.specs.Shards.{first_shards, shard_at};
 ghost use Rattle.fc_registry.specs.Turns.{written_if};
-ghost use Rattle.fc_registry.specs.Watches.{StaysQuietUntil, at_time, is_quiet, signal_call, signalled};
+ghost use Rattle.fc_registry.specs.Watches.{StaysIdleUntil, at_time, is_idle, signal_call, signalled};
 ghost use Rattle.fc_core.specs.declared.event.Event.{Event};
 ghost use Rattle.fc_core.specs.Exchanges.{advanced, first_front};
 ghost use Rattle.fc_core.specs.Heads.{no_words};
-ghost use Rattle.fc_core.specs.Receiving.{after_delivered, delivered, emission_if, heard};
+ghost use Rattle.fc_core.specs.Receiving.{after_delivered, delivered, emission_if, handled};
 ghost use Rattle.fc_server.specs.States.{Responds, AtWork, CanBegin, Does, DrawsId, Works};
 ghost use Rattle.fc_server.specs.Steps.{shard_asked, shard_ticked, shard_told, shard_turn};
 
 use coap_msg::{Emission, Endpoint};
 use fc_core::front::blank_emission;
-use fc_core::{DEFAULT_POLICY, Event, Front, Heads, Heard, Policy, Responded, Task};
+use fc_core::{DEFAULT_POLICY, Event, Front, Handled, Heads, Policy, Responded, Task};
 use fc_help::Readings;
 use fc_machine::Frame;
 use fc_observe::Ticked;
@@ -79,20 +79,20 @@ impl Server {
     /// Handles a datagram received at `now`, in milliseconds.
     ///
     /// The job that it produces, or the response, is written over `job` or `reply`.
-    pub fn hear(
+    pub fn handle(
         &mut self,
         now: u64,
         endpoint: Endpoint,
         bytes: &[u8],
         job: &mut Job,
         reply: &mut Emission,
-    ) -> Heard
-        ensures delivered { heard result job.new reply.new ≡ delivered (advanced self.old.front now) endpoint bytes.now }
+    ) -> Handled
+        ensures delivered { handled result job.new reply.new ≡ delivered (advanced self.old.front now) endpoint bytes.now }
         ensures front { self.new.front ≡ after_delivered (advanced self.old.front now) endpoint bytes.now }
         ensures shards { self.new.shards ≡ self.old.shards }
         ensures words { self.new.words ≡ self.old.words }
     {
-        self.front.hear(now, endpoint, bytes, job, reply)
+        self.front.handle(now, endpoint, bytes, job, reply)
     }
 
     /// Advances the front to `now`, in milliseconds.
@@ -148,27 +148,27 @@ impl Server {
     ///
     /// It is idle if no notification has timed out by then and no observer has a pending one.
     /// Returns whether the shard was advanced.
-    pub fn advance_if_quiet(&mut self, shard: u8, now: u64) -> bool
+    pub fn advance_if_idle(&mut self, shard: u8, now: u64) -> bool
         requires { shard < length self.old.shards }
-        ensures quiet { result ≡ is_quiet (at_time (shard_at self.old.shards shard) now) }
+        ensures idle { result ≡ is_idle (at_time (shard_at self.old.shards shard) now) }
         ensures front { self.new.front ≡ self.old.front }
         ensures shards { self.new.shards ≡ (if result
             then slice_set self.old.shards shard (at_time (shard_at self.old.shards shard) now)
             else self.old.shards) }
         ensures words { self.new.words ≡ self.old.words }
     {
-        self.shards[usize::from(shard)].advance_if_quiet(now)
+        self.shards[usize::from(shard)].advance_if_idle(now)
     }
 
     /// Returns a time before which a shard is idle unless the server is called.
     ///
     /// Before it no notification times out and no observer has a pending one. It needn't be the
     /// latest such time. It is in milliseconds; 2^64 - 1 means that neither is expected.
-    pub fn quiet_until(&self, shard: u8) -> u64
+    pub fn idle_until(&self, shard: u8) -> u64
         requires { shard < length self.now.shards }
-        ensures { StaysQuietUntil result (shard_at self.now.shards shard) }
+        ensures { StaysIdleUntil result (shard_at self.now.shards shard) }
     {
-        self.shards[usize::from(shard)].quiet_until()
+        self.shards[usize::from(shard)].idle_until()
     }
 
     /// Applies an event to the task of its job, and returns the datagram to send.

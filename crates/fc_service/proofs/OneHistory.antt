@@ -18,27 +18,27 @@ use Rattle.fc_core.specs.Receiving.{delivered, emission_if}
 use Rattle.fc_core.specs.Stage.{Stage, ToDescribe, ToInstall, ToList, ToMatch, ToRemove, ToTake}
 use Rattle.fc_core.specs.Stages.{first_stage}
 use Rattle.fc_server.specs.Notified.{is_given, notification_in}
-use Rattle.fc_server.specs.Serving.{Heard, Serves, TurnGiven, next, peeked_below, run_through, signalled_below, turned, worked}
+use Rattle.fc_server.specs.Serving.{Handled, Serves, TurnGiven, next, peeked_below, run_through, signalled_below, turned, worked}
 use Rattle.fc_server.specs.States.{ServerState, begin_of}
 use Rattle.fc_server.specs.declared.server.Begin.{Begin}
 use Rattle.fc_lines.specs.declared.line.Line.{Line}
 use Rattle.fc_lines.specs.declared.line.Line.TheVariants as lines
 use Rattle.fc_lines.specs.Emissions.{peer_endpoint, printed}
 use Rattle.fc_host.specs.Sockets.{Incoming, Receive}
-use Rattle.fc_service.proofs.Settled.{printed_of}
-use Rattle.fc_service.specs.Alone.{HandsAlone, ReadiesAlone, ReadiesRecorded}
+use Rattle.fc_service.proofs.Flushed.{printed_of}
+use Rattle.fc_service.specs.SingleThread.{HandsAlone, ReadiesAlone, ReadiesRecorded}
 use Rattle.fc_record.specs.ProgramRequests.{Requested}
 use Rattle.fc_record.specs.Recording.{Recording, recorded_calls}
 use Rattle.fc_workers.specs.declared.call_log.CallLog.{CallLog}
-use Rattle.fc_server.specs.Alone.{HearsAlone, PassesAlone, alone_calls}
+use Rattle.fc_server.specs.SingleThread.{HandlesAlone, PassesAlone, alone_calls}
 use Rattle.fc_service.specs.Histories.{Arrival, IsOneHistory, arrivals_in, arrivals_in_lines, arrived_by, datagram_in, sent_in_lines}
-use Rattle.fc_service.specs.Intakes.{IsHeardBy}
-use Rattle.fc_server.specs.Intakes.{is_reply}
-use Rattle.fc_service.specs.Playing.{ArePlayedBy, IsCarriedOutBy, IsHandedBy, IsPlayedBy, IsPlayedOut, PlayedLine, moment_of, output_by, printed_lines, printed_steps}
+use Rattle.fc_service.specs.Ingresses.{IsHandledBy}
+use Rattle.fc_server.specs.Ingresses.{is_reply}
+use Rattle.fc_service.specs.Playing.{ArePlayedBy, IsCarriedOutBy, IsHandedBy, IsPlayedBy, IsPlayedOut, PlayedLine, time_of, output_by, printed_lines, printed_steps}
 use Rattle.fc_service.specs.Rounds.{AreRoundsBy, HasServed, IsReceivedBy, IsRoundBy, Round, RoundCalls, sendings_in}
-use Rattle.fc_server.specs.Settling.{AreStepsBy, Asked, IsStepBy, Passed, Resent, SettlingStep, sent_in_step, sent_in_steps}
+use Rattle.fc_server.specs.Flushing.{AreStepsBy, Asked, IsStepBy, Passed, Resent, FlushingStep, sent_in_step, sent_in_steps}
 use Rattle.fc_service.specs.Traffic.{Sending}
-use Rattle.fc_server.specs.declared.alone.Alone.{Alone}
+use Rattle.fc_server.specs.declared.alone.SingleThread.{SingleThread}
 use Rattle.fc_service.specs.declared.replies.Replies.{Replies}
 
 -- ---- continuations of a history
@@ -138,23 +138,23 @@ record GoesOn (h : History) (ds : List Arrival) (es : List Emission) (new : Serv
   serves : Serves later new tasks
 
 -- a datagram.
-heard_goes_on : (readings : List ℕ) (h : History) (k now : ℕ) (to : Endpoint) (bytes : Bor (List ℕ)) (d : Delivered) (new : ServerState) (out : Option Emission)
-    → Heard readings h k now to bytes d new out → GoesOn h (arrived_by (Deliver now to bytes)) (option_to_list out) new
-heard_goes_on readings h k now to bytes (Brings job) new out w = record {
+handled_goes_on : (readings : List ℕ) (h : History) (k now : ℕ) (to : Endpoint) (bytes : Bor (List ℕ)) (d : Delivered) (new : ServerState) (out : Option Emission)
+    → Handled readings h k now to bytes d new out → GoesOn h (arrived_by (Deliver now to bytes)) (option_to_list out) new
+handled_goes_on readings h k now to bytes (Brings job) new out w = record {
   later = worked readings (first_stage job) job.origin.slot k w.memory now out (next h (Deliver now to bytes) None);
   follows = worked_follows h (arrived_by (Deliver now to bytes)) readings (first_stage job) job.origin.slot k w.memory now out (next h (Deliver now to bytes) None)
       (one_follows h (Deliver now to bytes) None);
   tasks = w.tasks;
   serves = w.serves;
 }
-heard_goes_on readings h k now to bytes (Signals id reset) new out w = record {
+handled_goes_on readings h k now to bytes (Signals id reset) new out w = record {
   later = signalled_below to id reset 8 (next h (Deliver now to bytes) None);
   follows = subst (λ (o : Option Emission). Follows h (arrived_by (Deliver now to bytes)) (option_to_list o) (signalled_below to id reset 8 (next h (Deliver now to bytes) None)))
       (sym w.0) (signals_follow h (arrived_by (Deliver now to bytes)) to id reset 8 (next h (Deliver now to bytes) None) (one_follows h (Deliver now to bytes) None));
   tasks = w.1.tasks;
   serves = w.1.serves;
 }
-heard_goes_on readings h k now to bytes other new out w =
+handled_goes_on readings h k now to bytes other new out w =
     record { later = next h (Deliver now to bytes) out; follows = one_follows h (Deliver now to bytes) out; tasks = w.tasks; serves = w.serves }
 
 -- a lease that was requested.
@@ -174,11 +174,11 @@ turn_goes_on true readings h shard k now random new out w = record {
 }
 
 -- a history leaves a server on one thread, with any input for its jobs.
-abbrev Leaves : History → Alone → List Task → Type 0
+abbrev Leaves : History → SingleThread → List Task → Type 0
 Leaves h a tasks = Serves h a.engine tasks
 
 -- one step.
-step_goes_on : (now : ℕ) (step : SettlingStep) (old new : Alone) (h : History) (tasks : List Task) → IsStepBy alone_calls now step old new → Leaves h old tasks
+step_goes_on : (now : ℕ) (step : FlushingStep) (old new : SingleThread) (h : History) (tasks : List Task) → IsStepBy alone_calls now step old new → Leaves h old tasks
     → GoesOn h [] (option_to_list (sent_in_step step)) new.engine
 step_goes_on now (Resent shard ticked) old new h tasks w v = record {
   later = _;
@@ -197,10 +197,10 @@ both_go_on h ds ds' es es' mid new v w =
     record { later = w.later; follows = both_follow h v.later w.later ds ds' es es' v.follows w.follows; tasks = w.tasks; serves = w.serves }
 
 -- steps.
-steps_go_on : (now : ℕ) (steps : List SettlingStep) (old new : Alone) (h : History) (tasks : List Task) → AreStepsBy alone_calls now steps old new
+steps_go_on : (now : ℕ) (steps : List FlushingStep) (old new : SingleThread) (h : History) (tasks : List Task) → AreStepsBy alone_calls now steps old new
     → Leaves h old tasks → GoesOn h [] (sent_in_steps steps) new.engine
 steps_go_on now [] old new h tasks is v =
-    record { later = h; follows = none_follows h; tasks = tasks; serves = subst (λ (a : Alone). Leaves h a tasks) (sym is) v }
+    record { later = h; follows = none_follows h; tasks = tasks; serves = subst (λ (a : SingleThread). Leaves h a tasks) (sym is) v }
 steps_go_on now (step ∷ steps) old new h tasks w v =
     let before = steps_go_on now steps old w.0 h tasks w.2 v in
     both_go_on h [] [] (sent_in_steps steps) (option_to_list (sent_in_step step)) w.0.engine new.engine before
@@ -212,16 +212,16 @@ goes_on_as {h} {new} ds ds' es es' same equal w =
     subst (λ (l : List Arrival). GoesOn h l es' new) same (subst (λ (l : List Emission). GoesOn h ds l new) equal w)
 
 -- a datagram that was received whole.
-datagram_goes_on : (now : ℕ) (incoming : Incoming) (old new : Alone) (sent : Option Emission) (h : History) (tasks : List Task) → IsHeardBy HearsAlone now incoming old sent new
+datagram_goes_on : (now : ℕ) (incoming : Incoming) (old new : SingleThread) (sent : Option Emission) (h : History) (tasks : List Task) → IsHandledBy HandlesAlone now incoming old sent new
     → Leaves h old tasks → GoesOn h (record { now = now; came = Some incoming } ∷ []) (option_to_list sent) new.engine
 datagram_goes_on now incoming old new sent h tasks w v =
     let came : List ℕ → List Arrival = λ bytes. record { now = now; came = Some (record { from = incoming.from; bytes = bytes }) } ∷ [] in
-    let out = emission_if (is_reply w.heard) w.reply in
+    let out = emission_if (is_reply w.handled) w.reply in
     goes_on_as _ (came incoming.bytes) (option_to_list out) (option_to_list sent) (ap came w.bytes_are) (ap option_to_list (sym w.sent_is))
-    (heard_goes_on old.handed.readings h (length tasks) now incoming.from w.borrow (delivered (advanced old.engine.front now) incoming.from w.borrow.now) new.engine out
-    (w.hears.0 h tasks v))
+    (handled_goes_on old.handed.readings h (length tasks) now incoming.from w.borrow (delivered (advanced old.engine.front now) incoming.from w.borrow.now) new.engine out
+    (w.handles.0 h tasks v))
 
-passed_goes_on : (now : ℕ) (old new : Alone) (sent : Option Emission) (h : History) (tasks : List Task) → PassesAlone now old new → sent ≡ None → Leaves h old tasks
+passed_goes_on : (now : ℕ) (old new : SingleThread) (sent : Option Emission) (h : History) (tasks : List Task) → PassesAlone now old new → sent ≡ None → Leaves h old tasks
     → GoesOn h (record { now = now; came = None } ∷ []) (option_to_list sent) new.engine
 passed_goes_on now old new sent h tasks passes none v =
     goes_on_as (record { now = now; came = None } ∷ []) (record { now = now; came = None } ∷ []) [] (option_to_list sent) refl (ap option_to_list (sym none))
@@ -230,25 +230,25 @@ passed_goes_on now old new sent h tasks passes none v =
 -- ---- rounds
 
 module _ (sensors : List ℕ → Type 0) where
-  received_goes_on : (now : ℕ) (received : Option Incoming) (old new : Alone) (sent : Option Emission) (h : History) (tasks : List Task)
+  received_goes_on : (now : ℕ) (received : Option Incoming) (old new : SingleThread) (sent : Option Emission) (h : History) (tasks : List Task)
       → IsReceivedBy (ReadiesAlone sensors) alone_calls now received old sent new → Leaves h old tasks
       → GoesOn h (record { now = now; came = received } ∷ []) (option_to_list sent) new.engine
   received_goes_on now (Some incoming) old new sent h tasks w v = datagram_goes_on now incoming old new sent h tasks w v
   received_goes_on now None old new sent h tasks w v = passed_goes_on now old new sent h tasks w.0 w.1 v
 
-  round_goes_on : (r : Round) (old new : Alone) (h : History) (tasks : List Task)
+  round_goes_on : (r : Round) (old new : SingleThread) (h : History) (tasks : List Task)
       → IsRoundBy (ReadiesAlone sensors) alone_calls r old new → Leaves h old tasks
       → GoesOn h (record { now = r.now; came = r.received } ∷ []) (map (λ s. s.emission) r.sendings) new.engine
   round_goes_on r old new h tasks w v =
       let made : Leaves h w.ready tasks = subst (λ (s : ServerState). Serves h s tasks) (sym w.readied.2) v in
-      let heard = received_goes_on r.now r.received w.ready w.answered r.sent h tasks w.carried_out made in
+      let handled = received_goes_on r.now r.received w.ready w.answered r.sent h tasks w.carried_out made in
       let came : List Arrival = record { now = r.now; came = r.received } ∷ [] in
-      let all = both_go_on h came [] (option_to_list r.sent) (sent_in_steps r.steps) w.answered.engine new.engine heard
-      (steps_go_on r.now r.steps w.answered new heard.later heard.tasks w.steps heard.serves) in
+      let all = both_go_on h came [] (option_to_list r.sent) (sent_in_steps r.steps) w.answered.engine new.engine handled
+      (steps_go_on r.now r.steps w.answered new handled.later handled.tasks w.steps handled.serves) in
       goes_on_as _ came _ (map (λ s. s.emission) r.sendings) refl (sym w.sent) all
 
   -- one more round.
-  round_goes_after : (r : Round) (rounds : List Round) (old new : Alone) (h : History)
+  round_goes_after : (r : Round) (rounds : List Round) (old new : SingleThread) (h : History)
       → (before : GoesOn h (arrivals_in rounds) (map (λ s. s.emission) (sendings_in rounds)) old.engine)
       → IsRoundBy (ReadiesAlone sensors) alone_calls r old new
       → GoesOn h (arrivals_in (r ∷ rounds)) (map (λ s. s.emission) (sendings_in (r ∷ rounds))) new.engine
@@ -269,7 +269,7 @@ one_history begin ds es s w = record {
 
 -- rounds of a server whose changes are recorded are rounds of the server.
 module _ (sensors : List ℕ → Type 0) (Recorded : Requested → CallLog → CallLog → Type 0) where
-  unrecorded_steps : (now : ℕ) (steps : List SettlingStep) (old new : Recording) → AreStepsBy (recorded_calls Recorded) now steps old new
+  unrecorded_steps : (now : ℕ) (steps : List FlushingStep) (old new : Recording) → AreStepsBy (recorded_calls Recorded) now steps old new
       → AreStepsBy alone_calls now steps old.alone new.alone
   unrecorded_steps now [] old new is = ap (λ (r : Recording). r.alone) is
   unrecorded_steps now (Resent shard ticked ∷ steps) old new w = (w.0.alone, (w.1.0, w.1.1.0), unrecorded_steps now steps old w.0 w.2)
@@ -280,7 +280,7 @@ module _ (sensors : List ℕ → Type 0) (Recorded : Requested → CallLog → C
       → IsReceivedBy (ReadiesRecorded sensors) (recorded_calls Recorded) now received old sent new
       → IsReceivedBy (ReadiesAlone sensors) alone_calls now received old.alone sent new.alone
   unrecorded_received now (Some incoming) old new sent w =
-      record { borrow = w.borrow; bytes_are = w.bytes_are; heard = w.heard; reply = w.reply; hears = w.hears.0; sent_is = w.sent_is }
+      record { borrow = w.borrow; bytes_are = w.bytes_are; handled = w.handled; reply = w.reply; handles = w.handles.0; sent_is = w.sent_is }
   unrecorded_received now None old new sent w = (w.0.0, w.1)
 
   unrecorded_round : (r : Round) (old new : Recording) → IsRoundBy (ReadiesRecorded sensors) (recorded_calls Recorded) r old new
@@ -291,7 +291,7 @@ module _ (sensors : List ℕ → Type 0) (Recorded : Requested → CallLog → C
     answered = w.answered.alone;
     carried_out = unrecorded_received r.now r.received w.ready w.answered r.sent w.carried_out;
     steps = unrecorded_steps r.now r.steps w.answered new w.steps;
-    settled = w.settled;
+    flushed = w.flushed;
     sent = w.sent;
   }
 
@@ -314,37 +314,37 @@ rounds_are_one_history sensors e Recorded limit begin before after replies w =
 
 -- ---- lines
 
-handed_on : (line : Line) (old new : Alone) (h : History) (tasks : List Task)
+handed_on : (line : Line) (old new : SingleThread) (h : History) (tasks : List Task)
     → IsHandedBy HandsAlone alone_calls line old new → Leaves h old tasks → Leaves h new tasks
 handed_on (lines.Device now readings) old new h tasks w v = subst (λ (s : ServerState). Serves h s tasks) (sym w.0) v
-handed_on (lines.Tick now) old new h tasks is v = subst (λ (a : Alone). Leaves h a tasks) (sym is) v
-handed_on (lines.Deliver now peer bytes) old new h tasks is v = subst (λ (a : Alone). Leaves h a tasks) (sym is) v
+handed_on (lines.Tick now) old new h tasks is v = subst (λ (a : SingleThread). Leaves h a tasks) (sym is) v
+handed_on (lines.Deliver now peer bytes) old new h tasks is v = subst (λ (a : SingleThread). Leaves h a tasks) (sym is) v
 
-told_goes_on : (line : Line) (old new : Alone) (sent : Option Emission) (h : History) (tasks : List Task)
+told_goes_on : (line : Line) (old new : SingleThread) (sent : Option Emission) (h : History) (tasks : List Task)
     → IsCarriedOutBy HandsAlone alone_calls line old sent new → Leaves h old tasks
-    → GoesOn h (record { now = moment_of line; came = datagram_in line } ∷ []) (option_to_list sent) new.engine
+    → GoesOn h (record { now = time_of line; came = datagram_in line } ∷ []) (option_to_list sent) new.engine
 told_goes_on (lines.Deliver now peer bytes) old new sent h tasks w v = datagram_goes_on now (record { from = peer_endpoint peer; bytes = bytes.items }) old new sent h tasks w v
 told_goes_on (lines.Tick now) old new sent h tasks w v = passed_goes_on now old new sent h tasks w.0 w.1 v
 told_goes_on (lines.Device now readings) old new sent h tasks w v = passed_goes_on now old new sent h tasks w.0 w.1 v
 
-line_goes_on : (p : PlayedLine) (old new : Alone) (h : History) (tasks : List Task)
+line_goes_on : (p : PlayedLine) (old new : SingleThread) (h : History) (tasks : List Task)
     → IsPlayedBy HandsAlone alone_calls p old new → Leaves h old tasks
-    → GoesOn h (record { now = moment_of p.line; came = datagram_in p.line } ∷ []) (option_to_list p.sent ++ sent_in_steps p.steps) new.engine
+    → GoesOn h (record { now = time_of p.line; came = datagram_in p.line } ∷ []) (option_to_list p.sent ++ sent_in_steps p.steps) new.engine
 line_goes_on p old new h tasks w v =
     let told = told_goes_on p.line w.handed w.answered p.sent h tasks w.carried_out (handed_on p.line old w.handed h tasks w.hands v) in
-    let came : List Arrival = record { now = moment_of p.line; came = datagram_in p.line } ∷ [] in
+    let came : List Arrival = record { now = time_of p.line; came = datagram_in p.line } ∷ [] in
     goes_on_as _ came _ _ refl refl
     (both_go_on h came [] (option_to_list p.sent) (sent_in_steps p.steps) w.answered.engine new.engine told
-    (steps_go_on (moment_of p.line) p.steps w.answered new told.later told.tasks w.steps told.serves))
+    (steps_go_on (time_of p.line) p.steps w.answered new told.later told.tasks w.steps told.serves))
 
-lines_go_on : (played : List PlayedLine) (old new : Alone) (h : History) (tasks : List Task)
+lines_go_on : (played : List PlayedLine) (old new : SingleThread) (h : History) (tasks : List Task)
     → ArePlayedBy HandsAlone alone_calls played old new → Leaves h old tasks
     → GoesOn h (arrivals_in_lines played) (sent_in_lines played) new.engine
 lines_go_on [] old new h tasks is v =
-    record { later = h; follows = none_follows h; tasks = tasks; serves = subst (λ (a : Alone). Leaves h a tasks) (sym is) v }
+    record { later = h; follows = none_follows h; tasks = tasks; serves = subst (λ (a : SingleThread). Leaves h a tasks) (sym is) v }
 lines_go_on (p ∷ played) old new h tasks w v =
     let before = lines_go_on played old w.0 h tasks w.1 v in
-    both_go_on h (arrivals_in_lines played) (record { now = moment_of p.line; came = datagram_in p.line } ∷ []) (sent_in_lines played) (option_to_list p.sent ++ sent_in_steps p.steps) w.0.engine new.engine before
+    both_go_on h (arrivals_in_lines played) (record { now = time_of p.line; came = datagram_in p.line } ∷ []) (sent_in_lines played) (option_to_list p.sent ++ sent_in_steps p.steps) w.0.engine new.engine before
     (line_goes_on p w.0 new before.later before.tasks w.2 before.serves)
 
 pub lines_are_one_history : (begin : Begin) (had before after : Option (List ℕ)) (w : IsPlayedOut begin had before after)

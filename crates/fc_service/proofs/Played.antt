@@ -18,25 +18,25 @@ use Rattle.fc_lines.specs.declared.line.Line.{Line}
 use Rattle.fc_lines.specs.declared.line.Line.TheVariants.{Deliver, Device, Tick}
 use Rattle.fc_lines.specs.Lines.{IsLine}
 use Rattle.fc_server.specs.Serving.{Serves}
-use Rattle.fc_service.specs.Alone.{HandsAlone}
-use Rattle.fc_server.specs.Alone.{alone_calls}
-use Rattle.fc_service.specs.Intakes.{calls_through, waited_calls}
-use Rattle.fc_server.specs.Intakes.{IntakeCalls}
+use Rattle.fc_service.specs.SingleThread.{HandsAlone}
+use Rattle.fc_server.specs.SingleThread.{alone_calls}
+use Rattle.fc_service.specs.Ingresses.{calls_through, waited_calls}
+use Rattle.fc_server.specs.Ingresses.{IngressCalls}
 use Rattle.fc_workers.specs.Answers.{saturated}
-use Rattle.fc_service.specs.Playing.{ArePlayedBy, HasPlayed, IsCarriedOutBy, IsFedByLines, IsHandedBy, IsNextText, IsPlayedBy, IsPlayedOut, PlayedLine, StopsAt, moment_of, output_by, output_of, printed_lines, printed_steps}
-use Rattle.fc_server.specs.declared.alone.Alone.{Alone}
-use Rattle.fc_server.specs.Settling.{AreSettled, AreStepsBy, Asked, Passed, Resent, SettlingStep}
+use Rattle.fc_service.specs.Playing.{ArePlayedBy, HasPlayed, IsCarriedOutBy, IsFedByLines, IsHandedBy, IsNextText, IsPlayedBy, IsPlayedOut, PlayedLine, StopsAt, time_of, output_by, output_of, printed_lines, printed_steps}
+use Rattle.fc_server.specs.declared.alone.SingleThread.{SingleThread}
+use Rattle.fc_server.specs.Flushing.{AreFlushed, AreStepsBy, Asked, Passed, Resent, FlushingStep}
 
 -- the next bytes of a reader.
 pub next_text : {X E : Type 0} (bytes : X → List ℕ) (byte : ℕ) (had left : Option (List ℕ)) {r : Option (Result X E)} (x : X) {text : List ℕ} → text ≡ bytes x → byte ≡ 10 → r ≡ Some (Ok x) → YieldsKnownPiece bytes (first_piece byte) byte had r left → IsNextText text had left
 next_text {X} {E} bytes byte had left x same ten is y = subst (λ (t : List ℕ). IsNextText t had left) (sym same) (subst (λ (b : ℕ). YieldsKnownPiece {E = E} bytes (first_piece b) b had (Some (Ok x)) left) ten (subst (λ (r : Option (Result X E)). YieldsKnownPiece bytes (first_piece byte) byte had r left) is y))
 
-module _ {S : Type 0} (Hands : List ℕ → S → S → Type 0) (calls : IntakeCalls S) where
+module _ {S : Type 0} (Hands : List ℕ → S → S → Type 0) (calls : IngressCalls S) where
   -- a line that was read and executed, with its retransmissions and notifications.
-  pub line_played : (text : List ℕ) (line : Line) (now : ℕ) (old handed mid new : S) (a b c : Option (List ℕ)) → IsLine text line → now ≡ moment_of line
+  pub line_played : (text : List ℕ) (line : Line) (now : ℕ) (old handed mid new : S) (a b c : Option (List ℕ)) → IsLine text line → now ≡ time_of line
       → IsHandedBy Hands calls line old handed
       → ((sent : Option Emission) × IsCarriedOutBy Hands calls line handed sent mid × Appends a b (output_of sent))
-      → ((steps : List SettlingStep) × AreStepsBy calls now steps mid new × (AreSettled steps × Appends b c (printed_steps steps)))
+      → ((steps : List FlushingStep) × AreStepsBy calls now steps mid new × (AreFlushed steps × Appends b c (printed_steps steps)))
       → (p : PlayedLine) × (p.text ≡ text) × IsPlayedBy Hands calls p old new × Appends a c (output_by p)
   line_played text line now old handed mid new a b c says at hands w x = (
     record { text = text; line = line; sent = w.0; steps = x.0 },
@@ -48,7 +48,7 @@ module _ {S : Type 0} (Hands : List ℕ → S → S → Type 0) (calls : IntakeC
       answered = mid;
       carried_out = w.1;
       steps = subst (λ (n : ℕ). AreStepsBy calls n x.0 mid new) at x.1;
-      settled = x.2.0;
+      flushed = x.2.0;
     },
     Appends-trans a b c (output_of w.0) (printed_steps x.0) w.2 x.2.1,
   )
@@ -82,14 +82,14 @@ module _ {S : Type 0} (Hands : List ℕ → S → S → Type 0) (calls : IntakeC
   }
 
 -- on one thread.
-pub played_out : {A E : Type 0} (begin : Begin) (first last : Alone) (had before after : Option (List ℕ)) (r : Result A E) → Serves (begin_of begin) first.engine [] → first.handed ≡ record { readings = no_readings; random = 0 }
+pub played_out : {A E : Type 0} (begin : Begin) (first last : SingleThread) (had before after : Option (List ℕ)) (r : Result A E) → Serves (begin_of begin) first.engine [] → first.handed ≡ record { readings = no_readings; random = 0 }
     → OnOk r ((left : Option (List ℕ)) × HasPlayed HandsAlone alone_calls first last had left before after × IsAtEnd left) → OnOk r (IsPlayedOut begin had before after)
 played_out begin first last had before after (Ok x) begins handed w = record { first = first; last = last; begins = begins; handed = handed; left = w.0; played = w.1; end = w.2 }
 played_out begin first last had before after (Err e) begins handed w = tt
 
 -- ---- a change of a holder of a server is a change of the server
-module _ {H S : Type 0} (held : H → S) (HandsIt : List ℕ → H → H → Type 0) (Hands : List ℕ → S → S → Type 0) (hands : (readings : List ℕ) (old new : H) → HandsIt readings old new → Hands readings (held old) (held new)) (calls : IntakeCalls S) where
-  steps_through : (now : ℕ) (steps : List SettlingStep) (old new : H) → AreStepsBy (calls_through held calls) now steps old new → AreStepsBy calls now steps (held old) (held new)
+module _ {H S : Type 0} (held : H → S) (HandsIt : List ℕ → H → H → Type 0) (Hands : List ℕ → S → S → Type 0) (hands : (readings : List ℕ) (old new : H) → HandsIt readings old new → Hands readings (held old) (held new)) (calls : IngressCalls S) where
+  steps_through : (now : ℕ) (steps : List FlushingStep) (old new : H) → AreStepsBy (calls_through held calls) now steps old new → AreStepsBy calls now steps (held old) (held new)
   steps_through now [] old new same = ap held same
   steps_through now (Resent shard ticked ∷ steps) old new w = (held w.0, w.1, steps_through now steps old w.0 w.2)
   steps_through now (Passed shard ∷ steps) old new w = (held w.0, w.1, steps_through now steps old w.0 w.2)
@@ -101,7 +101,7 @@ module _ {H S : Type 0} (held : H → S) (HandsIt : List ℕ → H → H → Typ
   handed_through (Device now readings) old new w = hands readings old new w
 
   carried_through : (line : Line) (old new : H) (sent : Option Emission) → IsCarriedOutBy HandsIt (calls_through held calls) line old sent new → IsCarriedOutBy Hands calls line (held old) sent (held new)
-  carried_through (Deliver now peer bytes) old new sent h = record { borrow = h.borrow; bytes_are = h.bytes_are; heard = h.heard; reply = h.reply; hears = h.hears; sent_is = h.sent_is }
+  carried_through (Deliver now peer bytes) old new sent h = record { borrow = h.borrow; bytes_are = h.bytes_are; handled = h.handled; reply = h.reply; handles = h.handles; sent_is = h.sent_is }
   carried_through (Tick now) old new sent w = w
   carried_through (Device now readings) old new sent w = w
 
@@ -116,8 +116,8 @@ module _ {H S : Type 0} (held : H → S) (HandsIt : List ℕ → H → H → Typ
       hands = handed_through p.line mid h.handed h.hands;
       answered = held h.answered;
       carried_out = carried_through p.line h.handed h.answered p.sent h.carried_out;
-      steps = steps_through (moment_of p.line) p.steps h.answered new h.steps;
-      settled = h.settled;
+      steps = steps_through (time_of p.line) p.steps h.answered new h.steps;
+      flushed = h.flushed;
     },
   )
 
@@ -135,7 +135,7 @@ bad_line (Memory error) status told is (inl same) bad = absurd (cc (is, same, ba
 bad_line (Memory error) status told is (inr failed) bad = absurd (cc (failed, bad))
 
 -- lines fed to a holder of a server were fed to the server.
-pub fed_by_lines : {A E H S : Type 0} (held : H → S) (HandsIt : List ℕ → H → H → Type 0) → ((readings : List ℕ) (old new : H) → HandsIt readings old new → held new ≡ held old) → (calls : IntakeCalls S)
+pub fed_by_lines : {A E H S : Type 0} (held : H → S) (HandsIt : List ℕ → H → H → Type 0) → ((readings : List ℕ) (old new : H) → HandsIt readings old new → held new ≡ held old) → (calls : IngressCalls S)
     → (old new : H) (had before after : Option (List ℕ)) (r : Result A E)
     → OnOk r ((left : Option (List ℕ)) × HasPlayed HandsIt (calls_through held (waited_calls calls)) old new had left before after × IsAtEnd left) → OnOk r (IsFedByLines calls had (held old))
 fed_by_lines held HandsIt hands calls old new had before after (Ok x) w =

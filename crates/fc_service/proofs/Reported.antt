@@ -4,24 +4,24 @@ use Rattle.std.specs.Prelude.{MatchBool, false}
 use Rattle.std.proofs.lemmas.Bool.{le-ltb}
 use Rattle.coap_msg.specs.declared.types.Emission.{Emission}
 use Rattle.coap_msg.specs.declared.types.Endpoint.{Endpoint}
-use Rattle.fc_core.specs.declared.front.Heard.{Heard}
+use Rattle.fc_core.specs.declared.front.Handled.{Handled}
 use Rattle.fc_host.specs.Sockets.{Receive}
 use Rattle.fc_record.specs.ProgramRequests.{Requested}
 use Rattle.fc_record.specs.Recording.{Recording, recorded_calls}
 use Rattle.fc_record.specs.Reports.{datagram_counted}
 use Rattle.fc_record.specs.declared.report.Report.{Report}
-use Rattle.fc_server.specs.Intakes.{IntakeCalls}
+use Rattle.fc_server.specs.Ingresses.{IngressCalls}
 use Rattle.fc_server.specs.Serving.{Serves}
 use Rattle.fc_server.specs.States.{begin_of}
 use Rattle.fc_server.specs.declared.server.Begin.{Begin}
 use Rattle.fc_workers.specs.Answers.{saturated}
 use Rattle.fc_workers.specs.declared.call_log.CallLog.{CallLog}
-use Rattle.fc_service.specs.Alone.{ReadiesRecorded}
+use Rattle.fc_service.specs.SingleThread.{ReadiesRecorded}
 use Rattle.fc_service.specs.Reporting.{MakesReport, Reporting, ReportsIfDue, reported_calls}
 use Rattle.fc_service.specs.Rounds.{HasReceivedBy, HasServedBy, RoundCalls}
 use Rattle.fc_service.specs.declared.replies.Replies.{Replies}
 
-module _ {S : Type 0} (Reported : Report → CallLog → CallLog → Type 0) (calls : IntakeCalls S) where
+module _ {S : Type 0} (Reported : Report → CallLog → CallLog → Type 0) (calls : IngressCalls S) where
   -- a report that was due was made.
   pub made : (now due : ℕ) (inside old : Reporting S) (log : CallLog) → inside ≡ old → inside.due ≤ now → due ≡ saturated (now + inside.every)
       → Reported inside.report inside.log log → ReportsIfDue Reported calls now old (record inside { due = due; log = log })
@@ -32,15 +32,15 @@ module _ {S : Type 0} (Reported : Report → CallLog → CallLog → Type 0) (ca
       (record { log = log; reported = w; state = ap (λ (n : ℕ). record inside { due = n; log = log }) next }))
 
   -- a datagram was handled after the report that was due.
-  pub heard_after : (now : ℕ) (from : Endpoint) (bytes : Bor (List ℕ)) (inside old mid : Reporting S) (new : S) (report : Report) (heard : Heard) (reply : Emission)
-      → inside ≡ mid → ReportsIfDue Reported calls now old mid → calls.hears now from bytes inside.intake new heard reply → report ≡ datagram_counted heard reply inside.report
-      → (reported_calls Reported calls).hears now from bytes old (record inside { intake = new; report = report }) heard reply
-  heard_after now from bytes inside old mid new report heard reply is due hears counted =
-      (inside, subst (λ (r : Reporting S). ReportsIfDue Reported calls now old r) (sym is) due, hears, ap (λ (x : Report). record inside { intake = new; report = x }) counted)
+  pub handled_after : (now : ℕ) (from : Endpoint) (bytes : Bor (List ℕ)) (inside old mid : Reporting S) (new : S) (report : Report) (handled : Handled) (reply : Emission)
+      → inside ≡ mid → ReportsIfDue Reported calls now old mid → calls.handles now from bytes inside.ingress new handled reply → report ≡ datagram_counted handled reply inside.report
+      → (reported_calls Reported calls).handles now from bytes old (record inside { ingress = new; report = report }) handled reply
+  handled_after now from bytes inside old mid new report handled reply is due handles counted =
+      (inside, subst (λ (r : Reporting S). ReportsIfDue Reported calls now old r) (sym is) due, handles, ap (λ (x : Report). record inside { ingress = new; report = x }) counted)
 
   -- time passed after the report that was due.
-  pub passed_after : (now : ℕ) (inside old mid : Reporting S) (new : S) → inside ≡ mid → ReportsIfDue Reported calls now old mid → calls.passes now inside.intake new
-      → (reported_calls Reported calls).passes now old (record inside { intake = new })
+  pub passed_after : (now : ℕ) (inside old mid : Reporting S) (new : S) → inside ≡ mid → ReportsIfDue Reported calls now old mid → calls.passes now inside.ingress new
+      → (reported_calls Reported calls).passes now old (record inside { ingress = new })
   passed_after now inside old mid new is due passes = (inside, subst (λ (r : Reporting S). ReportsIfDue Reported calls now old r) (sym is) due, passes, refl)
 
 -- a server on one thread has run, with reports or without.

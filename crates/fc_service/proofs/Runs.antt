@@ -7,42 +7,42 @@ use Rattle.coap_msg.specs.declared.types.Emission.{Emission}
 use Rattle.fc_host.specs.Sockets.{Comes, Incoming, Receive}
 use Rattle.fc_service.proofs.Traffic.{more_came, more_replies, more_sent, none_came, none_sent}
 use Rattle.fc_service.specs.Counting.{no_replies}
-use Rattle.fc_service.specs.Intakes.{IsHeardBy}
-use Rattle.fc_server.specs.Intakes.{IntakeCalls}
+use Rattle.fc_service.specs.Ingresses.{IsHandledBy}
+use Rattle.fc_server.specs.Ingresses.{IngressCalls}
 use Rattle.fc_service.specs.Rounds.{EndsInTime, HasRounds, IsReceivedBy, Round, RoundCalls, WaitsAfter, received_in, round_receives, sendings_in}
-use Rattle.fc_server.specs.Settling.{AreSettled, AreStepsBy, SettlingStep, sent_in_steps}
+use Rattle.fc_server.specs.Flushing.{AreFlushed, AreStepsBy, FlushingStep, sent_in_steps}
 use Rattle.fc_service.specs.Traffic.{Sends, counted_each}
-use Rattle.fc_service.specs.declared.replies.Outbox.{Outbox}
+use Rattle.fc_service.specs.declared.replies.SentReplies.{SentReplies}
 use Rattle.fc_workers.specs.declared.call_log.CallLog.{CallLog}
 
-module _ {S : Type 0} (Readies : ℕ → S → S → Type 0) (calls : IntakeCalls S) (e : RoundCalls) where
-  abbrev Rounds : List Round → Option (List Receive) → Option (List Receive) → S → S → CallLog → Outbox → Type 0
-  Rounds rounds before after old new log outbox = HasRounds Readies calls e rounds before after old new log outbox
+module _ {S : Type 0} (Readies : ℕ → S → S → Type 0) (calls : IngressCalls S) (e : RoundCalls) where
+  abbrev Rounds : List Round → Option (List Receive) → Option (List Receive) → S → S → CallLog → SentReplies → Type 0
+  Rounds rounds before after old new log replied = HasRounds Readies calls e rounds before after old new log replied
 
-  -- an outbox that was passed on with another log, by a receive of this wait and datagram and by
+  -- sent replies that were passed on with another log, by a receive of this wait and datagram and by
   -- the next reading of the clock.
-  pub record AreAsked (wait : Option ℕ) (received : Option Incoming) (now : ℕ) (old new : Outbox) : Type 0 where
+  pub record AreAsked (wait : Option ℕ) (received : Option Incoming) (now : ℕ) (old new : SentReplies) : Type 0 where
     pub asked : CallLog
     pub receives : e.received (record { wait = wait; came = received }) old.log asked
-    pub moment : e.moment now asked new.log
+    pub time : e.time now asked new.log
     pub kept : new.replies ≡ old.replies
 
   -- rounds in which this number of datagrams was received, no more than the limit, if there is one;
   -- and how long the next receive waits.
-  abbrev pub Runs : (limit count : ℕ) → Option ℕ → Option (List Receive) → Option (List Receive) → S → S → Outbox → Type 0
-  Runs limit count wait before after old new outbox =
-      (rounds : List Round) × ((log : CallLog) × Rounds rounds before after old new log outbox) × (0 < limit → (length (received_in rounds) ≡ count) × (count ≤ limit)) × WaitsAfter calls rounds new wait
+  abbrev pub Runs : (limit count : ℕ) → Option ℕ → Option (List Receive) → Option (List Receive) → S → S → SentReplies → Type 0
+  Runs limit count wait before after old new replied =
+      (rounds : List Round) × ((log : CallLog) × Rounds rounds before after old new log replied) × (0 < limit → (length (received_in rounds) ≡ count) × (count ≤ limit)) × WaitsAfter calls rounds new wait
 
-  pub no_rounds : (limit : ℕ) (came : Option (List Receive)) (s : S) (o : Outbox) → o.replies ≡ no_replies → Runs limit 0 (Some 100) came came s s o
+  pub no_rounds : (limit : ℕ) (came : Option (List Receive)) (s : S) (o : SentReplies) → o.replies ≡ no_replies → Runs limit 0 (Some 100) came came s s o
   no_rounds limit came s o none =
       ([], (o.log, record { are_rounds = refl; came = none_came came; called = refl; counted = none }), λ some. (refl, omega arith), refl)
 
-  one_round : (limit count next : ℕ) (wait after_it : Option ℕ) (before mid after : Option (List Receive)) (old last ready answered new : S) (o a b c : Outbox) (now : ℕ) (received : Option Incoming)
+  one_round : (limit count next : ℕ) (wait after_it : Option ℕ) (before mid after : Option (List Receive)) (old last ready answered new : S) (o a b c : SentReplies) (now : ℕ) (received : Option Incoming)
       → Runs limit count wait before mid old last o → AreAsked wait received now o a
       → Comes mid after (record { wait = wait; came = received } ∷ []) → Readies now last ready
       → ((sent : Option Emission) × IsReceivedBy Readies calls now received ready sent answered × Sends e.went (option_to_list sent) a b)
-      → ((steps : List SettlingStep) × AreStepsBy calls now steps answered new × AreSettled steps × Sends e.went (sent_in_steps steps) b c)
-      → (0 < limit → (count + length (option_to_list received) ≡ next) × (next ≤ limit)) → EndsInTime (λ shard until. calls.stays_quiet shard new until) now (is_none received) after_it → Runs limit next after_it before after old new c
+      → ((steps : List FlushingStep) × AreStepsBy calls now steps answered new × AreFlushed steps × Sends e.went (sent_in_steps steps) b c)
+      → (0 < limit → (count + length (option_to_list received) ≡ next) × (next ≤ limit)) → EndsInTime (λ shard until. calls.stays_idle shard new until) now (is_none received) after_it → Runs limit next after_it before after old new c
   one_round limit count next wait after_it before mid after old last ready answered new o a b c now received w asks came readied x y counts ends =
       let rounds = w.0 in
       let h = w.1.1 in
@@ -51,9 +51,9 @@ module _ {S : Type 0} (Readies : ℕ → S → S → Type 0) (calls : IntakeCall
         (
           w.1.0,
           record {
-            are_rounds = (last, h.are_rounds, w.3, record { ready = ready; readied = readied; answered = answered; carried_out = x.1; steps = y.1; settled = y.2; sent = z.2 });
+            are_rounds = (last, h.are_rounds, w.3, record { ready = ready; readied = readied; answered = answered; carried_out = x.1; steps = y.1; flushed = y.2; sent = z.2 });
             came = more_came before mid after (round_receives rounds) (record { wait = wait; came = received } ∷ []) h.came came;
-            called = (o.log, h.called, record { asked = asks.asked; receives = asks.receives; told = a.log; moment = asks.moment; handed = z.1 });
+            called = (o.log, h.called, record { asked = asks.asked; receives = asks.receives; told = a.log; time = asks.time; handed = z.1 });
             counted = z.3 ∙ (ap (counted_each z.0) (asks.kept ∙ h.counted) ∙ more_replies (sendings_in rounds) z.0);
           },
         ),
@@ -63,27 +63,27 @@ module _ {S : Type 0} (Readies : ℕ → S → S → Type 0) (calls : IntakeCall
       )
 
   -- one more round, of a datagram, if the limit wasn't reached.
-  pub heard_round : (limit count next : ℕ) (wait after_it : Option ℕ) (before mid after : Option (List Receive)) (old last ready heard answered new : S) (o a b c d : Outbox) (now : ℕ) (incoming : Incoming)
+  pub handled_round : (limit count next : ℕ) (wait after_it : Option ℕ) (before mid after : Option (List Receive)) (old last ready handled answered new : S) (o a b c d : SentReplies) (now : ℕ) (incoming : Incoming)
       → Runs limit count wait before mid old last o → AreAsked wait (Some incoming) now o a
       → Comes mid after (record { wait = wait; came = Some incoming } ∷ []) → Readies now last ready
-      → ((sent : Option Emission) × IsHeardBy calls.hears now incoming ready sent heard × Sends e.went (option_to_list sent) a b) → answered ≡ heard → c ≡ b
-      → ((steps : List SettlingStep) × AreStepsBy calls now steps answered new × AreSettled steps × Sends e.went (sent_in_steps steps) c d)
+      → ((sent : Option Emission) × IsHandledBy calls.handles now incoming ready sent handled × Sends e.went (option_to_list sent) a b) → answered ≡ handled → c ≡ b
+      → ((steps : List FlushingStep) × AreStepsBy calls now steps answered new × AreFlushed steps × Sends e.went (sent_in_steps steps) c d)
       → (0 < limit → count < limit) → limit ≤ 4294967295 → next ≡ min (count + 1) 4294967295
-      → (idle : Bool) → idle ≡ false → EndsInTime (λ shard until. calls.stays_quiet shard new until) now idle after_it → Runs limit next after_it before after old new d
-  heard_round limit count next wait after_it before mid after old last ready heard answered new o a b c d now incoming h asks came readied x same counts y below fits is idle busy ends =
+      → (idle : Bool) → idle ≡ false → EndsInTime (λ shard until. calls.stays_idle shard new until) now idle after_it → Runs limit next after_it before after old new d
+  handled_round limit count next wait after_it before mid after old last ready handled answered new o a b c d now incoming h asks came readied x same counts y below fits is idle busy ends =
       one_round limit count next wait after_it before mid after old last ready answered new o a c d now (Some incoming) h asks came readied
-      (x.0, subst (λ (s : S). IsHeardBy calls.hears now incoming ready x.0 s) (sym same) x.1, subst (λ (o : Outbox). Sends e.went (option_to_list x.0) a o) (sym counts) x.2) y
+      (x.0, subst (λ (s : S). IsHandledBy calls.handles now incoming ready x.0 s) (sym same) x.1, subst (λ (o : SentReplies). Sends e.went (option_to_list x.0) a o) (sym counts) x.2) y
       (λ some. let under : count < limit = below some in (omega (arith, under, fits, is), omega (arith, under, fits, is)))
-      (subst (λ (b : Bool). EndsInTime (λ shard until. calls.stays_quiet shard new until) now b after_it) busy ends)
+      (subst (λ (b : Bool). EndsInTime (λ shard until. calls.stays_idle shard new until) now b after_it) busy ends)
 
   -- one more round without a datagram.
-  pub passed_round : (limit count next : ℕ) (wait after_it : Option ℕ) (before mid after : Option (List Receive)) (old last ready passed answered new : S) (o a c d : Outbox) (now : ℕ)
+  pub passed_round : (limit count next : ℕ) (wait after_it : Option ℕ) (before mid after : Option (List Receive)) (old last ready passed answered new : S) (o a c d : SentReplies) (now : ℕ)
       → Runs limit count wait before mid old last o → AreAsked wait None now o a
       → Comes mid after (record { wait = wait; came = None } ∷ []) → Readies now last ready → calls.passes now ready passed → answered ≡ passed → c ≡ a
-      → ((steps : List SettlingStep) × AreStepsBy calls now steps answered new × AreSettled steps × Sends e.went (sent_in_steps steps) c d)
-      → next ≡ count → (idle : Bool) → idle ≡ true → EndsInTime (λ shard until. calls.stays_quiet shard new until) now idle after_it → Runs limit next after_it before after old new d
-  passed_round limit count next wait after_it before mid after old last ready passed answered new o a c d now h asks came readied x same counts y is idle quiet ends =
+      → ((steps : List FlushingStep) × AreStepsBy calls now steps answered new × AreFlushed steps × Sends e.went (sent_in_steps steps) c d)
+      → next ≡ count → (idle : Bool) → idle ≡ true → EndsInTime (λ shard until. calls.stays_idle shard new until) now idle after_it → Runs limit next after_it before after old new d
+  passed_round limit count next wait after_it before mid after old last ready passed answered new o a c d now h asks came readied x same counts y is idle is_idle ends =
       one_round limit count next wait after_it before mid after old last ready answered new o a c d now None h asks came readied
-      (None, (subst (λ (s : S). calls.passes now ready s) (sym same) x, refl), subst (λ (o : Outbox). Sends e.went [] a o) (sym counts) (none_sent e.went a)) y
+      (None, (subst (λ (s : S). calls.passes now ready s) (sym same) x, refl), subst (λ (o : SentReplies). Sends e.went [] a o) (sym counts) (none_sent e.went a)) y
       (λ some. (omega (arith, is), omega (arith, is, (h.2 some).1)))
-      (subst (λ (b : Bool). EndsInTime (λ shard until. calls.stays_quiet shard new until) now b after_it) quiet ends)
+      (subst (λ (b : Bool). EndsInTime (λ shard until. calls.stays_idle shard new until) now b after_it) is_idle ends)

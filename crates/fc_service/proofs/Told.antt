@@ -7,15 +7,15 @@ use Rattle.fc_observe.specs.declared.entry.Entry.{Entry}
 use Rattle.fc_observe.specs.declared.observers.Ticked.{Ticked}
 use Rattle.fc_observe.specs.declared.observers.Ticked.TheVariants.{Quiet}
 use Rattle.fc_observe.specs.Entries.{retransmission}
-use Rattle.fc_observe.specs.Observers.{at_moment, late_entry, ticked_at, ticked_by}
+use Rattle.fc_observe.specs.Observers.{list_at_time, overdue_entry, ticked_at, ticked_by}
 use Rattle.fc_registry.specs.declared.job.Job.{Job}
 use Rattle.fc_registry.specs.Shards.{shard_at}
 use Rattle.fc_registry.specs.Slots.{Shard}
-use Rattle.fc_registry.specs.Watches.{at_time, has_late, late_place, ticked_in, watch_at}
+use Rattle.fc_registry.specs.Watches.{at_time, has_overdue, overdue_place, ticked_in, watch_at}
 use Rattle.fc_server.specs.Notified.{Nobody, Notified, Sent, Starved, Unsent, is_given}
 use Rattle.fc_server.specs.Steps.{shard_turn}
-use Rattle.fc_server.specs.Alone.{NotifiesAlone, ResendsAlone}
-use Rattle.fc_server.specs.declared.alone.Alone.{Alone}
+use Rattle.fc_server.specs.SingleThread.{NotifiesAlone, ResendsAlone}
+use Rattle.fc_server.specs.declared.alone.SingleThread.{SingleThread}
 
 -- ---- no notification has timed out
 
@@ -27,15 +27,15 @@ entry_tells : (o : Option Entry) → is_some o ≡ true → ticked_at o ≡ Quie
 entry_tells None is e = absurd (cc is)
 entry_tells (Some entry) is e = sends_or_removes (retransmission entry) e
 
-place_tells : (shard : Shard) (o : Option ℕ) → late_place shard ≡ o → ticked_in o shard ≡ Quiet → o ≡ None
-place_tells shard None is quiet = refl
-place_tells shard (Some k) is quiet = absurd (entry_tells (late_entry (at_moment shard.now (watch_at shard k))) (place_passes (has_late shard) 8 0 k is) quiet)
+place_tells : (shard : Shard) (o : Option ℕ) → overdue_place shard ≡ o → ticked_in o shard ≡ Quiet → o ≡ None
+place_tells shard None is idle = refl
+place_tells shard (Some k) is idle = absurd (entry_tells (overdue_entry (list_at_time shard.now (watch_at shard k))) (place_passes (has_overdue shard) 8 0 k is) idle)
 
-pub quiet_is_told : (shard now : ℕ) (old new : Alone) (ticked : Ticked) → ResendsAlone shard now old new ticked
-    → ((ticked ≡ Quiet) ↔ (late_place (at_time (shard_at old.engine.shards (shard % 8)) now) ≡ None))
-quiet_is_told shard now old new ticked w =
+pub idle_is_told : (shard now : ℕ) (old new : SingleThread) (ticked : Ticked) → ResendsAlone shard now old new ticked
+    → ((ticked ≡ Quiet) ↔ (overdue_place (at_time (shard_at old.engine.shards (shard % 8)) now) ≡ None))
+idle_is_told shard now old new ticked w =
     let at = at_time (shard_at old.engine.shards (shard % 8)) now in (
-      λ is. place_tells at (late_place at) refl (sym w.0 ∙ is),
+      λ is. place_tells at (overdue_place at) refl (sym w.0 ∙ is),
       λ none. w.0 ∙ ap (λ (o : Option ℕ). ticked_in o at) none,
     )
 
@@ -51,7 +51,7 @@ nobody_by (Sent emission) e = absurd (cc e)
 nobody_by Unsent e = absurd (cc e)
 nobody_by Starved e = absurd (cc e)
 
-pub nobody_is_told : (shard now : ℕ) (old new : Alone) (told : Notified) → NotifiesAlone shard now old new told
+pub nobody_is_told : (shard now : ℕ) (old new : SingleThread) (told : Notified) → NotifiesAlone shard now old new told
     → ((told ≡ Nobody) ↔ (shard_turn now (shard_at old.engine.shards (shard % 8)) ≡ None))
 nobody_is_told shard now old new told w =
     let turn = shard_turn now (shard_at old.engine.shards (shard % 8)) in (

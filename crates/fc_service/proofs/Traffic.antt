@@ -8,7 +8,7 @@ use Rattle.fc_workers.specs.Answers.{saturated}
 use Rattle.fc_host.specs.Sockets.{Comes, Receive}
 use Rattle.fc_service.specs.Counting.{counted}
 use Rattle.fc_service.specs.Traffic.{AreHanded, Sending, Sends, counted_each, replies_to}
-use Rattle.fc_service.specs.declared.replies.Outbox.{Outbox}
+use Rattle.fc_service.specs.declared.replies.SentReplies.{SentReplies}
 use Rattle.fc_service.specs.declared.replies.Replies.{Replies}
 use Rattle.fc_workers.specs.declared.call_log.CallLog.{CallLog}
 
@@ -35,13 +35,13 @@ module _ (Went : Emission → Bool → CallLog → CallLog → Type 0) where
   more_handed [] ys a b c v w = subst (λ (l : CallLog). AreHanded Went ys l c) v w
   more_handed (x ∷ xs) ys a b c v w = (v.0, v.1, more_handed xs ys v.0 b c v.2 w)
 
-  pub none_sent : (o : Outbox) → Sends Went [] o o
+  pub none_sent : (o : SentReplies) → Sends Went [] o o
   none_sent o = ([], refl, refl, refl)
 
-  pub one_sent : (e : Emission) (out : Bool) (a b : Outbox) → Went e out a.log b.log → b.replies ≡ counted (Some out) a.replies → Sends Went (e ∷ []) a b
+  pub one_sent : (e : Emission) (out : Bool) (a b : SentReplies) → Went e out a.log b.log → b.replies ≡ counted (Some out) a.replies → Sends Went (e ∷ []) a b
   one_sent e out a b went is = (record { emission = e; out = out } ∷ [], (b.log, went, refl), refl, is)
 
-  pub more_sent : (a b c : Outbox) (xs ys : List Emission) → Sends Went xs a b → Sends Went ys b c → Sends Went (xs ++ ys) a c
+  pub more_sent : (a b c : SentReplies) (xs ys : List Emission) → Sends Went xs a b → Sends Went ys b c → Sends Went (xs ++ ys) a c
   more_sent a b c xs ys v w = (
     v.0 ++ w.0,
     more_handed v.0 w.0 a.log b.log c.log v.1 w.1,

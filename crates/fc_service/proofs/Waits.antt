@@ -3,18 +3,18 @@ use Rattle.std.proofs.Common.{◌≡◌, ℕ, ◌-◌, ◌<◌, ◌≤◌, Bool,
 use Rattle.std.specs.Prelude.{if◌then◌else◌, max, not}
 use Rattle.std.proofs.lemmas.Bool.{cases_lt, lt-ltb}
 use Rattle.fc_service.specs.Rounds.{wait_until}
-use Rattle.fc_server.specs.Settling.{AreTold, earliest}
+use Rattle.fc_server.specs.Flushing.{AreTold, earliest}
 
 -- up to a time, if it is one.
-pub wait_to : (now moment : ℕ) → moment < 18446744073709551615 → wait_until now moment ≡ Some (max (moment - now) 100)
-wait_to now moment lt = ap (λ (b : Bool). if b then Some (max (moment - now) 100) else None) (lt-ltb moment 18446744073709551615 lt)
+pub wait_to : (now time : ℕ) → time < 18446744073709551615 → wait_until now time ≡ Some (max (time - now) 100)
+wait_to now time lt = ap (λ (b : Bool). if b then Some (max (time - now) 100) else None) (lt-ltb time 18446744073709551615 lt)
 
 module _ (told : ℕ → ℕ) where
   abbrev Told : List ℕ → Type 0
-  Told moments = AreTold (λ shard until. until ≡ told shard) moments
+  Told times = AreTold (λ shard until. until ≡ told shard) times
 
   -- the earliest time is no later than that of any shard.
-  pub no_later : (moments : List ℕ) (shard : ℕ) → Told moments → shard < length moments → earliest moments ≤ told shard
+  pub no_later : (times : List ℕ) (shard : ℕ) → Told times → shard < length times → earliest times ≤ told shard
   no_later [] shard are lt = absurd (omega (arith, lt))
   no_later (until ∷ before) shard (is, are) lt =
       ⊎_elim
@@ -26,7 +26,7 @@ module _ (told : ℕ → ℕ) where
       (cases_lt shard (length before))
 
   -- a time no later than each shard's is no later than the earliest.
-  pub no_earlier : (moments : List ℕ) (least : ℕ) → Told moments → ((shard : ℕ) → shard < length moments → least ≤ told shard) → least ≤ 18446744073709551615 → least ≤ earliest moments
+  pub no_earlier : (times : List ℕ) (least : ℕ) → Told times → ((shard : ℕ) → shard < length times → least ≤ told shard) → least ≤ 18446744073709551615 → least ≤ earliest times
   no_earlier [] least are each fits = fits
   no_earlier (until ∷ before) least (is, are) each fits =
       let le = no_earlier before least are (λ shard lt. each shard (omega (arith, lt))) fits in
@@ -34,15 +34,15 @@ module _ (told : ℕ → ℕ) where
       omega (arith, le, here, is)
 
   -- it is no later than 2^64 - 1.
-  pub at_most : (moments : List ℕ) → earliest moments ≤ 18446744073709551615
+  pub at_most : (times : List ℕ) → earliest times ≤ 18446744073709551615
   at_most [] = omega arith
   at_most (until ∷ before) = let le = at_most before in omega (arith, le)
 
 -- whether a round was idle.
-pub heard_something : (idle some : Bool) → some ≡ not idle → some ≡ true → idle ≡ false
-heard_something true some is found = absurd (cc (is, found))
-heard_something false some is found = refl
+pub handled_something : (idle some : Bool) → some ≡ not idle → some ≡ true → idle ≡ false
+handled_something true some is found = absurd (cc (is, found))
+handled_something false some is found = refl
 
-pub heard_nothing : (idle some : Bool) → some ≡ not idle → some ≡ false → idle ≡ true
-heard_nothing true some is missing = refl
-heard_nothing false some is missing = absurd (cc (is, missing))
+pub handled_nothing : (idle some : Bool) → some ≡ not idle → some ≡ false → idle ≡ true
+handled_nothing true some is missing = refl
+handled_nothing false some is missing = absurd (cc (is, missing))

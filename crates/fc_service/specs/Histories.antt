@@ -14,9 +14,9 @@ use Rattle.fc_lines.specs.declared.line.Line.{Line}
 use Rattle.fc_lines.specs.declared.line.Line.TheVariants as lines
 use Rattle.fc_lines.specs.Emissions.{peer_endpoint}
 use Rattle.fc_host.specs.Sockets.{Incoming}
-use Rattle.fc_service.specs.Playing.{PlayedLine, moment_of}
+use Rattle.fc_service.specs.Playing.{PlayedLine, time_of}
 use Rattle.fc_service.specs.Rounds.{Round}
-use Rattle.fc_server.specs.Settling.{sent_in_steps}
+use Rattle.fc_server.specs.Flushing.{sent_in_steps}
 
 -- at this time a datagram came, or none did and time passed.
 pub record Arrival : Type 0 where
@@ -58,7 +58,7 @@ datagram_in other = None
 -- list of lines begins with the newest.
 abbrev pub arrivals_in_lines : List PlayedLine → List Arrival
 arrivals_in_lines [] = []
-arrivals_in_lines (p ∷ ps) = arrivals_in_lines ps ++ record { now = moment_of p.line; came = datagram_in p.line } ∷ []
+arrivals_in_lines (p ∷ ps) = arrivals_in_lines ps ++ record { now = time_of p.line; came = datagram_in p.line } ∷ []
 
 abbrev pub sent_in_lines : List PlayedLine → List Emission
 sent_in_lines [] = []

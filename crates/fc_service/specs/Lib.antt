@@ -1,5 +1,5 @@
-pub mod Intakes
-pub mod Alone
+pub mod Ingresses
+pub mod SingleThread
 pub mod Pooled
 pub mod Counting
 pub mod Traffic

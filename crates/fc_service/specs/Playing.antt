@@ -13,15 +13,15 @@ use Rattle.fc_lines.specs.declared.line.Line.{Line}
 use Rattle.fc_lines.specs.declared.line.Line.TheVariants.{Deliver, Device, Tick}
 use Rattle.fc_lines.specs.Emissions.{peer_endpoint, printed}
 use Rattle.fc_lines.specs.Lines.{IsLine}
-use Rattle.fc_service.specs.Alone.{HandsAlone}
-use Rattle.fc_server.specs.Alone.{alone_calls}
-use Rattle.fc_service.specs.Intakes.{IsHeardBy, waited_calls}
-use Rattle.fc_server.specs.Intakes.{IntakeCalls}
-use Rattle.fc_service.specs.Pooled.{IsFedBeside, locked_shop}
-use Rattle.fc_server.specs.Settling.{AreSettled, AreStepsBy, SettlingStep, sent_in_steps}
-use Rattle.fc_server.specs.declared.alone.Alone.{Alone}
+use Rattle.fc_service.specs.SingleThread.{HandsAlone}
+use Rattle.fc_server.specs.SingleThread.{alone_calls}
+use Rattle.fc_service.specs.Ingresses.{IsHandledBy, waited_calls}
+use Rattle.fc_server.specs.Ingresses.{IngressCalls}
+use Rattle.fc_service.specs.Pooled.{IsFedBeside, locked_view}
+use Rattle.fc_server.specs.Flushing.{AreFlushed, AreStepsBy, FlushingStep, sent_in_steps}
+use Rattle.fc_server.specs.declared.alone.SingleThread.{SingleThread}
 use Rattle.fc_service.specs.declared.replies.Replies.{Replies}
-use Rattle.fc_workers.specs.declared.dispatcher.Handover.{Handover}
+use Rattle.fc_workers.specs.declared.dispatcher.Offload.{Offload}
 
 -- the text printed for a sent datagram.
 abbrev pub output_of : Option Emission → List ℕ
@@ -29,7 +29,7 @@ output_of None = []
 output_of (Some emission) = printed emission
 
 -- the text printed for the datagrams that steps sent.
-abbrev pub printed_steps : List SettlingStep → List ℕ
+abbrev pub printed_steps : List FlushingStep → List ℕ
 printed_steps steps = flat_map printed (sent_in_steps steps)
 
 -- a line that was played: its text, its meaning, its immediate response, and the steps that
@@ -38,7 +38,7 @@ pub record PlayedLine : Type 0 where
   pub text : List ℕ
   pub line : Line
   pub sent : Option Emission
-  pub steps : List SettlingStep
+  pub steps : List FlushingStep
 
 -- the text that it printed.
 abbrev pub output_by : PlayedLine → List ℕ
@@ -49,10 +49,10 @@ abbrev pub printed_lines : List PlayedLine → List ℕ
 printed_lines [] = []
 printed_lines (p ∷ ps) = printed_lines ps ++ output_by p
 
-abbrev pub moment_of : Line → ℕ
-moment_of (Deliver now peer bytes) = now
-moment_of (Tick now) = now
-moment_of (Device now readings) = now
+abbrev pub time_of : Line → ℕ
+time_of (Deliver now peer bytes) = now
+time_of (Tick now) = now
+time_of (Device now readings) = now
 
 -- ---- the reader
 
@@ -67,7 +67,7 @@ AreRead [] had left = left ≡ had
 AreRead (p ∷ ps) had left = (mid : Option (List ℕ)) × AreRead ps had mid × IsNextText p.text mid left
 
 -- ---- a server, by the effects of its calls; the first sets the readings of its jobs
-module _ {S : Type 0} (Hands : List ℕ → S → S → Type 0) (calls : IntakeCalls S) where
+module _ {S : Type 0} (Hands : List ℕ → S → S → Type 0) (calls : IngressCalls S) where
   -- the readings that a line gives are those of the jobs from then on.
   abbrev pub IsHandedBy : Line → S → S → Type 0
   IsHandedBy (Device now readings) old new = Hands readings old new
@@ -75,7 +75,7 @@ module _ {S : Type 0} (Hands : List ℕ → S → S → Type 0) (calls : IntakeC
 
   -- a line's datagram was handled, with this immediate response; or time passed.
   abbrev pub IsCarriedOutBy : Line → S → Option Emission → S → Type 0
-  IsCarriedOutBy (Deliver now peer bytes) old sent new = IsHeardBy calls.hears now (record { from = peer_endpoint peer; bytes = bytes.items }) old sent new
+  IsCarriedOutBy (Deliver now peer bytes) old sent new = IsHandledBy calls.handles now (record { from = peer_endpoint peer; bytes = bytes.items }) old sent new
   IsCarriedOutBy (Tick now) old sent new = calls.passes now old new × (sent ≡ None)
   IsCarriedOutBy (Device now readings) old sent new = calls.passes now old new × (sent ≡ None)
 
@@ -87,8 +87,8 @@ module _ {S : Type 0} (Hands : List ℕ → S → S → Type 0) (calls : IntakeC
     pub hands : IsHandedBy p.line old handed
     pub answered : S
     pub carried_out : IsCarriedOutBy p.line handed p.sent answered
-    pub steps : AreStepsBy calls (moment_of p.line) p.steps answered new
-    pub settled : AreSettled p.steps
+    pub steps : AreStepsBy calls (time_of p.line) p.steps answered new
+    pub flushed : AreFlushed p.steps
 
   -- lines that were played one after the other, the newest first.
   abbrev pub ArePlayedBy : List PlayedLine → S → S → Type 0
@@ -115,8 +115,8 @@ module _ {S : Type 0} (Hands : List ℕ → S → S → Type 0) (calls : IntakeC
 -- all lines of a reader were played on one thread, on a server with this initial state, whose jobs
 -- first got zeros.
 pub record IsPlayedOut (begin : Begin) (had before after : Option (List ℕ)) : Type 0 where
-  pub first : Alone
-  pub last : Alone
+  pub first : SingleThread
+  pub last : SingleThread
   pub begins : Serves (begin_of begin) first.engine []
   pub handed : first.handed ≡ record { readings = no_readings; random = 0 }
   pub left : Option (List ℕ)
@@ -125,8 +125,8 @@ pub record IsPlayedOut (begin : Begin) (had before after : Option (List ℕ)) : 
 
 -- the lines of a reader were played in this way up to a bad line, the one with this number.
 pub record IsPlayedUpTo (number : ℕ) (begin : Begin) (had before after : Option (List ℕ)) : Type 0 where
-  pub first : Alone
-  pub last : Alone
+  pub first : SingleThread
+  pub last : SingleThread
   pub begins : Serves (begin_of begin) first.engine []
   pub handed : first.handed ≡ record { readings = no_readings; random = 0 }
   pub stops : StopsAt HandsAlone alone_calls number first last had before after
@@ -135,7 +135,7 @@ pub record IsPlayedUpTo (number : ℕ) (begin : Begin) (had before after : Optio
 
 -- all lines of a reader were played, from this state of a server. Its workers are waited for after
 -- each line.
-pub record IsFedByLines {S : Type 0} (calls : IntakeCalls S) (had : Option (List ℕ)) (first : S) : Type 0 where
+pub record IsFedByLines {S : Type 0} (calls : IngressCalls S) (had : Option (List ℕ)) (first : S) : Type 0 where
   pub last : S
   pub left : Option (List ℕ)
   pub before : Option (List ℕ)
@@ -146,7 +146,7 @@ pub record IsFedByLines {S : Type 0} (calls : IntakeCalls S) (had : Option (List
 -- all lines of a reader were played in this way by a new dispatcher with this number of workers,
 -- whose server has this initial state. It has sent the emissions of its jobs, and the
 -- readings of its device are those of the lines; nothing is known of either. No change is recorded.
-abbrev pub IsPlayedBeside : Begin → Handover → ℕ → Option (List ℕ) → Replies → Type 0
-IsPlayedBeside begin handover workers had replies =
-    IsFedBeside (locked_shop (beginning begin.policy begin.id) (λ readings before after. ⊤) (λ now before after. ⊤) (λ random. ⊤) (λ call before after. ⊤) (λ change before after. after ≡ before))
-    (λ calls lines first last given. IsFedByLines calls lines first) handover workers had (tt {0}) replies
+abbrev pub IsPlayedBeside : Begin → Offload → ℕ → Option (List ℕ) → Replies → Type 0
+IsPlayedBeside begin offload workers had replies =
+    IsFedBeside (locked_view (beginning begin.policy begin.id) (λ readings before after. ⊤) (λ now before after. ⊤) (λ random. ⊤) (λ call before after. ⊤) (λ change before after. after ≡ before))
+    (λ calls lines first last given. IsFedByLines calls lines first) offload workers had (tt {0}) replies

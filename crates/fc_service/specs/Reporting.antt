@@ -1,6 +1,6 @@
 -- Reports of a server's counts, each so many milliseconds.
 use Rattle.std.specs.Prelude.{◌≡◌, ◌+◌, ℕ, nat_lt, min, MatchBool}
-use Rattle.fc_server.specs.Intakes.{IntakeCalls}
+use Rattle.fc_server.specs.Ingresses.{IngressCalls}
 use Rattle.fc_workers.specs.Answers.{saturated}
 use Rattle.fc_workers.specs.declared.call_log.CallLog.{CallLog}
 use Rattle.fc_record.specs.Reports.{datagram_counted, lease_counted, nothing_counted, tick_counted}
@@ -9,7 +9,7 @@ use Rattle.fc_record.specs.declared.report.Report.{Report}
 -- a server whose calls are counted; the period of its reports, in milliseconds, and the time at
 -- which the next one is due; and the log of its reports.
 pub record Reporting (S : Type 0) : Type 0 where
-  pub intake : S
+  pub ingress : S
   pub report : Report
   pub every : ℕ
   pub due : ℕ
@@ -17,9 +17,9 @@ pub record Reporting (S : Type 0) : Type 0 where
 
 -- reporting begins: nothing was counted, and the first report is due after one period.
 abbrev pub reporting_from : {S : Type 0} → ℕ → CallLog → S → Reporting S
-reporting_from every log s = record { intake = s; report = nothing_counted; every = every; due = every; log = log }
+reporting_from every log s = record { ingress = s; report = nothing_counted; every = every; due = every; log = log }
 
-module _ {S : Type 0} (Reported : Report → CallLog → CallLog → Type 0) (calls : IntakeCalls S) where
+module _ {S : Type 0} (Reported : Report → CallLog → CallLog → Type 0) (calls : IngressCalls S) where
   -- the counts so far were reported, once. The next report is due one period after this time, so a
   -- late report delays the next one.
   pub record MakesReport (now : ℕ) (old new : Reporting S) : Type 0 where
@@ -34,19 +34,19 @@ module _ {S : Type 0} (Reported : Report → CallLog → CallLog → Type 0) (ca
   -- the calls of a server, each counted by its result. A report is made if it is due when a
   -- datagram comes, or when time passes, before that. A server is idle for no longer than until its
   -- next report is due.
-  abbrev pub reported_calls : IntakeCalls (Reporting S)
+  abbrev pub reported_calls : IngressCalls (Reporting S)
   reported_calls = record {
-    hears = λ now from bytes old new heard reply. (mid : Reporting S) × ReportsIfDue now old mid × calls.hears now from bytes mid.intake new.intake heard reply
-        × (new ≡ record mid { intake = new.intake; report = datagram_counted heard reply mid.report });
-    passes = λ now old new. (mid : Reporting S) × ReportsIfDue now old mid × calls.passes now mid.intake new.intake × (new ≡ record mid { intake = new.intake });
-    resends = λ shard now old new ticked. calls.resends shard now old.intake new.intake ticked
-        × (new ≡ record old { intake = new.intake; report = tick_counted ticked old.report });
-    passes_over = λ shard now old new. calls.passes_over shard now old.intake new.intake × (new ≡ record old { intake = new.intake });
-    notifies = λ shard now old new told. calls.notifies shard now old.intake new.intake told
-        × (new ≡ record old { intake = new.intake; report = lease_counted told old.report });
-    stays_quiet = λ shard now until. (own : ℕ) × calls.stays_quiet shard now.intake own × (until ≡ min own now.due);
+    handles = λ now from bytes old new handled reply. (mid : Reporting S) × ReportsIfDue now old mid × calls.handles now from bytes mid.ingress new.ingress handled reply
+        × (new ≡ record mid { ingress = new.ingress; report = datagram_counted handled reply mid.report });
+    passes = λ now old new. (mid : Reporting S) × ReportsIfDue now old mid × calls.passes now mid.ingress new.ingress × (new ≡ record mid { ingress = new.ingress });
+    resends = λ shard now old new ticked. calls.resends shard now old.ingress new.ingress ticked
+        × (new ≡ record old { ingress = new.ingress; report = tick_counted ticked old.report });
+    passes_over = λ shard now old new. calls.passes_over shard now old.ingress new.ingress × (new ≡ record old { ingress = new.ingress });
+    notifies = λ shard now old new told. calls.notifies shard now old.ingress new.ingress told
+        × (new ≡ record old { ingress = new.ingress; report = lease_counted told old.report });
+    stays_idle = λ shard now until. (own : ℕ) × calls.stays_idle shard now.ingress own × (until ≡ min own now.due);
   }
 
 -- a server was prepared for a round, and its counts and reports are as before.
 abbrev pub readies_through : {S : Type 0} → (ℕ → S → S → Type 0) → ℕ → Reporting S → Reporting S → Type 0
-readies_through Readies now old new = Readies now old.intake new.intake × (new ≡ record old { intake = new.intake })
+readies_through Readies now old new = Readies now old.ingress new.ingress × (new ≡ record old { ingress = new.ingress })

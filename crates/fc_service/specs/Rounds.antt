@@ -3,15 +3,15 @@ use Rattle.std.specs.Prelude.{◌≡◌, ◌-◌, ◌<◌, ◌⊎◌, ⊤, ℕ, 
 use Rattle.std.specs.Option.{option_to_list}
 use Rattle.coap_msg.specs.declared.types.Emission.{Emission}
 use Rattle.fc_workers.specs.Counts.{Tallies}
-use Rattle.fc_workers.specs.declared.dispatcher.Handover.TheVariants.{Dear}
+use Rattle.fc_workers.specs.declared.dispatcher.Offload.TheVariants.{Expensive}
 use Rattle.fc_workers.specs.Workers.{Share}
 use Rattle.fc_jobs.specs.Ends.{Channel}
 use Rattle.fc_workers.specs.declared.call_log.CallLog.{CallLog}
-use Rattle.fc_workers.specs.Called.{Shop}
+use Rattle.fc_workers.specs.Called.{WorkerView}
 use Rattle.fc_workers.specs.Fronts.{Beginning, beginning}
-use Rattle.fc_server.specs.Intakes.{IntakeCalls}
+use Rattle.fc_server.specs.Ingresses.{IngressCalls}
 use Rattle.fc_server.specs.Serving.{Serves}
-use Rattle.fc_server.specs.Settling.{AreQuietUntil, AreSettled, AreStepsBy, SettlingStep, sent_in_steps}
+use Rattle.fc_server.specs.Flushing.{AreIdleUntil, AreFlushed, AreStepsBy, FlushingStep, sent_in_steps}
 use Rattle.fc_server.specs.States.{begin_of}
 use Rattle.fc_record.specs.ProgramRequests.{Requested}
 use Rattle.fc_record.specs.Recording.{Recording, recorded_calls}
@@ -20,16 +20,16 @@ use Rattle.fc_server.specs.declared.server.Begin.{Begin}
 use Rattle.fc_host.specs.Sockets.{Comes, Incoming, IsHanded, Receive}
 use Rattle.fc_host.specs.Timers.{GoesPastTimers, IsTimedReceive}
 use Rattle.fc_host.specs.declared.timer.Timer.{Timer}
-use Rattle.fc_service.specs.Alone.{ReadiesRecorded}
+use Rattle.fc_service.specs.SingleThread.{ReadiesRecorded}
 use Rattle.fc_host.specs.Clocks.{AreReadAt}
 use Rattle.fc_service.specs.Counting.{both_replies, replies_by, replies_of}
-use Rattle.fc_service.specs.Intakes.{IsHeardBy}
+use Rattle.fc_service.specs.Ingresses.{IsHandledBy}
 use Rattle.fc_service.specs.Serials.{serial_of_start}
-use Rattle.fc_service.specs.Pooled.{AreSharesAt, Dispatching, IsNew, handover_where, locked_shop, pooled_calls}
+use Rattle.fc_service.specs.Pooled.{AreSharesAt, PooledIngress, IsNew, offload_where, locked_view, pooled_calls}
 use Rattle.fc_service.specs.Reporting.{Reporting, readies_through, reported_calls, reporting_from}
 use Rattle.fc_service.specs.Traffic.{AreHanded, Sending, replies_to}
 use Rattle.fc_service.specs.declared.serve.Extent.{Extent}
-use Rattle.fc_service.specs.declared.replies.Outbox.{Outbox}
+use Rattle.fc_service.specs.declared.replies.SentReplies.{SentReplies}
 use Rattle.fc_service.specs.declared.replies.Replies.{Replies}
 
 -- a round: how long its receive waits, the datagram received, if any came in time, and the time.
@@ -39,7 +39,7 @@ pub record Round : Type 0 where
   pub received : Option Incoming
   pub now : ℕ
   pub sent : Option Emission
-  pub steps : List SettlingStep
+  pub steps : List FlushingStep
   pub sendings : List Sending
 
 -- the receive at the beginning of a round.
@@ -65,18 +65,18 @@ sendings_in (r ∷ rs) = sendings_in rs ++ r.sendings
 -- how long a receive waits, from now until a time: at least 100 ms, and without limit if that isn't
 -- a time.
 abbrev pub wait_until : ℕ → ℕ → Option ℕ
-wait_until now moment = if nat_lt moment 18446744073709551615 then Some (max (moment - now) 100) else None
+wait_until now time = if nat_lt time 18446744073709551615 then Some (max (time - now) 100) else None
 
 -- after a round that received a datagram, the next receive waits 100 ms; after an idle round, until
 -- the earliest time at which there may be work.
 abbrev pub EndsInTime : (ℕ → ℕ → Type 0) → ℕ → Bool → Option ℕ → Type 0
-EndsInTime StaysQuiet now false wait = wait ≡ Some 100
-EndsInTime StaysQuiet now true wait = (moment : ℕ) × AreQuietUntil StaysQuiet moment × (wait ≡ wait_until now moment)
+EndsInTime StaysIdle now false wait = wait ≡ Some 100
+EndsInTime StaysIdle now true wait = (time : ℕ) × AreIdleUntil StaysIdle time × (wait ≡ wait_until now time)
 
 -- how long the first receive waits, and the one after rounds that left a server in this state.
-abbrev pub WaitsAfter : {S : Type 0} → IntakeCalls S → List Round → S → Option ℕ → Type 0
+abbrev pub WaitsAfter : {S : Type 0} → IngressCalls S → List Round → S → Option ℕ → Type 0
 WaitsAfter calls [] left wait = wait ≡ Some 100
-WaitsAfter calls (r ∷ rs) left wait = EndsInTime (λ shard until. calls.stays_quiet shard left until) r.now (is_none r.received) wait
+WaitsAfter calls (r ∷ rs) left wait = EndsInTime (λ shard until. calls.stays_idle shard left until) r.now (is_none r.received) wait
 
 -- ---- the order of a round's calls
 
@@ -84,11 +84,11 @@ WaitsAfter calls (r ∷ rs) left wait = EndsInTime (λ shard until. calls.stays_
 -- next.
 pub record RoundCalls : Type 1 where
   pub received : Receive → CallLog → CallLog → Type 0
-  pub moment : ℕ → CallLog → CallLog → Type 0
+  pub time : ℕ → CallLog → CallLog → Type 0
   pub went : Emission → Bool → CallLog → CallLog → Type 0
 
 abbrev pub round_calls : (Receive → CallLog → CallLog → Type 0) → (ℕ → CallLog → CallLog → Type 0) → (Emission → Bool → CallLog → CallLog → Type 0) → RoundCalls
-round_calls received moment went = record { received = received; moment = moment; went = went }
+round_calls received time went = record { received = received; time = time; went = went }
 
 -- a source was called for a datagram, then the clock was read, and then these emissions were passed
 -- to a sink, in order. The log has no other call.
@@ -96,7 +96,7 @@ pub record IsCalledIn (e : RoundCalls) (r : Round) (before after : CallLog) : Ty
   pub asked : CallLog
   pub receives : e.received (receive_of r) before asked
   pub told : CallLog
-  pub moment : e.moment r.now asked told
+  pub time : e.time r.now asked told
   pub handed : AreHanded e.went r.sendings told after
 
 -- the calls of rounds, one after the other, the newest first.
@@ -105,10 +105,10 @@ AreCalledIn e [] before after = after ≡ before
 AreCalledIn e (r ∷ rs) before after = (mid : CallLog) × AreCalledIn e rs before mid × IsCalledIn e r mid after
 
 -- ---- a server, by the effects of its calls
-module _ {S : Type 0} (Readies : ℕ → S → S → Type 0) (calls : IntakeCalls S) where
+module _ {S : Type 0} (Readies : ℕ → S → S → Type 0) (calls : IngressCalls S) where
   -- a received datagram was handled; or none was received, and time passed.
   abbrev pub IsReceivedBy : ℕ → Option Incoming → S → Option Emission → S → Type 0
-  IsReceivedBy now (Some incoming) old sent new = IsHeardBy calls.hears now incoming old sent new
+  IsReceivedBy now (Some incoming) old sent new = IsHandledBy calls.handles now incoming old sent new
   IsReceivedBy now None old sent new = calls.passes now old new × (sent ≡ None)
 
   -- the server was prepared, and a received datagram was handled. Then notifications that had timed
@@ -120,7 +120,7 @@ module _ {S : Type 0} (Readies : ℕ → S → S → Type 0) (calls : IntakeCall
     pub answered : S
     pub carried_out : IsReceivedBy r.now r.received ready r.sent answered
     pub steps : AreStepsBy calls r.now r.steps answered new
-    pub settled : AreSettled r.steps
+    pub flushed : AreFlushed r.steps
     pub sent : map (λ s. s.emission) r.sendings ≡ option_to_list r.sent ++ sent_in_steps r.steps
 
   -- rounds one after the other, the newest first.
@@ -131,19 +131,19 @@ module _ {S : Type 0} (Readies : ℕ → S → S → Type 0) (calls : IntakeCall
   -- the receives of a source were those of these rounds, in order. The calls of each round were
   -- made in order, from this state of the log. The replies are those that the rounds passed on, by
   -- the results of the sink.
-  pub record HasRounds (e : RoundCalls) (rounds : List Round) (before after : Option (List Receive)) (old new : S) (log : CallLog) (outbox : Outbox) : Type 0 where
+  pub record HasRounds (e : RoundCalls) (rounds : List Round) (before after : Option (List Receive)) (old new : S) (log : CallLog) (replied : SentReplies) : Type 0 where
     pub are_rounds : AreRoundsBy rounds old new
     pub came : Comes before after (round_receives rounds)
-    pub called : AreCalledIn e rounds log outbox.log
-    pub counted : outbox.replies ≡ replies_to (sendings_in rounds)
+    pub called : AreCalledIn e rounds log replied.log
+    pub counted : replied.replies ≡ replies_to (sendings_in rounds)
 
   -- the rounds ended when this number of datagrams was received, and there is a limit.
   pub record HasRun (e : RoundCalls) (limit : ℕ) (before after : Option (List Receive)) (old new : S) (replies : Replies) : Type 0 where
     pub rounds : List Round
     pub log : CallLog
-    pub outbox : Outbox
-    pub has : HasRounds e rounds before after old new log outbox
-    pub replies_are : replies ≡ outbox.replies
+    pub replied : SentReplies
+    pub has : HasRounds e rounds before after old new log replied
+    pub replies_are : replies ≡ replied.replies
     pub limited : 0 < limit
     pub received : length (received_in rounds) ≡ limit
 
@@ -151,13 +151,13 @@ module _ {S : Type 0} (Readies : ℕ → S → S → Type 0) (calls : IntakeCall
 
 -- a server has run in this way from a state, and its counts were reported each so many
 -- milliseconds. How it was left isn't said.
-pub record HasRunReported {S : Type 0} (every : ℕ) (Reported : Report → CallLog → CallLog → Type 0) (Readies : ℕ → S → S → Type 0) (calls : IntakeCalls S) (e : RoundCalls) (limit : ℕ) (before after : Option (List Receive)) (first : S) (replies : Replies) : Type 0 where
+pub record HasRunReported {S : Type 0} (every : ℕ) (Reported : Report → CallLog → CallLog → Type 0) (Readies : ℕ → S → S → Type 0) (calls : IngressCalls S) (e : RoundCalls) (limit : ℕ) (before after : Option (List Receive)) (first : S) (replies : Replies) : Type 0 where
   pub log : CallLog
   pub last : Reporting S
   pub run : HasRun (readies_through Readies) (reported_calls Reported calls) e limit before after (reporting_from every log first) last replies
 
 -- with a period of reports, in milliseconds, the counts were reported; without one nothing was.
-abbrev pub HasReceivedBy : {S : Type 0} → Option ℕ → (Report → CallLog → CallLog → Type 0) → (ℕ → S → S → Type 0) → IntakeCalls S → RoundCalls → ℕ → Option (List Receive) → Option (List Receive) → S → S → Replies → Type 0
+abbrev pub HasReceivedBy : {S : Type 0} → Option ℕ → (Report → CallLog → CallLog → Type 0) → (ℕ → S → S → Type 0) → IngressCalls S → RoundCalls → ℕ → Option (List Receive) → Option (List Receive) → S → S → Replies → Type 0
 HasReceivedBy None Reported Readies c e limit before after first last replies = HasRun Readies c e limit before after first last replies
 HasReceivedBy (Some every) Reported Readies c e limit before after first last replies = HasRunReported every Reported Readies c e limit before after first replies
 
@@ -188,8 +188,8 @@ HasServedBy (Some every) Reported sensors e Recorded limit begin before after re
 -- the calls of a server with workers that began in this way. Its programs read the clock and these
 -- sensors, and its replies are passed to the sink. Each program change that is answered is
 -- recorded, once.
-abbrev pub served_shop : (List ℕ → Type 0) → RoundCalls → (Requested → CallLog → CallLog → Type 0) → Beginning → Shop Tallies
-served_shop sensors e Recorded begin = locked_shop begin (AreReadAt e.moment sensors) e.moment (λ random. ⊤) (IsHanded e.went) Recorded
+abbrev pub served_view : (List ℕ → Type 0) → RoundCalls → (Requested → CallLog → CallLog → Type 0) → Beginning → WorkerView Tallies
+served_view sensors e Recorded begin = locked_view begin (AreReadAt e.time sensors) e.time (λ random. ⊤) (IsHanded e.went) Recorded
 
 -- this number of datagrams was received, each in a round of one dispatcher, which began new. Runs
 -- of 6,000 instructions and more may be sent to the workers, or no job if no worker was started.
@@ -197,14 +197,14 @@ served_shop sensors e Recorded begin = locked_shop begin (AreReadAt e.moment sen
 -- dispatcher's jobs.
 pub record HasServedPooled (every : Option ℕ) (Reported : Report → CallLog → CallLog → Type 0) (sensors : List ℕ → Type 0) (e : RoundCalls) (Recorded : Requested → CallLog → CallLog → Type 0) (workers limit : ℕ) (begin : Beginning) (before after : Option (List Receive)) (replies : Replies) : Type 0 where
   pub channel : Channel
-  pub first : Dispatching Tallies
-  pub last : Dispatching Tallies
+  pub first : PooledIngress Tallies
+  pub last : PooledIngress Tallies
   pub has_workers : Bool
-  pub new : IsNew channel (handover_where has_workers (Dear 6000)) first
+  pub new : IsNew channel (offload_where has_workers (Expensive 6000)) first
   pub at_once : Replies
-  pub run : HasReceivedBy every Reported (λ now old new. new ≡ old) (pooled_calls (served_shop sensors e Recorded begin)) e limit before after first last at_once
+  pub run : HasReceivedBy every Reported (λ now old new. new ≡ old) (pooled_calls (served_view sensors e Recorded begin)) e limit before after first last at_once
   pub shares : List (Share Tallies)
-  pub worked : AreSharesAt (served_shop sensors e Recorded begin) channel shares
+  pub worked : AreSharesAt (served_view sensors e Recorded begin) channel shares
   pub count : length shares ≡ workers
   pub all : replies ≡ both_replies at_once (both_replies (replies_of shares) (replies_by last.done.share))
 
@@ -221,11 +221,11 @@ IsServed sensors e Recorded every Reported extent before after replies =
 -- the calls of rounds by a source and timers. The requests of the timers come between the datagrams
 -- of the source, and the responses to them don't reach the sink.
 abbrev pub timed_calls : (Receive → CallLog → CallLog → Type 0) → (ℕ → CallLog → CallLog → Type 0) → (Emission → Bool → CallLog → CallLog → Type 0) → RoundCalls
-timed_calls received moment went = round_calls (IsTimedReceive moment received) moment (GoesPastTimers went)
+timed_calls received time went = round_calls (IsTimedReceive time received) time (GoesPastTimers went)
 
 -- a server on a source whose receives are unknown, with timers or without. The timers that a
 -- receive had are unknown too.
 abbrev pub IsServedBeside : List Timer → (List ℕ → Type 0) → (Receive → CallLog → CallLog → Type 0) → (ℕ → CallLog → CallLog → Type 0) → (Emission → Bool → CallLog → CallLog → Type 0)
     → (Requested → CallLog → CallLog → Type 0) → Option ℕ → (Report → CallLog → CallLog → Type 0) → Extent → Replies → Type 0
-IsServedBeside [] sensors received moment went Recorded every Reported extent replies = IsServed sensors (round_calls received moment went) Recorded every Reported extent None None replies
-IsServedBeside (t ∷ ts) sensors received moment went Recorded every Reported extent replies = IsServed sensors (timed_calls received moment went) Recorded every Reported extent None None replies
+IsServedBeside [] sensors received time went Recorded every Reported extent replies = IsServed sensors (round_calls received time went) Recorded every Reported extent None None replies
+IsServedBeside (t ∷ ts) sensors received time went Recorded every Reported extent replies = IsServed sensors (timed_calls received time went) Recorded every Reported extent None None replies

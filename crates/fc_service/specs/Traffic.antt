@@ -4,7 +4,7 @@ use Rattle.coap_msg.specs.declared.types.Emission.{Emission}
 use Rattle.fc_workers.specs.Answers.{saturated}
 use Rattle.fc_workers.specs.declared.call_log.CallLog.{CallLog}
 use Rattle.fc_service.specs.Counting.{counted}
-use Rattle.fc_service.specs.declared.replies.Outbox.{Outbox}
+use Rattle.fc_service.specs.declared.replies.SentReplies.{SentReplies}
 use Rattle.fc_service.specs.declared.replies.Replies.{Replies}
 
 -- an emission that was passed to a sink, and whether it was sent.
@@ -25,7 +25,7 @@ counted_each (s ∷ ss) r = counted_each ss (counted (Some s.out) r)
 
 -- exactly these emissions were passed to a sink, in order, and each is counted once, by the sink's
 -- result.
-abbrev pub Sends : (Emission → Bool → CallLog → CallLog → Type 0) → List Emission → Outbox → Outbox → Type 0
+abbrev pub Sends : (Emission → Bool → CallLog → CallLog → Type 0) → List Emission → SentReplies → SentReplies → Type 0
 Sends Went emissions before after =
     (sendings : List Sending) × AreHanded Went sendings before.log after.log × (map (λ s. s.emission) sendings ≡ emissions)
     × (after.replies ≡ counted_each sendings before.replies)

@@ -106,7 +106,7 @@ fn serve_command<'a>(alloc: Global) -> Result<Command<'a>, Error> {
             .after_help(SERVING)
             .arg(port(alloc))?
             .arg(bind(alloc))?
-            .arg(dear_workers(alloc))?
+            .arg(expensive_workers(alloc))?
             .arg(managers(alloc))?
             .arg(exchanges(alloc))?
             .arg(share(alloc))?
@@ -218,7 +218,7 @@ fn log<'a>(alloc: Global) -> Arg<'a> {
 }
 
 // Makes the option for the number of workers that run long jobs.
-fn dear_workers<'a>(alloc: Global) -> Arg<'a> {
+fn expensive_workers<'a>(alloc: Global) -> Arg<'a> {
     option(
         alloc,
         "workers",

@@ -1,20 +1,20 @@
 //! Consequences of the service's definitions: each function's contract is a law.
 ghost use Rattle.std.specs.Prelude.{◌≡◌, ◌+◌, ◌-◌, ◌*◌, ◌%◌, ◌<◌, ◌≤◌, ◌↔◌, ◌⊎◌, ℕ, Bool, List, [], ◌∷◌, None, Option, Some, codes, false, flat_map, map, true};
-ghost use Rattle.fc_core.specs.declared.front.Heard.TheVariants.{Job, Nothing, Reply, Signal};
+ghost use Rattle.fc_core.specs.declared.front.Handled.TheVariants.{Job, Nothing, Reply, Signal};
 ghost use Rattle.fc_observe.specs.declared.observers.Ticked.{Ticked};
 ghost use Rattle.fc_observe.specs.declared.observers.Ticked.TheVariants.{Quiet};
 ghost use Rattle.fc_registry.specs.Shards.{shard_at};
-ghost use Rattle.fc_registry.specs.Watches.{at_time, late_place};
+ghost use Rattle.fc_registry.specs.Watches.{at_time, overdue_place};
 ghost use Rattle.fc_server.specs.Notified.{Nobody, Notified};
 ghost use Rattle.fc_server.specs.Steps.{shard_turn};
 ghost use Rattle.fc_server.specs.declared.server.Begin.{Begin};
 ghost use Rattle.fc_host.specs.Sockets.{Receive};
 ghost use Rattle.fc_host.specs.declared.timer.Timer.{Timer};
-ghost use Rattle.fc_server.specs.Alone.{NotifiesAlone, ResendsAlone};
+ghost use Rattle.fc_server.specs.SingleThread.{NotifiesAlone, ResendsAlone};
 ghost use Rattle.fc_host.specs.Timers.{timers};
 ghost use Rattle.fc_service.specs.Every.{IsTimerText, held_by, most_held, timers_hold};
 ghost use Rattle.fc_service.specs.Histories.{IsOneHistory, arrivals_in, arrivals_in_lines, sent_in_lines};
-ghost use Rattle.fc_server.specs.Intakes.{is_reply};
+ghost use Rattle.fc_server.specs.Ingresses.{is_reply};
 ghost use Rattle.fc_lines.specs.Emissions.{printed};
 ghost use Rattle.fc_service.specs.Playing.{IsNextText, IsPlayedOut, PlayedLine, printed_lines};
 ghost use Rattle.fc_record.specs.Reports.{nothing_counted};
@@ -22,9 +22,9 @@ ghost use Rattle.fc_service.specs.Logs.{ArePeriods, IsReportText};
 ghost use Rattle.fc_service.specs.Reporting.{Reporting, ReportsIfDue, reported_calls, reporting_from};
 ghost use Rattle.fc_workers.specs.declared.call_log.CallLog.{CallLog};
 ghost use Rattle.fc_service.specs.Rounds.{EndsInTime, HasServed, WaitsAfter, round_calls, sendings_in};
-ghost use Rattle.fc_server.specs.Settling.{most_steps};
+ghost use Rattle.fc_server.specs.Flushing.{most_steps};
 ghost use Rattle.fc_service.specs.Serials.{IsNewerNumber, serial_of_start};
-ghost use Rattle.fc_server.specs.declared.alone.Alone.{Alone};
+ghost use Rattle.fc_server.specs.declared.alone.SingleThread.{SingleThread};
 ghost use Rattle.fc_service.specs.declared.replies.Replies.{Replies};
 
 use crate::every::LONGEST;
@@ -32,21 +32,21 @@ use fc_host::sensors::Sensors;
 use fc_host::socket::{Sink, Source};
 use fc_host::timers::TIMERS;
 use fc_record::{Recorder, Reporter};
-use fc_server::Intake;
-use fc_server::settle::STEPS;
-use fc_workers::Moments;
+use fc_server::Ingress;
+use fc_server::flush::STEPS;
+use fc_workers::TimeSource;
 
 /// The work at one time has more steps than all shards and observers need.
 ///
 /// Each of the 32 observers of 64 slots gets at most one retransmission and one notification. Each
 /// of 8 shards returns once that no notification has timed out, and once that no observer has a
 /// pending one.
-pub fn settling_has_steps_for_all()
+pub fn flushing_has_steps_for_all()
     ensures { 64 * (32 + 32) + 8 * 2 ≤ most_steps }
 {}
 
 /// The work at one time has at most 8,192 steps, in code and definition.
-pub fn settling_takes_8192_steps()
+pub fn flushing_takes_8192_steps()
     ensures code { STEPS ≡ 8192 }
     ensures definition { most_steps ≡ 8192 }
 {}
@@ -72,7 +72,7 @@ pub fn longest_period_is_a_day()
 /// The receiver sends immediate responses.
 ///
 /// It doesn't send a job's reply, a signal, or anything for an ignored datagram.
-pub fn replies_are_sent_by_who_heard()
+pub fn replies_are_sent_by_the_receiver()
     ensures reply { is_reply Reply ≡ true }
     ensures job { is_reply Job ≡ false }
     ensures signal { (id : ℕ) (reset : Bool) → is_reply (Signal id reset) ≡ false }
@@ -84,14 +84,14 @@ pub fn replies_are_sent_by_who_heard()
 /// A shard returns that no notification has timed out exactly if none of its slots' notifications
 /// has. It returns that no observer has a pending notification exactly if it has no lease to give.
 pub fn shards_tell_what_is_so()
-    ensures late { (shard now : ℕ) (old new : Alone) (ticked : Ticked) → ResendsAlone shard now old new ticked
-        → ((ticked ≡ Quiet) ↔ (late_place (at_time (shard_at old.engine.shards (shard % 8)) now) ≡ None)) }
-    ensures due { (shard now : ℕ) (old new : Alone) (told : Notified) → NotifiesAlone shard now old new told
+    ensures overdue { (shard now : ℕ) (old new : SingleThread) (ticked : Ticked) → ResendsAlone shard now old new ticked
+        → ((ticked ≡ Quiet) ↔ (overdue_place (at_time (shard_at old.engine.shards (shard % 8)) now) ≡ None)) }
+    ensures due { (shard now : ℕ) (old new : SingleThread) (told : Notified) → NotifiesAlone shard now old new told
         → ((told ≡ Nobody) ↔ (shard_turn now (shard_at old.engine.shards (shard % 8)) ≡ None)) }
 {}
 
 /// The first receive waits 100 ms.
-pub fn first_wait_is_100_ms<N: Intake>()
+pub fn first_wait_is_100_ms<N: Ingress>()
     ensures { (left : N) (wait : Option ℕ) → WaitsAfter N.calls [] left wait → wait ≡ Some 100 }
 {}
 
@@ -125,9 +125,9 @@ pub fn waits_end_in_time()
 /// passes at the times of the other rounds. The emissions of the events, in that order, are those
 /// that the rounds passed to the sink, once each. The log of these calls has nothing else
 /// (`HasServed`).
-pub fn served_rounds_are_one_history<Z: Sensors, S: Source, M: Moments, K: Sink, C: Recorder>()
+pub fn served_rounds_are_one_history<Z: Sensors, S: Source, M: TimeSource, K: Sink, C: Recorder>()
     ensures { (limit : ℕ) (begin : Begin) (before after : Option (List Receive)) (replies : Replies)
-        (w : HasServed Z.are_sensed (round_calls S.received M.is_moment K.went) C.recorded limit begin before after replies)
+        (w : HasServed Z.are_sensed (round_calls S.received M.is_time K.went) C.recorded limit begin before after replies)
         → IsOneHistory begin (arrivals_in w.run.rounds) (map (λ s. s.emission) (sendings_in w.run.rounds)) w.last.alone.engine }
 {}
 
@@ -181,12 +181,12 @@ pub fn restarts_keep_the_order_of_observe()
 /// A server that reports each minute makes no report before 60,000 ms. At 61,500 ms, with nothing
 /// counted, it reports that, once, and the next report is due at 121,500 ms. No server is idle for
 /// longer than until its next report is due.
-pub fn reports_come_in_time<N: Intake, Q: Reporter>()
+pub fn reports_come_in_time<N: Ingress, Q: Reporter>()
     ensures early { (s : N) (log : CallLog) (new : Reporting N) → ReportsIfDue Q.reported N.calls 59999 (reporting_from 60000 log s) new → new ≡ reporting_from 60000 log s }
-    ensures late { (s : N) (log : CallLog) (new : Reporting N) → ReportsIfDue Q.reported N.calls 61500 (reporting_from 60000 log s) new
+    ensures overdue { (s : N) (log : CallLog) (new : Reporting N) → ReportsIfDue Q.reported N.calls 61500 (reporting_from 60000 log s) new
         → (after : CallLog) × Q.reported nothing_counted log after
-        × (new ≡ record { intake = s; report = nothing_counted; every = 60000; due = 121500; log = after }) }
-    ensures awake { (shard until : ℕ) (now : Reporting N) → (reported_calls Q.reported N.calls).stays_quiet shard now until → until ≤ now.due }
+        × (new ≡ record { ingress = s; report = nothing_counted; every = 60000; due = 121500; log = after }) }
+    ensures awake { (shard until : ℕ) (now : Reporting N) → (reported_calls Q.reported N.calls).stays_idle shard now until → until ≤ now.due }
 {}
 
 /// The texts of `--log` that give a period of reports.

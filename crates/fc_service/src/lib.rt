@@ -36,7 +36,7 @@
 //! - **Sending**: exactly the emissions of a round, the reply first, are passed to the sink, once
 //!   each, in that order. Each is counted once, by the sink's result. The log of the receive, the
 //!   time and these calls has no other call. Only reading the code shows that the receiver passes
-//!   no other log (`Outbox::new` alone makes one). The rounds' receives are the source's, in order,
+//!   no other log (`SentReplies::new` alone makes one). The rounds' receives are the source's, in order,
 //!   if these are known: how long each waited, and the datagram received. Those of a real socket
 //!   are unknown (`Source::came`, `Sink::went`).
 //! - **Waits**: the first receive waits 100 ms, and so does each receive after a datagram. After an
@@ -63,7 +63,7 @@
 //!   (`laws`).
 //! - **With more workers** a dispatcher handles each datagram, in order, and each lease that some
 //!   shard gave. Nothing else in a round changes the dispatched jobs (`serve_at`, by
-//!   `HasServedPooled`; `run_pool` passes on its feeder's effects, by `IsFedBeside`). The
+//!   `HasServedPooled`; `run_pool` passes on its driver's effects, by `IsFedBeside`). The
 //!   dispatcher is new: it has sent nothing, and its log is new. It sends runs of 6,000
 //!   instructions and more to the workers, if it sends any.
 //! - **Shares**: the contract names one share for each worker, of some handles at the dispatcher's
@@ -76,9 +76,9 @@
 //!   doesn't say in which order several threads pass theirs.
 //! - **A pool** returns at its end eight shards, the serials that each began with, and changes. The
 //!   serials of each shard have risen by exactly these changes, which are reported up to 2^64 - 1.
-//!   The contract doesn't say that its workers used these shards. Its feeder's dispatcher sends
+//!   The contract doesn't say that its workers used these shards. Its driver's dispatcher sends
 //!   jobs by the pool's dispatch policy. If the pool reports that no worker was started, the
-//!   dispatcher sends no job to a worker (`handover_where`). A test shows that it reports this only
+//!   dispatcher sends no job to a worker (`offload_where`). A test shows that it reports this only
 //!   if no thread could be created.
 //! - **Each request to change a program that a job answers is recorded once**, after its response
 //!   is made. Nothing else is recorded (`serve_at`, by `HasServed` and `HasServedPooled`, whose

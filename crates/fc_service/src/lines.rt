@@ -1,12 +1,12 @@
-//! Playing lines: an intake executes each line, and its output is printed.
+//! Playing lines: an ingress executes each line, and its output is printed.
 ghost use Rattle.std.specs.Prelude.{◌≡◌, ◌++◌, ⊤, ℕ, Err, List, Option, OnOk};
 ghost use Rattle.std.specs.Io.KnownBytes.{Appends, IsAtEnd};
 ghost use Rattle.coap_msg.specs.declared.types.Emission.{Emission};
 ghost use Rattle.fc_cli.specs.declared.stop.Stop.TheVariants.{BadLine};
 ghost use Rattle.fc_core.specs.Receiving.{emission_if};
 ghost use Rattle.fc_lines.specs.Lines.{IsNoLine};
-ghost use Rattle.fc_service.specs.Playing.{HasPlayed, IsCarriedOutBy, IsHandedBy, IsPlayedBy, PlayedLine, StopsAt, moment_of, output_by, output_of, printed_steps};
-ghost use Rattle.fc_server.specs.Settling.{AreSettled, AreStepsBy, SettlingStep};
+ghost use Rattle.fc_service.specs.Playing.{HasPlayed, IsCarriedOutBy, IsHandedBy, IsPlayedBy, PlayedLine, StopsAt, time_of, output_by, output_of, printed_steps};
+ghost use Rattle.fc_server.specs.Flushing.{AreFlushed, AreStepsBy, FlushingStep};
 
 use coap_msg::Emission;
 use fc_cli::stop::Stop;
@@ -14,16 +14,16 @@ use fc_core::front::blank_emission;
 use fc_help::Readings;
 use fc_lines::emission::{endpoint, print};
 use fc_lines::line::{Line, LineError, parse};
-use fc_server::Intake;
-use fc_server::intake::is_reply;
-use fc_server::settle::{STEPS, Settling};
+use fc_server::Ingress;
+use fc_server::flush::{Flushing, STEPS};
+use fc_server::ingress::is_reply;
 use std::alloc::{AllocError, Global};
 use std::io;
 use std::io::{BufRead, Write};
 
-/// An intake whose jobs get the readings of the played lines.
-pub(crate) trait LineIntake: Intake {
-    // Jobs get these readings from now on: the intake before and after.
+/// An ingress whose jobs get the readings of the played lines.
+pub(crate) trait LineIngress: Ingress {
+    // Jobs get these readings from now on: the ingress before and after.
     ghost hands: { List ℕ → Self → Self → Type 0 } = { λ readings old new. ⊤ };
 
     /// Sets the readings for the jobs from now on.
@@ -39,23 +39,23 @@ pub(crate) trait LineIntake: Intake {
 /// # Errors
 /// A line is bad; then the lines before it were played, and exactly their output was printed. Or
 /// reading or writing failed, or memory for a line couldn't be allocated.
-pub(crate) fn play_lines<N: LineIntake, R: BufRead + Drop, W: Write>(
+pub(crate) fn play_lines<N: LineIngress, R: BufRead + Drop, W: Write>(
     alloc: Global,
-    intake: &mut N,
+    ingress: &mut N,
     input: R,
     out: &mut W,
 ) -> Result<(), Stop>
-    ensures played { OnOk result ((left : Option (List ℕ)) × HasPlayed N.hands N.calls intake.old intake.new
+    ensures played { OnOk result ((left : Option (List ℕ)) × HasPlayed N.hands N.calls ingress.old ingress.new
         (R.remaining input) left (W.contents out.old) (W.contents out.new) × IsAtEnd left) }
     ensures bad { (number : ℕ) → result ≡ Err (BadLine number)
-        → StopsAt N.hands N.calls number intake.old intake.new (R.remaining input) (W.contents out.old) (W.contents out.new) }
+        → StopsAt N.hands N.calls number ingress.old ingress.new (R.remaining input) (W.contents out.old) (W.contents out.new) }
 {
     let mut reply = blank_emission();
     let mut number = 0u64;
     for text in input.split(alloc, b'\n') {
         number = number.saturating_add(1);
         match text {
-            Ok(text) => play_line(alloc, intake, &mut reply, &text, number, out)?,
+            Ok(text) => play_line(alloc, ingress, &mut reply, &text, number, out)?,
             Err(error) => return Err(Stop::at_line(error, number)),
         }
     }
@@ -63,27 +63,27 @@ pub(crate) fn play_lines<N: LineIntake, R: BufRead + Drop, W: Write>(
 }
 
 // Reads the line with this number, and executes it.
-fn play_line<N: LineIntake, W: Write>(
+fn play_line<N: LineIngress, W: Write>(
     alloc: Global,
-    intake: &mut N,
+    ingress: &mut N,
     reply: &mut Emission,
     text: &[u8],
     number: u64,
     out: &mut W,
 ) -> Result<(), Stop>
     ensures played { OnOk result ((p : PlayedLine) × (p.text ≡ text.now)
-        × IsPlayedBy N.hands N.calls p intake.old intake.new
+        × IsPlayedBy N.hands N.calls p ingress.old ingress.new
         × Appends (W.contents out.old) (W.contents out.new) (output_by p)) }
     ensures bad { (stop : ℕ) → result ≡ Err (BadLine stop)
-        → (stop ≡ number) × IsNoLine text.now × (intake.new ≡ intake.old) × (W.contents out.new ≡ W.contents out.old) }
+        → (stop ≡ number) × IsNoLine text.now × (ingress.new ≡ ingress.old) × (W.contents out.new ≡ W.contents out.old) }
 {
     match parse(alloc, text) {
         Ok(line) => {
-            hand(intake, &line);
-            if let Err(error) = carry_out(intake, reply, &line, out) {
+            hand(ingress, &line);
+            if let Err(error) = carry_out(ingress, reply, &line, out) {
                 return Err(Stop::Output(error));
             }
-            match settle(intake, moment(&line), reply, out) {
+            match flush(ingress, time(&line), reply, out) {
                 Ok(()) => Ok(()),
                 Err(error) => Err(Stop::Output(error)),
             }
@@ -94,40 +94,40 @@ fn play_line<N: LineIntake, W: Write>(
 }
 
 // Sets the readings that a line gives, if it gives any.
-fn hand<N: LineIntake>(intake: &mut N, line: &Line)
-    ensures { IsHandedBy N.hands N.calls line.now intake.old intake.new }
+fn hand<N: LineIngress>(ingress: &mut N, line: &Line)
+    ensures { IsHandedBy N.hands N.calls line.now ingress.old ingress.new }
 {
     match line {
-        Line::Device { readings, .. } => intake.hand(readings),
+        Line::Device { readings, .. } => ingress.hand(readings),
         Line::Tick { .. } | Line::Deliver { .. } => {}
     }
 }
 
 // Executes a line, and prints the datagram that it sends, which is written over another emission.
-fn carry_out<N: LineIntake, W: Write>(
-    intake: &mut N,
+fn carry_out<N: LineIngress, W: Write>(
+    ingress: &mut N,
     reply: &mut Emission,
     line: &Line,
     out: &mut W,
 ) -> io::Result<()>
-    ensures { (sent : Option Emission) × IsCarriedOutBy N.hands N.calls line.now intake.old sent intake.new
+    ensures { (sent : Option Emission) × IsCarriedOutBy N.hands N.calls line.now ingress.old sent ingress.new
         × OnOk result (Appends (W.contents out.old) (W.contents out.new) (output_of sent)) }
 {
     match line {
         Line::Tick { now } | Line::Device { now, .. } => {
-            intake.tick(*now);
+            ingress.tick(*now);
             Ok(())
         }
         Line::Deliver { now, peer, bytes } => {
-            let heard = intake.hear(*now, endpoint(*peer), bytes, reply);
-            print_if(out, is_reply(heard), reply)
+            let handled = ingress.handle(*now, endpoint(*peer), bytes, reply);
+            print_if(out, is_reply(handled), reply)
         }
     }
 }
 
 // Returns the time of a line, in milliseconds.
-fn moment(line: &Line) -> u64
-    ensures { result ≡ moment_of line.now }
+fn time(line: &Line) -> u64
+    ensures { result ≡ time_of line.now }
 {
     match line {
         Line::Tick { now } | Line::Deliver { now, .. } | Line::Device { now, .. } => *now,
@@ -136,21 +136,21 @@ fn moment(line: &Line) -> u64
 
 // Prints the retransmissions and the notifications at `now`, in milliseconds, until none is left.
 // Each is written over an emission.
-fn settle<N: Intake, W: Write>(
-    intake: &mut N,
+fn flush<N: Ingress, W: Write>(
+    ingress: &mut N,
     now: u64,
     emission: &mut Emission,
     out: &mut W,
 ) -> io::Result<()>
-    ensures { (steps : List SettlingStep) × AreStepsBy N.calls now steps intake.old intake.new
-        × OnOk result (AreSettled steps × Appends (W.contents out.old) (W.contents out.new) (printed_steps steps)) }
+    ensures { (steps : List FlushingStep) × AreStepsBy N.calls now steps ingress.old ingress.new
+        × OnOk result (AreFlushed steps × Appends (W.contents out.old) (W.contents out.new) (printed_steps steps)) }
 {
-    let mut settling = Settling::begin(intake, now);
+    let mut flushing = Flushing::begin(ingress, now);
     'steps: for taken in 0..STEPS {
-        if settling.is_at_end() {
+        if flushing.is_at_end() {
             return Ok(());
         }
-        let sent = settling.step(intake, now, emission);
+        let sent = flushing.step(ingress, now, emission);
         print_if(out, sent, emission)?;
     }
     Ok(())

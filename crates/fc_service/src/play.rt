@@ -8,7 +8,7 @@ ghost use Rattle.fc_service.specs.Playing.{IsPlayedOut, IsPlayedUpTo};
 use crate::lines::play_lines;
 use fc_cli::status::{Status, tell};
 use fc_cli::stop::Stop;
-use fc_server::{Alone, Begin};
+use fc_server::{Begin, SingleThread};
 use std::alloc::Global;
 use std::io::{BufRead, Write};
 
@@ -50,7 +50,7 @@ fn play_alone<R: BufRead + Drop, W: Write>(
     ensures done { OnOk result (IsPlayedOut begin (R.remaining input) (W.contents out.old) (W.contents out.new)) }
     ensures bad { (number : ℕ) → result ≡ Err (BadLine number) → IsPlayedUpTo number begin (R.remaining input) (W.contents out.old) (W.contents out.new) }
 {
-    let mut alone = match Alone::new(alloc, &begin) {
+    let mut alone = match SingleThread::new(alloc, &begin) {
         Ok(alone) => alone,
         Err(error) => return Err(Stop::Memory(error)),
     };

@@ -1,27 +1,28 @@
-//! Pools: a new server with locks, its workers, and a feeder of datagrams.
+//! Pools: a new server with locks, its workers, and a driver of datagrams.
 ghost use Rattle.std.specs.Prelude.{◌≡◌, ◌+◌, ◌<◌, ◌≤◌, ℕ, ⊤, List, vec_len, IfOk};
 ghost use Rattle.fc_workers.specs.Fronts.{beginning};
 ghost use Rattle.fc_server.specs.States.{CanBegin};
 ghost use Rattle.fc_jobs.specs.Ends.{nothing_got, nothing_sent};
 ghost use Rattle.fc_service.specs.Counting.{both_replies, replies_by, replies_of};
-ghost use Rattle.fc_server.specs.Intakes.{IntakeCalls};
-ghost use Rattle.fc_service.specs.Pooled.{FeedsTo, IsFed, IsFedBeside, handover_where, locked_shop, open_shop, pooled_calls};
-ghost use Rattle.fc_workers.specs.Called.{shop};
+ghost use Rattle.fc_server.specs.Ingresses.{IngressCalls};
+ghost use Rattle.fc_service.specs.Pooled.{DrivesTo, IsFed, IsFedBeside, offload_where, locked_view, open_view, pooled_calls};
+ghost use Rattle.fc_workers.specs.Called.{worker_view};
 ghost use Rattle.fc_workers.specs.Closing.{HasCountedAll};
 ghost use Rattle.fc_workers.specs.Naming.{AreNamed};
 
 use crate::replies::Replies;
 use coap_msg::{Emission, Endpoint};
-use fc_core::Heard;
+use fc_core::Handled;
 use fc_filed::NewServerBook;
 use fc_observe::Ticked;
 use fc_record::{RecordedBench, Recorder};
 use fc_server::Begin;
-pub use fc_server::Intake;
+pub use fc_server::Ingress;
 use fc_server::engine::NotifyOutcome;
 use fc_workers::{
-    Bench, Blanks, Books, CallLog, ClosedServer, Device, Dispatcher, Gate, Handover, Locked,
-    Moments, Reserve, ServerOf, Share, Tallies, TrackLog, Wire, Workshop, feed_workers, make_seats,
+    Bench, Blanks, Books, CallLog, ClosedServer, Context, Device, Dispatcher, Gate, Locked,
+    Offload, ServerOf, Share, Tallies, TimeSource, TrackLog, Unassigned, Wire, drive_workers,
+    make_seats,
 };
 use std::alloc::{AllocError, Global};
 use std::io::Write;
@@ -52,42 +53,50 @@ impl<'a, W: Wire> Wire for Counting<'a, W> {
 
 // A dispatcher, and the handle for its waits; the number of jobs dispatched, and of jobs ended.
 #[derive(Drop)]
-struct Dispatching<'a, 'b, R: Wait, B: Bench, G: Gate, W: Wire, M: Moments> {
+struct PooledIngress<'a, 'b, R: Wait, B: Bench, G: Gate, W: Wire, M: TimeSource> {
     rt: &'a R,
     dispatcher: Dispatcher<'b, B, G, W, M>,
     begun: u64,
     ended: &'b AtomicU64,
 }
 
-impl<'a, 'b, R: Wait, B: Bench, G: Gate, W: Wire, M: Moments> Model
-    for Dispatching<'a, 'b, R, B, G, W, M> {
-    ghost use Rattle.fc_service.specs.Pooled.{Dispatching as Seen};
+impl<'a, 'b, R: Wait, B: Bench, G: Gate, W: Wire, M: TimeSource> Model
+    for PooledIngress<'a, 'b, R, B, G, W, M> {
+    ghost use Rattle.fc_service.specs.Pooled.{PooledIngress as Seen};
 
     ghost Value = { Seen B.Tallies };
 
-    ghost view = { λ d. record { handover = d.dispatcher.handover; done = d.dispatcher.done } };
+    ghost view = { λ d. record { offload = d.dispatcher.offload; done = d.dispatcher.done } };
 }
 
-impl<'a, 'b, R: Wait, B: Bench, G: Gate, W: Wire, M: Moments> Dispatching<'a, 'b, R, B, G, W, M> {
+impl<'a, 'b, R: Wait, B: Bench, G: Gate, W: Wire, M: TimeSource> PooledIngress<
+    'a,
+    'b,
+    R,
+    B,
+    G,
+    W,
+    M,
+> {
     // Closes the dispatcher and returns its own statistics.
     fn close(self) -> Share<B::Tallies, TrackLog<B::Book>>
         ensures { result ≡ self.entry.done.share }
     {
-        let Dispatching { dispatcher, .. } = self;
+        let PooledIngress { dispatcher, .. } = self;
         dispatcher.close()
     }
 }
 
-impl<'a, 'b, R: Wait, B: Bench, G: Gate, W: Wire, M: Moments> Intake
-    for Dispatching<'a, 'b, R, B, G, W, M> {
-    ghost calls = { pooled_calls (shop B.changes B.ended B.called B.logged M.is_moment M.is_random G.passed W.called) };
+impl<'a, 'b, R: Wait, B: Bench, G: Gate, W: Wire, M: TimeSource> Ingress
+    for PooledIngress<'a, 'b, R, B, G, W, M> {
+    ghost calls = { pooled_calls (worker_view B.changes B.ended B.called B.logged M.is_time M.is_random G.passed W.called) };
 
-    fn hear(&mut self, now: u64, from: Endpoint, bytes: &[u8], reply: &mut Emission) -> Heard {
-        let heard = self.dispatcher.hear(self.rt, now, from, bytes, reply);
-        if matches!(heard, Heard::Job) {
+    fn handle(&mut self, now: u64, from: Endpoint, bytes: &[u8], reply: &mut Emission) -> Handled {
+        let handled = self.dispatcher.handle(self.rt, now, from, bytes, reply);
+        if matches!(handled, Handled::Job) {
             self.begun = self.begun.saturating_add(1);
         }
-        heard
+        handled
     }
 
     fn tick(&mut self, now: u64) {
@@ -98,15 +107,15 @@ impl<'a, 'b, R: Wait, B: Bench, G: Gate, W: Wire, M: Moments> Intake
         self.dispatcher.resend(self.rt, shard, now)
     }
 
-    fn advance_if_quiet(&mut self, shard: u8, now: u64) -> bool {
-        self.dispatcher.advance_if_quiet(self.rt, shard, now)
+    fn advance_if_idle(&mut self, shard: u8, now: u64) -> bool {
+        self.dispatcher.advance_if_idle(self.rt, shard, now)
     }
 
     // Returns 0 while a job is running, since it may change a slot or register an observer. The
     // count of ended jobs is read before the shard is called.
-    fn quiet_until(&self, shard: u8) -> u64 {
+    fn idle_until(&self, shard: u8) -> u64 {
         if self.ended.load(Ordering::SeqCst) == self.begun {
-            self.dispatcher.quiet_until(self.rt, shard)
+            self.dispatcher.idle_until(self.rt, shard)
         } else {
             0
         }
@@ -124,18 +133,18 @@ impl<'a, 'b, R: Wait, B: Bench, G: Gate, W: Wire, M: Moments> Intake
 }
 
 /// A driver that passes datagrams to a server.
-pub trait Feeder<X> {
-    // The driver fed an intake with these calls, and returned this: the intake before and after.
-    ghost feeds: { (S : Type 0) → IntakeCalls S → Self → S → S → X → Type 0 } = { λ S calls self first last given. ⊤ };
+pub trait Driver<X> {
+    // The driver fed an ingress with these calls, and returned this: the ingress before and after.
+    ghost drives: { (S : Type 0) → IngressCalls S → Self → S → S → X → Type 0 } = { λ S calls self first last given. ⊤ };
 
-    /// Feeds the intake to the end.
-    fn feed<N: Intake, R: Wait>(self, rt: &R, intake: &mut N) -> X
-        ensures { feeds N N.calls self intake.old intake.new result };
+    /// Drives the ingress to the end.
+    fn drive<N: Ingress, R: Wait>(self, rt: &R, ingress: &mut N) -> X
+        ensures { drives N N.calls self ingress.old ingress.new result };
 }
 
 /// The result of a pool.
 ///
-/// It has the feeder's result, whether workers were started, the replies of the jobs that were run,
+/// It has the driver's result, whether workers were started, the replies of the jobs that were run,
 /// and the closed server.
 #[derive(Drop)]
 pub struct Fed<X: Drop> {
@@ -149,12 +158,12 @@ pub struct Fed<X: Drop> {
 #[derive(Drop)]
 struct Begun<'a, B: Books, D: Device> {
     server: Locked<'a, B, D>,
-    reserve: Reserve<B>,
+    unassigned: Unassigned<B>,
     tallies: Vec<Tallies<B>>,
     logs: Vec<TrackLog<ServerOf<B>>>,
 }
 
-// The feeder's result, whether workers were started, and the statistics of the feeder's thread and
+// The driver's result, whether workers were started, and the statistics of the driver's thread and
 // of the workers.
 #[derive(Drop)]
 struct Ended<X: Drop, T: Drop, L: Drop> {
@@ -170,12 +179,12 @@ struct Ended<X: Drop, T: Drop, L: Drop> {
 /// state, the transmitter of the jobs' replies, and the clock. The last two are the device whose
 /// readings programs get, and the recorder of program changes.
 #[derive(Drop)]
-pub struct Pool<'a, W: Wire, M: Moments, D: Device, C: Recorder> {
+pub struct Pool<'a, W: Wire, M: TimeSource, D: Device, C: Recorder> {
     pub workers: u8,
-    pub handover: Handover,
+    pub offload: Offload,
     pub begin: Begin,
     pub wire: &'a W,
-    pub moments: &'a M,
+    pub times: &'a M,
     pub device: &'a D,
     pub recorder: &'a C,
 }
@@ -192,11 +201,11 @@ impl Gate for Open {
     }
 }
 
-/// Makes a server with empty slots, and runs its workers and a feeder to their end.
+/// Makes a server with empty slots, and runs its workers and a driver to their end.
 ///
-/// Each worker runs on its own thread, and the feeder on the calling thread. Then the server is
+/// Each worker runs on its own thread, and the driver on the calling thread. Then the server is
 /// closed: the serials of each shard have risen by exactly the counted changes. If no thread can be
-/// created for a worker, the feeder's thread runs all jobs, and this is written to `err`.
+/// created for a worker, the driver's thread runs all jobs, and this is written to `err`.
 ///
 /// # Errors
 /// Returns `AllocError` if memory for the server, the workers or their statistics can't be
@@ -204,27 +213,27 @@ impl Gate for Open {
 pub fn run_pool<
     R: Threads + Wait + Sync,
     W: Wire + Sync,
-    M: Moments + Sync,
+    M: TimeSource + Sync,
     D: Device + Sync,
     C: Recorder + Sync,
     E: Write,
     X: Drop,
-    F: Feeder<X> + Drop,
+    F: Driver<X> + Drop,
 >(
     rt: &R,
     alloc: Global,
     err: &mut E,
     pool: &Pool<'_, W, M, D, C>,
-    feeder: F,
+    driver: F,
 ) -> Result<Fed<X>, AllocError>
     requires { CanBegin pool.now.begin }
     ensures counted { IfOk result (λ fed. HasCountedAll fed.closed) }
-    ensures fed { let shop = locked_shop (beginning pool.now.begin.policy pool.now.begin.id) D.are_readings M.is_moment M.is_random W.called C.recorded in
-        IfOk result (λ fed. IsFedBeside shop (F.feeds _) (handover_where fed.has_workers pool.now.handover) pool.now.workers feeder fed.given fed.replies) }
+    ensures fed { let worker_view = locked_view (beginning pool.now.begin.policy pool.now.begin.id) D.are_readings M.is_time M.is_random W.called C.recorded in
+        IfOk result (λ fed. IsFedBeside worker_view (F.drives _) (offload_where fed.has_workers pool.now.offload) pool.now.workers driver fed.given fed.replies) }
 {
     let blanks = Blanks::new(u64::from(pool.workers) + 2);
     let book = NewServerBook::new(alloc, u16::from(pool.workers) + 1)?;
-    run_named::<Brand, R, W, M, D, C, E, X, F>(rt, alloc, err, pool, feeder, blanks, book)
+    run_named::<Brand, R, W, M, D, C, E, X, F>(rt, alloc, err, pool, driver, blanks, book)
 }
 
 // Runs a pool, with ledgers of these names and this book of its front's calls.
@@ -232,18 +241,18 @@ fn run_named<
     B: Books + Send + Sync,
     R: Threads + Wait + Sync,
     W: Wire + Sync,
-    M: Moments + Sync,
+    M: TimeSource + Sync,
     D: Device + Sync,
     C: Recorder + Sync,
     E: Write,
     X: Drop,
-    F: Feeder<X> + Drop,
+    F: Driver<X> + Drop,
 >(
     rt: &R,
     alloc: Global,
     err: &mut E,
     pool: &Pool<'_, W, M, D, C>,
-    feeder: F,
+    driver: F,
     blanks: Blanks,
     book: NewServerBook,
 ) -> Result<Fed<X>, AllocError>
@@ -257,12 +266,12 @@ fn run_named<
     requires threads { book.first_job ≡ B.first_job }
     requires book_begin { B.begin ≡ pool.now.begin }
     ensures counted { IfOk result (λ fed. HasCountedAll fed.closed) }
-    ensures fed { let shop = locked_shop B.first D.are_readings M.is_moment M.is_random W.called C.recorded in
-        IfOk result (λ fed. IsFedBeside shop (F.feeds _) (handover_where fed.has_workers pool.now.handover) pool.now.workers feeder fed.given fed.replies) }
+    ensures fed { let worker_view = locked_view B.first D.are_readings M.is_time M.is_random W.called C.recorded in
+        IfOk result (λ fed. IsFedBeside worker_view (F.drives _) (offload_where fed.has_workers pool.now.offload) pool.now.workers driver fed.given fed.replies) }
 {
     let Begun {
         server,
-        reserve,
+        unassigned,
         tallies,
         logs,
     } = begin::<B, D>(alloc, pool.begin, pool.workers, pool.device, blanks, book)?;
@@ -270,11 +279,11 @@ fn run_named<
         bench: &server,
         recorder: pool.recorder,
     };
-    let ended = run_at(rt, alloc, err, pool, &bench, tallies, logs, feeder)?;
-    Ok(close(server, reserve, ended))
+    let ended = run_at(rt, alloc, err, pool, &bench, tallies, logs, driver)?;
+    Ok(close(server, unassigned, ended))
 }
 
-// Makes a server, the change counters and logs of its workers and feeder, and the unassigned
+// Makes a server, the change counters and logs of its workers and driver, and the unassigned
 // shares.
 fn begin<'a, B: Books, D: Device>(
     alloc: Global,
@@ -295,9 +304,9 @@ fn begin<'a, B: Books, D: Device>(
     requires book_begin { B.begin ≡ begin }
     ensures count { IfOk result (λ b. vec_len b.tallies ≡ workers + 1) }
     ensures logs { IfOk result (λ b. vec_len b.logs ≡ vec_len b.tallies) }
-    ensures parts { IfOk result (λ b. b.reserve.parts + vec_len b.tallies ≡ B.parts) }
+    ensures parts { IfOk result (λ b. b.unassigned.parts + vec_len b.tallies ≡ B.parts) }
 {
-    let (server, mut reserve, logs) = Locked::<B, D>::new(
+    let (server, mut unassigned, logs) = Locked::<B, D>::new(
         alloc,
         begin.serial,
         begin.id,
@@ -306,23 +315,23 @@ fn begin<'a, B: Books, D: Device>(
         blanks,
         book,
     )?;
-    let tallies = reserve.split_each(alloc, usize::from(workers) + 1)?;
+    let tallies = unassigned.split_each(alloc, usize::from(workers) + 1)?;
     Ok(Begun {
         server,
-        reserve,
+        unassigned,
         tallies,
         logs,
     })
 }
 
-// Closes a server whose workers have ended. `reserve` has the unassigned shares that their change
+// Closes a server whose workers have ended. `unassigned` has the unassigned shares that their change
 // counters were split from.
 fn close<B: Books, D: Device, X: Drop, L: Drop>(
     server: Locked<'_, B, D>,
-    mut reserve: Reserve<B>,
+    mut unassigned: Unassigned<B>,
     ended: Ended<X, Tallies<B>, L>,
 ) -> Fed<X>
-    requires { reserve.parts + vec_len ended.shares + 1 ≡ B.parts }
+    requires { unassigned.parts + vec_len ended.shares + 1 ≡ B.parts }
     ensures counted { HasCountedAll result.closed }
     ensures given { result.given ≡ ended.given }
     ensures workers { result.has_workers ≡ ended.has_workers }
@@ -335,9 +344,9 @@ fn close<B: Books, D: Device, X: Drop, L: Drop>(
         shares,
     } = ended;
     let replies = Replies::of(&shares).plus(Replies::by(&own));
-    reserve.merge(own.tallies);
-    reserve.merge_each(shares);
-    let closed = server.close(&mut reserve);
+    unassigned.merge(own.tallies);
+    unassigned.merge_each(shares);
+    let closed = server.close(&mut unassigned);
     Fed {
         given,
         has_workers,
@@ -346,18 +355,18 @@ fn close<B: Books, D: Device, X: Drop, L: Drop>(
     }
 }
 
-// Runs a worker for each change counter except the last, and the feeder with the last. Each has one
-// of the logs. The workers and the feeder return one share for each change counter.
+// Runs a worker for each change counter except the last, and the driver with the last. Each has one
+// of the logs. The workers and the driver return one share for each change counter.
 fn run_at<
     B: Bench + Sync,
     R: Threads + Wait + Sync,
     W: Wire + Sync,
-    M: Moments + Sync,
+    M: TimeSource + Sync,
     D: Device + Sync,
     C: Recorder + Sync,
     E: Write,
     X: Drop,
-    F: Feeder<X> + Drop,
+    F: Driver<X> + Drop,
 >(
     rt: &R,
     alloc: Global,
@@ -366,7 +375,7 @@ fn run_at<
     bench: &B,
     tallies: Vec<B::Tallies>,
     logs: Vec<TrackLog<B::Book>>,
-    feeder: F,
+    driver: F,
 ) -> Result<Ended<X, B::Tallies, TrackLog<B::Book>>, AllocError>
 where
     B::Tallies: Send,
@@ -374,8 +383,8 @@ where
     requires some { 0 < vec_len tallies }
     requires logs { vec_len logs ≡ vec_len tallies }
     ensures shares { IfOk result (λ ended. vec_len ended.shares + 1 ≡ vec_len tallies) }
-    ensures fed { let shop = open_shop B.changes B.ended B.called B.logged M.is_moment M.is_random W.called in
-        IfOk result (λ ended. IsFed shop (F.feeds _) (handover_where ended.has_workers pool.now.handover) feeder ended.given ended.own ended.shares.items) }
+    ensures fed { let worker_view = open_view B.changes B.ended B.called B.logged M.is_time M.is_random W.called in
+        IfOk result (λ ended. IsFed worker_view (F.drives _) (offload_where ended.has_workers pool.now.offload) driver ended.given ended.own ended.shares.items) }
 {
     let (jobs, sent, mut seats) = make_seats(alloc, tallies, logs)?;
     let Some(own) = seats.pop() else {
@@ -385,38 +394,38 @@ where
         wire: pool.wire,
         ended: AtomicU64::new(0),
     };
-    let workshop = Workshop {
+    let context = Context {
         alloc,
         bench,
         gate: &Open,
         wire: &wire,
-        moments: pool.moments,
+        times: pool.times,
     };
-    let (workshop, channel, ended) = (&workshop, &jobs, &wire.ended);
-    let handover = pool.handover;
-    let ((given, has_workers, own), shares) = feed_workers(
+    let (context, channel, ended) = (&context, &jobs, &wire.ended);
+    let offload = pool.offload;
+    let ((given, has_workers, own), shares) = drive_workers(
         rt,
-        workshop,
+        context,
         channel,
         seats,
         move |has_workers| -> (X, bool, Share<B::Tallies, TrackLog<B::Book>>)
             requires sent { sent ≡ nothing_sent channel.now }
             requires got { own.got ≡ nothing_got channel.now }
-            ensures { let shop = open_shop B.changes B.ended B.called B.logged M.is_moment M.is_random W.called in
-                FeedsTo shop (F.feeds _) channel.entry.now (handover_where result.1 handover) feeder result.0 result.2 }
+            ensures { let worker_view = open_view B.changes B.ended B.called B.logged M.is_time M.is_random W.called in
+                DrivesTo worker_view (F.drives _) channel.entry.now (offload_where result.1 offload) driver result.0 result.2 }
         {
             if !has_workers {
                 tell_alone(err);
             }
-            let handover = handover_where(has_workers, handover);
-            let mut intake = Dispatching {
+            let offload = offload_where(has_workers, offload);
+            let mut ingress = PooledIngress {
                 rt,
-                dispatcher: Dispatcher::new(workshop, channel, sent, own, handover),
+                dispatcher: Dispatcher::new(context, channel, sent, own, offload),
                 begun: 0,
                 ended,
             };
-            let given = feeder.feed(rt, &mut intake);
-            (given, has_workers, intake.close())
+            let given = driver.drive(rt, &mut ingress);
+            (given, has_workers, ingress.close())
         },
     );
     Ok(Ended {
@@ -428,14 +437,10 @@ where
 }
 
 // Returns the dispatch policy: `Never` if no worker was started.
-fn handover_where(has_workers: bool, handover: Handover) -> Handover
-    ensures { result ≡ handover_where has_workers handover }
+fn offload_where(has_workers: bool, offload: Offload) -> Offload
+    ensures { result ≡ offload_where has_workers offload }
 {
-    if has_workers {
-        handover
-    } else {
-        Handover::Never
-    }
+    if has_workers { offload } else { Offload::Never }
 }
 
 // Reports that there is no worker. A failed write is ignored.

@@ -67,17 +67,17 @@ impl Replies {
 
 /// The counts of the replies passed to a sink, and the log of these calls.
 #[derive(Drop)]
-pub(crate) struct Outbox {
+pub(crate) struct SentReplies {
     pub(crate) replies: Replies,
     pub(crate) log: CallLog,
 }
 
-impl Outbox {
-    /// Returns an outbox without replies, and with a new log.
-    pub(crate) fn new() -> Outbox
+impl SentReplies {
+    /// Returns the counts of no replies, and a new log.
+    pub(crate) fn new() -> SentReplies
         ensures { result.replies ≡ no_replies }
     {
-        Outbox {
+        SentReplies {
             replies: Replies::none(),
             log: CallLog::new(),
         }

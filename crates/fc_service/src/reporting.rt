@@ -4,10 +4,10 @@ ghost use Rattle.fc_service.specs.Reporting.{ReportsIfDue, readies_through, repo
 
 use crate::rounds::Preparation;
 use coap_msg::{Emission, Endpoint};
-use fc_core::Heard;
+use fc_core::Handled;
 use fc_observe::Ticked;
 use fc_record::{Report, Reporter};
-use fc_server::Intake;
+use fc_server::Ingress;
 use fc_server::engine::NotifyOutcome;
 use fc_workers::CallLog;
 use std::marker::Model;
@@ -17,8 +17,8 @@ use std::sync::Wait;
 ///
 /// Contracts see the server, its counts, and when the next report is due.
 #[derive(Drop)]
-pub(crate) struct Reporting<'a, N: Intake, Q: Reporter> {
-    intake: &'a mut N,
+pub(crate) struct Reporting<'a, N: Ingress, Q: Reporter> {
+    ingress: &'a mut N,
     report: Report,
     every: u64,
     due: u64,
@@ -26,23 +26,23 @@ pub(crate) struct Reporting<'a, N: Intake, Q: Reporter> {
     reporter: &'a Q,
 }
 
-impl<'a, N: Intake, Q: Reporter> Model for Reporting<'a, N, Q> {
+impl<'a, N: Ingress, Q: Reporter> Model for Reporting<'a, N, Q> {
     ghost use Rattle.fc_service.specs.Reporting.{Reporting as Seen};
 
     ghost Value = { Seen N };
 
-    ghost view = { λ r. record { intake = r.intake.now; report = r.report; every = r.every; due = r.due; log = r.log } };
+    ghost view = { λ r. record { ingress = r.ingress.now; report = r.report; every = r.every; due = r.due; log = r.log } };
 }
 
-impl<'a, N: Intake, Q: Reporter> Reporting<'a, N, Q> {
+impl<'a, N: Ingress, Q: Reporter> Reporting<'a, N, Q> {
     /// Begins to report the counts of a server, each `every` milliseconds.
     ///
     /// The first report is due at that time.
-    pub(crate) fn new(intake: &'a mut N, every: u64, reporter: &'a Q) -> Reporting<'a, N, Q>
-        ensures { result ≡ reporting_from every result.log intake.old }
+    pub(crate) fn new(ingress: &'a mut N, every: u64, reporter: &'a Q) -> Reporting<'a, N, Q>
+        ensures { result ≡ reporting_from every result.log ingress.old }
     {
         Reporting {
-            intake,
+            ingress,
             report: Report::none(),
             every,
             due: every,
@@ -63,38 +63,38 @@ impl<'a, N: Intake, Q: Reporter> Reporting<'a, N, Q> {
     }
 }
 
-impl<'a, N: Intake, Q: Reporter> Intake for Reporting<'a, N, Q> {
+impl<'a, N: Ingress, Q: Reporter> Ingress for Reporting<'a, N, Q> {
     ghost calls = { reported_calls Q.reported N.calls };
 
-    fn hear(&mut self, now: u64, from: Endpoint, bytes: &[u8], reply: &mut Emission) -> Heard {
+    fn handle(&mut self, now: u64, from: Endpoint, bytes: &[u8], reply: &mut Emission) -> Handled {
         self.report_if_due(now);
-        let heard = self.intake.hear(now, from, bytes, reply);
-        self.report.count_datagram(heard, reply);
-        heard
+        let handled = self.ingress.handle(now, from, bytes, reply);
+        self.report.count_datagram(handled, reply);
+        handled
     }
 
     fn tick(&mut self, now: u64) {
         self.report_if_due(now);
-        self.intake.tick(now);
+        self.ingress.tick(now);
     }
 
     fn resend(&mut self, shard: u8, now: u64) -> Ticked {
-        let ticked = self.intake.resend(shard, now);
+        let ticked = self.ingress.resend(shard, now);
         self.report.count_tick(&ticked);
         ticked
     }
 
-    fn advance_if_quiet(&mut self, shard: u8, now: u64) -> bool {
-        self.intake.advance_if_quiet(shard, now)
+    fn advance_if_idle(&mut self, shard: u8, now: u64) -> bool {
+        self.ingress.advance_if_idle(shard, now)
     }
 
     // A server is woken up when its next report is due.
-    fn quiet_until(&self, shard: u8) -> u64 {
-        self.intake.quiet_until(shard).min(self.due)
+    fn idle_until(&self, shard: u8) -> u64 {
+        self.ingress.idle_until(shard).min(self.due)
     }
 
     fn notify(&mut self, shard: u8, now: u64, emission: &mut Emission) -> NotifyOutcome {
-        let outcome = self.intake.notify(shard, now, emission);
+        let outcome = self.ingress.notify(shard, now, emission);
         self.report.count_lease(outcome, emission);
         outcome
     }
@@ -106,11 +106,11 @@ pub(crate) struct Through<'a, P> {
     pub(crate) preparation: &'a P,
 }
 
-impl<'a, 'b, N: Intake, Q: Reporter, P: Preparation<N>> Preparation<Reporting<'b, N, Q>>
+impl<'a, 'b, N: Ingress, Q: Reporter, P: Preparation<N>> Preparation<Reporting<'b, N, Q>>
     for Through<'a, P> {
     ghost readies = { readies_through P.readies };
 
-    fn ready<R: Wait>(&self, rt: &R, intake: &mut Reporting<'b, N, Q>, now: u64) {
-        self.preparation.ready(rt, intake.intake, now);
+    fn ready<R: Wait>(&self, rt: &R, ingress: &mut Reporting<'b, N, Q>, now: u64) {
+        self.preparation.ready(rt, ingress.ingress, now);
     }
 }

@@ -8,8 +8,8 @@ use crate::rounds::{Preparation, run_rounds};
 use coap_msg::Emission;
 use fc_host::socket::{Sink, Source};
 use fc_record::Reporter;
-use fc_server::Intake;
-use fc_workers::{CallLog, Moments};
+use fc_server::Ingress;
+use fc_workers::{CallLog, TimeSource};
 use std::sync::Wait;
 
 /// The reporter of a server, and the period of its reports in milliseconds.
@@ -46,37 +46,29 @@ impl<'a, K: Sink, Q: Reporter> Sink for CountedSink<'a, K, Q> {
 /// up to 100 ms later.
 pub(crate) fn run_reported<
     R: Wait,
-    N: Intake,
+    N: Ingress,
     P: Preparation<N>,
     S: Source,
     K: Sink,
-    M: Moments,
+    M: TimeSource,
     Q: Reporter,
 >(
     rt: &R,
-    intake: &mut N,
+    ingress: &mut N,
     preparation: &P,
     source: &mut S,
     sink: &K,
-    moments: &M,
+    times: &M,
     limit: u32,
     reports: &Reports<'_, Q>,
 ) -> Replies
-    ensures { HasReceivedBy reports.now.every Q.reported P.readies N.calls (round_calls S.received M.is_moment K.went) limit
-        (S.came source.old) (S.came source.new) intake.old intake.new result }
+    ensures { HasReceivedBy reports.now.every Q.reported P.readies N.calls (round_calls S.received M.is_time K.went) limit
+        (S.came source.old) (S.came source.new) ingress.old ingress.new result }
 {
     let Some(every) = reports.every else {
-        return run_rounds(rt, intake, preparation, source, sink, moments, limit);
+        return run_rounds(rt, ingress, preparation, source, sink, times, limit);
     };
-    let mut reporting = Reporting::new(intake, every, reports.reporter);
+    let mut reporting = Reporting::new(ingress, every, reports.reporter);
     let preparation = Through { preparation };
-    run_rounds(
-        rt,
-        &mut reporting,
-        &preparation,
-        source,
-        sink,
-        moments,
-        limit,
-    )
+    run_rounds(rt, &mut reporting, &preparation, source, sink, times, limit)
 }

@@ -8,7 +8,7 @@ ghost use Rattle.fc_service.specs.declared.replies.Replies.{Replies as Counts};
 ghost use Rattle.fc_cli.specs.declared.status.Status.TheVariants.{Done, Failed};
 
 use crate::alone::Sensed;
-use crate::pool::{Feeder, Intake, Pool, run_pool};
+use crate::pool::{Driver, Ingress, Pool, run_pool};
 use crate::replies::Replies;
 use crate::reports::{CountedSink, Reports, run_reported};
 use crate::rounds::Unprepared;
@@ -21,8 +21,8 @@ use fc_host::socket::{Receiving, Replying, Sink, Source, open};
 use fc_host::timer::Timer;
 use fc_host::timers::{PastTimers, Timed, Timers};
 use fc_record::{RecordedAlone, Recorder, Reporter};
-use fc_server::{Alone, Begin};
-use fc_workers::{Handover, Moments};
+use fc_server::{Begin, SingleThread};
+use fc_workers::{Offload, TimeSource};
 use log::{Log, info};
 use std::alloc::{AllocError, Global};
 use std::io;
@@ -37,7 +37,7 @@ use thiserror::Error;
 ///
 /// Dispatching a job wakes a thread, which costs about 14 us of processor time. A program executes
 /// some thousand instructions in this time. A cheaper job runs on the thread that received it.
-const DEAR: u32 = 6_000;
+const EXPENSIVE: u32 = 6_000;
 
 /// The extent of a server.
 ///
@@ -152,14 +152,14 @@ fn serve_timed<
     ensures served { result ≡ Done → (replies : Counts)
         × IsServed Z.are_sensed (timed_calls S.received (λ now before after. after ≡ before) K.went) C.recorded records.now.reports.every Q.reported extent None None replies }
 {
-    let moments = match Elapsed::start(rt) {
-        Ok(moments) => moments,
+    let times = match Elapsed::start(rt) {
+        Ok(times) => times,
         Err(error) => return tell(err, &ServeStop::Clock(error), Status::Failed),
     };
     let timed = Timed {
         source,
         timers,
-        moments: &moments,
+        times: &times,
         rt,
     };
     let sink = PastTimers { sink };
@@ -265,7 +265,7 @@ fn serve_to_end<
 ) -> Result<Received<S>, ServeStop>
     ensures { IfOk result (λ r. IsServed Z.are_sensed (round_calls S.received (λ now before after. after ≡ before) K.went) C.recorded records.now.reports.every Q.reported extent (S.came source) (S.came r.source) r.replies) }
 {
-    let moments = Elapsed::start(rt).map_err(ServeStop::Clock)?;
+    let times = Elapsed::start(rt).map_err(ServeStop::Clock)?;
     let begin = Begin {
         serial: serial_of_start(extent.started),
         id: extent.first_id,
@@ -275,17 +275,17 @@ fn serve_to_end<
     let (recorder, reports) = (records.changes, &records.reports);
     if extent.workers == 1 {
         return Ok(serve_alone(
-            rt, alloc, begin, recorder, reports, sensors, source, sink, &moments, limit,
+            rt, alloc, begin, recorder, reports, sensors, source, sink, &times, limit,
         )?);
     }
     let pool = Pool {
         workers: extent.workers,
-        handover: Handover::Dear(DEAR),
+        offload: Offload::Expensive(EXPENSIVE),
         begin,
         wire: &Replying { sink },
-        moments: &moments,
+        times: &times,
         device: &SensingDevice {
-            moments: &moments,
+            times: &times,
             sensors,
         },
         recorder,
@@ -293,7 +293,7 @@ fn serve_to_end<
     let receiver = Receiver {
         source,
         sink,
-        moments: &moments,
+        times: &times,
         limit,
         reports,
     };
@@ -307,34 +307,34 @@ fn serve_to_end<
 
 // A receiver of datagrams, up to a limit. It sends what needs no job.
 #[derive(Drop)]
-struct Receiver<'a, 'b, S: Source + Drop, K: Sink, M: Moments, Q: Reporter> {
+struct Receiver<'a, 'b, S: Source + Drop, K: Sink, M: TimeSource, Q: Reporter> {
     source: S,
     sink: &'a K,
-    moments: &'a M,
+    times: &'a M,
     limit: u32,
     reports: &'a Reports<'b, Q>,
 }
 
-impl<'a, 'b, S: Source + Drop, K: Sink, M: Moments, Q: Reporter> Feeder<Received<S>>
+impl<'a, 'b, S: Source + Drop, K: Sink, M: TimeSource, Q: Reporter> Driver<Received<S>>
     for Receiver<'a, 'b, S, K, M, Q> {
-    ghost feeds = { λ T calls self first last given. HasReceivedBy self.reports.now.every Q.reported (λ now old new. new ≡ old)
-        calls (round_calls S.received M.is_moment K.went) self.limit (S.came self.source) (S.came given.source) first last given.replies };
+    ghost drives = { λ T calls self first last given. HasReceivedBy self.reports.now.every Q.reported (λ now old new. new ≡ old)
+        calls (round_calls S.received M.is_time K.went) self.limit (S.came self.source) (S.came given.source) first last given.replies };
 
-    fn feed<N: Intake, R: Wait>(self, rt: &R, intake: &mut N) -> Received<S> {
+    fn drive<N: Ingress, R: Wait>(self, rt: &R, ingress: &mut N) -> Received<S> {
         let Receiver {
             mut source,
             sink,
-            moments,
+            times,
             limit,
             reports,
         } = self;
         let replies = run_reported(
             rt,
-            intake,
+            ingress,
             &Unprepared,
             &mut source,
             sink,
-            moments,
+            times,
             limit,
             reports,
         );
@@ -350,7 +350,7 @@ fn serve_alone<
     Q: Reporter,
     S: Source + Drop,
     K: Sink,
-    M: Moments,
+    M: TimeSource,
     Z: Sensors,
 >(
     rt: &R,
@@ -361,14 +361,14 @@ fn serve_alone<
     sensors: &Z,
     mut source: S,
     sink: &K,
-    moments: &M,
+    times: &M,
     limit: u32,
 ) -> Result<Received<S>, AllocError>
     requires { CanBegin begin }
-    ensures { IfOk result (λ r. HasServedBy reports.now.every Q.reported Z.are_sensed (round_calls S.received M.is_moment K.went) C.recorded limit begin
+    ensures { IfOk result (λ r. HasServedBy reports.now.every Q.reported Z.are_sensed (round_calls S.received M.is_time K.went) C.recorded limit begin
         (S.came source) (S.came r.source) r.replies) }
 {
-    let mut alone = RecordedAlone::new(Alone::new(alloc, &begin)?, recorder);
+    let mut alone = RecordedAlone::new(SingleThread::new(alloc, &begin)?, recorder);
     let sensed = Sensed { sensors };
     let replies = run_reported(
         rt,
@@ -376,7 +376,7 @@ fn serve_alone<
         &sensed,
         &mut source,
         sink,
-        moments,
+        times,
         limit,
         reports,
     );

@@ -3,19 +3,19 @@ ghost use Rattle.std.specs.Prelude.{◌≡◌, Bool, OnOk};
 ghost use Rattle.fc_cli.specs.declared.status.Status.TheVariants.{Done};
 ghost use Rattle.fc_server.specs.States.{CanBegin};
 ghost use Rattle.fc_service.specs.Playing.{IsFedByLines, IsPlayedBeside};
-ghost use Rattle.fc_service.specs.Pooled.{handover_where};
+ghost use Rattle.fc_service.specs.Pooled.{offload_where};
 ghost use Rattle.fc_service.specs.declared.replies.Replies.{Replies as Counts};
-ghost use Rattle.fc_workers.specs.declared.dispatcher.Handover.TheVariants.{Every};
+ghost use Rattle.fc_workers.specs.declared.dispatcher.Offload.TheVariants.{Every};
 
 use crate::lines::play_lines;
-use crate::pool::{Feeder, Intake, Pool, run_pool};
-use crate::waiting::Waiting;
+use crate::pool::{Driver, Ingress, Pool, run_pool};
+use crate::waiting::LockStep;
 use fc_cli::status::{Status, tell};
 use fc_cli::stop::Stop;
-use fc_host::board::Board;
+use fc_host::scripted::ScriptedHost;
 use fc_record::NoChanges;
 use fc_server::Begin;
-use fc_workers::Handover;
+use fc_workers::Offload;
 use std::alloc::Global;
 use std::io::{BufRead, Write};
 use std::sync::Wait;
@@ -27,20 +27,24 @@ struct Player<'a, I: BufRead + Drop, W: Write> {
     alloc: Global,
     input: I,
     out: &'a mut W,
-    board: &'a Board,
+    scripted: &'a ScriptedHost,
 }
 
-impl<'a, I: BufRead + Drop, W: Write> Feeder<Result<(), Stop>> for Player<'a, I, W> {
-    ghost feeds = { λ S calls self first last given. OnOk given (IsFedByLines calls (I.remaining self.input) first) };
+impl<'a, I: BufRead + Drop, W: Write> Driver<Result<(), Stop>> for Player<'a, I, W> {
+    ghost drives = { λ S calls self first last given. OnOk given (IsFedByLines calls (I.remaining self.input) first) };
 
-    fn feed<N: Intake, R: Wait>(self, rt: &R, intake: &mut N) -> Result<(), Stop> {
+    fn drive<N: Ingress, R: Wait>(self, rt: &R, ingress: &mut N) -> Result<(), Stop> {
         let Player {
             alloc,
             input,
             out,
-            board,
+            scripted,
         } = self;
-        let mut waiting = Waiting { rt, intake, board };
+        let mut waiting = LockStep {
+            rt,
+            ingress,
+            scripted,
+        };
         play_lines(alloc, &mut waiting, input, out)
     }
 }
@@ -60,7 +64,7 @@ pub fn play_by_workers<R: Threads + Wait + Sync, I: BufRead + Drop, W: Write, E:
     begin: Begin,
 ) -> Status
     requires { CanBegin begin }
-    ensures { result ≡ Done → (has_workers : Bool) × (replies : Counts) × IsPlayedBeside begin (handover_where has_workers Every) workers (I.remaining input) replies }
+    ensures { result ≡ Done → (has_workers : Bool) × (replies : Counts) × IsPlayedBeside begin (offload_where has_workers Every) workers (I.remaining input) replies }
 {
     match play_in_pool(rt, alloc, input, out, err, workers, begin) {
         Ok(()) => Status::Done,
@@ -79,23 +83,23 @@ fn play_in_pool<R: Threads + Wait + Sync, I: BufRead + Drop, W: Write, E: Write>
     begin: Begin,
 ) -> Result<(), Stop>
     requires { CanBegin begin }
-    ensures { OnOk result ((has_workers : Bool) × (replies : Counts) × IsPlayedBeside begin (handover_where has_workers Every) workers (I.remaining input) replies) }
+    ensures { OnOk result ((has_workers : Bool) × (replies : Counts) × IsPlayedBeside begin (offload_where has_workers Every) workers (I.remaining input) replies) }
 {
-    let board = Board::new();
+    let scripted = ScriptedHost::new();
     let pool = Pool {
         workers,
-        handover: Handover::Every,
+        offload: Offload::Every,
         begin,
-        wire: &board,
-        moments: &board,
-        device: &board,
+        wire: &scripted,
+        times: &scripted,
+        device: &scripted,
         recorder: &NoChanges,
     };
     let player = Player {
         alloc,
         input,
         out,
-        board: &board,
+        scripted: &scripted,
     };
     run_pool(rt, alloc, err, &pool, player)?.given
 }

@@ -14,7 +14,7 @@ use Rattle.fc_registry.specs.Slots.{Ticket}
 use Rattle.fc_workers.specs.Workers.{Share}
 use Rattle.fc_workers.specs.Answers.{IsSomeNote}
 use Rattle.fc_workers.specs.Logs.{TrackedLog}
-use Rattle.fc_workers.specs.Called.{SendsReply, Shop}
+use Rattle.fc_workers.specs.Called.{SendsReply, WorkerView}
 use Rattle.fc_workers.specs.Outgoing.{IsNote, GoesOut, IsFoundTold, IsSent, IsTurnReply, with_reply}
 use Rattle.fc_workers.specs.Work.{IsWorked, IsWorkedAs}
 
@@ -33,7 +33,7 @@ sent_is_note now told turn id (Send out) e note is = record {
 sent_is_note now told turn id StaleNote e note is = nothing_out e is
 sent_is_note now told turn id Stranger e note is = nothing_out e is
 
-module _ {T : Type 0} (s : Shop T) where
+module _ {T : Type 0} (s : WorkerView T) where
   told_is_reply : (turn : Turn) (found : Option Ticket) (e : Emission) (before after : TrackedLog) → IsFoundTold s turn found (Some e) before after → GoesOut e
   told_is_reply turn found e before after (inl n) = inr (sent_is_note n.noted.now n.told turn n.id n.noted.noted e n.noted.note n.noted.reply_is)
   told_is_reply turn found e before after (inr n) = nothing_out e n.given_up.nothing

@@ -3,21 +3,21 @@ use Rattle.std.proofs.Common.{ℕ, ◌+◌, suc, Bool, refl, arith, subst}
 use Rattle.coap_msg.specs.declared.types.Endpoint.{Endpoint}
 use Rattle.fc_workers.specs.Logs.{TrackedLog}
 use Rattle.fc_calls.specs.Logged.{HandsSignal}
-use Rattle.fc_workers.specs.Called.{Shop}
+use Rattle.fc_workers.specs.Called.{WorkerView}
 use Rattle.fc_workers.specs.Dispatch.{AreSignalled}
 
 -- no shard has it yet.
-pub no_signals : {T : Type 0} (s : Shop T) (from : Endpoint) (id : ℕ) (reset : Bool) (log : TrackedLog) → AreSignalled s 0 from id reset log log
+pub no_signals : {T : Type 0} (s : WorkerView T) (from : Endpoint) (id : ℕ) (reset : Bool) (log : TrackedLog) → AreSignalled s 0 from id reset log log
 unfolding AreSignalled
 no_signals s from id reset log = refl
 
-next_signal : {T : Type 0} (s : Shop T) (n : ℕ) (from : Endpoint) (id : ℕ) (reset : Bool) (before now after : TrackedLog) → AreSignalled s n from id reset before now
+next_signal : {T : Type 0} (s : WorkerView T) (n : ℕ) (from : Endpoint) (id : ℕ) (reset : Bool) (before now after : TrackedLog) → AreSignalled s n from id reset before now
     → s.logged (HandsSignal n from id reset) now after → AreSignalled s (suc n) from id reset before after
 unfolding AreSignalled
 next_signal s n from id reset before now after are hands = (now, are, hands)
 
 -- one more shard.
-pub signals_on : {T : Type 0} (s : Shop T) (n : ℕ) (from : Endpoint) (id : ℕ) (reset : Bool) (before now after : TrackedLog) → AreSignalled s n from id reset before now
+pub signals_on : {T : Type 0} (s : WorkerView T) (n : ℕ) (from : Endpoint) (id : ℕ) (reset : Bool) (before now after : TrackedLog) → AreSignalled s n from id reset before now
     → s.logged (HandsSignal n from id reset) now after → AreSignalled s (n + 1) from id reset before after
 signals_on s n from id reset before now after are hands =
     subst (λ (k : ℕ). AreSignalled s k from id reset before after) (omega arith) (next_signal s n from id reset before now after are hands)

@@ -6,33 +6,33 @@ use Rattle.std.proofs.lemmas.Grind.{reverse_onto}
 use Rattle.fc_jobs.specs.Ends.{Got, with_got}
 use Rattle.fc_jobs.specs.declared.protocol.Numbered.{Numbered}
 use Rattle.fc_workers.specs.Workers.{Share}
-use Rattle.fc_workers.specs.Called.{Shop}
+use Rattle.fc_workers.specs.Called.{WorkerView}
 use Rattle.fc_workers.specs.Shares.{AreTurns, HasEnded, IsTurn}
 
-no_turns : {T : Type 0} (shop : Shop T) (s : Share T) → AreTurns shop [] s s
+no_turns : {T : Type 0} (worker_view : WorkerView T) (s : Share T) → AreTurns worker_view [] s s
 unfolding AreTurns
-no_turns shop s = refl
+no_turns worker_view s = refl
 
-more_turns : {T : Type 0} (shop : Shop T) (ns : List Numbered) (n : Numbered) (before now after : Share T) → AreTurns shop ns before now
-    → IsTurn shop n now after → AreTurns shop (n ∷ ns) before after
+more_turns : {T : Type 0} (worker_view : WorkerView T) (ns : List Numbered) (n : Numbered) (before now after : Share T) → AreTurns worker_view ns before now
+    → IsTurn worker_view n now after → AreTurns worker_view (n ∷ ns) before after
 unfolding AreTurns
-more_turns shop ns n before now after turns turn = (now, (turns, turn))
+more_turns worker_view ns n before now after turns turn = (now, (turns, turn))
 
 -- a worker that hasn't begun.
-pub sets_out : {T : Type 0} (shop : Shop T) (s : Share T) → HasEnded shop s s
-sets_out shop s = record {
+pub sets_out : {T : Type 0} (worker_view : WorkerView T) (s : Share T) → HasEnded worker_view s s
+sets_out worker_view s = record {
   jobs = [];
-  turns = no_turns shop s;
+  turns = no_turns worker_view s;
   got = ap (λ (l : List Numbered). record s.got { got = l }) (sym (append-nil s.got.got));
   count = omega arith;
 }
 
 -- one more job.
-pub turns_on : {T : Type 0} (shop : Shop T) (n : Numbered) (before now after : Share T) → HasEnded shop before now → IsTurn shop n now after
-    → after.got ≡ with_got now.got n.number n.job → HasEnded shop before after
-turns_on shop n before now after h turn got = record {
+pub turns_on : {T : Type 0} (worker_view : WorkerView T) (n : Numbered) (before now after : Share T) → HasEnded worker_view before now → IsTurn worker_view n now after
+    → after.got ≡ with_got now.got n.number n.job → HasEnded worker_view before after
+turns_on worker_view n before now after h turn got = record {
   jobs = n ∷ h.jobs;
-  turns = more_turns shop h.jobs n before now after h.turns turn;
+  turns = more_turns worker_view h.jobs n before now after h.turns turn;
   got = got ∙ (ap (λ (g : Got). with_got g n.number n.job) h.got ∙ ap (λ (l : List Numbered). record before.got { got = l })
       (append_assoc before.got.got (reverse h.jobs) (n ∷ []) ∙ ap (λ (l : List Numbered). before.got.got ++ l) (sym (reverse_onto h.jobs n []))));
   count = omega (arith, h.count, turn.ends);

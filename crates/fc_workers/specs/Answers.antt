@@ -27,10 +27,10 @@ use Rattle.fc_registry.specs.declared.note.Notification.{Notification}
 use Rattle.fc_registry.specs.Notes.{IsNoted}
 use Rattle.fc_registry.specs.Slots.{Shard, Slot, Ticket}
 use Rattle.fc_registry.specs.Turns.{due_job}
-use Rattle.fc_registry.specs.Watches.{due_place, at_time, is_quiet, late_place, ticked_in}
+use Rattle.fc_registry.specs.Watches.{due_place, at_time, is_idle, overdue_place, ticked_in}
 use Rattle.fc_registry.specs.declared.receipt.Receipt.{Receipt}
 use Rattle.fc_registry.specs.declared.shard.Removal.{Removal}
-use Rattle.fc_registry.specs.Calls.{IsTaking, IsCommit, install_in, receipt_at, remove_from}
+use Rattle.fc_registry.specs.Calls.{IsSnapshot, IsCommit, install_in, receipt_at, remove_from}
 use Rattle.fc_workers.specs.Logs.{TrackedLog}
 use Rattle.fc_calls.specs.Logged.{GivesReadings, LoggedCall, TakesForJob}
 
@@ -53,20 +53,20 @@ pub record IsSomeAnswer (now : ℕ) (job : Job) (content : Content) (sent : Opti
 
 -- the result of a snapshot for the job with these readings, at some slot, with some observers, at
 -- some time.
-pub record IsSomeTaking (job : Job) (readings : List ℕ) (taken : Taken) : Type 0 where
+pub record IsSomeSnapshot (job : Job) (readings : List ℕ) (taken : Taken) : Type 0 where
   pub slot : Slot
   pub now : ℕ
   pub watch : ObserverList
-  pub taking : IsTaking job readings slot now watch taken
+  pub snapshot : IsSnapshot job readings slot now watch taken
 
 -- the backend returned readings, and the next call took a snapshot with them for the job, with this
 -- result.
-pub record IsTakingWith (Logged : LoggedCall → TrackedLog → TrackedLog → Type 0) (job : Job) (taken : Taken) (before after : TrackedLog) : Type 0 where
+pub record IsSnapshotWith (Logged : LoggedCall → TrackedLog → TrackedLog → Type 0) (job : Job) (taken : Taken) (before after : TrackedLog) : Type 0 where
   pub readings : List ℕ
   pub log : TrackedLog
   pub given : Logged (GivesReadings readings) before log
   pub takes : Logged (TakesForJob job readings taken) log after
-  pub is : IsSomeTaking job readings taken
+  pub is : IsSomeSnapshot job readings taken
 
 -- some shard grants this lease at this time, or none.
 pub record IsSomeTurn (now : ℕ) (job : Option Job) : Type 0 where
@@ -77,12 +77,12 @@ pub record IsSomeTurn (now : ℕ) (job : Option Job) : Type 0 where
 -- does nothing.
 pub record IsSomeTick (now : ℕ) (ticked : Ticked) : Type 0 where
   pub shard : Shard
-  pub ticked_is : ticked ≡ ticked_in (late_place (at_time shard now)) (at_time shard now)
+  pub ticked_is : ticked ≡ ticked_in (overdue_place (at_time shard now)) (at_time shard now)
 
 -- whether some shard is idle at this time.
-pub record IsSomeQuiet (now : ℕ) (quiet : Bool) : Type 0 where
+pub record IsSomeIdle (now : ℕ) (idle : Bool) : Type 0 where
   pub shard : Shard
-  pub quiet_is : quiet ≡ is_quiet (at_time shard now)
+  pub idle_is : idle ≡ is_idle (at_time shard now)
 
 -- the result of a notification for a lease with this message ID, at some serial of its slot, to
 -- some observers. It is at this time or a later one that was passed to its shard.
@@ -120,9 +120,9 @@ commit_overtakings Overtaken = 1
 commit_overtakings other = 0
 
 -- the number of refused allocations that a snapshot's result reports.
-abbrev pub taking_refusals : Taken → ℕ
-taking_refusals Refused = 1
-taking_refusals other = 0
+abbrev pub snapshot_refusals : Taken → ℕ
+snapshot_refusals Refused = 1
+snapshot_refusals other = 0
 
 -- the tally of slot n's shard has risen by this number of changes, and the tallies of the other
 -- shards are unchanged.

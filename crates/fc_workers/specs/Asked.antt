@@ -7,10 +7,10 @@ use Rattle.fc_workers.specs.declared.call_log.CallLog.{CallLog}
 use Rattle.fc_workers.specs.Logs.{IsUnfiled, TrackedLog, with_filed_call}
 use Rattle.fc_registry.specs.Slots.{Shard}
 use Rattle.fc_workers.specs.Called.{BenchCall, LeavesUnquiet, LooksAhead}
-use Rattle.fc_calls.specs.Logged.{LoggedCall, HearsDatagram, DrawsId, AnswersRequest, TakesForJob, CommitsRun, InstallsProgram, RemovesProgram, TellsReceipt}
-use Rattle.fc_calls.specs.Logged.{GivesReadings, LooksAt, AdvancesFront, HandsSignal, AdvancesQuiet, AdvancesShard, GivesTurn, NotesTurn, GivesUpTurn, RaisesWord}
+use Rattle.fc_calls.specs.Logged.{LoggedCall, HandlesDatagram, DrawsId, AnswersRequest, TakesForJob, CommitsRun, InstallsProgram, RemovesProgram, TellsReceipt}
+use Rattle.fc_calls.specs.Logged.{GivesReadings, LooksAt, AdvancesFront, HandsSignal, AdvancesIdle, AdvancesShard, GivesTurn, NotesTurn, GivesUpTurn, RaisesWord}
 use Rattle.fc_calls.specs.Kept.{confirm_times}
-use Rattle.fc_calls.specs.Doings.{AdvancesTo, AnswersAt, CommitsAt, DescribesTo, DrawsAt, GivesTurnAt, GivesUpAt, HandsOn, HearsAt, InstallsTo, NotesAt, PassesIfQuiet, RemovesFrom, TakesTo, TellsQuietUntil, TicksAt}
+use Rattle.fc_calls.specs.Doings.{AdvancesTo, AnswersAt, CommitsAt, DescribesTo, DrawsAt, GivesTurnAt, GivesUpAt, HandsOn, HandlesAt, InstallsTo, NotesAt, PassesIfIdle, RemovesFrom, TakesTo, TellsIdleUntil, TicksAt}
 
 -- a call with this effect was made on the shard with this index, 0 to 7, of a server that began so.
 pub record IsAsked (first : Beginning) (index : ℕ) (Does : Shard → Shard → Type 0) : Type 0 where
@@ -29,8 +29,8 @@ pub record IsFrontAsked (first : FrontState) (Does : FrontState → FrontState �
 
 -- the meaning of an unlogged call of a server that began so: the shard with this index was called.
 abbrev pub IsServerCall : Beginning → BenchCall → Type 0
-IsServerCall first (LeavesUnquiet shard now) = IsAsked first shard (λ before after. PassesIfQuiet now before false after)
-IsServerCall first (LooksAhead shard until) = IsAsked first shard (λ before after. TellsQuietUntil before until after)
+IsServerCall first (LeavesUnquiet shard now) = IsAsked first shard (λ before after. PassesIfIdle now before false after)
+IsServerCall first (LooksAhead shard until) = IsAsked first shard (λ before after. TellsIdleUntil before until after)
 
 -- a call with this effect was made on such a front, and is filed: it is the last entry on the
 -- worker's own track.
@@ -48,7 +48,7 @@ abbrev pub IsLoggedCall : Beginning → (List ℕ → CallLog → CallLog → Ty
 IsLoggedCall first AreReadings (GivesReadings readings) before after = IsUnfiled (AreReadings readings) before after
 IsLoggedCall first AreReadings (TellsReceipt job receipt) before after = IsShardCall first (job.origin.slot % 8) (λ x y. DescribesTo job x receipt y) before after
 IsLoggedCall first AreReadings (LooksAt slot word) before after = after ≡ before
-IsLoggedCall first AreReadings (HearsDatagram now from bytes brings) before after = IsFrontCall first.front (HearsAt now from bytes brings) (HearsDatagram now from bytes brings) before after
+IsLoggedCall first AreReadings (HandlesDatagram now from bytes brings) before after = IsFrontCall first.front (HandlesAt now from bytes brings) (HandlesDatagram now from bytes brings) before after
 IsLoggedCall first AreReadings (AdvancesFront now) before after = IsFrontCall first.front (AdvancesTo now) (AdvancesFront now) before after
 IsLoggedCall first AreReadings (DrawsId now drawn) before after = IsFrontCall first.front (DrawsAt now drawn) (DrawsId now drawn) before after
 IsLoggedCall first AreReadings (AnswersRequest now job content sent) before after = IsFrontCall first.front (AnswersAt now job content sent) (AnswersRequest now job content sent) before after
@@ -57,7 +57,7 @@ IsLoggedCall first AreReadings (CommitsRun now ran ticket committed) before afte
 IsLoggedCall first AreReadings (InstallsProgram job program made) before after = IsShardCall first (job.origin.slot % 8) (λ x y. InstallsTo job program x made y) before after
 IsLoggedCall first AreReadings (RemovesProgram job removal) before after = IsShardCall first (job.origin.slot % 8) (λ x y. RemovesFrom job x removal y) before after
 IsLoggedCall first AreReadings (HandsSignal shard from message reset) before after = IsShardCall first shard (λ x y. HandsOn reset from message x y) before after
-IsLoggedCall first AreReadings (AdvancesQuiet shard now) before after = IsShardCall first shard (λ x y. PassesIfQuiet now x true y) before after
+IsLoggedCall first AreReadings (AdvancesIdle shard now) before after = IsShardCall first shard (λ x y. PassesIfIdle now x true y) before after
 IsLoggedCall first AreReadings (AdvancesShard shard now ticked) before after = IsShardCall first shard (λ x y. TicksAt now x ticked y) before after
 IsLoggedCall first AreReadings (GivesTurn shard now turn) before after = IsShardCall first shard (λ x y. GivesTurnAt now x turn y) before after
 IsLoggedCall first AreReadings (NotesTurn turn message now random told noted) before after = IsShardCall first (turn.slot % 8) (λ x y. NotesAt turn message now random told x noted y) before after

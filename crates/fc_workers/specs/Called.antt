@@ -26,18 +26,18 @@ pub data WireCall : Type 0 where
 -- Each logged call leads from one state of the worker's log to the next. These are the other calls
 -- of the backend, those for times, those of the gate by a job's number, and those of the
 -- transmitter.
-pub record Shop (T : Type 0) : Type 1 where
+pub record WorkerView (T : Type 0) : Type 1 where
   pub changes : T → ℕ → ℕ
   pub ended : T → ℕ
   pub bench : BenchCall → Type 0
   pub logged : LoggedCall → TrackedLog → TrackedLog → Type 0
-  pub moment : ℕ → TrackedLog → TrackedLog → Type 0
+  pub time : ℕ → TrackedLog → TrackedLog → Type 0
   pub random : ℕ → Type 0
   pub gate : ℕ → TrackedLog → TrackedLog → Type 0
   pub wire : WireCall → TrackedLog → TrackedLog → Type 0
 
 -- the calls for times, and those of the gate and of the transmitter, are not filed.
-abbrev pub shop : {T : Type 0} → (T → ℕ → ℕ) → (T → ℕ) → (BenchCall → Type 0) → (LoggedCall → TrackedLog → TrackedLog → Type 0) → (ℕ → CallLog → CallLog → Type 0)
-    → (ℕ → Type 0) → (ℕ → CallLog → CallLog → Type 0) → (WireCall → CallLog → CallLog → Type 0) → Shop T
-shop changes ended bench logged moment random gate wire = record
-    { changes = changes; ended = ended; bench = bench; logged = logged; moment = λ now. IsUnfiled (moment now); random = random; gate = λ number. IsUnfiled (gate number); wire = λ call. IsUnfiled (wire call) }
+abbrev pub worker_view : {T : Type 0} → (T → ℕ → ℕ) → (T → ℕ) → (BenchCall → Type 0) → (LoggedCall → TrackedLog → TrackedLog → Type 0) → (ℕ → CallLog → CallLog → Type 0)
+    → (ℕ → Type 0) → (ℕ → CallLog → CallLog → Type 0) → (WireCall → CallLog → CallLog → Type 0) → WorkerView T
+worker_view changes ended bench logged time random gate wire = record
+    { changes = changes; ended = ended; bench = bench; logged = logged; time = λ now. IsUnfiled (time now); random = random; gate = λ number. IsUnfiled (gate number); wire = λ call. IsUnfiled (wire call) }

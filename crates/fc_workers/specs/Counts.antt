@@ -29,7 +29,7 @@ no_tallies = record { changes = no_changes; ended = 0 }
 
 -- equally many parts of each book, the changes of shards 0 to 7 that were counted on them, and a
 -- number of ended jobs.
-pub record Reserve : Type 0 where
+pub record Unassigned : Type 0 where
   pub parts : ℕ
   pub changes : List ℕ
   pub ended : ℕ

@@ -4,27 +4,27 @@ use Rattle.coap_msg.specs.declared.types.Emission.{Emission}
 use Rattle.coap_msg.specs.declared.types.Endpoint.{Endpoint}
 use Rattle.fc_core.specs.declared.front.Delivered.{Delivered}
 use Rattle.fc_core.specs.declared.front.Delivered.TheVariants.{Job as Brings, Signal}
-use Rattle.fc_core.specs.declared.front.Heard.{Heard}
-use Rattle.fc_core.specs.Receiving.{heard}
+use Rattle.fc_core.specs.declared.front.Handled.{Handled}
+use Rattle.fc_core.specs.Receiving.{handled}
 use Rattle.fc_jobs.specs.Ends.{with_sent}
 use Rattle.fc_registry.specs.declared.job.Job.{Job}
 use Rattle.fc_registry.specs.declared.receipt.Receipt.{Receipt}
 use Rattle.fc_core.specs.Stage.{Stage}
 use Rattle.fc_core.specs.Stage.{ToCommit}
-use Rattle.fc_workers.specs.declared.dispatcher.Handover.{Handover}
-use Rattle.fc_workers.specs.declared.dispatcher.Handover.TheVariants.{Every, Dear, Never}
+use Rattle.fc_workers.specs.declared.dispatcher.Offload.{Offload}
+use Rattle.fc_workers.specs.declared.dispatcher.Offload.TheVariants.{Every, Expensive, Never}
 use Rattle.fc_workers.specs.Logs.{TrackedLog}
 use Rattle.fc_workers.specs.Answers.{IsSomeDelivery, IsSomeTurn, saturated}
-use Rattle.fc_calls.specs.Logged.{GivesTurn, HandsSignal, HearsDatagram, TellsReceipt}
-use Rattle.fc_workers.specs.Called.{Shop}
+use Rattle.fc_calls.specs.Logged.{GivesTurn, HandsSignal, HandlesDatagram, TellsReceipt}
+use Rattle.fc_workers.specs.Called.{WorkerView}
 use Rattle.fc_workers.specs.Steps.{AsksRun, HasTaken}
 use Rattle.fc_workers.specs.Work.{IsReplied}
 use Rattle.fc_workers.specs.Workers.{Dispatched, Share}
 
 -- the stage is the commit of a ticket whose program may run for this many instructions or more.
-abbrev pub IsDearAt : ℕ → Stage → Type 0
-IsDearAt least (ToCommit count t) = least ≤ t.found.program.cost
-IsDearAt least other = ⊥
+abbrev pub IsExpensiveAt : ℕ → Stage → Type 0
+IsExpensiveAt least (ToCommit count t) = least ≤ t.found.program.cost
+IsExpensiveAt least other = ⊥
 
 -- the number of a job that isn't sent to the workers.
 abbrev pub unsent : ℕ
@@ -38,10 +38,10 @@ logged_at log done = record done { share = record done.share { log = log } }
 abbrev pub HasCalled : {T : Type 0} → Dispatched T → Dispatched T → Type 0
 HasCalled before after = after ≡ logged_at after.share.log before
 
-module _ {T : Type 0} (s : Shop T) where
+module _ {T : Type 0} (s : WorkerView T) where
   -- the job of a run, with the receipt that was returned for its slot when it arrived. The
   -- receipt's cost is this number of instructions or more. The log has no other call.
-  pub record IsDear (least : ℕ) (job : Job) (before after : TrackedLog) : Type 0 where
+  pub record IsExpensive (least : ℕ) (job : Job) (before after : TrackedLog) : Type 0 where
     pub asks : AsksRun job.ask
     pub receipt : Receipt
     pub told : s.logged (TellsReceipt job (Some receipt)) before after
@@ -53,25 +53,25 @@ module _ {T : Type 0} (s : Shop T) where
 
   -- a request's job of a run was looked up here, or wasn't, and took one snapshot. The snapshot's
   -- program has this cost or more. The log has no other call.
-  pub record IsFoundDear (least : ℕ) (job : Job) (before after : Share T) : Type 0 where
+  pub record IsFoundExpensive (least : ℕ) (job : Job) (before after : Share T) : Type 0 where
     pub asks : AsksRun job.ask
     pub request : job.turn ≡ None
     pub stage : Stage
     pub took : HasTaken s unsent job stage before after
-    pub dear : IsDearAt least stage
+    pub expensive : IsExpensiveAt least stage
     pub ended : s.ended after.tallies ≡ s.ended before.tallies
 
   -- the job may go to workers, by the calls that were made for it here: none, a receipt of its
   -- slot, or a snapshot.
-  abbrev pub MayGo : Handover → Job → Share T → Share T → Type 0
+  abbrev pub MayGo : Offload → Job → Share T → Share T → Type 0
   MayGo Every job before after = after ≡ before
-  MayGo (Dear least) job before after = (IsDear least job before.log after.log × (after ≡ record before { log = after.log })) ⊎ IsFoundDear least job before after
+  MayGo (Expensive least) job before after = (IsExpensive least job before.log after.log × (after ≡ record before { log = after.log })) ⊎ IsFoundExpensive least job before after
   MayGo Never job before after = ⊥
 
   -- a job that may go was sent to the workers, under the next number.
-  pub record IsHandedOver (handover : Handover) (job : Job) (before after : Dispatched T) : Type 0 where
+  pub record IsHandedOver (offload : Offload) (job : Job) (before after : Dispatched T) : Type 0 where
     pub sent : after.sent ≡ with_sent before.sent job
-    pub may_go : MayGo handover job before.share after.share
+    pub may_go : MayGo offload job before.share after.share
 
   -- a job was run here and ended, after its slot's receipt was returned, if it was requested. Its
   -- reply is sent and counted.
@@ -83,8 +83,8 @@ module _ {T : Type 0} (s : Shop T) where
     pub ends : s.ended after.share.tallies ≡ saturated (s.ended before.share.tallies + 1)
 
   -- the job went to the workers, which the policy allows, or was run here.
-  abbrev pub IsDispatched : Handover → Job → Dispatched T → Dispatched T → Type 0
-  IsDispatched handover job before after = IsHandedOver handover job before after ⊎ IsWorkedHere job before after
+  abbrev pub IsDispatched : Offload → Job → Dispatched T → Dispatched T → Type 0
+  IsDispatched offload job before after = IsHandedOver offload job before after ⊎ IsWorkedHere job before after
 
   -- a Reset message or an Acknowledgement was passed once to each of the first n shards, in order.
   unfoldable pub AreSignalled : ℕ → Endpoint → ℕ → Bool → TrackedLog → TrackedLog → Type 0
@@ -93,30 +93,30 @@ module _ {T : Type 0} (s : Shop T) where
 
   -- the job that results from a delivery is dispatched, and a signal reaches the observers of all
   -- shards; otherwise nothing is done.
-  abbrev pub IsDone : Handover → Endpoint → Delivered → Dispatched T → Dispatched T → Type 0
-  IsDone handover from (Brings job) before after = IsDispatched handover job before after
-  IsDone handover from (Signal id reset) before after = AreSignalled 8 from id reset before.share.log after.share.log × HasCalled before after
-  IsDone handover from other before after = after ≡ before
+  abbrev pub IsDone : Offload → Endpoint → Delivered → Dispatched T → Dispatched T → Type 0
+  IsDone offload from (Brings job) before after = IsDispatched offload job before after
+  IsDone offload from (Signal id reset) before after = AreSignalled 8 from id reset before.share.log after.share.log × HasCalled before after
+  IsDone offload from other before after = after ≡ before
 
   -- the result of a delivery at this time is that of some front, and it is processed.
-  pub record IsTakenIn (handover : Handover) (now : ℕ) (from : Endpoint) (bytes : List ℕ) (result : Heard) (reply : Emission)
+  pub record IsTakenIn (offload : Offload) (now : ℕ) (from : Endpoint) (bytes : List ℕ) (result : Handled) (reply : Emission)
       (before after : Dispatched T) : Type 0 where
     pub job : Job
     pub log : TrackedLog
-    pub hears : s.logged (HearsDatagram now from bytes (heard result job reply)) before.share.log log
-    pub delivery : IsSomeDelivery now from bytes (heard result job reply)
-    pub done : IsDone handover from (heard result job reply) (logged_at log before) after
+    pub handles : s.logged (HandlesDatagram now from bytes (handled result job reply)) before.share.log log
+    pub delivery : IsSomeDelivery now from bytes (handled result job reply)
+    pub done : IsDone offload from (handled result job reply) (logged_at log before) after
 
   -- the job of a lease is dispatched; if no lease was granted, no job is.
-  abbrev pub IsTurnDone : Handover → Option Job → Bool → Dispatched T → Dispatched T → Type 0
-  IsTurnDone handover (Some job) given before after = (given ≡ true) × IsDispatched handover job before after
-  IsTurnDone handover None given before after = (given ≡ false) × (after ≡ before)
+  abbrev pub IsTurnDone : Offload → Option Job → Bool → Dispatched T → Dispatched T → Type 0
+  IsTurnDone offload (Some job) given before after = (given ≡ true) × IsDispatched offload job before after
+  IsTurnDone offload None given before after = (given ≡ false) × (after ≡ before)
 
   -- a shard granted this lease at this time, or none, as some shard does, and its job is
   -- dispatched.
-  pub record IsTurnAsked (handover : Handover) (shard now : ℕ) (given : Bool) (before after : Dispatched T) : Type 0 where
+  pub record IsTurnAsked (offload : Offload) (shard now : ℕ) (given : Bool) (before after : Dispatched T) : Type 0 where
     pub turn : Option Job
     pub log : TrackedLog
     pub asks : s.logged (GivesTurn shard now turn) before.share.log log
     pub turn_is : IsSomeTurn now turn
-    pub done : IsTurnDone handover turn given (logged_at log before) after
+    pub done : IsTurnDone offload turn given (logged_at log before) after

@@ -16,13 +16,13 @@ use Rattle.fc_workers.specs.Workers.{Share}
 use Rattle.fc_workers.specs.Answers.{IsSomeAnswer, IsSomeDraw, IsSomeNote, saturated}
 use Rattle.fc_workers.specs.Logs.{TrackedLog}
 use Rattle.fc_calls.specs.Logged.{AnswersRequest, DrawsId, GivesUpTurn, NotesTurn}
-use Rattle.fc_workers.specs.Called.{SendsReply, Shop}
+use Rattle.fc_workers.specs.Called.{SendsReply, WorkerView}
 
 -- statistics that count one more reply, by whether it went out.
 abbrev pub with_reply : {T : Type 0} → Bool → Share T → Share T
 with_reply out share = if out then record share { sent = saturated (share.sent + 1) } else record share { failed = saturated (share.failed + 1) }
 
-module _ {T : Type 0} (s : Shop T) where
+module _ {T : Type 0} (s : WorkerView T) where
   -- ---- requests
 
   -- the time was requested, and then some front answered the job at it, and this is to be sent, or
@@ -30,7 +30,7 @@ module _ {T : Type 0} (s : Shop T) where
   pub record GivesAnswer (job : Job) (content : Content) (reply : Option Emission) (before after : TrackedLog) : Type 0 where
     pub now : ℕ
     pub asked : TrackedLog
-    pub moment : s.moment now before asked
+    pub time : s.time now before asked
     pub answers : s.logged (AnswersRequest now job content reply) asked after
     pub answer : IsSomeAnswer now job content reply
 
@@ -41,7 +41,7 @@ module _ {T : Type 0} (s : Shop T) where
   pub record IsNoteSent (told : Notification) (turn : Turn) (id : ℕ) (reply : Option Emission) (before after : TrackedLog) : Type 0 where
     pub now : ℕ
     pub asked : TrackedLog
-    pub moment : s.moment now before asked
+    pub time : s.time now before asked
     pub random : ℕ
     pub random_is : s.random random
     pub noted : Noted
@@ -54,7 +54,7 @@ module _ {T : Type 0} (s : Shop T) where
   pub record IsNotification (turn : Turn) (found : Option Ticket) (reply : Option Emission) (before after : TrackedLog) : Type 0 where
     pub drawn : ℕ
     pub asked : TrackedLog
-    pub moment : s.moment drawn before asked
+    pub time : s.time drawn before asked
     pub id : ℕ
     pub log : TrackedLog
     pub draws : s.logged (DrawsId drawn (Some id)) asked log
@@ -67,7 +67,7 @@ module _ {T : Type 0} (s : Shop T) where
   pub record IsGivenUp (turn : Turn) (reply : Option Emission) (before after : TrackedLog) : Type 0 where
     pub now : ℕ
     pub asked : TrackedLog
-    pub moment : s.moment now before asked
+    pub time : s.time now before asked
     pub gives_up : s.logged (GivesUpTurn turn now) asked after
     pub nothing : reply ≡ None
 
@@ -75,7 +75,7 @@ module _ {T : Type 0} (s : Shop T) where
   pub record IsStarved (turn : Turn) (reply : Option Emission) (before after : TrackedLog) : Type 0 where
     pub now : ℕ
     pub asked : TrackedLog
-    pub moment : s.moment now before asked
+    pub time : s.time now before asked
     pub log : TrackedLog
     pub draws : s.logged (DrawsId now None) asked log
     pub draw : IsSomeDraw now None

@@ -4,9 +4,9 @@ use Rattle.std.specs.List.{All}
 use Rattle.fc_jobs.specs.Ends.{Channel, Got, nothing_got, with_got}
 use Rattle.fc_jobs.specs.declared.protocol.Numbered.{Numbered}
 use Rattle.fc_workers.specs.Logs.{TrackedLog}
-use Rattle.fc_workers.specs.Workers.{Seat, Share}
+use Rattle.fc_workers.specs.Workers.{WorkerSeed, Share}
 use Rattle.fc_workers.specs.Answers.{HasRisen, saturated}
-use Rattle.fc_workers.specs.Called.{Shop}
+use Rattle.fc_workers.specs.Called.{WorkerView}
 use Rattle.fc_workers.specs.Work.{IsReplied}
 
 -- the statistics of a worker that hasn't begun.
@@ -14,11 +14,11 @@ abbrev pub new_share : {T : Type 0} → Got → T → TrackedLog → Share T
 new_share got tallies log = record { tallies = tallies; log = log; got = got; sent = 0; failed = 0; refusals = 0; overtakings = 0 }
 
 -- a seat for each of these tallies, whose worker has received nothing yet.
-pub record AreNewSeats {T : Type 0} (channel : Channel) (tallies : List T) (seats : List (Seat T)) : Type 0 where
-  pub got : All (λ (s : Seat T). s.got ≡ nothing_got channel) seats
-  pub tallies_are : map (λ (s : Seat T). s.tallies) seats ≡ tallies
+pub record AreNewSeats {T : Type 0} (channel : Channel) (tallies : List T) (seats : List (WorkerSeed T)) : Type 0 where
+  pub got : All (λ (s : WorkerSeed T). s.got ≡ nothing_got channel) seats
+  pub tallies_are : map (λ (s : WorkerSeed T). s.tallies) seats ≡ tallies
 
-module _ {T : Type 0} (s : Shop T) where
+module _ {T : Type 0} (s : WorkerView T) where
   -- the worker received a job, ran it under its number, and ended it. Its reply is sent and
   -- counted.
   pub record IsTurn (n : Numbered) (before after : Share T) : Type 0 where
@@ -38,10 +38,10 @@ module _ {T : Type 0} (s : Shop T) where
     pub count : HasRisen (s.ended before.tallies) (length jobs) (s.ended after.tallies)
 
   -- the statistics of the worker with this seat, whose log goes on from the seat's.
-  pub record IsShareOf (seat : Seat T) (share : Share T) : Type 0 where
+  pub record IsShareOf (seat : WorkerSeed T) (share : Share T) : Type 0 where
     pub ended : HasEnded (new_share seat.got seat.tallies seat.log) share
 
-  -- the statistics for each seat, in the order of the seats.
-  pub record AreSharesOf (seats : List (Seat T)) (shares : List (Share T)) : Type 0 where
+  -- the statistics for each worker seed, in the order of the worker seeds.
+  pub record AreSharesOf (seats : List (WorkerSeed T)) (shares : List (Share T)) : Type 0 where
     pub count : length shares ≡ length seats
-    pub each : (i : ℕ) (seat : Seat T) (share : Share T) → i < length seats → IsShareOf (slice_index_or seats i seat) (slice_index_or shares i share)
+    pub each : (i : ℕ) (seat : WorkerSeed T) (share : Share T) → i < length seats → IsShareOf (slice_index_or seats i seat) (slice_index_or shares i share)

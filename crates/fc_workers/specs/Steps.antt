@@ -6,13 +6,13 @@ use Rattle.fc_registry.specs.declared.job.Job.{Job}
 use Rattle.fc_core.specs.Stage.{Stage}
 use Rattle.fc_core.specs.Stage.{ToMatch, ToTake, ToCommit, ToInstall, ToRemove, ToDescribe, ToList, ToRaise, ToAnswer, ToTell, Gone}
 use Rattle.fc_core.specs.Contents.{IsOf}
-use Rattle.fc_core.specs.Stages.{takings}
+use Rattle.fc_core.specs.Stages.{snapshots}
 use Rattle.fc_core.specs.Steps.{Call, next_stage}
 use Rattle.fc_workers.specs.Workers.{Share}
 use Rattle.fc_workers.specs.Logs.{TrackedLog}
 use Rattle.fc_calls.specs.Logged.{LoggedCall, LooksAt}
-use Rattle.fc_workers.specs.Called.{Shop}
-use Rattle.fc_workers.specs.Work.{AreCalls, HasCounted, IsCallAt, stage_after, takings_made, total}
+use Rattle.fc_workers.specs.Called.{WorkerView}
+use Rattle.fc_workers.specs.Work.{AreCalls, HasCounted, IsCallAt, stage_after, snapshots_made, total}
 
 -- it requests a run.
 abbrev pub AsksRun : Ask → Type 0
@@ -22,8 +22,8 @@ AsksRun other = ⊥
 -- a job before a snapshot may take one more. A ticket belongs to its job, and so does an answer. A
 -- job that lists head words has at least one left to read.
 abbrev pub IsReady : Job → Stage → Type 0
-IsReady job (ToTake n) = n < takings
-IsReady job (ToCommit n t) = (n ≤ takings) × (t.origin ≡ job.origin)
+IsReady job (ToTake n) = n < snapshots
+IsReady job (ToCommit n t) = (n ≤ snapshots) × (t.origin ≡ job.origin)
 IsReady job ToMatch = Unit {0}
 IsReady job ToInstall = Unit {0}
 IsReady job ToRemove = Unit {0}
@@ -36,9 +36,9 @@ IsReady job Gone = ⊥
 
 -- an upper bound on the number of calls that are left.
 abbrev pub calls_left : Stage → ℕ
-calls_left (ToTake n) = 2 * (takings - n) + 2
-calls_left (ToCommit n t) = 2 * (takings - n) + 3
-calls_left ToMatch = 2 * takings + 3
+calls_left (ToTake n) = 2 * (snapshots - n) + 2
+calls_left (ToCommit n t) = 2 * (snapshots - n) + 3
+calls_left ToMatch = 2 * snapshots + 3
 calls_left ToInstall = 2
 calls_left ToRemove = 2
 calls_left ToDescribe = 1
@@ -51,7 +51,7 @@ abbrev pub taken_at : Stage → ℕ
 taken_at ToMatch = 0
 taken_at (ToTake n) = n
 taken_at (ToCommit n t) = n
-taken_at other = takings
+taken_at other = snapshots
 
 -- a stage that can follow a call with this number of snapshots: the job is ready for it, and it is
 -- nearer to the end.
@@ -61,20 +61,20 @@ pub record Follows (job : Job) (old : Stage) (takes : ℕ) (new : Stage) : Type 
   pub few : taken_at old + takes ≤ taken_at new
 
 -- a call for the job with this number, and the stage and statistics after it.
-pub record IsStep {T : Type 0} (s : Shop T) (number : ℕ) (job : Job) (old new : Stage) (before after : Share T) : Type 0 where
+pub record IsStep {T : Type 0} (s : WorkerView T) (number : ℕ) (job : Job) (old new : Stage) (before after : Share T) : Type 0 where
   pub call : Call
   pub is : IsCallAt s number job old call before.log after.log
   pub next : new ≡ next_stage call
-  pub follows : Follows job old (takings_made call) new
+  pub follows : Follows job old (snapshots_made call) new
   pub counted : HasCounted s job.origin.slot (call ∷ []) before after
 
 -- the calls so far, and the stage that they led the job to.
-pub record Walked {T : Type 0} (s : Shop T) (number : ℕ) (job : Job) (stage : Stage) (before now : Share T) : Type 0 where
+pub record Walked {T : Type 0} (s : WorkerView T) (number : ℕ) (job : Job) (stage : Stage) (before now : Share T) : Type 0 where
   pub calls : List Call
   pub are : AreCalls s number job calls before.log now.log
   pub stands : stage ≡ stage_after job calls
   pub ready : IsReady job stage
-  pub few : total takings_made calls ≤ taken_at stage
+  pub few : total snapshots_made calls ≤ taken_at stage
   pub counted : HasCounted s job.origin.slot calls before now
 
 -- its next step is a snapshot.
@@ -118,7 +118,7 @@ abbrev pub IsLookedUp : (LoggedCall → TrackedLog → TrackedLog → Type 0) �
 IsLookedUp Logged job before after = (after ≡ before) ⊎ ((word : ℕ) × Logged (LooksAt job.origin.slot word) before after)
 
 -- the job was looked up, or it wasn't, and then took one snapshot, which led to this stage.
-pub record HasTaken {T : Type 0} (s : Shop T) (number : ℕ) (job : Job) (stage : Stage) (before after : Share T) : Type 0 where
+pub record HasTaken {T : Type 0} (s : WorkerView T) (number : ℕ) (job : Job) (stage : Stage) (before after : Share T) : Type 0 where
   pub log : TrackedLog
   pub looks : IsLookedUp s.logged job before.log log
   pub took : IsStep s number job (ToTake 0) stage (record before { log = log }) after

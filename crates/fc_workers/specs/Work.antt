@@ -19,21 +19,21 @@ use Rattle.fc_core.specs.Stage.{Stage}
 use Rattle.fc_core.specs.Stage.{ToAnswer}
 use Rattle.fc_core.specs.Contents.{Content, IsOf}
 use Rattle.fc_core.specs.Ends.{refused}
-use Rattle.fc_core.specs.Stages.{asked_stage, image_of, takings}
+use Rattle.fc_core.specs.Stages.{asked_stage, image_of, snapshots}
 use Rattle.fc_core.specs.Steps.{Call, Matches, Lists, Takes, Commits, Installs, Rejects, Refuses, Removes, Describes, Raises, called_at, next_stage}
-use Rattle.fc_workers.specs.Answers.{IsTakingWith, IsSomeCommit, IsSomeInstall, IsSomeReceipt, IsSomeRemoval, AreTallied, HasRisen, commit_overtakings, taking_refusals}
+use Rattle.fc_workers.specs.Answers.{IsSnapshotWith, IsSomeCommit, IsSomeInstall, IsSomeReceipt, IsSomeRemoval, AreTallied, HasRisen, commit_overtakings, snapshot_refusals}
 use Rattle.fc_calls.specs.Kept.{commit_changes, install_changes, removal_changes}
 use Rattle.fc_workers.specs.Logs.{TrackedLog}
 use Rattle.fc_calls.specs.Logged.{CommitsRun, InstallsProgram, LooksAt, RaisesWord, RemovesProgram, TellsReceipt}
-use Rattle.fc_workers.specs.Called.{EndsJob, Shop}
+use Rattle.fc_workers.specs.Called.{EndsJob, WorkerView}
 use Rattle.fc_workers.specs.Outgoing.{GivesAnswer, IsSent, IsTurnReply}
 use Rattle.fc_workers.specs.Workers.{Share}
 
 -- ---- counts of calls
 
-abbrev pub takings_made : Call → ℕ
-takings_made (Takes count taken) = 1
-takings_made other = 0
+abbrev pub snapshots_made : Call → ℕ
+snapshots_made (Takes count taken) = 1
+snapshots_made other = 0
 
 -- the changes of the job's slot by a call.
 abbrev pub change_by : Call → ℕ
@@ -44,7 +44,7 @@ change_by other = 0
 
 -- the refused allocations of a call.
 abbrev pub refusal_by : Call → ℕ
-refusal_by (Takes count taken) = taking_refusals taken
+refusal_by (Takes count taken) = snapshot_refusals taken
 refusal_by Refuses = 1
 refusal_by other = 0
 
@@ -62,7 +62,7 @@ abbrev pub stage_after : Job → List Call → Stage
 stage_after job [] = asked_stage job
 stage_after job (call ∷ calls) = next_stage call
 
-module _ {T : Type 0} (s : Shop T) where
+module _ {T : Type 0} (s : WorkerView T) where
   -- ---- calls
 
   -- the gate let the job with this number through, then the time was requested, and then the run of
@@ -72,7 +72,7 @@ module _ {T : Type 0} (s : Shop T) where
     pub gate : s.gate number before passed
     pub now : ℕ
     pub asked : TrackedLog
-    pub moment : s.moment now passed asked
+    pub time : s.time now passed asked
     pub commits : s.logged (CommitsRun now (run_of t) t committed) asked after
     pub commit : IsSomeCommit (run_of t) t committed
 
@@ -84,7 +84,7 @@ module _ {T : Type 0} (s : Shop T) where
   abbrev pub IsCallOf : ℕ → Job → Call → TrackedLog → TrackedLog → Type 0
   IsCallOf number job (Matches serials word) before after = (serials ≡ job.etags.items) × s.logged (LooksAt job.origin.slot word) before after
   IsCallOf number job (Lists seen word) before after = s.logged (LooksAt (length seen.items) word) before after
-  IsCallOf number job (Takes count taken) before after = IsTakingWith s.logged job taken before after
+  IsCallOf number job (Takes count taken) before after = IsSnapshotWith s.logged job taken before after
   IsCallOf number job (Commits count t committed) before after = IsCommitted number t committed before after
   IsCallOf number job (Installs p initial answer) before after =
       (judged (image_of job.ask) ≡ Accepts p) × (initial ≡ initial_vars_of job.ask) × s.logged (InstallsProgram job p answer) before after × IsSomeInstall initial p answer
@@ -123,7 +123,7 @@ module _ {T : Type 0} (s : Shop T) where
     pub calls : List Call
     pub are : AreCalls number job calls before.log after.log
     pub ends : stage_after job calls ≡ ToAnswer content
-    pub few : total takings_made calls ≤ takings
+    pub few : total snapshots_made calls ≤ snapshots
     pub own : IsOf job content
     pub counted : HasCounted job.origin.slot calls before after
 
@@ -152,7 +152,7 @@ module _ {T : Type 0} (s : Shop T) where
   pub record IsTurnWorked (job : Job) (turn : Turn) (before after : Share T) (reply : Option Emission) : Type 0 where
     pub taken : Taken
     pub log : TrackedLog
-    pub taking : IsTakingWith s.logged job taken before.log log
+    pub snapshot : IsSnapshotWith s.logged job taken before.log log
     pub told : IsTurnReply s turn taken reply log after.log
     pub kept : HasSameTallies before after
 

@@ -1,11 +1,11 @@
 -- A worker's seat and statistics, and the record of a dispatcher, with logs that have tracks.
 use Rattle.fc_workers.specs.declared.dispatcher.Dispatched.{Dispatched as DispatchedWith}
-use Rattle.fc_workers.specs.declared.seat.Seat.{Seat as SeatWith}
+use Rattle.fc_workers.specs.declared.worker_seed.WorkerSeed.{WorkerSeed as SeatWith}
 use Rattle.fc_workers.specs.declared.share.Share.{Share as ShareWith}
 use Rattle.fc_workers.specs.Logs.{TrackedLog}
 
-abbrev pub Seat : Type 0 → Type 0
-Seat T = SeatWith T TrackedLog
+abbrev pub WorkerSeed : Type 0 → Type 0
+WorkerSeed T = SeatWith T TrackedLog
 
 abbrev pub Share : Type 0 → Type 0
 Share T = ShareWith T TrackedLog

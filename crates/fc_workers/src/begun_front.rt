@@ -2,9 +2,9 @@
 ghost use Rattle.std.specs.Prelude.{◌≡◌, []};
 ghost use Rattle.fc_core.specs.Answering.{emission_of, responded};
 ghost use Rattle.fc_core.specs.Contents.{IsOf};
-ghost use Rattle.fc_core.specs.Receiving.{heard};
-ghost use Rattle.fc_calls.specs.Doings.{AdvancesTo, AnswersAt, DrawsAt, HearsAt};
-ghost use Rattle.fc_calls.specs.Logged.{AdvancesFront, AnswersRequest, DrawsId, HearsDatagram};
+ghost use Rattle.fc_core.specs.Receiving.{handled};
+ghost use Rattle.fc_calls.specs.Doings.{AdvancesTo, AnswersAt, DrawsAt, HandlesAt};
+ghost use Rattle.fc_calls.specs.Logged.{AdvancesFront, AnswersRequest, DrawsId, HandlesDatagram};
 ghost use Rattle.fc_linear.specs.Parts.{first_server};
 ghost use Rattle.fc_workers.specs.Asked.{IsFrontCall};
 ghost use Rattle.fc_workers.specs.Fronts.{BeganAt};
@@ -12,7 +12,7 @@ ghost use Rattle.fc_workers.specs.Fronts.{BeganAt};
 use crate::books::{Books, ServerOf};
 use crate::track_log::TrackLog;
 use coap_msg::{Emission, Endpoint};
-use fc_core::{Answer, Front, Heard, Responded};
+use fc_core::{Answer, Front, Handled, Responded};
 use fc_filed::{FiledFront, FiledTrack, FrontOf, ServerBook};
 use fc_registry::Job;
 use std::marker::PhantomData;
@@ -40,8 +40,8 @@ impl<B: Books> BegunFront<B> {
         }
     }
 
-    /// Handles a datagram, and files that. See [`Front::hear`].
-    pub(crate) fn hear(
+    /// Handles a datagram, and files that. See [`Front::handle`].
+    pub(crate) fn handle(
         &mut self,
         book: &ServerBook<ServerOf<B>>,
         log: &mut TrackLog<ServerOf<B>>,
@@ -50,13 +50,13 @@ impl<B: Books> BegunFront<B> {
         bytes: &[u8],
         job: &mut Job,
         reply: &mut Emission,
-    ) -> Heard
-        ensures { let brings = heard result job.new reply.new in
-            IsFrontCall B.first.front (HearsAt now endpoint bytes.now brings) (HearsDatagram now endpoint bytes.now brings) log.old log.new }
+    ) -> Handled
+        ensures { let brings = handled result job.new reply.new in
+            IsFrontCall B.first.front (HandlesAt now endpoint bytes.now brings) (HandlesDatagram now endpoint bytes.now brings) log.old log.new }
     {
         let tracks = &mut log.tracks;
         self.filed
-            .hear_for_first(book, tracks, log.who, now, endpoint, bytes, job, reply)
+            .handle_for_first(book, tracks, log.who, now, endpoint, bytes, job, reply)
     }
 
     /// Advances the clock to a time in milliseconds, and files that. See [`Front::tick`].

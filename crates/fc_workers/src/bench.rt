@@ -2,34 +2,34 @@
 ghost use Rattle.std.specs.Prelude.{◌≡◌, ℕ, ◌+◌, ◌<◌, ◌≤◌, ⊤, MatchBool};
 ghost use Rattle.atomic_table.specs.Seated.{TableId};
 ghost use Rattle.fc_core.specs.Contents.{IsOf};
-ghost use Rattle.fc_core.specs.Receiving.{emission_if, heard};
+ghost use Rattle.fc_core.specs.Receiving.{emission_if, handled};
 ghost use Rattle.fc_registry.specs.Calls.{initial_vars_of};
 ghost use Rattle.fc_registry.specs.Notes.{noted_as};
 ghost use Rattle.fc_registry.specs.Turns.{written_if};
 ghost use Rattle.fc_registry.specs.Views.{HasSize, taken_with};
 ghost use Rattle.fc_heads.specs.Heads.{IsRaised, fresh, peeked, word_of};
 ghost use Rattle.fc_workers.specs.Called.{BenchCall, LeavesUnquiet, LooksAhead};
-ghost use Rattle.fc_calls.specs.Logged.{AdvancesFront, AdvancesQuiet, GivesReadings, HandsSignal, LooksAt};
-ghost use Rattle.fc_calls.specs.Logged.{AdvancesShard, AnswersRequest, CommitsRun, DrawsId, GivesTurn, GivesUpTurn, HearsDatagram};
+ghost use Rattle.fc_calls.specs.Logged.{AdvancesFront, AdvancesIdle, GivesReadings, HandsSignal, LooksAt};
+ghost use Rattle.fc_calls.specs.Logged.{AdvancesShard, AnswersRequest, CommitsRun, DrawsId, GivesTurn, GivesUpTurn, HandlesDatagram};
 ghost use Rattle.fc_calls.specs.Logged.{InstallsProgram};
 ghost use Rattle.fc_calls.specs.Logged.{LoggedCall, NotesTurn, RaisesWord, RemovesProgram, TakesForJob, TellsReceipt};
 ghost use Rattle.fc_workers.specs.Logs.{TrackedLog as Log};
 ghost use Rattle.fc_workers.specs.Answers.{AreTallied, IsSomeAnswer, IsSomeCommit, IsSomeDelivery, IsSomeDraw, IsSomeInstall, IsSomeNote};
-ghost use Rattle.fc_workers.specs.Answers.{IsSomeQuiet, IsSomeReceipt, IsSomeRemoval, IsSomeTaking, IsSomeTick, IsSomeTurn};
+ghost use Rattle.fc_workers.specs.Answers.{IsSomeIdle, IsSomeReceipt, IsSomeRemoval, IsSomeSnapshot, IsSomeTick, IsSomeTurn};
 ghost use Rattle.fc_calls.specs.Kept.{commit_changes, install_changes, removal_changes};
 ghost use Rattle.fc_workers.specs.Answers.{ended_by, saturated};
 
 use crate::track_log::TrackLog;
 use coap_msg::{Emission, Endpoint};
-use fc_core::{Answer, Heard};
+use fc_core::{Answer, Handled};
 use fc_filed::ServerName;
 use fc_heads::HeadSeat;
 use fc_help::Readings;
 use fc_machine::Outcome;
 use fc_observe::{Ticked, Turn};
 use fc_registry::{
-    Committed, Found, Job, Made, NoteOutcome, Notification, Receipt, Removal, SlotNumber, Taken,
-    Ticket,
+    Committed, Job, Made, NoteOutcome, Notification, Receipt, Removal, SlotNumber, SlotSnapshot,
+    Taken, Ticket,
 };
 use fc_verify::Verified;
 use std::sync::{Arc, Wait};
@@ -73,8 +73,8 @@ pub trait Bench {
     /// Handles a datagram, at a time in milliseconds.
     ///
     /// Its job or its reply is written over `job` or `reply`. See
-    /// [`Front::hear`](fc_core::Front::hear).
-    fn hear<R: Wait>(
+    /// [`Front::handle`](fc_core::Front::hear).
+    fn handle<R: Wait>(
         &self,
         rt: &R,
         now: u64,
@@ -83,9 +83,9 @@ pub trait Bench {
         job: &mut Job,
         reply: &mut Emission,
         log: &mut TrackLog<Self::Book>,
-    ) -> Heard
-        ensures heard { IsSomeDelivery now endpoint bytes.now (heard result job.new reply.new) }
-        ensures logged { logged (HearsDatagram now endpoint bytes.now (heard result job.new reply.new)) log.old log.new };
+    ) -> Handled
+        ensures handled { IsSomeDelivery now endpoint bytes.now (handled result job.new reply.new) }
+        ensures logged { logged (HandlesDatagram now endpoint bytes.now (handled result job.new reply.new)) log.old log.new };
 
     /// Advances the front to a time in milliseconds.
     ///
@@ -107,17 +107,17 @@ pub trait Bench {
     /// Takes a snapshot of a job's slot, with these readings.
     ///
     /// It is written over `found`. A stale result ends the job of a lease. See
-    /// [`Shard::write_taking`](fc_registry::Shard::write_taking).
+    /// [`Shard::take_into`](fc_registry::Shard::take_into).
     fn take<R: Wait>(
         &self,
         rt: &R,
         job: &Job,
         readings: &Readings,
-        found: &mut Found,
+        found: &mut SlotSnapshot,
         tallies: &mut Self::Tallies,
         log: &mut TrackLog<Self::Book>,
     ) -> Taken
-        ensures taken { IsSomeTaking job.now readings.now (taken_with result found.new) }
+        ensures taken { IsSomeSnapshot job.now readings.now (taken_with result found.new) }
         ensures size { HasSize result found.new }
         ensures logged { logged (TakesForJob job.now readings.now (taken_with result found.new)) log.old log.new }
         ensures changes { (shard : ℕ) → shard < 8 →
@@ -206,23 +206,23 @@ pub trait Bench {
     ///
     /// It is idle if no notification has timed out and no observer has a pending one. Returns
     /// whether the shard was advanced. If it wasn't, nothing changes, and the log doesn't have the
-    /// call. See [`Shard::advance_if_quiet`](fc_registry::Shard::advance_if_quiet).
-    fn advance_if_quiet<R: Wait>(
+    /// call. See [`Shard::advance_if_idle`](fc_registry::Shard::advance_if_idle).
+    fn advance_if_idle<R: Wait>(
         &self,
         rt: &R,
         shard: u8,
         now: u64,
         log: &mut TrackLog<Self::Book>,
     ) -> bool
-        ensures quiet { IsSomeQuiet now result }
-        ensures logged { MatchBool result (logged (AdvancesQuiet shard now) log.old log.new)
+        ensures idle { IsSomeIdle now result }
+        ensures logged { MatchBool result (logged (AdvancesIdle shard now) log.old log.new)
             (called (LeavesUnquiet shard now) × (log.new ≡ log.old)) };
 
     /// Returns a time before which a shard, 0 to 7, stays idle, unless it is called.
     ///
     /// Before it no notification has timed out, and no observer has a pending one. See
-    /// [`Shard::quiet_until`](fc_registry::Shard::quiet_until).
-    fn quiet_until<R: Wait>(&self, rt: &R, shard: u8) -> u64
+    /// [`Shard::idle_until`](fc_registry::Shard::idle_until).
+    fn idle_until<R: Wait>(&self, rt: &R, shard: u8) -> u64
         ensures { called (LooksAhead shard result) };
 
     /// Asks a shard, 0 to 7, for its next lease, at a time in milliseconds.

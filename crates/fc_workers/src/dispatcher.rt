@@ -1,23 +1,23 @@
 //! The dispatcher, which sends jobs to workers or runs them itself.
 ghost use Rattle.std.specs.Prelude.{◌≡◌, ◌<◌, true, MatchBool, None};
 ghost use Rattle.fc_jobs.specs.Ends.{with_sent};
-ghost use Rattle.fc_workers.specs.Answers.{IsSomeQuiet, IsSomeTick};
-ghost use Rattle.fc_calls.specs.Logged.{AdvancesFront, AdvancesQuiet, AdvancesShard};
-ghost use Rattle.fc_workers.specs.Called.{LeavesUnquiet, LooksAhead, shop};
-ghost use Rattle.fc_workers.specs.Dispatch.{AreSignalled, HasCalled, IsDear, IsDearAt, IsDispatched, IsPriced, IsTakenIn, IsTurnAsked, IsWorkedHere, MayGo, logged_at};
+ghost use Rattle.fc_workers.specs.Answers.{IsSomeIdle, IsSomeTick};
+ghost use Rattle.fc_calls.specs.Logged.{AdvancesFront, AdvancesIdle, AdvancesShard};
+ghost use Rattle.fc_workers.specs.Called.{LeavesUnquiet, LooksAhead, worker_view};
+ghost use Rattle.fc_workers.specs.Dispatch.{AreSignalled, HasCalled, IsExpensive, IsExpensiveAt, IsDispatched, IsPriced, IsTakenIn, IsTurnAsked, IsWorkedHere, MayGo, logged_at};
 ghost use Rattle.fc_workers.specs.Logs.{TrackedLog as Log};
-ghost use Rattle.fc_workers.specs.declared.dispatcher.Handover.TheVariants.{Dear};
+ghost use Rattle.fc_workers.specs.declared.dispatcher.Offload.TheVariants.{Expensive};
 ghost use Rattle.fc_workers.specs.Shares.{new_share};
 
 use crate::bench::Bench;
-use crate::seat::Seat;
+use crate::context::{Context, Gate, TimeSource, Wire};
+use crate::scratch::Scratch;
 use crate::share::Share;
-use crate::tools::Tools;
 use crate::track_log::TrackLog;
-use crate::workshop::{Gate, Moments, Wire, Workshop};
+use crate::worker_seed::WorkerSeed;
 use coap_msg::{Emission, Endpoint};
 use fc_core::front::blank_job;
-use fc_core::{Heard, Step};
+use fc_core::{Handled, Step};
 use fc_jobs::{Jobs, Sent};
 use fc_observe::Ticked;
 use fc_registry::{Ask, Job, SHARDS};
@@ -31,7 +31,7 @@ pub const UNSENT: u64 = u64::MAX;
 
 /// The policy that decides which jobs go to workers.
 #[derive(Clone, Copy)]
-pub enum Handover {
+pub enum Offload {
     /// All jobs, if there is a worker.
     ///
     /// The dispatcher waits for the first worker that asks for a job.
@@ -40,7 +40,7 @@ pub enum Handover {
     ///
     /// A program is expensive if it may run for this many instructions or more. It is the program
     /// that the job's slot has when the job arrives.
-    Dear(u32),
+    Expensive(u32),
     /// None.
     Never,
 }
@@ -61,42 +61,42 @@ pub struct Dispatched<T: Drop, L: Drop> {
 /// The dispatcher runs every job itself while no worker has asked for one: the memory to start the
 /// workers may have been refused.
 #[derive(Drop)]
-pub struct Dispatcher<'a, B: Bench, G: Gate, W: Wire, M: Moments> {
-    workshop: &'a Workshop<'a, B, G, W, M>,
+pub struct Dispatcher<'a, B: Bench, G: Gate, W: Wire, M: TimeSource> {
+    context: &'a Context<'a, B, G, W, M>,
     jobs: &'a Jobs,
-    handover: Handover,
+    offload: Offload,
     job: Job,
-    tools: Tools,
+    scratch: Scratch,
     done: Dispatched<B::Tallies, TrackLog<B::Book>>,
     ghost channel: { done.sent.channel ≡ jobs.now },
-    ghost heads: { tools.heads.table ≡ B.heads workshop.now.bench.now },
+    ghost heads: { scratch.heads.table ≡ B.heads context.now.bench.now },
 }
 
-impl<'a, B: Bench, G: Gate, W: Wire, M: Moments> Dispatcher<'a, B, G, W, M> {
+impl<'a, B: Bench, G: Gate, W: Wire, M: TimeSource> Dispatcher<'a, B, G, W, M> {
     /// Makes a dispatcher with this seat, which sends its jobs by `sent`.
     pub fn new(
-        workshop: &'a Workshop<'a, B, G, W, M>,
+        context: &'a Context<'a, B, G, W, M>,
         jobs: &'a Jobs,
         sent: Sent,
-        seat: Seat<B::Tallies, TrackLog<B::Book>>,
-        handover: Handover,
+        seat: WorkerSeed<B::Tallies, TrackLog<B::Book>>,
+        offload: Offload,
     ) -> Dispatcher<'a, B, G, W, M>
         requires { sent.channel ≡ jobs.now }
         ensures done { result.done ≡ record { sent = sent; share = new_share seat.got seat.tallies seat.log } }
-        ensures handover { result.handover ≡ handover }
+        ensures offload { result.offload ≡ offload }
     {
-        let Seat {
+        let WorkerSeed {
             got,
             tallies,
             log,
             frame,
         } = seat;
         Dispatcher {
-            workshop,
+            context,
             jobs,
-            handover,
+            offload,
             job: blank_job(),
-            tools: Tools::new(workshop.bench, frame),
+            scratch: Scratch::new(context.bench, frame),
             done: Dispatched {
                 sent,
                 share: Share::new(got, tallies, log),
@@ -116,39 +116,39 @@ impl<'a, B: Bench, G: Gate, W: Wire, M: Moments> Dispatcher<'a, B, G, W, M> {
     /// Handles a datagram, at a time in milliseconds.
     ///
     /// A reply is written over `reply`, a job is dispatched, and a signal goes to each shard.
-    pub fn hear<R: Wait>(
+    pub fn handle<R: Wait>(
         &mut self,
         rt: &R,
         now: u64,
         from: Endpoint,
         bytes: &[u8],
         reply: &mut Emission,
-    ) -> Heard
-        ensures taken_in { IsTakenIn (shop B.changes B.ended B.called B.logged M.is_moment M.is_random G.passed W.called)
-            self.old.handover now from bytes.now result reply.new self.old.done self.new.done }
-        ensures handover { self.new.handover ≡ self.old.handover }
+    ) -> Handled
+        ensures taken_in { IsTakenIn (worker_view B.changes B.ended B.called B.logged M.is_time M.is_random G.passed W.called)
+            self.old.offload now from bytes.now result reply.new self.old.done self.new.done }
+        ensures offload { self.new.offload ≡ self.old.offload }
     {
         let log = &mut self.done.share.log;
-        let heard = self
-            .workshop
+        let handled = self
+            .context
             .bench
-            .hear(rt, now, from, bytes, &mut self.job, reply, log);
-        match heard {
-            Heard::Nothing | Heard::Reply => {}
-            Heard::Job => self.dispatch(rt),
-            Heard::Signal { mid, reset } => self.signal(rt, from, mid, reset),
+            .handle(rt, now, from, bytes, &mut self.job, reply, log);
+        match handled {
+            Handled::Nothing | Handled::Reply => {}
+            Handled::Job => self.dispatch(rt),
+            Handled::Signal { mid, reset } => self.signal(rt, from, mid, reset),
         }
-        heard
+        handled
     }
 
     /// Advances the front to a time in milliseconds.
     pub fn tick<R: Wait>(&mut self, rt: &R, now: u64)
         ensures logged { B.logged (AdvancesFront now) self.old.done.share.log self.new.done.share.log }
         ensures kept { HasCalled self.old.done self.new.done }
-        ensures handover { self.new.handover ≡ self.old.handover }
+        ensures offload { self.new.offload ≡ self.old.offload }
     {
         let log = &mut self.done.share.log;
-        self.workshop.bench.tick(rt, now, log);
+        self.context.bench.tick(rt, now, log);
     }
 
     /// Advances a shard, 0 to 7, to a time in milliseconds.
@@ -158,34 +158,34 @@ impl<'a, B: Bench, G: Gate, W: Wire, M: Moments> Dispatcher<'a, B, G, W, M> {
         ensures ticked { IsSomeTick now result }
         ensures logged { B.logged (AdvancesShard shard now result) self.old.done.share.log self.new.done.share.log }
         ensures kept { HasCalled self.old.done self.new.done }
-        ensures handover { self.new.handover ≡ self.old.handover }
+        ensures offload { self.new.offload ≡ self.old.offload }
     {
         let log = &mut self.done.share.log;
-        self.workshop.bench.tick_shard(rt, shard, now, log)
+        self.context.bench.tick_shard(rt, shard, now, log)
     }
 
     /// Advances a shard, 0 to 7, to a time in milliseconds if it is idle then.
     ///
     /// It is idle if no notification has timed out and no observer has a pending one. Returns
     /// whether the shard was advanced. If it wasn't, nothing changes.
-    pub fn advance_if_quiet<R: Wait>(&mut self, rt: &R, shard: u8, now: u64) -> bool
-        ensures quiet { IsSomeQuiet now result }
+    pub fn advance_if_idle<R: Wait>(&mut self, rt: &R, shard: u8, now: u64) -> bool
+        ensures idle { IsSomeIdle now result }
         ensures passed { MatchBool result
-            (B.logged (AdvancesQuiet shard now) self.old.done.share.log self.new.done.share.log × HasCalled self.old.done self.new.done)
+            (B.logged (AdvancesIdle shard now) self.old.done.share.log self.new.done.share.log × HasCalled self.old.done self.new.done)
             (B.called (LeavesUnquiet shard now) × (self.new.done ≡ self.old.done)) }
-        ensures handover { self.new.handover ≡ self.old.handover }
+        ensures offload { self.new.offload ≡ self.old.offload }
     {
         let log = &mut self.done.share.log;
-        self.workshop.bench.advance_if_quiet(rt, shard, now, log)
+        self.context.bench.advance_if_idle(rt, shard, now, log)
     }
 
     /// Returns a time before which a shard, 0 to 7, stays idle, unless it is called.
     ///
     /// Before it no notification has timed out, and no observer has a pending one.
-    pub fn quiet_until<R: Wait>(&self, rt: &R, shard: u8) -> u64
+    pub fn idle_until<R: Wait>(&self, rt: &R, shard: u8) -> u64
         ensures { B.called (LooksAhead shard result) }
     {
-        self.workshop.bench.quiet_until(rt, shard)
+        self.context.bench.idle_until(rt, shard)
     }
 
     /// Asks a shard, 0 to 7, for its next lease, and dispatches the lease's job.
@@ -193,13 +193,13 @@ impl<'a, B: Bench, G: Gate, W: Wire, M: Moments> Dispatcher<'a, B, G, W, M> {
     /// The lease is that of the first observer with a pending notification at a time in
     /// milliseconds. Returns whether there was one.
     pub fn notify<R: Wait>(&mut self, rt: &R, shard: u8, now: u64) -> bool
-        ensures asked { IsTurnAsked (shop B.changes B.ended B.called B.logged M.is_moment M.is_random G.passed W.called)
-            self.old.handover shard now result self.old.done self.new.done }
-        ensures handover { self.new.handover ≡ self.old.handover }
+        ensures asked { IsTurnAsked (worker_view B.changes B.ended B.called B.logged M.is_time M.is_random G.passed W.called)
+            self.old.offload shard now result self.old.done self.new.done }
+        ensures offload { self.new.offload ≡ self.old.offload }
     {
         let log = &mut self.done.share.log;
         let given = self
-            .workshop
+            .context
             .bench
             .next_due(rt, shard, now, &mut self.job, log);
         if given {
@@ -211,21 +211,23 @@ impl<'a, B: Bench, G: Gate, W: Wire, M: Moments> Dispatcher<'a, B, G, W, M> {
     // Sends its job to the workers, if its policy lets it, or runs it. If the policy depends on the
     // cost of a run, a request is begun first.
     fn dispatch<R: Wait>(&mut self, rt: &R)
-        ensures dispatched { IsDispatched (shop B.changes B.ended B.called B.logged M.is_moment M.is_random G.passed W.called)
-            self.old.handover self.old.job self.old.done self.new.done }
-        ensures handover { self.new.handover ≡ self.old.handover }
+        ensures dispatched { IsDispatched (worker_view B.changes B.ended B.called B.logged M.is_time M.is_random G.passed W.called)
+            self.old.offload self.old.job self.old.done self.new.done }
+        ensures offload { self.new.offload ≡ self.old.offload }
     {
-        match self.handover {
-            Handover::Dear(least) if self.job.turn.is_none() => self.dispatch_request(rt, least),
+        match self.offload {
+            Offload::Expensive(least) if self.job.turn.is_none() => self.dispatch_request(
+                rt, least,
+            ),
             _ => self.dispatch_whole(rt),
         }
     }
 
     // Sends its job to the workers, if its policy lets it, or runs it.
     fn dispatch_whole<R: Wait>(&mut self, rt: &R)
-        ensures dispatched { IsDispatched (shop B.changes B.ended B.called B.logged M.is_moment M.is_random G.passed W.called)
-            self.old.handover self.old.job self.old.done self.new.done }
-        ensures handover { self.new.handover ≡ self.old.handover }
+        ensures dispatched { IsDispatched (worker_view B.changes B.ended B.called B.logged M.is_time M.is_random G.passed W.called)
+            self.old.offload self.old.job self.old.done self.new.done }
+        ensures offload { self.new.offload ≡ self.old.offload }
     {
         let goes = self.may_go(rt);
         let sent = self.send_if(rt, goes);
@@ -238,27 +240,33 @@ impl<'a, B: Bench, G: Gate, W: Wire, M: Moments> Dispatcher<'a, B, G, W, M> {
     // workers, which begin it again. Otherwise continues it from there.
     fn dispatch_request<R: Wait>(&mut self, rt: &R, least: u32)
         requires { self.old.job.turn ≡ None }
-        ensures dispatched { IsDispatched (shop B.changes B.ended B.called B.logged M.is_moment M.is_random G.passed W.called)
-            (Dear least) self.old.job self.old.done self.new.done }
-        ensures handover { self.new.handover ≡ self.old.handover }
+        ensures dispatched { IsDispatched (worker_view B.changes B.ended B.called B.logged M.is_time M.is_random G.passed W.called)
+            (Expensive least) self.old.job self.old.done self.new.done }
+        ensures offload { self.new.offload ≡ self.old.offload }
     {
-        self.workshop
-            .begin(rt, &mut self.tools, &self.job, &mut self.done.share);
-        let goes = self.stands_dear(least);
+        self.context
+            .begin(rt, &mut self.scratch, &self.job, &mut self.done.share);
+        let goes = self.stands_expensive(least);
         let sent = self.send_if(rt, goes);
         if sent {
             self.forget();
         } else {
-            self.workshop.work_begun(rt, &mut self.tools, UNSENT, &self.job, &mut self.done.share);
+            self.context.work_begun(
+                rt,
+                &mut self.scratch,
+                UNSENT,
+                &self.job,
+                &mut self.done.share,
+            );
         }
     }
 
     // Drops the handle of the program from its job's snapshot.
     fn forget(&mut self)
         ensures done { self.new.done ≡ self.old.done }
-        ensures handover { self.new.handover ≡ self.old.handover }
+        ensures offload { self.new.offload ≡ self.old.offload }
     {
-        self.tools.stage.step = Step::Gone;
+        self.scratch.stage.step = Step::Gone;
     }
 
     // Sends its job to the workers if `goes`. Returns whether it was sent.
@@ -266,8 +274,8 @@ impl<'a, B: Bench, G: Gate, W: Wire, M: Moments> Dispatcher<'a, B, G, W, M> {
         ensures sent { MatchBool result
             ((goes ≡ true) × (self.new.done ≡ record self.old.done { sent = with_sent self.old.done.sent self.old.job }))
             ((self.new.done ≡ self.old.done) × (self.new.job ≡ self.old.job)) }
-        ensures tools { self.new.tools ≡ self.old.tools }
-        ensures handover { self.new.handover ≡ self.old.handover }
+        ensures scratch { self.new.scratch ≡ self.old.scratch }
+        ensures offload { self.new.offload ≡ self.old.offload }
     {
         if goes { self.send(rt) } else { false }
     }
@@ -277,8 +285,8 @@ impl<'a, B: Bench, G: Gate, W: Wire, M: Moments> Dispatcher<'a, B, G, W, M> {
         ensures sent { MatchBool result
             (self.new.done ≡ record self.old.done { sent = with_sent self.old.done.sent self.old.job })
             ((self.new.done ≡ self.old.done) × (self.new.job ≡ self.old.job)) }
-        ensures tools { self.new.tools ≡ self.old.tools }
-        ensures handover { self.new.handover ≡ self.old.handover }
+        ensures scratch { self.new.scratch ≡ self.old.scratch }
+        ensures offload { self.new.offload ≡ self.old.offload }
     {
         let job = mem::replace(&mut self.job, blank_job());
         match self.jobs.send(rt, job, &mut self.done.sent) {
@@ -294,44 +302,44 @@ impl<'a, B: Bench, G: Gate, W: Wire, M: Moments> Dispatcher<'a, B, G, W, M> {
     // or wasn't requested.
     fn work<R: Wait>(&mut self, rt: &R)
         ensures worked { (log : Log)
-            → IsPriced (shop B.changes B.ended B.called B.logged M.is_moment M.is_random G.passed W.called) self.old.job log self.old.done.share.log
-            → IsWorkedHere (shop B.changes B.ended B.called B.logged M.is_moment M.is_random G.passed W.called)
+            → IsPriced (worker_view B.changes B.ended B.called B.logged M.is_time M.is_random G.passed W.called) self.old.job log self.old.done.share.log
+            → IsWorkedHere (worker_view B.changes B.ended B.called B.logged M.is_time M.is_random G.passed W.called)
             self.old.job (logged_at log self.old.done) self.new.done }
-        ensures handover { self.new.handover ≡ self.old.handover }
+        ensures offload { self.new.offload ≡ self.old.offload }
     {
         let done = &mut self.done;
-        self.workshop
-            .work(rt, &mut self.tools, UNSENT, &self.job, &mut done.share);
+        self.context
+            .work(rt, &mut self.scratch, UNSENT, &self.job, &mut done.share);
     }
 
     // Returns whether its job may go to the workers as it arrived. No job does before one of them
     // has asked for a job; if all jobs are to go, the dispatcher waits for that.
     fn may_go<R: Wait>(&mut self, rt: &R) -> bool
-        ensures may { result ≡ true → MayGo (shop B.changes B.ended B.called B.logged M.is_moment M.is_random G.passed W.called)
-            self.old.handover self.old.job self.old.done.share self.new.done.share }
-        ensures priced { IsPriced (shop B.changes B.ended B.called B.logged M.is_moment M.is_random G.passed W.called)
+        ensures may { result ≡ true → MayGo (worker_view B.changes B.ended B.called B.logged M.is_time M.is_random G.passed W.called)
+            self.old.offload self.old.job self.old.done.share self.new.done.share }
+        ensures priced { IsPriced (worker_view B.changes B.ended B.called B.logged M.is_time M.is_random G.passed W.called)
             self.old.job self.old.done.share.log self.new.done.share.log }
         ensures kept { HasCalled self.old.done self.new.done }
         ensures job { self.new.job ≡ self.old.job }
-        ensures tools { self.new.tools ≡ self.old.tools }
-        ensures handover { self.new.handover ≡ self.old.handover }
+        ensures scratch { self.new.scratch ≡ self.old.scratch }
+        ensures offload { self.new.offload ≡ self.old.offload }
     {
-        match self.handover {
-            Handover::Every => self.jobs.await_worker(rt),
-            Handover::Dear(least) => {
+        match self.offload {
+            Offload::Every => self.jobs.await_worker(rt),
+            Offload::Expensive(least) => {
                 let log = &mut self.done.share.log;
-                self.jobs.is_served() && self.workshop.is_dear(rt, least, &self.job, log)
+                self.jobs.is_served() && self.context.is_expensive(rt, least, &self.job, log)
             }
-            Handover::Never => false,
+            Offload::Never => false,
         }
     }
 
     // Returns whether its job's next step is the commit of a program of this cost or more, and a
     // worker has asked for a job.
-    fn stands_dear(&self, least: u32) -> bool
-        ensures { result ≡ true → IsDearAt least self.now.tools.stage }
+    fn stands_expensive(&self, least: u32) -> bool
+        ensures { result ≡ true → IsExpensiveAt least self.now.scratch.stage }
     {
-        match &self.tools.stage.step {
+        match &self.scratch.stage.step {
             Step::ToCommit(_, program) => program.cost() >= least && self.jobs.is_served(),
             _ => false,
         }
@@ -339,23 +347,29 @@ impl<'a, B: Bench, G: Gate, W: Wire, M: Moments> Dispatcher<'a, B, G, W, M> {
 
     // Passes a signal to each shard.
     fn signal<R: Wait>(&mut self, rt: &R, from: Endpoint, id: u16, reset: bool)
-        ensures signalled { AreSignalled (shop B.changes B.ended B.called B.logged M.is_moment M.is_random G.passed W.called)
+        ensures signalled { AreSignalled (worker_view B.changes B.ended B.called B.logged M.is_time M.is_random G.passed W.called)
             8 from id reset self.old.done.share.log self.new.done.share.log }
         ensures kept { HasCalled self.old.done self.new.done }
-        ensures handover { self.new.handover ≡ self.old.handover }
+        ensures offload { self.new.offload ≡ self.old.offload }
     {
         let log = &mut self.done.share.log;
-        self.workshop.signal(rt, from, id, reset, log);
+        self.context.signal(rt, from, id, reset, log);
     }
 }
 
-impl<'a, B: Bench, G: Gate, W: Wire, M: Moments> Workshop<'a, B, G, W, M> {
+impl<'a, B: Bench, G: Gate, W: Wire, M: TimeSource> Context<'a, B, G, W, M> {
     // Returns whether a job requests a run of this many instructions or more, by the program that
     // its slot has now.
-    fn is_dear<R: Wait>(&self, rt: &R, least: u32, job: &Job, log: &mut TrackLog<B::Book>) -> bool
-        ensures dear { result ≡ true → IsDear (shop B.changes B.ended B.called B.logged M.is_moment M.is_random G.passed W.called)
+    fn is_expensive<R: Wait>(
+        &self,
+        rt: &R,
+        least: u32,
+        job: &Job,
+        log: &mut TrackLog<B::Book>,
+    ) -> bool
+        ensures expensive { result ≡ true → IsExpensive (worker_view B.changes B.ended B.called B.logged M.is_time M.is_random G.passed W.called)
             least job.now log.old log.new }
-        ensures priced { IsPriced (shop B.changes B.ended B.called B.logged M.is_moment M.is_random G.passed W.called)
+        ensures priced { IsPriced (worker_view B.changes B.ended B.called B.logged M.is_time M.is_random G.passed W.called)
             job.now log.old log.new }
     {
         match &job.ask {
@@ -376,7 +390,7 @@ impl<'a, B: Bench, G: Gate, W: Wire, M: Moments> Workshop<'a, B, G, W, M> {
         reset: bool,
         log: &mut TrackLog<B::Book>,
     )
-        ensures { AreSignalled (shop B.changes B.ended B.called B.logged M.is_moment M.is_random G.passed W.called)
+        ensures { AreSignalled (worker_view B.changes B.ended B.called B.logged M.is_time M.is_random G.passed W.called)
             8 from id reset log.old log.new }
     {
         'shards: for shard in 0..SHARDS {

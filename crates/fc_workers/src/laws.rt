@@ -13,24 +13,24 @@ ghost use Rattle.fc_registry.specs.declared.note.Noted.{Noted};
 ghost use Rattle.fc_registry.specs.declared.note.Notification.{Notification};
 ghost use Rattle.fc_workers.specs.Asked.{IsLoggedCall};
 ghost use Rattle.fc_workers.specs.Fronts.{beginning};
-ghost use Rattle.fc_workers.specs.Called.{shop};
+ghost use Rattle.fc_workers.specs.Called.{worker_view};
 ghost use Rattle.fc_workers.specs.Dispatch.{IsDone};
 ghost use Rattle.fc_workers.specs.Logs.{TrackedLog as Log};
 ghost use Rattle.fc_workers.specs.Workers.{Dispatched};
-ghost use Rattle.fc_workers.specs.declared.dispatcher.Handover.{Handover};
+ghost use Rattle.fc_workers.specs.declared.dispatcher.Offload.{Offload};
 
 use crate::bench::Bench;
 use crate::books::Books;
+use crate::context::{Gate, TimeSource, Wire};
 use crate::device::Device;
-use crate::workshop::{Gate, Moments, Wire};
 
 /// A dispatcher passes each signal to shards 0 to 7.
 ///
 /// A signal is a Reset message or an Acknowledgement. Each shard gets it once, in this order, as it
 /// was received. The dispatcher's log has no other call.
-pub fn signals_reach_eight_shards<B: Bench, G: Gate, W: Wire, M: Moments>()
-    ensures { (handover : Handover) (from : Endpoint) (id : ℕ) (reset : Bool) (old new : Dispatched B.Tallies)
-        → IsDone (shop B.changes B.ended B.called B.logged M.is_moment M.is_random G.passed W.called) handover from (Signal id reset) old new
+pub fn signals_reach_eight_shards<B: Bench, G: Gate, W: Wire, M: TimeSource>()
+    ensures { (offload : Offload) (from : Endpoint) (id : ℕ) (reset : Bool) (old new : Dispatched B.Tallies)
+        → IsDone (worker_view B.changes B.ended B.called B.logged M.is_time M.is_random G.passed W.called) offload from (Signal id reset) old new
         → (a b c d e f g : Log) × B.logged (HandsSignal 0 from id reset) old.share.log a × B.logged (HandsSignal 1 from id reset) a b
         × B.logged (HandsSignal 2 from id reset) b c × B.logged (HandsSignal 3 from id reset) c d × B.logged (HandsSignal 4 from id reset) d e
         × B.logged (HandsSignal 5 from id reset) e f × B.logged (HandsSignal 6 from id reset) f g × B.logged (HandsSignal 7 from id reset) g new.share.log }

@@ -24,16 +24,16 @@
 //! use fc_jobs::{Jobs, Sent};
 //! use fc_registry::Job;
 //! use fc_workers::{
-//!     Bench, Gate, Moments, Share, TrackLog, Wire, Workshop, feed_workers, make_seats,
+//!     Bench, Gate, TimeSource, Share, TrackLog, Wire, Context, drive_workers, make_seats,
 //! };
 //! use std::alloc::AllocError;
 //! use std::sync::Wait;
 //! use std::thread::Threads;
 //!
 //! /// Runs one job, with a worker for each of these tallies and logs, and returns their statistics.
-//! fn work_one<B: Bench + Sync, G: Gate + Sync, W: Wire + Sync, M: Moments + Sync, R>(
+//! fn work_one<B: Bench + Sync, G: Gate + Sync, W: Wire + Sync, M: TimeSource + Sync, R>(
 //!     rt: &R,
-//!     workshop: &Workshop<'_, B, G, W, M>,
+//!     context: &Context<'_, B, G, W, M>,
 //!     tallies: Vec<B::Tallies>,
 //!     logs: Vec<TrackLog<B::Book>>,
 //!     job: Job,
@@ -42,9 +42,9 @@
 //!     R: Threads + Wait + Sync,
 //!     requires { vec_len logs ≡ vec_len tallies }
 //! {
-//!     let (jobs, mut sent, seats) = make_seats(workshop.alloc, tallies, logs)?;
+//!     let (jobs, mut sent, seats) = make_seats(context.alloc, tallies, logs)?;
 //!     let channel = &jobs;
-//!     let (_back, shares) = feed_workers(rt, workshop, channel, seats, move |_staffed| -> Option<Job>
+//!     let (_back, shares) = drive_workers(rt, context, channel, seats, move |_staffed| -> Option<Job>
 //!         requires { sent.channel ≡ channel.now }
 //!     { channel.send(rt, job, &mut sent) });
 //!     shares
@@ -116,8 +116,8 @@
 //!   server returns; which random word its shard gets; that it releases the given lease; that the
 //!   entries of one job have a track of their own; and that a call returns.
 //!
-//! By the contracts of `Workshop::work_off`, `Workshop::work`, `worker`, `run_workers`,
-//! `feed_workers`, `Dispatcher::hear`, `Dispatcher::notify`, the clauses of `Bench`, `Counted`,
+//! By the contracts of `Context::work_off`, `Context::work`, `worker`, `run_workers`,
+//! `drive_workers`, `Dispatcher::handle`, `Dispatcher::notify`, the clauses of `Bench`, `Counted`,
 //! `Locked::new`, `close`, `laws`.
 #![tactic(auto)]
 
@@ -127,6 +127,7 @@ pub mod blanks;
 pub mod books;
 pub mod call_log;
 pub mod closed;
+pub mod context;
 pub mod counted_shard;
 pub mod device;
 pub mod dispatcher;
@@ -134,32 +135,31 @@ pub mod laws;
 mod locked_shard;
 pub mod notify;
 pub mod pool;
-pub mod reserve;
-pub mod seat;
+pub mod scratch;
 pub mod server;
 pub mod share;
 pub mod tallies;
 pub mod tally;
-pub mod tools;
 pub mod track_log;
+pub mod unassigned;
 pub mod work;
-pub mod workshop;
+pub mod worker_seed;
 
 pub use bench::Bench;
 pub use blanks::Blanks;
 pub use books::{BookOf, Books, ServerOf};
 pub use call_log::CallLog;
 pub use closed::ClosedServer;
+pub use context::{Context, Gate, TimeSource, Wire};
 pub use counted_shard::Counted;
 pub use device::Device;
-pub use dispatcher::{Dispatched, Dispatcher, Handover};
-pub use pool::{feed_workers, make_seats, run_workers};
-pub use reserve::Reserve;
-pub use seat::{Seat, worker};
+pub use dispatcher::{Dispatched, Dispatcher, Offload};
+pub use pool::{drive_workers, make_seats, run_workers};
+pub use scratch::Scratch;
+pub use seat::{WorkerSeed, worker};
 pub use server::Locked;
 pub use share::Share;
 pub use tallies::Tallies;
 pub use tally::Tally;
-pub use tools::Tools;
 pub use track_log::TrackLog;
-pub use workshop::{Gate, Moments, Wire, Workshop};
+pub use unassigned::Unassigned;

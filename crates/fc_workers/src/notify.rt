@@ -4,15 +4,15 @@ ghost use Rattle.coap_msg.specs.declared.types.Emission.{Emission as Emitted};
 ghost use Rattle.fc_core.specs.Receiving.{emission_if};
 ghost use Rattle.fc_registry.specs.Notes.{noted_as, sent_of};
 ghost use Rattle.fc_workers.specs.Answers.{saturated};
-ghost use Rattle.fc_workers.specs.Called.{shop};
+ghost use Rattle.fc_workers.specs.Called.{worker_view};
 ghost use Rattle.fc_workers.specs.Outgoing.{IsFoundTold, IsGivenUp, IsNoteSent};
 ghost use Rattle.fc_workers.specs.Work.{HasSameTallies, IsTurnWorked};
 
 use crate::bench::Bench;
+use crate::context::{Context, Gate, TimeSource, Wire};
+use crate::scratch::Scratch;
 use crate::share::Share;
-use crate::tools::Tools;
 use crate::track_log::TrackLog;
-use crate::workshop::{Gate, Moments, Wire, Workshop};
 use coap_msg::Emission;
 use fc_core::Step;
 use fc_machine::{Frame, run};
@@ -20,7 +20,7 @@ use fc_observe::Turn;
 use fc_registry::{Job, NoteOutcome, Notification, Taken, Ticket};
 use std::sync::Wait;
 
-impl<'a, B: Bench, G: Gate, W: Wire, M: Moments> Workshop<'a, B, G, W, M> {
+impl<'a, B: Bench, G: Gate, W: Wire, M: TimeSource> Context<'a, B, G, W, M> {
     /// Runs the job of a lease, and returns whether a message is to be sent.
     ///
     /// It takes a snapshot of the lease's slot, draws a message ID, runs the program and notifies
@@ -30,30 +30,30 @@ impl<'a, B: Bench, G: Gate, W: Wire, M: Moments> Workshop<'a, B, G, W, M> {
     pub fn notify<R: Wait>(
         &self,
         rt: &R,
-        tools: &mut Tools,
+        scratch: &mut Scratch,
         job: &Job,
         turn: Turn,
         share: &mut Share<B::Tallies, TrackLog<B::Book>>,
     ) -> bool
         requires { turn.slot < 64 }
-        ensures heads { tools.new.heads ≡ tools.old.heads }
-        ensures worked { IsTurnWorked (shop B.changes B.ended B.called B.logged M.is_moment M.is_random G.passed W.called)
-            job.now turn share.old share.new (emission_if result tools.new.reply) }
+        ensures heads { scratch.new.heads ≡ scratch.old.heads }
+        ensures worked { IsTurnWorked (worker_view B.changes B.ended B.called B.logged M.is_time M.is_random G.passed W.called)
+            job.now turn share.old share.new (emission_if result scratch.new.reply) }
         ensures ended { B.ended share.new.tallies ≡ saturated (B.ended share.old.tallies + 1) }
     {
-        let Tools {
+        let Scratch {
             frame,
             stage,
             reply,
             ..
-        } = tools;
+        } = scratch;
         stage.step = Step::Gone;
         let Share { tallies, log, .. } = share;
         let readings = self.bench.readings(rt, log);
         let taken = self
             .bench
             .take(rt, job, &readings, &mut stage.found, tallies, log);
-        share.count_taking(&taken);
+        share.count_snapshot(&taken);
         match &taken {
             Taken::Given(program) => {
                 let ticket = Ticket::of(program, &stage.found);
@@ -79,9 +79,9 @@ impl<'a, B: Bench, G: Gate, W: Wire, M: Moments> Workshop<'a, B, G, W, M> {
         share: &mut Share<B::Tallies, TrackLog<B::Book>>,
     ) -> bool
         requires { turn.slot < 64 }
-        ensures told { IsFoundTold (shop B.changes B.ended B.called B.logged M.is_moment M.is_random G.passed W.called)
+        ensures told { IsFoundTold (worker_view B.changes B.ended B.called B.logged M.is_time M.is_random G.passed W.called)
             turn found.entry (emission_if result reply.new) share.old.log share.new.log }
-        ensures kept { HasSameTallies (shop B.changes B.ended B.called B.logged M.is_moment M.is_random G.passed W.called)
+        ensures kept { HasSameTallies (worker_view B.changes B.ended B.called B.logged M.is_time M.is_random G.passed W.called)
             share.old share.new }
         ensures ended { B.ended share.new.tallies ≡ saturated (B.ended share.old.tallies + 1) }
     {
@@ -117,15 +117,15 @@ impl<'a, B: Bench, G: Gate, W: Wire, M: Moments> Workshop<'a, B, G, W, M> {
         share: &mut Share<B::Tallies, TrackLog<B::Book>>,
     ) -> bool
         requires { turn.slot < 64 }
-        ensures noted { IsNoteSent (shop B.changes B.ended B.called B.logged M.is_moment M.is_random G.passed W.called)
+        ensures noted { IsNoteSent (worker_view B.changes B.ended B.called B.logged M.is_time M.is_random G.passed W.called)
             told.now turn id (emission_if result reply.new) share.old.log share.new.log }
-        ensures kept { HasSameTallies (shop B.changes B.ended B.called B.logged M.is_moment M.is_random G.passed W.called)
+        ensures kept { HasSameTallies (worker_view B.changes B.ended B.called B.logged M.is_time M.is_random G.passed W.called)
             share.old share.new }
         ensures ended { B.ended share.new.tallies ≡ saturated (B.ended share.old.tallies + 1) }
     {
         let Share { tallies, log, .. } = share;
         let now = self.now(rt, log);
-        let random = self.moments.random(rt);
+        let random = self.times.random(rt);
         let noted = self
             .bench
             .note(rt, turn, id, now, random, told, reply, tallies, log);
@@ -135,9 +135,9 @@ impl<'a, B: Bench, G: Gate, W: Wire, M: Moments> Workshop<'a, B, G, W, M> {
     // Releases a lease, at the current time. Nothing is sent.
     fn give_up<R: Wait>(&self, rt: &R, turn: Turn, share: &mut Share<B::Tallies, TrackLog<B::Book>>)
         requires { turn.slot < 64 }
-        ensures given_up { IsGivenUp (shop B.changes B.ended B.called B.logged M.is_moment M.is_random G.passed W.called)
+        ensures given_up { IsGivenUp (worker_view B.changes B.ended B.called B.logged M.is_time M.is_random G.passed W.called)
             turn None share.old.log share.new.log }
-        ensures kept { HasSameTallies (shop B.changes B.ended B.called B.logged M.is_moment M.is_random G.passed W.called)
+        ensures kept { HasSameTallies (worker_view B.changes B.ended B.called B.logged M.is_time M.is_random G.passed W.called)
             share.old share.new }
         ensures ended { B.ended share.new.tallies ≡ saturated (B.ended share.old.tallies + 1) }
     {

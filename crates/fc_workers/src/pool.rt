@@ -2,14 +2,14 @@
 ghost use Rattle.std.specs.Prelude.{◌≡◌, Bool, IfOk, vec_len};
 ghost use Rattle.std.specs.List.{All};
 ghost use Rattle.fc_jobs.specs.Ends.{nothing_got, nothing_sent};
-ghost use Rattle.fc_workers.specs.Called.{shop};
+ghost use Rattle.fc_workers.specs.Called.{worker_view};
 ghost use Rattle.fc_workers.specs.Shares.{AreNewSeats, AreSharesOf, IsShareOf};
 
 use crate::bench::Bench;
-use crate::seat::{Seat, worker};
+use crate::context::{Context, Gate, TimeSource, Wire};
 use crate::share::Share;
 use crate::track_log::TrackLog;
-use crate::workshop::{Gate, Moments, Wire, Workshop};
+use crate::worker_seed::{WorkerSeed, worker};
 use fc_filed::ServerName;
 use fc_jobs::{Got, Jobs, Sent};
 use std::alloc::{AllocError, Global};
@@ -21,7 +21,7 @@ use std::thread::{Promise, Threads};
 
 /// Makes a channel of jobs, and a seat for each of the given tallies, with one of the logs.
 ///
-/// Returns the channel, its sending end and the seats.
+/// Returns the channel, its sending end and the worker seeds.
 ///
 /// # Errors
 /// Returns `AllocError` if memory can't be allocated.
@@ -29,7 +29,7 @@ pub fn make_seats<T: Drop, J: ServerName>(
     alloc: Global,
     tallies: Vec<T>,
     logs: Vec<TrackLog<J>>,
-) -> Result<(Jobs, Sent, Vec<Seat<T, TrackLog<J>>>), AllocError>
+) -> Result<(Jobs, Sent, Vec<WorkerSeed<T, TrackLog<J>>>), AllocError>
     requires { vec_len logs ≡ vec_len tallies }
     ensures sent { IfOk result (λ r. r.1 ≡ nothing_sent r.0) }
     ensures seats { IfOk result (λ r. AreNewSeats r.0 tallies.items r.2.items) }
@@ -46,7 +46,7 @@ fn seats_at<T: Drop, J: ServerName>(
     mut gots: Vec<Got>,
     tallies: Vec<T>,
     mut logs: Vec<TrackLog<J>>,
-) -> Result<Vec<Seat<T, TrackLog<J>>>, AllocError>
+) -> Result<Vec<WorkerSeed<T, TrackLog<J>>>, AllocError>
     requires got { All (λ g. g ≡ nothing_got jobs.now) gots.items }
     requires count { vec_len gots ≡ vec_len tallies }
     requires logs { vec_len logs ≡ vec_len tallies }
@@ -61,90 +61,90 @@ fn seats_at<T: Drop, J: ServerName>(
         let Some(log) = logs.pop() else {
             unreachable!();
         };
-        seats.push(Seat::new(alloc, got, own, log)?)?;
+        seats.push(WorkerSeed::new(alloc, got, own, log)?)?;
     }
     Ok(seats)
 }
 
-/// Runs a worker for each seat, until the channel is closed and empty.
+/// Runs a worker for each worker seed, until the channel is closed and empty.
 ///
 /// Each worker has a thread of its own. If no thread can be made, the workers run one after
-/// another. Returns the statistics of each, in the order of the seats.
+/// another. Returns the statistics of each, in the order of the worker seeds.
 ///
 /// # Errors
 /// Returns `AllocError` if memory for the list of statistics can't be allocated. Then they are
-/// lost, and some seats may have had no worker.
+/// lost, and some worker seeds may have had no worker.
 pub fn run_workers<
     B: Bench + Sync,
     G: Gate + Sync,
     W: Wire + Sync,
-    M: Moments + Sync,
+    M: TimeSource + Sync,
     R: Threads + Wait + Sync,
 >(
     rt: &R,
-    workshop: &Workshop<'_, B, G, W, M>,
+    context: &Context<'_, B, G, W, M>,
     jobs: &Jobs,
-    seats: Vec<Seat<B::Tallies, TrackLog<B::Book>>>,
+    seats: Vec<WorkerSeed<B::Tallies, TrackLog<B::Book>>>,
 ) -> Result<Vec<Share<B::Tallies, TrackLog<B::Book>>>, AllocError>
 where
     B::Tallies: Send,
     B::Book: Send,
     requires { All (λ s. s.got.channel ≡ jobs.now) seats.items }
-    ensures { IfOk result (λ v. AreSharesOf (shop B.changes B.ended B.called B.logged M.is_moment M.is_random G.passed W.called)
+    ensures { IfOk result (λ v. AreSharesOf (worker_view B.changes B.ended B.called B.logged M.is_time M.is_random G.passed W.called)
         seats.items v.items) }
 {
     thread::map_vec(
         rt,
         seats,
-        &|seat: Seat<B::Tallies, TrackLog<B::Book>>| -> Share<B::Tallies, TrackLog<B::Book>>
+        &|seat: WorkerSeed<B::Tallies, TrackLog<B::Book>>| -> Share<B::Tallies, TrackLog<B::Book>>
             requires { seat.got.channel ≡ jobs.now }
-            ensures { IsShareOf (shop B.changes B.ended B.called B.logged M.is_moment M.is_random G.passed W.called) seat result }
-        { worker(rt, workshop, jobs, seat) },
+            ensures { IsShareOf (worker_view B.changes B.ended B.called B.logged M.is_time M.is_random G.passed W.called) seat result }
+        { worker(rt, context, jobs, seat) },
     )
 }
 
 // The promise that a thread returns the statistics of the workers at these seats.
 #[derive(Drop)]
-struct SharesOf<B: Bench, G: Gate, W: Wire, M: Moments> {
-    seats: Snapshot<Vec<Seat<B::Tallies, TrackLog<B::Book>>>>,
+struct SharesOf<B: Bench, G: Gate, W: Wire, M: TimeSource> {
+    seats: Snapshot<Vec<WorkerSeed<B::Tallies, TrackLog<B::Book>>>>,
     gate: PhantomData<G>,
     wire: PhantomData<W>,
-    moments: PhantomData<M>,
+    times: PhantomData<M>,
 }
 
-impl<B: Bench, G: Gate, W: Wire, M: Moments> Promise<
+impl<B: Bench, G: Gate, W: Wire, M: TimeSource> Promise<
     Result<Vec<Share<B::Tallies, TrackLog<B::Book>>>, AllocError>,
 > for SharesOf<B, G, W, M> {
-    ghost kept_by = { λ p r. IfOk r (λ v. AreSharesOf (shop B.changes B.ended B.called B.logged M.is_moment M.is_random G.passed W.called)
+    ghost kept_by = { λ p r. IfOk r (λ v. AreSharesOf (worker_view B.changes B.ended B.called B.logged M.is_time M.is_random G.passed W.called)
         p.seats.value.items v.items) };
 }
 
-/// Runs a worker for each seat, and a feeder on the calling thread.
+/// Runs a worker for each worker seed, and a driver on the calling thread.
 ///
-/// See [`run_workers`]. Returns the feeder's result and the workers' statistics.
+/// See [`run_workers`]. Returns the driver's result and the workers' statistics.
 ///
-/// The feeder sends the jobs, and owns the sending end of the channel. Once the feeder drops it,
-/// the channel is closed, and the workers end. The feeder's argument says whether workers were
-/// started. If no thread can be made for them, they run after the feeder.
+/// The driver sends the jobs, and owns the sending end of the channel. Once the driver drops it,
+/// the channel is closed, and the workers end. The driver's argument says whether workers were
+/// started. If no thread can be made for them, they run after the driver.
 ///
 /// # Errors
 /// The statistics are those of `run_workers`. If memory is refused for every seat, no worker ever
-/// asks for a job ([`Jobs::is_served`]). A feeder that then sends more than 256 jobs waits for
+/// asks for a job ([`Jobs::is_served`]). A driver that then sends more than 256 jobs waits for
 /// ever.
-pub fn feed_workers<
+pub fn drive_workers<
     B: Bench + Sync,
     G: Gate + Sync,
     W: Wire + Sync,
-    M: Moments + Sync,
+    M: TimeSource + Sync,
     R: Threads + Wait + Sync,
     X: Drop,
     F: FnOnce(bool) -> X + Drop,
 >(
     rt: &R,
-    workshop: &Workshop<'_, B, G, W, M>,
+    context: &Context<'_, B, G, W, M>,
     jobs: &Jobs,
-    seats: Vec<Seat<B::Tallies, TrackLog<B::Book>>>,
-    feed: F,
+    seats: Vec<WorkerSeed<B::Tallies, TrackLog<B::Book>>>,
+    drive: F,
 ) -> (
     X,
     Result<Vec<Share<B::Tallies, TrackLog<B::Book>>>, AllocError>,
@@ -153,9 +153,9 @@ where
     B::Tallies: Send,
     B::Book: Send,
     requires seats { All (λ s. s.got.channel ≡ jobs.now) seats.items }
-    requires feed { F.IsAlwaysCallable feed }
-    ensures fed { (has_workers : Bool) × F.post feed has_workers result.0 }
-    ensures shares { IfOk result.1 (λ v. AreSharesOf (shop B.changes B.ended B.called B.logged M.is_moment M.is_random G.passed W.called)
+    requires drive { F.IsAlwaysCallable drive }
+    ensures fed { (has_workers : Bool) × F.post drive has_workers result.0 }
+    ensures shares { IfOk result.1 (λ v. AreSharesOf (worker_view B.changes B.ended B.called B.logged M.is_time M.is_random G.passed W.called)
         seats.items v.items) }
 {
     thread::scope(
@@ -165,9 +165,9 @@ where
             X,
             Result<Vec<Share<B::Tallies, TrackLog<B::Book>>>, AllocError>,
         )
-            requires { All (λ s. s.got.channel ≡ jobs.now) seats.items × F.IsAlwaysCallable feed }
-            ensures { ((has_workers : Bool) × F.post feed has_workers result.0)
-                × IfOk result.1 (λ v. AreSharesOf (shop B.changes B.ended B.called B.logged M.is_moment M.is_random G.passed W.called)
+            requires { All (λ s. s.got.channel ≡ jobs.now) seats.items × F.IsAlwaysCallable drive }
+            ensures { ((has_workers : Bool) × F.post drive has_workers result.0)
+                × IfOk result.1 (λ v. AreSharesOf (worker_view B.changes B.ended B.called B.logged M.is_time M.is_random G.passed W.called)
                 seats.items v.items) }
         {
             let has_seats = !seats.is_empty();
@@ -175,28 +175,28 @@ where
                 seats: Snapshot::of(&seats),
                 gate: PhantomData,
                 wire: PhantomData,
-                moments: PhantomData,
+                times: PhantomData,
             };
             let started = scope.spawn_with(
                 promise,
                 move || -> Result<Vec<Share<B::Tallies, TrackLog<B::Book>>>, AllocError>
                     requires { All (λ s. s.got.channel ≡ jobs.now) seats.items }
                     ensures { IfOk result
-                        (λ v. AreSharesOf (shop B.changes B.ended B.called B.logged M.is_moment M.is_random G.passed W.called)
+                        (λ v. AreSharesOf (worker_view B.changes B.ended B.called B.logged M.is_time M.is_random G.passed W.called)
                         seats.items v.items) }
                 {
-                    let shares = run_workers(rt, workshop, jobs, seats);
+                    let shares = run_workers(rt, context, jobs, seats);
                     jobs.dismiss(rt);
                     shares
                 },
             );
             match started {
                 Ok(workers) => {
-                    let fed = feed(has_seats);
+                    let fed = drive(has_seats);
                     (fed, workers.join(rt))
                 }
                 Err(refused) => {
-                    let fed = feed(false);
+                    let fed = drive(false);
                     (fed, (refused.value)())
                 }
             }

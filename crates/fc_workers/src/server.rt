@@ -15,7 +15,7 @@
 //! ```
 //!
 //! No type in that function's signature may name a ledger. The function opens the server, splits
-//! the reserve into the tallies of its workers, and runs them. Then it merges their tallies, and
+//! the unassigned shares into the tallies of its workers, and runs them. Then it merges their tallies, and
 //! closes the server.
 ghost use Rattle.std.specs.Prelude.{◌≡◌, ◌+◌, ◌*◌, ◌-◌, ◌<◌, ◌≤◌, ◌%◌, true, map, slice_index, take, vec_len, IfOk};
 ghost use Rattle.coap_msg.specs.declared.types.Emission.{Emission as Emitted};
@@ -33,7 +33,7 @@ ghost use Rattle.fc_workers.specs.Fronts.{beginning};
 ghost use Rattle.fc_workers.specs.Naming.{AreNamed};
 ghost use Rattle.fc_workers.specs.Counts.{no_changes, sums};
 ghost use Rattle.fc_calls.specs.Kept.{commit_changes, install_changes, removal_changes, serials};
-ghost use Rattle.fc_workers.specs.Answers.{AreTallied, IsSomeCommit, IsSomeInstall, IsSomeNote, IsSomeReceipt, IsSomeRemoval, IsSomeTaking};
+ghost use Rattle.fc_workers.specs.Answers.{AreTallied, IsSomeCommit, IsSomeInstall, IsSomeNote, IsSomeReceipt, IsSomeRemoval, IsSomeSnapshot};
 ghost use Rattle.fc_workers.specs.Answers.{IsSomeTick, IsSomeTurn, saturated};
 
 use crate::begun_front::BegunFront;
@@ -43,25 +43,25 @@ use crate::books::{BookOf, Books, ServerOf};
 use crate::closed::ClosedServer;
 use crate::device::Device;
 use crate::locked_shard::LockedShard;
-use crate::reserve::Reserve;
 use crate::tallies::Tallies;
 use crate::tally::Tally;
 use crate::track_log::{TrackLog, begin_logs};
+use crate::unassigned::Unassigned;
 use coap_msg::{Emission, Endpoint};
 use fc_calls::calls::{
-    AdvanceIfQuiet, Commit, Describe, GiveUp, Install, NextDue, Note, QuietUntil, Remove, Signal,
+    AdvanceIfIdle, Commit, Describe, GiveUp, IdleUntil, Install, NextDue, Note, Remove, Signal,
     Take, Tick,
 };
 use fc_calls::{Change, ShardCall};
-use fc_core::{Answer, Front, Heard, Policy, Responded};
+use fc_core::{Answer, Front, Handled, Policy, Responded};
 use fc_filed::{NewServerBook, ServerBook, ServerTracks};
 use fc_heads::{HeadSeat, Heads};
 use fc_help::Readings;
 use fc_machine::Outcome;
 use fc_observe::{Ticked, Turn};
 use fc_registry::{
-    Committed, Found, Job, Made, NoteOutcome, Notification, Receipt, Removal, SHARDS, Shard,
-    SlotNumber, Taken, Ticket, make_shards,
+    Committed, Job, Made, NoteOutcome, Notification, Receipt, Removal, SHARDS, Shard, SlotNumber,
+    SlotSnapshot, Taken, Ticket, make_shards,
 };
 use fc_verify::Verified;
 use std::alloc::{AllocError, Global};
@@ -79,8 +79,8 @@ fn last_of(shards: &mut Vec<Shard>) -> Shard
     shard
 }
 
-// Makes the reserve of tallies that have equally many parts, and count no change.
-fn reserve_of<B: Books>(
+// Makes the unassigned shares, whose tallies have equally many parts, and count no change.
+fn unassigned_of<B: Books>(
     tally0: Tally<BookOf<B, 0>>,
     tally1: Tally<BookOf<B, 1>>,
     tally2: Tally<BookOf<B, 2>>,
@@ -89,7 +89,7 @@ fn reserve_of<B: Books>(
     tally5: Tally<BookOf<B, 5>>,
     tally6: Tally<BookOf<B, 6>>,
     tally7: Tally<BookOf<B, 7>>,
-) -> Reserve<B>
+) -> Unassigned<B>
     requires some { tally0.changes ≡ 0 }
     requires tally1 { tally1 ≡ tally0 }
     requires tally2 { tally2 ≡ tally0 }
@@ -100,7 +100,7 @@ fn reserve_of<B: Books>(
     requires tally7 { tally7 ≡ tally0 }
     ensures { result ≡ record { parts = tally0.parts; changes = no_changes; ended = 0 } }
 {
-    Reserve {
+    Unassigned {
         tally0,
         tally1,
         tally2,
@@ -184,7 +184,7 @@ impl<'a, B: Books, D: Device> Locked<'a, B, D> {
     /// Makes a server with slots 0 to 63 empty, each at `first_serial`.
     ///
     /// It has this policy, and draws `first_id` first. Its programs get the readings of `device`.
-    /// It opens the ledgers, and the reserve has all their parts. The calls of its front are filed
+    /// It opens the ledgers, and the unassigned shares are all their parts. The calls of its front are filed
     /// in `book`; each thread of the book has a log.
     ///
     /// # Errors
@@ -197,7 +197,7 @@ impl<'a, B: Books, D: Device> Locked<'a, B, D> {
         device: &'a D,
         blanks: Blanks,
         book: NewServerBook,
-    ) -> Result<(Locked<'a, B, D>, Reserve<B>, Vec<TrackLog<ServerOf<B>>>), AllocError>
+    ) -> Result<(Locked<'a, B, D>, Unassigned<B>, Vec<TrackLog<ServerOf<B>>>), AllocError>
         requires serial { first_serial ≤ last_serial }
         requires names { AreNamed blanks B.names }
         requires books { blanks.parts ≡ B.parts }
@@ -205,7 +205,7 @@ impl<'a, B: Books, D: Device> Locked<'a, B, D> {
         requires table { book.table ≡ B.table }
         requires threads { book.first_job ≡ B.first_job }
         requires begin { B.begin ≡ record { serial = first_serial; id = first_id; policy = policy.now } }
-        ensures reserve { IfOk result (λ r. r.1 ≡ record { parts = blanks.parts; changes = no_changes; ended = 0 }) }
+        ensures unassigned { IfOk result (λ r. r.1 ≡ record { parts = blanks.parts; changes = no_changes; ended = 0 }) }
         ensures logs { IfOk result (λ r. 9 + vec_len r.2 ≡ B.first_job) }
     {
         let (heads, _seat) = Heads::new(alloc)?;
@@ -241,10 +241,10 @@ impl<'a, B: Books, D: Device> Locked<'a, B, D> {
             shard6,
             shard7,
         };
-        let reserve = reserve_of(
+        let unassigned = unassigned_of(
             tally0, tally1, tally2, tally3, tally4, tally5, tally6, tally7,
         );
-        Ok((server, reserve, logs))
+        Ok((server, unassigned, logs))
     }
 
     /// Runs a call that changes no slot, at the shard with this index, 0 to 7.
@@ -302,23 +302,23 @@ impl<'a, B: Books, D: Device> Locked<'a, B, D> {
         }
     }
 
-    /// Closes the server. The reserve must have all parts again.
+    /// Closes the server. All parts must be unassigned again.
     ///
     /// The serials of each shard have risen by the changes that were counted. The result has these
     /// counts.
-    pub fn close(self, reserve: &mut Reserve<B>) -> ClosedServer
-        requires { reserve.old.parts ≡ B.parts }
-        ensures risen { map serials result.shards ≡ sums (map (λ n. 8 * n) result.first_serials) reserve.old.changes }
-        ensures shown { result.changes ≡ map saturated reserve.old.changes }
+    pub fn close(self, unassigned: &mut Unassigned<B>) -> ClosedServer
+        requires { unassigned.old.parts ≡ B.parts }
+        ensures risen { map serials result.shards ≡ sums (map (λ n. 8 * n) result.first_serials) unassigned.old.changes }
+        ensures shown { result.changes ≡ map saturated unassigned.old.changes }
     {
-        let (shard0, first0) = self.shard0.close(&mut reserve.tally0);
-        let (shard1, first1) = self.shard1.close(&mut reserve.tally1);
-        let (shard2, first2) = self.shard2.close(&mut reserve.tally2);
-        let (shard3, first3) = self.shard3.close(&mut reserve.tally3);
-        let (shard4, first4) = self.shard4.close(&mut reserve.tally4);
-        let (shard5, first5) = self.shard5.close(&mut reserve.tally5);
-        let (shard6, first6) = self.shard6.close(&mut reserve.tally6);
-        let (shard7, first7) = self.shard7.close(&mut reserve.tally7);
+        let (shard0, first0) = self.shard0.close(&mut unassigned.tally0);
+        let (shard1, first1) = self.shard1.close(&mut unassigned.tally1);
+        let (shard2, first2) = self.shard2.close(&mut unassigned.tally2);
+        let (shard3, first3) = self.shard3.close(&mut unassigned.tally3);
+        let (shard4, first4) = self.shard4.close(&mut unassigned.tally4);
+        let (shard5, first5) = self.shard5.close(&mut unassigned.tally5);
+        let (shard6, first6) = self.shard6.close(&mut unassigned.tally6);
+        let (shard7, first7) = self.shard7.close(&mut unassigned.tally7);
         ClosedServer {
             shards: [
                 shard0, shard1, shard2, shard3, shard4, shard5, shard6, shard7,
@@ -326,7 +326,7 @@ impl<'a, B: Books, D: Device> Locked<'a, B, D> {
             first_serials: [
                 first0, first1, first2, first3, first4, first5, first6, first7,
             ],
-            changes: reserve.shown_each(),
+            changes: unassigned.shown_each(),
         }
     }
 }
@@ -346,7 +346,7 @@ impl<'a, B: Books, D: Device> Bench for Locked<'a, B, D> {
 
     ghost heads = { λ s. s.heads };
 
-    fn hear<R: Wait>(
+    fn handle<R: Wait>(
         &self,
         rt: &R,
         now: u64,
@@ -355,9 +355,9 @@ impl<'a, B: Books, D: Device> Bench for Locked<'a, B, D> {
         job: &mut Job,
         reply: &mut Emission,
         log: &mut TrackLog<ServerOf<B>>,
-    ) -> Heard {
+    ) -> Handled {
         let mut front = self.front.lock(rt);
-        front.hear(&self.book, log, now, endpoint, bytes, job, reply)
+        front.handle(&self.book, log, now, endpoint, bytes, job, reply)
     }
 
     fn tick<R: Wait>(&self, rt: &R, now: u64, log: &mut TrackLog<ServerOf<B>>) {
@@ -379,13 +379,13 @@ impl<'a, B: Books, D: Device> Bench for Locked<'a, B, D> {
         rt: &R,
         job: &Job,
         readings: &Readings,
-        found: &mut Found,
+        found: &mut SlotSnapshot,
         tallies: &mut Tallies<B>,
         log: &mut TrackLog<ServerOf<B>>,
     ) -> Taken {
         let _ = log;
         let taken = self.ask(rt, shard_of(job.origin.slot), Take { job, readings }, found);
-        tallies.end_taking(&taken);
+        tallies.end_snapshot(&taken);
         taken
     }
 
@@ -418,7 +418,7 @@ impl<'a, B: Books, D: Device> Bench for Locked<'a, B, D> {
         self.ask(rt, shard, Tick { now }, &mut ())
     }
 
-    fn advance_if_quiet<R: Wait>(
+    fn advance_if_idle<R: Wait>(
         &self,
         rt: &R,
         shard: u8,
@@ -426,11 +426,11 @@ impl<'a, B: Books, D: Device> Bench for Locked<'a, B, D> {
         log: &mut TrackLog<ServerOf<B>>,
     ) -> bool {
         let _ = log;
-        self.ask(rt, shard, AdvanceIfQuiet { now }, &mut ())
+        self.ask(rt, shard, AdvanceIfIdle { now }, &mut ())
     }
 
-    fn quiet_until<R: Wait>(&self, rt: &R, shard: u8) -> u64 {
-        self.ask(rt, shard, QuietUntil, &mut ())
+    fn idle_until<R: Wait>(&self, rt: &R, shard: u8) -> u64 {
+        self.ask(rt, shard, IdleUntil, &mut ())
     }
 
     fn next_due<R: Wait>(

@@ -1,8 +1,8 @@
 //! The statistics of a worker.
 ghost use Rattle.std.specs.Prelude.{◌≡◌, ◌+◌, if◌then◌else◌};
-ghost use Rattle.fc_registry.specs.Taken.{Found};
+ghost use Rattle.fc_registry.specs.Taken.{SlotSnapshot};
 ghost use Rattle.fc_registry.specs.Views.{taken_with};
-ghost use Rattle.fc_workers.specs.Answers.{commit_overtakings, saturated, taking_refusals};
+ghost use Rattle.fc_workers.specs.Answers.{commit_overtakings, saturated, snapshot_refusals};
 ghost use Rattle.fc_workers.specs.Shares.{new_share};
 
 use crate::track_log::TrackLog;
@@ -43,9 +43,9 @@ impl<T: Drop, J: ServerName> Share<T, TrackLog<J>> {
     }
 
     // Counts the snapshot's refused allocation, if there is one.
-    pub(crate) fn count_taking(&mut self, taken: &Taken)
-        ensures { (found : Found) → self.new ≡ record self.old {
-          refusals = saturated (self.old.refusals + taking_refusals (taken_with taken.now found));
+    pub(crate) fn count_snapshot(&mut self, taken: &Taken)
+        ensures { (found : SlotSnapshot) → self.new ≡ record self.old {
+          refusals = saturated (self.old.refusals + snapshot_refusals (taken_with taken.now found));
         } }
     {
         let refused = matches!(taken, Taken::Refused);

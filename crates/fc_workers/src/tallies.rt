@@ -1,6 +1,6 @@
 //! The tallies of eight shards.
 ghost use Rattle.std.specs.Prelude.{◌≡◌, ◌+◌, ◌<◌, slice_index};
-ghost use Rattle.fc_registry.specs.Taken.{Found};
+ghost use Rattle.fc_registry.specs.Taken.{SlotSnapshot};
 ghost use Rattle.fc_registry.specs.Views.{taken_with};
 ghost use Rattle.fc_workers.specs.Answers.{ended_by, saturated};
 
@@ -77,8 +77,8 @@ impl<B: Books> Tallies<B> {
     }
 
     // Counts one more ended job if the job's snapshot is stale.
-    pub(crate) fn end_taking(&mut self, taken: &Taken)
-        ensures { (found : Found) → self.new ≡ record self.old { ended = ended_by (taken_with taken.now found) self.old.ended } }
+    pub(crate) fn end_snapshot(&mut self, taken: &Taken)
+        ensures { (found : SlotSnapshot) → self.new ≡ record self.old { ended = ended_by (taken_with taken.now found) self.old.ended } }
     {
         match taken {
             Taken::Stale => self.end_job(),

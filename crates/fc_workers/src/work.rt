@@ -4,16 +4,16 @@ ghost use Rattle.fc_verify.specs.Judged.{judged};
 ghost use Rattle.fc_verify.specs.Accepted.{Accepts, IsAccepted};
 ghost use Rattle.fc_core.specs.Stages.{image_of};
 ghost use Rattle.fc_core.specs.Stage.{ToInstall, ToRemove};
-ghost use Rattle.fc_workers.specs.Called.{shop};
+ghost use Rattle.fc_workers.specs.Called.{worker_view};
 ghost use Rattle.fc_workers.specs.Work.{IsWorkedTo};
 ghost use Rattle.fc_workers.specs.Steps.{AsksRun, HasTaken, IsLookedUp, IsReady, IsStep, IsToAnswer, IsToCommit, IsToTake, IsUntaken, ListsOn, Walked};
 ghost use Rattle.fc_workers.specs.Workers.{Share as Done};
 
 use crate::bench::Bench;
+use crate::context::{Context, Gate, TimeSource, Wire};
+use crate::scratch::Scratch;
 use crate::share::Share;
-use crate::tools::Tools;
 use crate::track_log::TrackLog;
-use crate::workshop::{Gate, Moments, Wire, Workshop};
 use fc_core::answer::Words;
 use fc_core::heads::WORDS;
 use fc_core::task::image;
@@ -26,7 +26,7 @@ use std::sync::{Arc, Wait};
 
 // The calls that few jobs need aren't inlined into the loop, which would zero their stack space for
 // each job.
-impl<'a, B: Bench, G: Gate, W: Wire, M: Moments> Workshop<'a, B, G, W, M> {
+impl<'a, B: Bench, G: Gate, W: Wire, M: TimeSource> Context<'a, B, G, W, M> {
     /// Runs a request's job up to its answer, and leaves its stage there.
     ///
     /// A list of calls leads from the job's first stage to this answer:
@@ -43,20 +43,20 @@ impl<'a, B: Bench, G: Gate, W: Wire, M: Moments> Workshop<'a, B, G, W, M> {
     pub fn work_off<R: Wait>(
         &self,
         rt: &R,
-        tools: &mut Tools,
+        scratch: &mut Scratch,
         number: u64,
         job: &Job,
         share: &mut Share<B::Tallies, TrackLog<B::Book>>,
     )
         requires asked { job.now.turn ≡ None }
-        requires heads { tools.old.heads.table ≡ B.heads self.now.bench.now }
-        ensures heads { tools.new.heads.table ≡ tools.old.heads.table }
-        ensures worked { IsWorkedTo (shop B.changes B.ended B.called B.logged M.is_moment M.is_random G.passed W.called)
-            number job.now tools.new.stage share.old share.new }
+        requires heads { scratch.old.heads.table ≡ B.heads self.now.bench.now }
+        ensures heads { scratch.new.heads.table ≡ scratch.old.heads.table }
+        ensures worked { IsWorkedTo (worker_view B.changes B.ended B.called B.logged M.is_time M.is_random G.passed W.called)
+            number job.now scratch.new.stage share.old share.new }
         ensures ended { B.ended share.new.tallies ≡ B.ended share.old.tallies }
     {
-        tools.stage.ask(job);
-        self.work_on(rt, tools, number, job, share);
+        scratch.stage.ask(job);
+        self.work_on(rt, scratch, number, job, share);
     }
 
     /// Runs a request's job from its present stage, as `work_off` does.
@@ -66,34 +66,34 @@ impl<'a, B: Bench, G: Gate, W: Wire, M: Moments> Workshop<'a, B, G, W, M> {
     pub(crate) fn work_on<R: Wait>(
         &self,
         rt: &R,
-        tools: &mut Tools,
+        scratch: &mut Scratch,
         number: u64,
         job: &Job,
         share: &mut Share<B::Tallies, TrackLog<B::Book>>,
     )
         requires asked { job.now.turn ≡ None }
-        requires ready { IsReady job.now tools.old.stage }
-        requires heads { tools.old.heads.table ≡ B.heads self.now.bench.now }
-        ensures heads { tools.new.heads.table ≡ tools.old.heads.table }
-        ensures answers { IsToAnswer job.now tools.new.stage }
+        requires ready { IsReady job.now scratch.old.stage }
+        requires heads { scratch.old.heads.table ≡ B.heads self.now.bench.now }
+        ensures heads { scratch.new.heads.table ≡ scratch.old.heads.table }
+        ensures answers { IsToAnswer job.now scratch.new.stage }
         ensures worked { (before : Done B.Tallies)
-            → Walked (shop B.changes B.ended B.called B.logged M.is_moment M.is_random G.passed W.called)
-            number job.now tools.old.stage before share.old
-            → IsWorkedTo (shop B.changes B.ended B.called B.logged M.is_moment M.is_random G.passed W.called)
-            number job.now tools.new.stage before share.new }
+            → Walked (worker_view B.changes B.ended B.called B.logged M.is_time M.is_random G.passed W.called)
+            number job.now scratch.old.stage before share.old
+            → IsWorkedTo (worker_view B.changes B.ended B.called B.logged M.is_time M.is_random G.passed W.called)
+            number job.now scratch.new.stage before share.new }
         ensures ended { B.ended share.new.tallies ≡ B.ended share.old.tallies }
     {
         'calls: loop {
-            let stage = &mut tools.stage;
+            let stage = &mut scratch.stage;
             match &stage.step {
                 Step::ToMatch => {
                     let log = &mut share.log;
-                    let word = self.bench.peek(job.origin.slot, &mut tools.heads, log);
+                    let word = self.bench.peek(job.origin.slot, &mut scratch.heads, log);
                     stage.matched(job, word);
                 }
                 Step::ToTake(_) => self.take(rt, job, stage, share),
                 Step::ToCommit(..) => {
-                    self.commit(rt, &mut tools.frame, number, job, stage, share);
+                    self.commit(rt, &mut scratch.frame, number, job, stage, share);
                 }
                 Step::ToInstall => self.install(rt, job, stage, share),
                 Step::ToRemove => self.remove(rt, job, stage, share),
@@ -103,13 +103,13 @@ impl<'a, B: Bench, G: Gate, W: Wire, M: Moments> Workshop<'a, B, G, W, M> {
                     stage.told(receipt);
                 }
                 Step::ToList => {
-                    self.list(&mut tools.heads, &mut stage.seen, &mut share.log);
+                    self.list(&mut scratch.heads, &mut stage.seen, &mut share.log);
                     stage.listed();
                 }
                 Step::ToRaise(word) => {
                     let word = *word;
                     let log = &mut share.log;
-                    self.bench.raise(job, word, &mut tools.heads, log);
+                    self.bench.raise(job, word, &mut scratch.heads, log);
                     stage.raised();
                 }
                 Step::ToAnswer => return,
@@ -125,22 +125,22 @@ impl<'a, B: Bench, G: Gate, W: Wire, M: Moments> Workshop<'a, B, G, W, M> {
     pub(crate) fn begin<R: Wait>(
         &self,
         rt: &R,
-        tools: &mut Tools,
+        scratch: &mut Scratch,
         job: &Job,
         share: &mut Share<B::Tallies, TrackLog<B::Book>>,
     )
         requires asked { job.now.turn ≡ None }
-        requires heads { tools.old.heads.table ≡ B.heads self.now.bench.now }
-        ensures heads { tools.new.heads.table ≡ tools.old.heads.table }
-        ensures begun { (number : ℕ) → Walked (shop B.changes B.ended B.called B.logged M.is_moment M.is_random G.passed W.called)
-            number job.now tools.new.stage share.old share.new }
-        ensures found { (number : ℕ) → IsToCommit tools.new.stage → AsksRun job.now.ask × HasTaken
-            (shop B.changes B.ended B.called B.logged M.is_moment M.is_random G.passed W.called)
-            number job.now tools.new.stage share.old share.new }
+        requires heads { scratch.old.heads.table ≡ B.heads self.now.bench.now }
+        ensures heads { scratch.new.heads.table ≡ scratch.old.heads.table }
+        ensures begun { (number : ℕ) → Walked (worker_view B.changes B.ended B.called B.logged M.is_time M.is_random G.passed W.called)
+            number job.now scratch.new.stage share.old share.new }
+        ensures found { (number : ℕ) → IsToCommit scratch.new.stage → AsksRun job.now.ask × HasTaken
+            (worker_view B.changes B.ended B.called B.logged M.is_time M.is_random G.passed W.called)
+            number job.now scratch.new.stage share.old share.new }
         ensures ended { B.ended share.new.tallies ≡ B.ended share.old.tallies }
     {
-        self.look(tools, job, share);
-        let stage = &mut tools.stage;
+        self.look(scratch, job, share);
+        let stage = &mut scratch.stage;
         if let Step::ToTake(_) = &stage.step {
             self.take(rt, job, stage, share);
         }
@@ -148,20 +148,25 @@ impl<'a, B: Bench, G: Gate, W: Wire, M: Moments> Workshop<'a, B, G, W, M> {
 
     // Begins a request's job: reads its slot's head word if the request has ETags. It takes no
     // snapshot yet.
-    fn look(&self, tools: &mut Tools, job: &Job, share: &mut Share<B::Tallies, TrackLog<B::Book>>)
-        requires { tools.old.heads.table ≡ B.heads self.now.bench.now }
-        ensures heads { tools.new.heads.table ≡ tools.old.heads.table }
+    fn look(
+        &self,
+        scratch: &mut Scratch,
+        job: &Job,
+        share: &mut Share<B::Tallies, TrackLog<B::Book>>,
+    )
+        requires { scratch.old.heads.table ≡ B.heads self.now.bench.now }
+        ensures heads { scratch.new.heads.table ≡ scratch.old.heads.table }
         ensures kept { share.new ≡ record share.old { log = share.new.log } }
         ensures looks { IsLookedUp B.logged job.now share.old.log share.new.log }
-        ensures looked { (number : ℕ) → Walked (shop B.changes B.ended B.called B.logged M.is_moment M.is_random G.passed W.called)
-            number job.now tools.new.stage share.old share.new }
-        ensures untaken { IsUntaken job.now tools.new.stage }
+        ensures looked { (number : ℕ) → Walked (worker_view B.changes B.ended B.called B.logged M.is_time M.is_random G.passed W.called)
+            number job.now scratch.new.stage share.old share.new }
+        ensures untaken { IsUntaken job.now scratch.new.stage }
     {
-        let stage = &mut tools.stage;
+        let stage = &mut scratch.stage;
         stage.ask(job);
         if let Step::ToMatch = &stage.step {
             let log = &mut share.log;
-            let head = self.bench.peek(job.origin.slot, &mut tools.heads, log);
+            let head = self.bench.peek(job.origin.slot, &mut scratch.heads, log);
             stage.matched(job, head);
         }
     }
@@ -190,7 +195,7 @@ impl<'a, B: Bench, G: Gate, W: Wire, M: Moments> Workshop<'a, B, G, W, M> {
         stage: &mut Stage,
         share: &mut Share<B::Tallies, TrackLog<B::Book>>,
     )
-        ensures step { (number : ℕ) → IsStep (shop B.changes B.ended B.called B.logged M.is_moment M.is_random G.passed W.called)
+        ensures step { (number : ℕ) → IsStep (worker_view B.changes B.ended B.called B.logged M.is_time M.is_random G.passed W.called)
             number job.now ToRemove stage.new share.old share.new }
         ensures ended { B.ended share.new.tallies ≡ B.ended share.old.tallies }
     {
@@ -210,7 +215,7 @@ impl<'a, B: Bench, G: Gate, W: Wire, M: Moments> Workshop<'a, B, G, W, M> {
         requires at { IsToTake stage.old }
         requires ready { IsReady job.now stage.old }
         requires asked { job.now.turn ≡ None }
-        ensures step { (number : ℕ) → IsStep (shop B.changes B.ended B.called B.logged M.is_moment M.is_random G.passed W.called)
+        ensures step { (number : ℕ) → IsStep (worker_view B.changes B.ended B.called B.logged M.is_time M.is_random G.passed W.called)
             number job.now stage.old stage.new share.old share.new }
         ensures ended { B.ended share.new.tallies ≡ B.ended share.old.tallies }
     {
@@ -222,7 +227,7 @@ impl<'a, B: Bench, G: Gate, W: Wire, M: Moments> Workshop<'a, B, G, W, M> {
         let taken = self
             .bench
             .take(rt, job, &readings, &mut stage.found, tallies, log);
-        share.count_taking(&taken);
+        share.count_snapshot(&taken);
         stage.step = Step::took(count, taken, &mut stage.answer);
     }
 
@@ -238,7 +243,7 @@ impl<'a, B: Bench, G: Gate, W: Wire, M: Moments> Workshop<'a, B, G, W, M> {
     )
         requires at { IsToCommit stage.old }
         requires ready { IsReady job.now stage.old }
-        ensures step { IsStep (shop B.changes B.ended B.called B.logged M.is_moment M.is_random G.passed W.called)
+        ensures step { IsStep (worker_view B.changes B.ended B.called B.logged M.is_time M.is_random G.passed W.called)
             number job.now stage.old stage.new share.old share.new }
         ensures ended { B.ended share.new.tallies ≡ B.ended share.old.tallies }
     {
@@ -272,7 +277,7 @@ impl<'a, B: Bench, G: Gate, W: Wire, M: Moments> Workshop<'a, B, G, W, M> {
         stage: &mut Stage,
         share: &mut Share<B::Tallies, TrackLog<B::Book>>,
     )
-        ensures step { (number : ℕ) → IsStep (shop B.changes B.ended B.called B.logged M.is_moment M.is_random G.passed W.called)
+        ensures step { (number : ℕ) → IsStep (worker_view B.changes B.ended B.called B.logged M.is_time M.is_random G.passed W.called)
             number job.now ToInstall stage.new share.old share.new }
         ensures ended { B.ended share.new.tallies ≡ B.ended share.old.tallies }
     {
@@ -297,7 +302,7 @@ impl<'a, B: Bench, G: Gate, W: Wire, M: Moments> Workshop<'a, B, G, W, M> {
     )
         requires accepted { IsAccepted (image_of job.now.ask) program }
         requires judged { judged (image_of job.now.ask) ≡ Accepts program }
-        ensures step { (number : ℕ) → IsStep (shop B.changes B.ended B.called B.logged M.is_moment M.is_random G.passed W.called)
+        ensures step { (number : ℕ) → IsStep (worker_view B.changes B.ended B.called B.logged M.is_time M.is_random G.passed W.called)
             number job.now ToInstall stage.new share.old share.new }
         ensures ended { B.ended share.new.tallies ≡ B.ended share.old.tallies }
     {

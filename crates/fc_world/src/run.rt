@@ -44,8 +44,8 @@ pub fn run_world(alloc: Global, events: &[Event<'_>]) -> Result<World, AllocErro
     ensures shards { IfOk result (λ w. AreShards w.shards.items) }
     ensures slots { IfOk result (λ w. (n : ℕ) → n < 64 →
         slot_in_shards w.shards.items n ≡ slot_at (seen (history_of events.now w.emissions.items)) n) }
-    ensures moments { IfOk result (λ w. (i : ℕ) → i < 8 →
-        (shard_at w.shards.items i).now ≡ (seen (history_of events.now w.emissions.items)).shard_moment i) }
+    ensures times { IfOk result (λ w. (i : ℕ) → i < 8 →
+        (shard_at w.shards.items i).now ≡ (seen (history_of events.now w.emissions.items)).shard_time i) }
     ensures chains { IfOk result (λ w. (n : ℕ) → n < 64 →
         IsChain (new_slot 0) ((seen (history_of events.now w.emissions.items)).changes n)) }
     ensures rings { IfOk result (λ w. (n : ℕ) → n < 64 → IsRing (slot_in_shards w.shards.items n)) }
@@ -74,8 +74,8 @@ pub fn run_world_from(
     ensures shards { IfOk result (λ w. AreShards w.shards.items) }
     ensures slots { IfOk result (λ w. (n : ℕ) → n < 64 →
         slot_in_shards w.shards.items n ≡ slot_at (seen (history_from begin.now events.now w.emissions.items)) n) }
-    ensures moments { IfOk result (λ w. (i : ℕ) → i < 8 →
-        (shard_at w.shards.items i).now ≡ (seen (history_from begin.now events.now w.emissions.items)).shard_moment i) }
+    ensures times { IfOk result (λ w. (i : ℕ) → i < 8 →
+        (shard_at w.shards.items i).now ≡ (seen (history_from begin.now events.now w.emissions.items)).shard_time i) }
     ensures chains { IfOk result (λ w. (n : ℕ) → n < 64 →
         IsChain (new_slot begin.now.serial) ((seen (history_from begin.now events.now w.emissions.items)).changes n)) }
     ensures rings { IfOk result (λ w. (n : ℕ) → n < 64 → IsRing (slot_in_shards w.shards.items n)) }

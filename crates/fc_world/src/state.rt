@@ -9,7 +9,7 @@ ghost use Rattle.fc_world.specs.Parts.{parts};
 
 use coap_msg::{Emission, Endpoint};
 use fc_core::front::blank_emission;
-use fc_core::{Event, Heard, Task};
+use fc_core::{Event, Handled, Task};
 use fc_observe::Ticked;
 use fc_registry::SHARDS;
 use fc_server::{Begin, Server};
@@ -36,12 +36,12 @@ impl WorldState {
         let mut reply = blank_emission();
         match self
             .server
-            .hear(now, endpoint, bytes, &mut task.job, &mut reply)
+            .handle(now, endpoint, bytes, &mut task.job, &mut reply)
         {
-            Heard::Nothing => Ok(None),
-            Heard::Signal { .. } => Ok(None),
-            Heard::Reply => Ok(Some(reply)),
-            Heard::Job => {
+            Handled::Nothing => Ok(None),
+            Handled::Signal { .. } => Ok(None),
+            Handled::Reply => Ok(Some(reply)),
+            Handled::Job => {
                 task.begin();
                 self.tasks.push(task)?;
                 Ok(None)

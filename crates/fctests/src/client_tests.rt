@@ -56,7 +56,7 @@ fn no_success_leaves_a_block_out(rt: HostRuntime) -> Result<(), Fail> {
         let mut server = follows(rt.alloc());
         comes(&mut server, reply, &[])?;
         let answer = fetched(&mut server, Method::Put, "/p/1", &[7; 1500]);
-        assert!(rt; matches!(&answer, Err(FetchFault::Misfit)), "{reply:?}");
+        assert!(rt; matches!(&answer, Err(FetchFault::Malformed)), "{reply:?}");
     }
     Ok(())
 }
@@ -77,11 +77,11 @@ fn no_success_ends_it_before_the_server_has_all(rt: HostRuntime) -> Result<(), F
             &[(b"\x60\x5f\x00\x07\xd1\x0e\x0e", b""), (reply, b"")],
         )?;
         let answer = fetched(&mut server, Method::Put, "/p/1", &[7; 1500]);
-        assert!(rt; matches!(&answer, Err(FetchFault::Misfit)), "{reply:?}");
+        assert!(rt; matches!(&answer, Err(FetchFault::Malformed)), "{reply:?}");
     }
     let mut server = answers(rt.alloc(), &[(b"\x60\x5f\x00\x07", b"")])?;
     let answer = fetched(&mut server, Method::Put, "/p/1", &[7; 100]);
-    assert!(rt; matches!(&answer, Err(FetchFault::Misfit)));
+    assert!(rt; matches!(&answer, Err(FetchFault::Malformed)));
     Ok(())
 }
 

@@ -7,7 +7,7 @@ use fc_calls::calls::Take;
 use fc_help::{Method, NO_READINGS, Request};
 use fc_machine::{Frame, run};
 use fc_observe::CONFIRM_AFTER;
-use fc_registry::{Ask, Committed, Found, Job, Shard, SlotNumber, Taken, Ticket};
+use fc_registry::{Ask, Committed, Job, Shard, SlotNumber, SlotSnapshot, Taken, Ticket};
 use fc_verify::verify;
 use fc_workers::{Counted, Tally};
 use std::alloc::Global;
@@ -38,7 +38,7 @@ fn commit<L: Ledger>(
     ensures { counted.new.shard.index ≡ 3 }
 {
     let readings = &NO_READINGS;
-    let mut found = Found::blank();
+    let mut found = SlotSnapshot::blank();
     let taken = counted.ask(Take { job, readings }, &mut found);
     let Taken::Given(given) = &taken else {
         return Ok(false);
@@ -49,7 +49,7 @@ fn commit<L: Ledger>(
     let outcome = run(&mut frame, program, request, ticket.vars(), readings);
     if ticket.origin().slot == SlotNumber::new(3) {
         match counted.commit(0, &outcome, &ticket, tally) {
-            Committed::Done(mark) => return Ok(mark.spend() == 8),
+            Committed::Done(mark) => return Ok(mark.into_serial() == 8),
             Committed::Overtaken | Committed::Ended | Committed::Stranger => {}
         }
     }

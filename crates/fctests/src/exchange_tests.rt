@@ -53,14 +53,14 @@ fn exchanges_end_in_order_of_arrival(rt: HostRuntime) -> Result<(), AllocError> 
 #[test]
 fn looks_count_their_comparisons(rt: HostRuntime) -> Result<(), AllocError> {
     let mut exchanges = Exchanges::new(rt.alloc(), DEFAULT_LIMITS)?;
-    assert!(rt; arrives(&mut exchanges, 0, CLIENT, 1) && exchanges.probes() == 0);
-    assert!(rt; arrives(&mut exchanges, 0, CLIENT, 2) && exchanges.probes() == 1);
-    assert!(rt; arrives(&mut exchanges, 0, CLIENT, 3) && exchanges.probes() == 1);
-    assert!(rt; !arrives(&mut exchanges, 0, CLIENT, 2) && exchanges.probes() == 1);
-    assert!(rt; !arrives(&mut exchanges, 0, CLIENT, 1) && exchanges.probes() == 2);
+    assert!(rt; arrives(&mut exchanges, 0, CLIENT, 1) && exchanges.comparisons() == 0);
+    assert!(rt; arrives(&mut exchanges, 0, CLIENT, 2) && exchanges.comparisons() == 1);
+    assert!(rt; arrives(&mut exchanges, 0, CLIENT, 3) && exchanges.comparisons() == 1);
+    assert!(rt; !arrives(&mut exchanges, 0, CLIENT, 2) && exchanges.comparisons() == 1);
+    assert!(rt; !arrives(&mut exchanges, 0, CLIENT, 1) && exchanges.comparisons() == 2);
     exchanges.close(0, 0, &Datagram::new());
     exchanges.expire(247_000);
-    assert!(rt; exchanges.probes() == 2);
+    assert!(rt; exchanges.comparisons() == 2);
     Ok(())
 }
 
@@ -104,15 +104,18 @@ fn find_all(rt: &impl Abort, exchanges: &mut Exchanges)
             Looked::Again(bytes) => bytes.as_slice() == answer(number).as_slice(),
             _ => false,
         };
-        let probes = exchanges.probes();
-        assert!(rt; found && 0 < probes && probes <= 11, "{number}: {probes}");
+        let comparisons = exchanges.comparisons();
+        assert!(rt;
+            found && 0 < comparisons && comparisons <= 11,
+            "{number}: {probes}"
+        );
     }
 }
 
 #[test]
 fn each_of_1024_exchanges_is_found(rt: HostRuntime) -> Result<(), Fail> {
     let mut exchanges = Exchanges::new(rt.alloc(), DEFAULT_LIMITS)?;
-    assert_eq!(rt; exchanges.probes(), 0);
+    assert_eq!(rt; exchanges.comparisons(), 0);
     fill(&rt, &mut exchanges);
     find_all(&rt, &mut exchanges);
     assert!(rt; !arrives(&mut exchanges, 0, CLIENT, 1));

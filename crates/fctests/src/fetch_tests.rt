@@ -595,7 +595,7 @@ fn a_server_answers_a_ping_of_its_uri(rt: HostRuntime) -> Result<(), Fail> {
 
 // If no server listens at the port, the system reports it immediately.
 #[test]
-fn a_ping_that_nobody_hears_fails(rt: HostRuntime) -> Result<(), Fail> {
+fn a_ping_without_response_fails(rt: HostRuntime) -> Result<(), Fail> {
     let port = free_port(&rt)?;
     let start = Instant::now(&rt)?;
     let (ended, told) = pinged(&rt, rt.alloc(), port);

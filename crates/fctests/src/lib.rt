@@ -18,13 +18,13 @@ mod command_tests;
 #[cfg(test)]
 mod counted_tests;
 #[cfg(test)]
+mod driver;
+#[cfg(test)]
 mod exchange_tests;
 #[cfg(test)]
 mod failing_tests;
 #[cfg(test)]
 mod faulty;
-#[cfg(test)]
-mod feeder;
 #[cfg(test)]
 mod fetch_tests;
 #[cfg(test)]

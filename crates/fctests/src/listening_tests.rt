@@ -11,7 +11,7 @@ use fc_host::clock::Elapsed;
 use fc_host::sensors::NoSensors;
 use fc_host::socket::{BUFFER, Receiving, Sink, Source, open};
 use fc_service::serve::{Extent, Listening, serve};
-use fc_workers::{CallLog, Moments};
+use fc_workers::{CallLog, TimeSource};
 use log::sink::Memory;
 use log::{LevelFilter, Logged};
 use std::io::Write;

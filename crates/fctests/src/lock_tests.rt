@@ -1,9 +1,9 @@
 //! Separate locks: a worker's actions while the lock of another shard is held.
 ghost use Rattle.std.specs.Prelude.{◌≡◌};
 
-use crate::feeder::{Feeder, Request, datagram};
+use crate::driver::{Driver, Request, datagram};
 use crate::overtaking_tests::{
-    COUNTER, CREATED, Crew, Feed, Held, Replies, Reply, Trial, hold, work_fed,
+    COUNTER, CREATED, Crew, Drive, Held, Replies, Reply, Trial, hold, work_fed,
 };
 use fc_calls::ShardCall;
 use fc_jobs::Sent;
@@ -93,27 +93,27 @@ impl ShardHeld {
     }
 }
 
-impl<B: Locks> Feed<B> for ShardHeld {
+impl<B: Locks> Drive<B> for ShardHeld {
     // Installs the counter, and sends a GET while it holds the lock, until that is answered or many
     // iterations have passed.
-    fn feed<R: Wait + Clock>(
+    fn drive<R: Wait + Clock>(
         &self,
         rt: &R,
-        feeder: &Feeder<'_, B>,
+        driver: &Driver<'_, B>,
         replies: &Replies,
         mut sent: Sent,
     ) -> Result<(), AllocError> {
         let slot = SlotNumber::new(1);
-        feeder.ask(rt, &mut sent, 0, Request::Put(COUNTER), 0, slot)?;
+        driver.ask(rt, &mut sent, 0, Request::Put(COUNTER), 0, slot)?;
         replies.wait_for(rt, rt, 0);
         let request = match self.serial {
             Some(serial) => Request::Valid(serial),
             None => Request::Get,
         };
-        let bytes = datagram(feeder.alloc, request, 1, slot)?;
-        let jobs = feeder.jobs;
-        if let Some(job) = feeder.job(rt, 0, &bytes) {
-            let _back = feeder.bench.hold(
+        let bytes = datagram(driver.alloc, request, 1, slot)?;
+        let jobs = driver.jobs;
+        if let Some(job) = driver.job(rt, 0, &bytes) {
+            let _back = driver.bench.hold(
                 rt,
                 self.shard,
                 || -> Option<Job>

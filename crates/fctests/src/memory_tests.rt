@@ -65,7 +65,7 @@ fn a_frame_is_made(rt: HostRuntime) -> Result<(), AllocError> {
 
 #[test]
 fn exchanges_are_made(rt: HostRuntime) -> Result<(), AllocError> {
-    assert!(rt; Exchanges::new(rt.alloc(), DEFAULT_LIMITS)?.probes() == 0);
+    assert!(rt; Exchanges::new(rt.alloc(), DEFAULT_LIMITS)?.comparisons() == 0);
     Ok(())
 }
 

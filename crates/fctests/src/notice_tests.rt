@@ -7,8 +7,8 @@ use crate::socket_tests::free_port;
 use coap_client::notice::{is_newer, notice_of};
 use coap_client::peer::BUFFER;
 use coap_client::{
-    Completion, Errand, FetchFault, Joining, Notice, Observer, Path, RequestTarget, Unfetched,
-    Watch,
+    ClientRequest, Completion, FetchFault, Joining, NotificationClass, Observation, Observer, Path,
+    RequestTarget, Unfetched,
 };
 use coap_msg::read;
 use coap_opts::Method;
@@ -51,27 +51,36 @@ fn states_are_in_order(rt: HostRuntime) {
 // three; an error, without Observe and with it; a success without it, or with one of four bytes; a
 // complete response in its first block, the first of two, and the second; and an unrecognised
 // critical option.
-static NOTICES: [(&[u8], Notice); 11] = [
-    (b"\x50\x45\x00\x01\x60\xff\x61", Notice::State(0)),
-    (b"\x50\x45\x00\x01\x61\x05", Notice::State(5)),
+static NOTICES: [(&[u8], NotificationClass); 11] = [
+    (b"\x50\x45\x00\x01\x60\xff\x61", NotificationClass::State(0)),
+    (b"\x50\x45\x00\x01\x61\x05", NotificationClass::State(5)),
     (
         b"\x50\x43\x00\x01\x63\x01\x02\x03",
-        Notice::State(0x01_0203),
+        NotificationClass::State(0x01_0203),
     ),
-    (b"\x50\x84\x00\x01", Notice::Last),
-    (b"\x50\x84\x00\x01\x61\x05", Notice::Last),
-    (b"\x50\x45\x00\x01\xff\x61", Notice::Last),
-    (b"\x50\x45\x00\x01\x64\x00\x00\x00\x05", Notice::Last),
-    (b"\x50\x45\x00\x01\x61\x05\xd1\x04\x06", Notice::State(5)),
+    (b"\x50\x84\x00\x01", NotificationClass::Last),
+    (b"\x50\x84\x00\x01\x61\x05", NotificationClass::Last),
+    (b"\x50\x45\x00\x01\xff\x61", NotificationClass::Last),
+    (
+        b"\x50\x45\x00\x01\x64\x00\x00\x00\x05",
+        NotificationClass::Last,
+    ),
+    (
+        b"\x50\x45\x00\x01\x61\x05\xd1\x04\x06",
+        NotificationClass::State(5),
+    ),
     (
         b"\x50\x45\x00\x01\x61\x05\xd1\x04\x0e\xff\x61",
-        Notice::Misfit,
+        NotificationClass::Malformed,
     ),
     (
         b"\x50\x45\x00\x01\x61\x05\xd1\x04\x16\xff\x61",
-        Notice::Misfit,
+        NotificationClass::Malformed,
     ),
-    (b"\x50\x45\x00\x01\x61\x05\x30", Notice::Misfit),
+    (
+        b"\x50\x45\x00\x01\x61\x05\x30",
+        NotificationClass::Malformed,
+    ),
 ];
 
 #[test]
@@ -85,13 +94,13 @@ fn responses_are_noticed(rt: HostRuntime) {
 }
 
 // Names slot 1.
-fn slot_one(alloc: Global) -> Result<Errand<'static>, Fail> {
+fn slot_one(alloc: Global) -> Result<ClientRequest<'static>, Fail> {
     let target = RequestTarget {
         path: Path::parse(alloc, b"/r/1")?,
         query: Vec::new(alloc),
     };
-    match Errand::new(true, Method::Get, target, &[]) {
-        Some(errand) => Ok(errand),
+    match ClientRequest::new(true, Method::Get, target, &[]) {
+        Some(client_request) => Ok(client_request),
         None => Err(Fail::new("no room")),
     }
 }
@@ -99,18 +108,18 @@ fn slot_one(alloc: Global) -> Result<Errand<'static>, Fail> {
 // Returns the output of an observer of slot 1, whose requests begin with message ID 7, until it has
 // this many lines or the script ends.
 fn watched(alloc: Global, server: &mut Scripted, count: u32) -> Result<Vec<u8>, Fail> {
-    let errand = slot_one(alloc)?;
-    Ok(printed(alloc, server, &errand, count)?)
+    let client_request = slot_one(alloc)?;
+    Ok(printed(alloc, server, &client_request, count)?)
 }
 
 fn printed(
     alloc: Global,
     server: &mut Scripted,
-    errand: &Errand<'_>,
+    client_request: &ClientRequest<'_>,
     count: u32,
 ) -> Result<Vec<u8>, NotesError> {
     let observer = Observer {
-        errand,
+        client_request,
         token: TOKEN,
         id: 7,
     };
@@ -255,25 +264,25 @@ fn completed(
     server: &mut Scripted,
     first: &[u8],
 ) -> Result<(Completion, u32), Fail> {
-    let errand = slot_one(alloc)?;
-    completed_by(alloc, server, &errand, first)
+    let client_request = slot_one(alloc)?;
+    completed_by(alloc, server, &client_request, first)
 }
 
 fn completed_by(
     alloc: Global,
     server: &mut Scripted,
-    errand: &Errand<'_>,
+    client_request: &ClientRequest<'_>,
     first: &[u8],
 ) -> Result<(Completion, u32), Fail> {
     let observer = Observer {
-        errand,
+        client_request,
         token: TOKEN,
         id: 7,
     };
     let Ok(message) = read(first) else {
         return Err(Fail::new("no message"));
     };
-    let mut watch = Watch::first(alloc, 2, 0, &message)?;
+    let mut watch = Observation::first(alloc, 2, 0, &message)?;
     let Some(joining) = Joining::begin(alloc, &message)? else {
         return Err(Fail::new("no first block"));
     };
@@ -367,16 +376,20 @@ fn a_large_answer_without_observe_has_its_own_error(rt: HostRuntime) -> Result<(
     let mut server = follows(rt.alloc());
     let rest = joined(rt.alloc(), b"\xd1\x0a\x0e\xff", &[7; 1024])?;
     comes_with(&mut server, 0, b"\x64\x45\x00\x07", &rest)?;
-    let errand = slot_one(rt.alloc())?;
-    let shown = printed(rt.alloc(), &mut server, &errand, 2);
+    let client_request = slot_one(rt.alloc())?;
+    let shown = printed(rt.alloc(), &mut server, &client_request, 2);
     assert!(rt; matches!(&shown, Err(NotesError::Unobserved)));
     Ok(())
 }
 
 // Returns the result of an observer's deregistration, whose message ID is 0.
-fn ended(alloc: Global, server: &mut Scripted, errand: &Errand<'_>) -> Result<(), FetchFault> {
+fn ended(
+    alloc: Global,
+    server: &mut Scripted,
+    client_request: &ClientRequest<'_>,
+) -> Result<(), FetchFault> {
     let observer = Observer {
-        errand,
+        client_request,
         token: TOKEN,
         id: 0xffff,
     };
@@ -387,11 +400,11 @@ fn ended(alloc: Global, server: &mut Scripted, errand: &Errand<'_>) -> Result<()
 #[test]
 fn an_observer_ends(rt: HostRuntime) -> Result<(), Fail> {
     let alloc = rt.alloc();
-    let errand = slot_one(alloc)?;
+    let client_request = slot_one(alloc)?;
     let mut server = follows(alloc);
     comes_with(&mut server, 0, b"\x54\x45\x10\x00", b"\x61\x09\xff\x78")?;
     comes_with(&mut server, 0, b"\x64\x45\x00\x00", b"\xff\x61")?;
-    ended(alloc, &mut server, &errand)?;
+    ended(alloc, &mut server, &client_request)?;
     check_sent(
         &rt,
         &server,
@@ -400,16 +413,20 @@ fn an_observer_ends(rt: HostRuntime) -> Result<(), Fail> {
         &[],
     );
     let mut silent = follows(alloc);
-    let silence = ended(alloc, &mut silent, &errand);
+    let silence = ended(alloc, &mut silent, &client_request);
     assert!(rt; matches!(&silence, Err(FetchFault::Silence)));
     assert!(rt; silent.waits.as_slice() == [2, 4, 8, 16, 32].as_slice());
     Ok(())
 }
 
 // Returns whether an observation ends because of its output, which has space for three bytes.
-fn ends_by_its_output(alloc: Global, server: &mut Scripted, errand: &Errand<'_>) -> bool {
+fn ends_by_its_output(
+    alloc: Global,
+    server: &mut Scripted,
+    client_request: &ClientRequest<'_>,
+) -> bool {
     let observer = Observer {
-        errand,
+        client_request,
         token: TOKEN,
         id: 7,
     };
@@ -434,10 +451,10 @@ fn ends_by_its_output(alloc: Global, server: &mut Scripted, errand: &Errand<'_>)
 #[test]
 fn an_observer_that_fails_deregisters_by_the_schedule(rt: HostRuntime) -> Result<(), Fail> {
     let alloc = rt.alloc();
-    let errand = slot_one(alloc)?;
+    let client_request = slot_one(alloc)?;
     let mut server = follows(alloc);
     comes_with(&mut server, 0, b"\x64\x45\x00\x07", b"\x61\x02\xff\x61")?;
-    assert!(rt; ends_by_its_output(alloc, &mut server, &errand));
+    assert!(rt; ends_by_its_output(alloc, &mut server, &client_request));
     assert!(rt; server.waits.as_slice() == [2, 2, 4, 8, 16, 32].as_slice());
     assert!(rt; server.sent.len() == 6);
     for place in 1..6 {
@@ -457,7 +474,7 @@ fn an_observer_that_fails_deregisters_by_the_schedule(rt: HostRuntime) -> Result
 #[test]
 fn a_first_state_of_more_blocks_is_a_fault(rt: HostRuntime) -> Result<(), Fail> {
     let alloc = rt.alloc();
-    let errand = slot_one(alloc)?;
+    let client_request = slot_one(alloc)?;
     let mut server = follows(alloc);
     comes_with(
         &mut server,
@@ -465,7 +482,7 @@ fn a_first_state_of_more_blocks_is_a_fault(rt: HostRuntime) -> Result<(), Fail> 
         b"\x64\x45\x00\x07",
         b"\x61\x02\xd1\x04\x0e\xff\x61",
     )?;
-    let shown = printed(alloc, &mut server, &errand, 3);
+    let shown = printed(alloc, &mut server, &client_request, 3);
     assert!(rt; matches!(&shown, Err(NotesError::Fault(FetchFault::Part))));
     Ok(())
 }
@@ -488,8 +505,8 @@ fn each_line_of_an_observer_is_flushed(rt: HostRuntime) -> Result<(), Fail> {
 fn a_registration_is_rejected(rt: HostRuntime) -> Result<(), Fail> {
     let mut server = follows(rt.alloc());
     comes(&mut server, b"\x70\x00\x00\x07", &[])?;
-    let errand = slot_one(rt.alloc())?;
-    let shown = printed(rt.alloc(), &mut server, &errand, 1);
+    let client_request = slot_one(rt.alloc())?;
+    let shown = printed(rt.alloc(), &mut server, &client_request, 1);
     assert!(rt; matches!(&shown, Err(NotesError::Fault(FetchFault::Rejected))));
     assert!(rt; server.sent.len() == 1);
     Ok(())

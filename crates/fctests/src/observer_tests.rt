@@ -85,7 +85,7 @@ static TICKS: [(u64, Did); 11] = [
 ];
 
 #[test]
-fn late_notifications_are_sent_again(rt: HostRuntime) -> Result<(), Fail> {
+fn overdue_notifications_are_sent_again(rt: HostRuntime) -> Result<(), Fail> {
     let mut observers = Observers::new(rt.alloc(), 1, DAY)?;
     assert!(rt; register(&mut observers, 0, 1, 0x6f, 7) == Registered::Entered);
     assert!(rt; notify(&mut observers, DAY - 1, 8, 0, 8) == Some((1, false)));
@@ -93,7 +93,7 @@ fn late_notifications_are_sent_again(rt: HostRuntime) -> Result<(), Fail> {
     assert!(rt; notify(&mut observers, DAY, 9, 1, 9) == Some((1, true)));
     for (after, wanted) in &TICKS {
         let (after, wanted) = (*after, *wanted);
-        assert!(rt; observers.is_late(DAY + after) == (wanted != Did::Nothing));
+        assert!(rt; observers.is_overdue(DAY + after) == (wanted != Did::Nothing));
         assert!(rt;
             tick(&rt, &mut observers, DAY + after, &[1]) == wanted,
             "{after}"
@@ -119,9 +119,9 @@ fn acknowledgements_end_the_wait(rt: HostRuntime) -> Result<(), Fail> {
     assert!(rt; notify(&mut observers, DAY, 8, 5, 8) == Some((1, true)));
     observers.acked(peer(2), 5);
     observers.acked(peer(1), 6);
-    assert!(rt; observers.is_late(DAY + 2_000));
+    assert!(rt; observers.is_overdue(DAY + 2_000));
     observers.acked(peer(1), 5);
-    assert!(rt; !observers.is_late(DAY + 2_000));
+    assert!(rt; !observers.is_overdue(DAY + 2_000));
     assert!(rt; notify(&mut observers, DAY + 1, 9, 6, 9) == Some((1, false)));
     Ok(())
 }
@@ -193,7 +193,7 @@ fn turns_keep_that_the_slot_was_empty(rt: HostRuntime) -> Result<(), Fail> {
     let first = observers.next_due(1, 8).ok_or("due")?;
     let second = observers.next_due(1, 8).ok_or("due too")?;
     assert!(rt; observers.is_out(second) && !observers.is_missing(second));
-    observers.miss(second);
+    observers.mark_missing(second);
     observers.advance(247_000);
     assert!(rt; observers.is_missing(second) && !observers.is_missing(first));
     // It is released.
@@ -203,20 +203,20 @@ fn turns_keep_that_the_slot_was_empty(rt: HostRuntime) -> Result<(), Fail> {
 }
 
 #[test]
-fn a_list_is_quiet_until_it_has_something_to_do(rt: HostRuntime) -> Result<(), Fail> {
+fn a_list_is_idle_until_it_has_something_to_do(rt: HostRuntime) -> Result<(), Fail> {
     let mut observers = Observers::new(rt.alloc(), 1, DAY)?;
-    assert!(rt; observers.quiet_until(8) == u64::MAX);
+    assert!(rt; observers.idle_until(8) == u64::MAX);
     register(&mut observers, 0, 1, 0x6f, 7);
-    assert!(rt; observers.quiet_until(7) == u64::MAX && observers.quiet_until(8) == 0);
+    assert!(rt; observers.idle_until(7) == u64::MAX && observers.idle_until(8) == 0);
     let turn = observers.next_due(10, 8).ok_or("due")?;
-    assert!(rt; observers.quiet_until(8) == 247_011);
+    assert!(rt; observers.idle_until(8) == 247_011);
     observers.give_up(turn, 20);
-    assert!(rt; observers.quiet_until(8) == 21 && observers.quiet_until(7) == u64::MAX);
+    assert!(rt; observers.idle_until(8) == 21 && observers.idle_until(7) == u64::MAX);
     assert!(rt; notify(&mut observers, DAY, 8, 5, 8) == Some((1, true)));
-    assert!(rt; observers.quiet_until(9) == DAY + 2_000);
+    assert!(rt; observers.idle_until(9) == DAY + 2_000);
     assert!(rt; tick(&rt, &mut observers, DAY + 2_050, &[5]) == Did::Resent);
-    assert!(rt; observers.quiet_until(9) == DAY + 6_050);
+    assert!(rt; observers.idle_until(9) == DAY + 6_050);
     observers.acked(peer(1), 5);
-    assert!(rt; observers.quiet_until(8) == u64::MAX);
+    assert!(rt; observers.idle_until(8) == u64::MAX);
     Ok(())
 }

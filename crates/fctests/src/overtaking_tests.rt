@@ -4,7 +4,7 @@ ghost use Rattle.fc_workers.specs.Fronts.{beginning};
 ghost use Rattle.fc_core.specs.Policies.{default_policy};
 ghost use Rattle.fc_workers.specs.Naming.{AreNamed};
 
-use crate::feeder::{Feeder, Request};
+use crate::driver::{Driver, Request};
 use crate::job_tests::job;
 use crate::lock_tests::{Locks, ShardHeld};
 use crate::told_tests::Told;
@@ -17,8 +17,8 @@ use fc_jobs::Sent;
 use fc_registry::SlotNumber;
 use fc_verify::{Verified, verify};
 use fc_workers::{
-    Bench, Blanks, Books, CallLog, Device, Gate, Locked, Moments, Share, TrackLog, Wire, Workshop,
-    feed_workers, make_seats,
+    Bench, Blanks, Books, CallLog, Context, Device, Gate, Locked, Share, TimeSource, TrackLog,
+    Wire, drive_workers, make_seats,
 };
 use std::alloc::{AllocError, Global};
 use std::marker::Brand;
@@ -134,7 +134,7 @@ impl Wire for Replies {
     }
 }
 
-impl Moments for Replies {
+impl TimeSource for Replies {
     fn now<R: Wait>(&self, rt: &R, log: &mut CallLog) -> u64 {
         let _ = rt;
         let _ = log;
@@ -164,15 +164,15 @@ impl<'c, 'r, C: Clock> Gate for Holding<'c, 'r, C> {
 }
 
 // The input for a server's workers, through the sending end.
-pub(crate) trait Feed<B: Bench> {
-    fn feed<R: Wait + Clock>(
+pub(crate) trait Drive<B: Bench> {
+    fn drive<R: Wait + Clock>(
         &self,
         rt: &R,
-        feeder: &Feeder<'_, B>,
+        driver: &Driver<'_, B>,
         replies: &Replies,
         sent: Sent,
     ) -> Result<(), AllocError>
-        requires { sent.channel ≡ feeder.now.jobs.now };
+        requires { sent.channel ≡ driver.now.jobs.now };
 }
 
 // The tallies and logs of workers, and the log of a test's own calls.
@@ -188,7 +188,7 @@ pub(crate) struct Crew<T: Drop, L: Drop> {
 pub(crate) fn work_fed<
     B: Bench + Sync,
     G: Gate + Sync,
-    F: Feed<B>,
+    F: Drive<B>,
     R: Threads + Wait + Clock + Sync,
 >(
     rt: &R,
@@ -197,7 +197,7 @@ pub(crate) fn work_fed<
     crew: Crew<B::Tallies, TrackLog<B::Book>>,
     gate: &G,
     replies: &Replies,
-    feed: &F,
+    drive: &F,
 ) -> anyhow::Result<Vec<Share<B::Tallies, TrackLog<B::Book>>>>
 where
     B::Tallies: Send,
@@ -205,27 +205,27 @@ where
 {
     let Crew { tallies, logs, own } = crew;
     let (jobs, sent, seats) = make_seats(alloc, tallies, logs)?;
-    let workshop = Workshop {
+    let context = Context {
         alloc,
         bench,
         gate,
         wire: replies,
-        moments: replies,
+        times: replies,
     };
-    let feeder = Feeder {
+    let driver = Driver {
         alloc,
         bench,
         jobs: &jobs,
         log: Mutex::new(own),
     };
-    let (fed, shares) = feed_workers(
+    let (fed, shares) = drive_workers(
         rt,
-        &workshop,
+        &context,
         &jobs,
         seats,
         |_has_workers| -> Result<(), AllocError>
-            requires { sent.channel ≡ feeder.jobs.now }
-        { feed.feed(rt, &feeder, replies, sent) },
+            requires { sent.channel ≡ driver.jobs.now }
+        { drive.drive(rt, &driver, replies, sent) },
     );
     fed?;
     Ok(shares?)
@@ -257,19 +257,19 @@ impl TwoAtOnce {
     }
 }
 
-impl<B: Bench> Feed<B> for TwoAtOnce {
-    fn feed<R: Wait + Clock>(
+impl<B: Bench> Drive<B> for TwoAtOnce {
+    fn drive<R: Wait + Clock>(
         &self,
         rt: &R,
-        feeder: &Feeder<'_, B>,
+        driver: &Driver<'_, B>,
         replies: &Replies,
         mut sent: Sent,
     ) -> Result<(), AllocError> {
         let slot = SlotNumber::new(0);
-        feeder.ask(rt, &mut sent, 0, Request::Put(COUNTER), 0, slot)?;
+        driver.ask(rt, &mut sent, 0, Request::Put(COUNTER), 0, slot)?;
         replies.wait_for(rt, rt, 0);
-        feeder.ask(rt, &mut sent, 0, Request::Post, 1, slot)?;
-        feeder.ask(rt, &mut sent, 0, Request::Post, 2, slot)?;
+        driver.ask(rt, &mut sent, 0, Request::Post, 1, slot)?;
+        driver.ask(rt, &mut sent, 0, Request::Post, 2, slot)?;
         Ok(())
     }
 }
@@ -369,17 +369,17 @@ impl Overtaken {
     }
 }
 
-impl<B: Bench> Feed<B> for Overtaken {
-    fn feed<R: Wait + Clock>(
+impl<B: Bench> Drive<B> for Overtaken {
+    fn drive<R: Wait + Clock>(
         &self,
         rt: &R,
-        feeder: &Feeder<'_, B>,
+        driver: &Driver<'_, B>,
         replies: &Replies,
         mut sent: Sent,
     ) -> Result<(), AllocError> {
         let _ = replies;
         for id in 0..self.posts {
-            feeder.ask(rt, &mut sent, 0, Request::Post, id, SlotNumber::new(0))?;
+            driver.ask(rt, &mut sent, 0, Request::Post, id, SlotNumber::new(0))?;
         }
         Ok(())
     }
@@ -470,7 +470,7 @@ fn hold_named<B: Books + Send + Sync, R: Threads + Wait + Clock + Sync>(
     requires begin { B.begin ≡ record { serial = 0; id = 0; policy = default_policy } }
 {
     let device = Bare::new();
-    let (server, mut reserve, mut logs) = Locked::<B, Bare>::new(
+    let (server, mut unassigned, mut logs) = Locked::<B, Bare>::new(
         alloc,
         0,
         0,
@@ -479,7 +479,7 @@ fn hold_named<B: Books + Send + Sync, R: Threads + Wait + Clock + Sync>(
         blanks,
         book,
     )?;
-    let tallies = reserve.split_each(alloc, usize::from(tallies))?;
+    let tallies = unassigned.split_each(alloc, usize::from(tallies))?;
     let Some(own) = logs.pop() else {
         unreachable!();
     };

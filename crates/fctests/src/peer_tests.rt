@@ -49,7 +49,7 @@ impl Clock for Stepping {
 }
 
 #[test]
-fn a_moment_is_of_milliseconds(rt: HostRuntime) -> Result<(), Fail> {
+fn a_time_is_of_milliseconds(rt: HostRuntime) -> Result<(), Fail> {
     let server = free_socket(&rt)?;
     let clock = Stepping {
         reads: AtomicU64::new(0),

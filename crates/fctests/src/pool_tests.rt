@@ -1,13 +1,13 @@
 //! Pools: the state of a server after its workers have ended.
-use crate::feeder::{PEER, Request, datagram};
+use crate::driver::{PEER, Request, datagram};
 use crate::overtaking_tests::{Bare, COUNTER, Replies};
 use fc_core::DEFAULT_POLICY;
 use fc_core::front::blank_emission;
 use fc_record::NoChanges;
 use fc_registry::SlotNumber;
 use fc_server::Begin;
-use fc_service::pool::{Feeder, Intake, Pool, run_pool};
-use fc_workers::Handover;
+use fc_service::pool::{Driver, Ingress, Pool, run_pool};
+use fc_workers::Offload;
 use std::alloc::{AllocError, Global};
 use std::sync::Wait;
 use std::test::Fail;
@@ -18,14 +18,14 @@ struct Installs {
     alloc: Global,
 }
 
-impl Feeder<Result<(), AllocError>> for Installs {
-    fn feed<N: Intake, R: Wait>(self, rt: &R, intake: &mut N) -> Result<(), AllocError> {
+impl Driver<Result<(), AllocError>> for Installs {
+    fn drive<N: Ingress, R: Wait>(self, rt: &R, ingress: &mut N) -> Result<(), AllocError> {
         let _ = rt;
         let mut reply = blank_emission();
         for (id, slot) in [(0, 1), (1, 9), (2, 2), (3, 9)] {
             let slot = SlotNumber::new(slot);
             let bytes = datagram(self.alloc, Request::Put(COUNTER), id, slot)?;
-            let _heard = intake.hear(0, PEER, &bytes, &mut reply);
+            let _handled = ingress.handle(0, PEER, &bytes, &mut reply);
         }
         Ok(())
     }
@@ -38,14 +38,14 @@ fn a_pool_counts_the_changes_of_each_shard(rt: HostRuntime) -> Result<(), Fail> 
     let replies = Replies::new();
     let pool = Pool {
         workers: 2,
-        handover: Handover::Every,
+        offload: Offload::Every,
         begin: Begin {
             serial: 7,
             id: 0,
             policy: DEFAULT_POLICY,
         },
         wire: &replies,
-        moments: &replies,
+        times: &replies,
         device: &Bare::new(),
         recorder: &NoChanges,
     };

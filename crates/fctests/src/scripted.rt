@@ -1,6 +1,6 @@
 //! A server that follows a script, for tests of the client.
 use coap_client::peer::{BUFFER, Buffer};
-use coap_client::{Errand, FetchFault, Fetched, Path, Peer, RequestTarget, fetch};
+use coap_client::{ClientRequest, FetchFault, Fetched, Path, Peer, RequestTarget, fetch};
 use coap_msg::Datagram;
 use coap_opts::Method;
 use std::alloc::{AllocError, Global};
@@ -13,7 +13,7 @@ use std::process::Abort;
 pub(crate) struct Scripted {
     alloc: Global,
     script: Vec<Vec<u8>>,
-    moments: Vec<u64>,
+    times: Vec<u64>,
     place: usize,
     pub(crate) sent: Vec<Vec<u8>>,
     pub(crate) waits: Vec<u64>,
@@ -28,9 +28,9 @@ impl Peer for Scripted {
 
     // The time of a datagram is the one at its place in the script.
     fn now(&mut self) -> io::Result<u64> {
-        let moments = &self.moments;
+        let times = &self.times;
         Ok(
-            moments
+            times
                 .get(self.place.saturating_sub(1))
                 .copied()
                 .unwrap_or(0),
@@ -68,7 +68,7 @@ pub(crate) fn follows(alloc: Global) -> Scripted {
     Scripted {
         alloc,
         script: Vec::new(alloc),
-        moments: Vec::new(alloc),
+        times: Vec::new(alloc),
         place: 0,
         sent: Vec::new(alloc),
         waits: Vec::new(alloc),
@@ -83,13 +83,13 @@ pub(crate) fn comes(server: &mut Scripted, first: &[u8], second: &[u8]) -> Resul
 // Adds a datagram that arrives at this time, in milliseconds.
 pub(crate) fn comes_at(
     server: &mut Scripted,
-    moment: u64,
+    time: u64,
     first: &[u8],
     second: &[u8],
 ) -> Result<(), AllocError> {
     let bytes = joined(server.alloc, first, second)?;
     server.script.push(bytes).map_err(AllocError::from)?;
-    server.moments.push(moment).map_err(AllocError::from)
+    server.times.push(time).map_err(AllocError::from)
 }
 
 // Returns the result of this request to a path by confirmable messages, with message IDs from 7 on.
@@ -118,10 +118,10 @@ pub(crate) fn asked(
         path,
         query: Vec::new(server.alloc),
     };
-    let Some(errand) = Errand::new(confirmable, method, target, payload) else {
+    let Some(client_request) = ClientRequest::new(confirmable, method, target, payload) else {
         return Err(FetchFault::Memory(AllocError));
     };
-    fetch(server.alloc, server, &errand, 7)
+    fetch(server.alloc, server, &client_request, 7)
 }
 
 // Makes a server with these responses: each datagram consists of two parts.

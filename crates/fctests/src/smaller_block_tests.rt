@@ -145,7 +145,7 @@ fn a_block_that_was_not_asked_for_is_a_fault(rt: HostRuntime) -> Result<(), Fail
             ],
         )?;
         let answer = fetched(&mut server, Method::Get, "/r/1", &[]);
-        assert!(rt; matches!(&answer, Err(FetchFault::Misfit)), "{reply:?}");
+        assert!(rt; matches!(&answer, Err(FetchFault::Malformed)), "{reply:?}");
     }
     Ok(())
 }

@@ -9,7 +9,7 @@ use fc_registry::SlotNumber;
 use fc_service::command::command;
 use fc_service::every::{BadTimer, timers_in};
 use fc_service::options::serve_options;
-use fc_workers::{CallLog, Moments};
+use fc_workers::{CallLog, TimeSource};
 use std::alloc::{AllocError, Global};
 use std::sync::Wait;
 use std::sync::atomic::{AtomicUsize, Ordering};
@@ -23,7 +23,7 @@ struct Readings {
     count: AtomicUsize,
 }
 
-impl Moments for Readings {
+impl TimeSource for Readings {
     fn now<R: Wait>(&self, rt: &R, log: &mut CallLog) -> u64 {
         let _ = rt;
         let _ = log;
@@ -106,7 +106,7 @@ fn timers_ask_at_their_beats(rt: HostRuntime) -> Result<(), Fail> {
     let mut timed = Timed {
         source: Listed { calls: 0, right: 0 },
         timers: two_timers(rt.alloc())?,
-        moments: &readings,
+        times: &readings,
         rt: &rt,
     };
     let mut log = CallLog::new();

@@ -2,14 +2,14 @@
 //!
 //! No clause says which state of its front or of a shard such a call met, nor the effect of the
 //! word.
-use crate::feeder::{PEER, Request, datagram};
+use crate::driver::{PEER, Request, datagram};
 use crate::lock_tests::Open;
 use crate::overtaking_tests::{COUNTER, Crew, Held, Replies, Trial, hold};
-use fc_core::Heard;
+use fc_core::Handled;
 use fc_core::front::{blank_emission, blank_job};
 use fc_observe::{Ticked, Turn};
 use fc_registry::SlotNumber;
-use fc_workers::{Bench, CallLog, Dispatcher, Handover, Moments, TrackLog, Workshop, make_seats};
+use fc_workers::{Bench, CallLog, Context, Dispatcher, Offload, TimeSource, TrackLog, make_seats};
 use std::alloc::{AllocError, Global};
 use std::sync::Wait;
 use std::sync::atomic::{AtomicU64, Ordering};
@@ -24,7 +24,7 @@ const REGISTRATION: &[u8] = &[0x41, 1, 0, 9, 0x6f, 0x60, 0x51, b'r', 0x01, b'0']
 #[derive(Clone, Copy)]
 pub(crate) enum Told {
     // Its exchanges have expired: then a duplicate is a new request.
-    Moment,
+    Time,
     // An Acknowledgement of a notification, which keeps its observer, and a Reset message, which
     // doesn't (RFC 7641, section 3.6).
     Signals,
@@ -55,7 +55,7 @@ impl Watch {
     }
 }
 
-impl Moments for Watch {
+impl TimeSource for Watch {
     fn now<R: Wait>(&self, rt: &R, log: &mut CallLog) -> u64 {
         let _ = rt;
         let _ = log;
@@ -91,17 +91,17 @@ impl Told {
         let Some(seat) = seats.pop() else {
             return Err(anyhow::anyhow!("no seat"));
         };
-        let workshop = Workshop {
+        let context = Context {
             alloc,
             bench,
             gate: &Open,
             wire: &replies,
-            moments: &watch,
+            times: &watch,
         };
-        let mut dispatcher = Dispatcher::new(&workshop, &jobs, sent, seat, Handover::Never);
+        let mut dispatcher = Dispatcher::new(&context, &jobs, sent, seat, Offload::Never);
         observe_counter(rt, alloc, &mut dispatcher)?;
         let shows = match self {
-            Told::Moment => shows_moment(rt, alloc, &mut dispatcher)?,
+            Told::Time => shows_time(rt, alloc, &mut dispatcher)?,
             Told::Signals => shows_signals(rt, alloc, bench, &mut log, &mut dispatcher)?,
             Told::Turn => shows_turn(rt, bench, &mut own, &mut log),
             Told::Word => shows_word(rt, &watch, &mut dispatcher),
@@ -125,20 +125,20 @@ fn observe_counter<B: Bench, R: Wait>(
     teller: &mut Teller<'_, B>,
 ) -> Result<(), AllocError> {
     ask(rt, alloc, teller, 0, Request::Put(COUNTER), 0)?;
-    hear(rt, teller, 0, REGISTRATION);
+    handle(rt, teller, 0, REGISTRATION);
     ask(rt, alloc, teller, 0, Request::Post, 1)?;
     Ok(())
 }
 
 // Returns whether the exchange of the PUT has expired 300,000 ms later (RFC 7252, section 4.8.2).
-fn shows_moment<B: Bench, R: Wait>(
+fn shows_time<B: Bench, R: Wait>(
     rt: &R,
     alloc: Global,
     teller: &mut Teller<'_, B>,
 ) -> Result<bool, AllocError> {
     teller.tick(rt, 300_000);
-    let heard = ask(rt, alloc, teller, 0, Request::Put(COUNTER), 0)?;
-    Ok(heard == Heard::Job)
+    let handled = ask(rt, alloc, teller, 0, Request::Put(COUNTER), 0)?;
+    Ok(handled == Handled::Job)
 }
 
 // Returns whether the observer is notified after the Acknowledgement of its first notification, and
@@ -183,8 +183,8 @@ fn shows_word<B: Bench, R: Wait>(rt: &R, watch: &Watch, teller: &mut Teller<'_, 
     watch.now.store(DAY, Ordering::SeqCst);
     let is_notified = teller.notify(rt, 0, DAY);
     let is_early = !matches!(teller.resend(rt, 0, DAY + 2_499), Ticked::Quiet);
-    let is_late = matches!(teller.resend(rt, 0, DAY + 2_500), Ticked::Resend(_));
-    is_notified && !is_early && is_late
+    let is_overdue = matches!(teller.resend(rt, 0, DAY + 2_500), Ticked::Resend(_));
+    is_notified && !is_early && is_overdue
 }
 
 // Delivers a request for slot 0 at `now`, in milliseconds.
@@ -195,15 +195,20 @@ fn ask<B: Bench, R: Wait>(
     now: u64,
     request: Request<'_>,
     id: u16,
-) -> Result<Heard, AllocError> {
+) -> Result<Handled, AllocError> {
     let bytes = datagram(alloc, request, id, SlotNumber::new(0))?;
-    Ok(hear(rt, teller, now, &bytes))
+    Ok(handle(rt, teller, now, &bytes))
 }
 
 // Delivers a datagram at `now`, in milliseconds.
-fn hear<B: Bench, R: Wait>(rt: &R, teller: &mut Teller<'_, B>, now: u64, bytes: &[u8]) -> Heard {
+fn handle<B: Bench, R: Wait>(
+    rt: &R,
+    teller: &mut Teller<'_, B>,
+    now: u64,
+    bytes: &[u8],
+) -> Handled {
     let mut reply = blank_emission();
-    teller.hear(rt, now, PEER, bytes, &mut reply)
+    teller.handle(rt, now, PEER, bytes, &mut reply)
 }
 
 fn is_told<R: Threads + Wait + Clock + Sync>(rt: &R, alloc: Global, told: Told) -> bool {
@@ -211,8 +216,8 @@ fn is_told<R: Threads + Wait + Clock + Sync>(rt: &R, alloc: Global, told: Told) 
 }
 
 #[test]
-fn a_locked_front_is_told_the_moment(rt: HostRuntime) -> Result<(), Fail> {
-    assert!(rt; is_told(&rt, rt.alloc(), Told::Moment));
+fn a_locked_front_is_told_the_time(rt: HostRuntime) -> Result<(), Fail> {
+    assert!(rt; is_told(&rt, rt.alloc(), Told::Time));
     Ok(())
 }
 

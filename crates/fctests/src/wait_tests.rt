@@ -112,7 +112,7 @@ fn a_server_that_has_nothing_to_do_waits_without_end(rt: HostRuntime) {
 
 // A PUT of a program into slot 1 that takes at most 8,207 steps: four times 1,024 iterations of
 // two.
-static PUT_DEAR: &[u8] =
+static PUT_EXPENSIVE: &[u8] =
     b"\x40\x03\x00\x01\xb1\x70\x01\x31\xff\x46\x43\x42\x32\x00\x00\x08\x00\x0f\x20\x00\x00\x00\x00\x00\x00\xb7\x06\x00\x00\x00\x00\x00\x00\xb7\x07\x00\x00\x00\x00\x00\x00\x07\x07\x00\x00\x01\x00\x00\x00\xa5\x07\xfe\xff\x00\x04\x00\x00\x07\x06\x00\x00\x01\x00\x00\x00\xa5\x06\xfb\xff\x04\x00\x00\x00\xb7\x00\x00\x00\x00\x00\x00\x00\x95\x00\x00\x00\x00\x00\x00\x00";
 
 // A source that gives an expensive program and a POST to it, for which a worker is already waiting,
@@ -141,7 +141,7 @@ impl<'a, C: Clock> Source for Busy<'a, C> {
         match self.calls {
             1 => {
                 thread::sleep(self.clock, Duration::from_millis(500));
-                put_datagram(PUT_DEAR, buffer)
+                put_datagram(PUT_EXPENSIVE, buffer)
             }
             2 | 5 => put_datagram(POST, buffer),
             4 => {

@@ -5,11 +5,11 @@ use Rattle.coap_msg.specs.declared.types.Emission.{Emission}
 use Rattle.coap_msg.specs.declared.types.Endpoint.{Endpoint}
 use Rattle.fc_core.specs.Exchanges.{advanced}
 use Rattle.fc_core.specs.Receiving.{delivered}
-use Rattle.fc_server.specs.Alone.{StaysQuietAlone, alone_calls}
-use Rattle.fc_server.specs.Serving.{Hears, Passes, Serves}
-use Rattle.fc_server.specs.Settling.{AreQuietUntil, AreSettled, AreStepsBy, SettlingStep, sent_in_steps}
+use Rattle.fc_server.specs.SingleThread.{StaysIdleAlone, alone_calls}
+use Rattle.fc_server.specs.Serving.{Handles, Passes, Serves}
+use Rattle.fc_server.specs.Flushing.{AreIdleUntil, AreFlushed, AreStepsBy, FlushingStep, sent_in_steps}
 use Rattle.fc_server.specs.States.{ServerState, begin_of}
-use Rattle.fc_server.specs.declared.alone.Alone.{Alone}
+use Rattle.fc_server.specs.declared.alone.SingleThread.{SingleThread}
 use Rattle.numzela.specs.Configs.{begin_for, is_valid}
 use Rattle.numzela.specs.declared.config.Config.{Config}
 use Rattle.numzela.specs.declared.server.Datagram.{Datagram}
@@ -44,7 +44,7 @@ Writes status (Some emission) out = (status ≡ 1) × IsWritten emission out
 -- that this sends was written.
 pub record HasReceived (readings : List ℕ) (now : ℕ) (from : Peer) (bytes : Bor (List ℕ)) (old new : ServerState) (status : ℕ) (out : Datagram) : Type 0 where
   pub sent : Option Emission
-  pub hears : let to = endpoint_for from in Hears readings now to bytes (delivered (advanced old.front now) to bytes.now) old new sent
+  pub handles : let to = endpoint_for from in Handles readings now to bytes (delivered (advanced old.front now) to bytes.now) old new sent
   pub writes : Writes status sent out
 
 -- the same for the server of a handle.
@@ -57,18 +57,18 @@ pub record HasReceivedHeld (readings : List ℕ) (now : ℕ) (from : Peer) (byte
 
 -- ---- what is left to do
 
--- steps were taken. Either the status is OK, they sent nothing, and `AreSettled` holds; or it is
+-- steps were taken. Either the status is OK, they sent nothing, and `AreFlushed` holds; or it is
 -- SEND, one of them sent just the written datagram, and the others nothing.
-pub record HasFlushed (now : ℕ) (old new : Alone) (status : ℕ) (out : Datagram) : Type 0 where
-  pub steps : List SettlingStep
+pub record HasFlushed (now : ℕ) (old new : SingleThread) (status : ℕ) (out : Datagram) : Type 0 where
+  pub steps : List FlushingStep
   pub taken : AreStepsBy alone_calls now steps old new
   pub writes :
-      ((status ≡ 0) × AreSettled steps × (sent_in_steps steps ≡ []))
+      ((status ≡ 0) × AreFlushed steps × (sent_in_steps steps ≡ []))
       ⊎ ((status ≡ 1) × ((emission : Emission) × (sent_in_steps steps ≡ emission ∷ []) × IsWritten emission out))
 
 -- its jobs got these readings and this random word, and the pending steps were taken.
-pub record HasPolled (readings : List ℕ) (now random : ℕ) (old new : Alone) (status : ℕ) (out : Datagram) : Type 0 where
-  pub handed : Alone
+pub record HasPolled (readings : List ℕ) (now random : ℕ) (old new : SingleThread) (status : ℕ) (out : Datagram) : Type 0 where
+  pub handed : SingleThread
   pub same : handed.engine ≡ old.engine
   pub with : handed.handed ≡ record { readings = readings; random = random }
   pub flushed : HasFlushed now handed new status out
@@ -96,4 +96,4 @@ pub record HasDeadline (old new : Option Serving) (deadline : ℕ) : Type 0 wher
   pub before : Serving
   pub held : old ≡ Some before
   pub holds : new ≡ Some before
-  pub quiet : AreQuietUntil (λ shard until. StaysQuietAlone shard before.alone until) deadline
+  pub idle : AreIdleUntil (λ shard until. StaysIdleAlone shard before.alone until) deadline

@@ -19,10 +19,10 @@
 //!   its policy.
 //! - **Receiving**: the server handles a datagram as the engine of `fc_server` does, whatever the
 //!   history so far. Just the emission that this sends is written.
-//! - **Polling**: the steps are those of `fc_server`'s `Settling`. `NUMZELA_SEND` guarantees that
+//! - **Polling**: the steps are those of `fc_server`'s `Flushing`. `NUMZELA_SEND` guarantees that
 //!   one step sent just the written datagram, and the others nothing. `NUMZELA_OK` guarantees that
 //!   nothing was sent. It also guarantees that nothing is left, no message ID was available, or
-//!   8,192 steps were taken (`AreSettled`).
+//!   8,192 steps were taken (`AreFlushed`).
 //! - **A deadline** is a time before which the shards have nothing to do. No contract says that it
 //!   is the latest one, so 0 would do. The script of `tests/c-library` checks that it is later than
 //!   the time of the last poll.

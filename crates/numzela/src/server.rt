@@ -15,9 +15,9 @@ use coap_msg::types::DATAGRAM;
 use coap_msg::{Emission, Endpoint};
 use fc_core::front::blank_emission;
 use fc_help::Readings;
-use fc_server::intake::is_reply;
-use fc_server::settle::{STEPS, Settling, quiet_until};
-use fc_server::{Alone, Begin, Intake};
+use fc_server::flush::{Flushing, STEPS, idle_until};
+use fc_server::ingress::is_reply;
+use fc_server::{Begin, Ingress, SingleThread};
 use std::alloc::{AllocError, Global};
 use std::marker::Model;
 use std::mem::replace;
@@ -25,7 +25,7 @@ use std::mem::replace;
 /// A server, and the memory for its emissions.
 #[derive(Drop)]
 pub struct Serving {
-    alone: Alone,
+    alone: SingleThread,
     emission: Emission,
 }
 
@@ -171,7 +171,7 @@ fn make_serving(alloc: Global, begin: &Begin) -> Result<Box<Serving>, AllocError
     requires { CanBegin begin.now }
     ensures { IfOk result (λ made. Serves (begin_of begin.now) made.value.alone.engine []) }
 {
-    let alone = Alone::new(alloc, begin)?;
+    let alone = SingleThread::new(alloc, begin)?;
     let emission = blank_emission();
     match Box::new(alloc, Serving { alone, emission }) {
         Ok(serving) => Ok(serving),
@@ -263,7 +263,7 @@ pub extern "C" fn numzela_server_deadline(
     let Some(serving) = server.take(alloc) else {
         return EMPTY;
     };
-    *deadline = quiet_until(&serving.alone);
+    *deadline = idle_until(&serving.alone);
     server.put(serving);
     OK
 }
@@ -296,8 +296,8 @@ impl Serving {
             port: from.port,
         };
         self.alone.set_handed(readings, 0);
-        let heard = self.alone.hear(now, endpoint, bytes, &mut self.emission);
-        write_if(is_reply(heard), &self.emission, out)
+        let handled = self.alone.handle(now, endpoint, bytes, &mut self.emission);
+        write_if(is_reply(handled), &self.emission, out)
     }
 
     fn poll(&mut self, now: u64, random: u16, readings: &Readings, out: &mut Datagram) -> u32
@@ -315,12 +315,12 @@ impl Serving {
         ensures status { result ≤ 1 }
         ensures unwritten { (result ≡ SEND → ⊥) → out.new ≡ out.old }
     {
-        let mut settling = Settling::begin(&mut self.alone, now);
+        let mut flushing = Flushing::begin(&mut self.alone, now);
         'steps: for taken in 0..STEPS {
-            if settling.is_at_end() {
+            if flushing.is_at_end() {
                 return OK;
             }
-            if settling.step(&mut self.alone, now, &mut self.emission) {
+            if flushing.step(&mut self.alone, now, &mut self.emission) {
                 write_datagram(&self.emission, out);
                 return SEND;
             }

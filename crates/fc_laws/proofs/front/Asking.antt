@@ -291,7 +291,7 @@ token_is r s from m j b = ap (λ (x : Job). x.token.items) (job_brought r s from
 pub turn_is : (r : Entry) (s : Seen) (from : Endpoint) (m : Message) (j : Job) → BringsJob r s from m j → j.turn ≡ None
 turn_is r s from m j b = ap (λ (x : Job). x.turn) (job_brought r s from m j b).is
 
-pub exchange_is : (r : Entry) (s : Seen) (from : Endpoint) (m : Message) (j : Job) (b : BringsJob r s from m j) → j.origin.opening ≡ record { number = length s.exchanges; at = max s.moment b.now }
+pub exchange_is : (r : Entry) (s : Seen) (from : Endpoint) (m : Message) (j : Job) (b : BringsJob r s from m j) → j.origin.opening ≡ record { number = length s.exchanges; at = max s.time b.now }
 exchange_is r s from m j b = ap (λ (x : Job). x.origin.opening) (job_brought r s from m j b).is
 
 slot_is : (r : Entry) (s : Seen) (from : Endpoint) (m : Message) (j : Job) (at : Resource) → BringsJob r s from m j → values option.URI_PATH m ≡ path_of at → IsResource at → j.origin.slot ≡ slot_of_resource at

@@ -25,7 +25,7 @@ use Rattle.fc_core.specs.declared.event.Event.TheVariants.{Deliver, Answer, Fres
 use Rattle.coap_reply.specs.Blocks.{cut_for}
 use Rattle.fc_laws.specs.BodyLaws.{Asks, BringsInstall, FitsBy, IsAskedAnew, PutsBlock, addition_at, addition_by, asked_at, continue_by}
 use Rattle.fc_laws.specs.ExchangeLaws.{IsOnRequest}
-use Rattle.fc_core.specs.History.{Entry, History, Begins, Then, Seen, and_then, did, front_at, received_at, seen, stage, at_front, moment_by, additions_by}
+use Rattle.fc_core.specs.History.{Entry, History, Begins, Then, Seen, and_then, did, front_at, received_at, seen, stage, at_front, time_by, additions_by}
 use Rattle.fc_core.specs.Legal.{Emits}
 use Rattle.fc_core.specs.Policies.{is_allowed}
 use Rattle.fc_core.specs.Receiving.{Received, Silenced, Refused, Settled, Opened, add_in, added_by, addition_of, ask_by, brought, is_confirmable, job_of, look_in, looked, next_opening, over_share, received_added, received_as, received_read, request_received, sent, slot_asked, received_if, initial_vars_by}
@@ -44,24 +44,24 @@ with_added (Opened m asked body) at to h w = (omega arith, w)
 with_added (Settled m asked response) at to h w = (omega arith, w)
 with_added other at to h w = w
 
-answered_rises : (answers : Bool) (moment now : ℕ) (h : List Addition) → RisesTo moment h → RisesTo (if answers then max moment now else moment) h
-answered_rises true moment now h w = rises_later moment (max moment now) h (le-max_left moment now) w
-answered_rises false moment now h w = w
+answered_rises : (answers : Bool) (time now : ℕ) (h : List Addition) → RisesTo time h → RisesTo (if answers then max time now else time) h
+answered_rises true time now h w = rises_later time (max time now) h (le-max_left time now) w
+answered_rises false time now h w = w
 
-rises_on : (e : Event) (s : Seen) → RisesTo s.moment s.additions → RisesTo (moment_by (at_front e) s) (additions_by (at_front e) s ++ s.additions)
-rises_on (Deliver now to bytes) s w = with_added (received_at s now to bytes.now) (max s.moment now) to s.additions (rises_later s.moment (max s.moment now) s.additions (le-max_left s.moment now) w)
-rises_on (Answer k now) s w = answered_rises (is_some (content_at (stage s k))) s.moment now s.additions w
-rises_on (Fresh k now) s w = answered_rises (needs_id (stage s k)) s.moment now s.additions w
-rises_on (Tick now) s w = rises_later s.moment (max s.moment now) s.additions (le-max_left s.moment now) w
+rises_on : (e : Event) (s : Seen) → RisesTo s.time s.additions → RisesTo (time_by (at_front e) s) (additions_by (at_front e) s ++ s.additions)
+rises_on (Deliver now to bytes) s w = with_added (received_at s now to bytes.now) (max s.time now) to s.additions (rises_later s.time (max s.time now) s.additions (le-max_left s.time now) w)
+rises_on (Answer k now) s w = answered_rises (is_some (content_at (stage s k))) s.time now s.additions w
+rises_on (Fresh k now) s w = answered_rises (needs_id (stage s k)) s.time now s.additions w
+rises_on (Tick now) s w = rises_later s.time (max s.time now) s.additions (le-max_left s.time now) w
 rises_on other s w = w
 
-pub rises : (h : History) → RisesTo (seen h).moment (seen h).additions
+pub rises : (h : History) → RisesTo (seen h).time (seen h).additions
 unfolding seen
 rises (Begins serial id policy) = tt
 rises (Then h r) = rises_on r.event (seen h) (rises h)
 
-pub rises_at : (h : History) (now : ℕ) → RisesTo (max (seen h).moment now) (seen h).additions
-rises_at h now = rises_later (seen h).moment (max (seen h).moment now) (seen h).additions (le-max_left (seen h).moment now) (rises h)
+pub rises_at : (h : History) (now : ℕ) → RisesTo (max (seen h).time now) (seen h).additions
+rises_at h now = rises_later (seen h).time (max (seen h).time now) (seen h).additions (le-max_left (seen h).time now) (rises h)
 
 -- ---- served requests, and continued ones
 
@@ -93,8 +93,8 @@ pub is_continued : (x : Add) (m : Message) (r : Asked) (b : Place) → r.block1 
 is_continued x m r b is e = ap (λ (x : Add). received_added x m r) e ∙ ap (λ (block : Option Place). Settled m r (settled_by (code 2 31) block)) is
 
 -- result for the block of a new request.
-pub added_block : (s : Seen) (now : ℕ) (to : Endpoint) (r : Asked) (b : Place) → r.block1 ≡ Some b → add_of (transfers s.additions) (max s.moment now) to (slot_asked r.action) r.block1 r.payload ≡ block_added (transfers s.additions) (max s.moment now) to (slot_asked r.action) b r.payload
-added_block s now to r b is = ap (λ (block : Option Place). add_of (transfers s.additions) (max s.moment now) to (slot_asked r.action) block r.payload) is
+pub added_block : (s : Seen) (now : ℕ) (to : Endpoint) (r : Asked) (b : Place) → r.block1 ≡ Some b → add_of (transfers s.additions) (max s.time now) to (slot_asked r.action) r.block1 r.payload ≡ block_added (transfers s.additions) (max s.time now) to (slot_asked r.action) b r.payload
+added_block s now to r b is = ap (λ (block : Option Place). add_of (transfers s.additions) (max s.time now) to (slot_asked r.action) block r.payload) is
 
 -- ---- added payloads
 
@@ -118,8 +118,8 @@ added_anyway IsFull m r at to = refl
 
 asked_adds : (s : Seen) (e : Event) (m : Message) (r : Asked) → Asks s e m r → additions_by (at_front e) s ≡ addition_by s e r
 asked_adds s (Deliver now to bytes) m r w =
-    ap (λ (x : Received). added_by x (max s.moment now) to) (anew_is s now to bytes.now m r w)
-    ∙ added_anyway (add_in (front_at s now) to r) m r (max s.moment now) to
+    ap (λ (x : Received). added_by x (max s.time now) to) (anew_is s now to bytes.now m r w)
+    ∙ added_anyway (add_in (front_at s now) to r) m r (max s.time now) to
 asked_adds s other m r w = absurd w
 
 pub requests_add : (e : Entry) (s : Seen) (m : Message) (r : Asked) → Asks s e.event m r → (and_then e s).additions ≡ addition_by s e.event r ++ s.additions
@@ -156,8 +156,8 @@ read_adds s now to bytes (Err (bad.Reset id)) at read not = refl
 
 adds_none : (s : Seen) (e : Event) → ((m : Message) (r : Asked) → Asks s e m r → ⊥) → additions_by (at_front e) s ≡ []
 adds_none s (Deliver now to bytes) not =
-    ap (λ (x : Received). added_by x (max s.moment now) to) (received_of (front_at s now) to bytes.now (reading_of bytes.now) refl)
-    ∙ read_adds s now to bytes.now (reading_of bytes.now) (max s.moment now) refl not
+    ap (λ (x : Received). added_by x (max s.time now) to) (received_of (front_at s now) to bytes.now (reading_of bytes.now) refl)
+    ∙ read_adds s now to bytes.now (reading_of bytes.now) (max s.time now) refl not
 adds_none s other not = refl
 
 pub others_add_nothing : (e : Entry) (s : Seen) → ((m : Message) (r : Asked) → Asks s e.event m r → ⊥) → (and_then e s).additions ≡ s.additions

@@ -22,7 +22,7 @@ use Rattle.fc_core.specs.declared.event.Event.{Event}
 use Rattle.fc_core.specs.declared.event.Event.TheVariants.{Answer, Deliver, Fresh}
 use Rattle.fc_core.specs.Contents.{Content}
 use Rattle.fc_core.specs.Exchanges.{opening_is_live}
-use Rattle.fc_core.specs.History.{Entry, History, Then, Seen, seen, at_front, front_at, ids_answered, ids_by, job, moment_by, stage}
+use Rattle.fc_core.specs.History.{Entry, History, Then, Seen, seen, at_front, front_at, ids_answered, ids_by, job, time_by, stage}
 use Rattle.fc_core.specs.Ids.{Ids, drawn, drawn_for, free_id, is_recent, last_drawn}
 use Rattle.fc_core.specs.Policies.{is_allowed}
 use Rattle.fc_core.specs.Receiving.{Received, Refused, Settled, Silenced, add_in, drawn_by, is_confirmable, look_in, looked, received_added, received_as, received_read, request_received, received_if}
@@ -40,7 +40,7 @@ use Rattle.fc_laws.proofs.front.Room.{full_is, over_draws}
 
 -- the message IDs after an event are those after a draw at its time.
 abbrev DrawsOne : Seen → Event → Type 0
-DrawsOne s e = ids_by (at_front e) s ≡ drawn s.ids (moment_by (at_front e) s)
+DrawsOne s e = ids_by (at_front e) s ≡ drawn s.ids (time_by (at_front e) s)
 
 abbrev DrawsNone : Seen → Event → Type 0
 DrawsNone s e = ids_by (at_front e) s ≡ s.ids
@@ -52,12 +52,12 @@ drawn_other c ids at is = ap (λ (b : Bool). drawn_for b ids at) is
 
 at_once_draws : (s : Seen) (e : Event) (m : Message) → is_confirmable m.kind ≡ false → IsAnsweredAtOnce s e m → DrawsOne s e
 at_once_draws s (Deliver now to bytes) m kind (FindsNoRoom w) =
-    ap (λ (x : Received). drawn_by x s.ids (max s.moment now)) (full_is s now to bytes.now m w) ∙ drawn_other (is_confirmable m.kind) s.ids (max s.moment now) kind
+    ap (λ (x : Received). drawn_by x s.ids (max s.time now)) (full_is s now to bytes.now m w) ∙ drawn_other (is_confirmable m.kind) s.ids (max s.time now) kind
 at_once_draws s (Deliver now to bytes) m kind (IsRefusedAtOnce answer w) =
-    ap (λ (x : Received). drawn_by x s.ids (max s.moment now)) (refused_is s now to bytes.now m answer w) ∙ drawn_other (is_confirmable m.kind) s.ids (max s.moment now) kind
+    ap (λ (x : Received). drawn_by x s.ids (max s.time now)) (refused_is s now to bytes.now m answer w) ∙ drawn_other (is_confirmable m.kind) s.ids (max s.time now) kind
 at_once_draws s (Deliver now to bytes) m kind (IsSettled asked response asks settles) =
-    ap (λ (x : Received). drawn_by x s.ids (max s.moment now)) (anew_is s now to bytes.now m asked asks ∙ settles)
-    ∙ drawn_other (is_confirmable m.kind) s.ids (max s.moment now) kind
+    ap (λ (x : Received). drawn_by x s.ids (max s.time now)) (anew_is s now to bytes.now m asked asks ∙ settles)
+    ∙ drawn_other (is_confirmable m.kind) s.ids (max s.time now) kind
 at_once_draws s other m kind (FindsNoRoom w) = absurd w
 at_once_draws s other m kind (IsRefusedAtOnce answer w) = absurd w
 at_once_draws s other m kind (IsSettled asked response asks settles) = absurd asks
@@ -66,22 +66,22 @@ answered_draws : (st : Stage) (content : Content) (live confirmable : Bool) (ids
     → ids_answered (content_at st) live confirmable ids (max m now) ≡ drawn ids (if is_some (content_at st) then max m now else m)
 answered_draws st content live confirmable ids m now at is kind =
     let answers : ids_answered (content_at st) live confirmable ids (max m now) ≡ drawn ids (max m now) = λ i. ids_answered (content_at (at i)) (is i) (kind i) ids (max m now) in
-    let moment : drawn ids (if is_some (content_at st) then max m now else m) ≡ drawn ids (max m now) = λ i. drawn ids (if is_some (content_at (at i)) then max m now else m) in
-    answers ∙ sym moment
+    let time : drawn ids (if is_some (content_at st) then max m now else m) ≡ drawn ids (max m now) = λ i. drawn ids (if is_some (content_at (at i)) then max m now else m) in
+    answers ∙ sym time
 
 turn_draws_one : (st : Stage) (turn : Turn) (found : Option Ticket) (ids : Ids) (m now : ℕ) → st ≡ ToTell turn (turns.ToDraw found)
     → (if needs_id st then drawn ids (max m now) else ids) ≡ drawn ids (if needs_id st then max m now else m)
 turn_draws_one st turn found ids m now at =
     let draws : (if needs_id st then drawn ids (max m now) else ids) ≡ drawn ids (max m now) = λ i. if needs_id (at i) then drawn ids (max m now) else ids in
-    let moment : drawn ids (if needs_id st then max m now else m) ≡ drawn ids (max m now) = λ i. drawn ids (if needs_id (at i) then max m now else m) in
-    draws ∙ sym moment
+    let time : drawn ids (if needs_id st then max m now else m) ≡ drawn ids (max m now) = λ i. drawn ids (if needs_id (at i) then max m now else m) in
+    draws ∙ sym time
 
 needed_draws : (s : Seen) (e : Event) → NeedsId s e → DrawsOne s e
 needed_draws s e (AnswersAtOnce m kind answers) = at_once_draws s e m kind answers
 needed_draws s e (AnswersInTime k now content event at kind in_time) = subst (DrawsOne s) (sym event)
-    (answered_draws (stage s k) content (opening_is_live (max s.moment now) (job s k).origin.opening) (job s k).confirmable s.ids s.moment now at
-    (lt-ltb (max s.moment now) (opened_at s k + 247000) in_time) kind)
-needed_draws s e (TellsTurn k now turn found event at) = subst (DrawsOne s) (sym event) (turn_draws_one (stage s k) turn found s.ids s.moment now at)
+    (answered_draws (stage s k) content (opening_is_live (max s.time now) (job s k).origin.opening) (job s k).confirmable s.ids s.time now at
+    (lt-ltb (max s.time now) (opened_at s k + 247000) in_time) kind)
+needed_draws s e (TellsTurn k now turn found event at) = subst (DrawsOne s) (sym event) (turn_draws_one (stage s k) turn found s.ids s.time now at)
 
 -- ---- if none is needed
 
@@ -137,7 +137,7 @@ no_place s at (inr e) = inr (ltb-false (length s.exchanges) 18446744073709551615
 crowded_of : (s : Seen) (now : ℕ) (to : Endpoint) (bytes : List ℕ) (m : Message) → reading_of bytes ≡ Ok m → IsOnRequest (verdict m) → look_in (front_at s now) to m ≡ IsTableFull
     → IsCrowdedOut s now to bytes m
 crowded_of s now to bytes m read asks is =
-    let at = max s.moment now in
+    let at = max s.time now in
     let look = full_look (repeated s at to m.id) (room_in s at to.ip) (sym (look_is s now to m) ∙ is) in
     let parts = full_parts (has_share (table_at s at) to.ip) (has_place (table_at s at)) look.1 in
     record {
@@ -153,34 +153,34 @@ module _ (s : Seen) (now : ℕ) (to : Endpoint) (bytes : Bor (List ℕ)) (m : Me
   crowded_not : IsOnRequest (verdict m) → look_in (front_at s now) to m ≡ IsTableFull → is_confirmable m.kind ≡ false → ⊥
   crowded_not asks is kind = not (AnswersAtOnce m kind (FindsNoRoom (crowded_of s now to bytes.now m read asks is)))
 
-  message_keeps : (v : Verdict) → verdict m ≡ v → drawn_by (received_as (front_at s now) to m v) s.ids (max s.moment now) ≡ s.ids
+  message_keeps : (v : Verdict) → verdict m ≡ v → drawn_by (received_as (front_at s now) to m v) s.ids (max s.time now) ≡ s.ids
   message_keeps (IsAsked r) is =
       let asks : IsOnRequest (verdict m) = subst IsOnRequest (sym is) tt in
-      looked_keeps (look_in (front_at s now) to m) m (request_received (front_at s now) to m r) s.ids (max s.moment now) (crowded_not asks)
-      (λ new. (elim (is_allowed s.policy.managers to r.action) as (λ b. is_allowed s.policy.managers to r.action ≡ b → drawn_by (received_if b (front_at s now) to m r) s.ids (max s.moment now) ≡ s.ids) [
+      looked_keeps (look_in (front_at s now) to m) m (request_received (front_at s now) to m r) s.ids (max s.time now) (crowded_not asks)
+      (λ new. (elim (is_allowed s.policy.managers to r.action) as (λ b. is_allowed s.policy.managers to r.action ≡ b → drawn_by (received_if b (front_at s now) to m r) s.ids (max s.time now) ≡ s.ids) [
         | true ↦
-            λ allowed. added_keeps (add_in (front_at s now) to r) m r s.ids (max s.moment now)
+            λ allowed. added_keeps (add_in (front_at s now) to r) m r s.ids (max s.time now)
             (λ response settles kind. not (AnswersAtOnce m kind
             (IsSettled r response (record { opens = opening_of s now to bytes.now m read asks new; read = read; asks = is; allowed = allowed }) settles)))
         | false ↦
-            λ allowed. kept_ids (is_confirmable m.kind) s.ids (max s.moment now)
+            λ allowed. kept_ids (is_confirmable m.kind) s.ids (max s.time now)
             (λ kind. not (AnswersAtOnce m kind
             (IsRefusedAtOnce 131 (record { opens = opening_of s now to bytes.now m read asks new; read = read; refuses = inr (record { asked = r; asks = is; allowed = allowed; answer_is = refl }) }))))
       ]) refl)
   message_keeps (IsRefused answer) is =
       let asks : IsOnRequest (verdict m) = subst IsOnRequest (sym is) tt in
-      looked_keeps (look_in (front_at s now) to m) m (Refused m answer) s.ids (max s.moment now) (crowded_not asks)
-      (λ new. kept_ids (is_confirmable m.kind) s.ids (max s.moment now)
+      looked_keeps (look_in (front_at s now) to m) m (Refused m answer) s.ids (max s.time now) (crowded_not asks)
+      (λ new. kept_ids (is_confirmable m.kind) s.ids (max s.time now)
       (λ kind. not (AnswersAtOnce m kind (IsRefusedAtOnce answer (record { opens = opening_of s now to bytes.now m read asks new; read = read; refuses = inl is })))))
   message_keeps IsSilent is =
       let asks : IsOnRequest (verdict m) = subst IsOnRequest (sym is) tt in
-      looked_keeps (look_in (front_at s now) to m) m (Silenced m) s.ids (max s.moment now) (crowded_not asks) (λ new. refl)
+      looked_keeps (look_in (front_at s now) to m) m (Silenced m) s.ids (max s.time now) (crowded_not asks) (λ new. refl)
   message_keeps IsReset is = refl
   message_keeps (IsSignal reset) is = refl
   message_keeps IsIgnored is = refl
 
 read_keeps : (s : Seen) (now : ℕ) (to : Endpoint) (bytes : Bor (List ℕ)) (x : Result Message Bad) → reading_of bytes.now ≡ x → (NeedsId s (Deliver now to bytes) → ⊥)
-    → drawn_by (received_read (front_at s now) to x) s.ids (max s.moment now) ≡ s.ids
+    → drawn_by (received_read (front_at s now) to x) s.ids (max s.time now) ≡ s.ids
 read_keeps s now to bytes (Ok m) read not = message_keeps s now to bytes m read not (verdict m) refl
 read_keeps s now to bytes (Err bad.Ignore) read not = refl
 read_keeps s now to bytes (Err (bad.Reset id)) read not = refl
@@ -198,12 +198,12 @@ turn_keeps other new ids not = refl
 
 others_keep : (s : Seen) (e : Event) → (NeedsId s e → ⊥) → DrawsNone s e
 others_keep s (Deliver now to bytes) not =
-    ap (λ (x : Received). drawn_by x s.ids (max s.moment now)) (received_of (front_at s now) to bytes.now (reading_of bytes.now) refl)
+    ap (λ (x : Received). drawn_by x s.ids (max s.time now)) (received_of (front_at s now) to bytes.now (reading_of bytes.now) refl)
     ∙ read_keeps s now to bytes (reading_of bytes.now) refl not
 others_keep s (Answer k now) not =
-    answered_keeps (stage s k) (opening_is_live (max s.moment now) (job s k).origin.opening) (job s k).confirmable s.ids (max s.moment now)
-    (λ content at live kind. not (AnswersInTime k now content refl at kind (ltb-true (max s.moment now) (opened_at s k + 247000) live)))
-others_keep s (Fresh k now) not = turn_keeps (stage s k) (drawn s.ids (max s.moment now)) s.ids (λ turn found at. not (TellsTurn k now turn found refl at))
+    answered_keeps (stage s k) (opening_is_live (max s.time now) (job s k).origin.opening) (job s k).confirmable s.ids (max s.time now)
+    (λ content at live kind. not (AnswersInTime k now content refl at kind (ltb-true (max s.time now) (opened_at s k + 247000) live)))
+others_keep s (Fresh k now) not = turn_keeps (stage s k) (drawn s.ids (max s.time now)) s.ids (λ turn found at. not (TellsTurn k now turn found refl at))
 others_keep s other not = refl
 
 -- ---- drawn message IDs
@@ -220,14 +220,14 @@ one_draw new old at id ds lt free is =
     λ i. draws_by (drew i) (record { id = test.1 i; at = at }) ds
 
 module _ (h : History) (r : Entry) where
-  pub needed_drawn : (id : ℕ) → first_id h < 65536 → NeedsId (seen h) r.event → free_id (seen h).ids (seen (Then h r)).moment ≡ Some id
-      → draws_of (Then h r) ≡ record { id = id; at = (seen (Then h r)).moment } ∷ draws_of h
+  pub needed_drawn : (id : ℕ) → first_id h < 65536 → NeedsId (seen h) r.event → free_id (seen h).ids (seen (Then h r)).time ≡ Some id
+      → draws_of (Then h r) ≡ record { id = id; at = (seen (Then h r)).time } ∷ draws_of h
   unfolding seen
   needed_drawn id lt needs free =
       let s = seen h in
-      one_draw (ids_by (at_front r.event) s) s.ids (moment_by (at_front r.event) s) id (draws_of h) (next_small h lt) free (needed_draws s r.event needs)
+      one_draw (ids_by (at_front r.event) s) s.ids (time_by (at_front r.event) s) id (draws_of h) (next_small h lt) free (needed_draws s r.event needs)
 
-  pub none_drawn_where_none_free : free_id (seen h).ids (seen (Then h r)).moment ≡ None → draws_of (Then h r) ≡ draws_of h
+  pub none_drawn_where_none_free : free_id (seen h).ids (seen (Then h r)).time ≡ None → draws_of (Then h r) ≡ draws_of h
   unfolding seen
   none_drawn_where_none_free none =
       let s = seen h in

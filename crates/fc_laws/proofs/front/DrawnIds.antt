@@ -16,7 +16,7 @@ use Rattle.fc_core.specs.TurnStage as turns
 use Rattle.fc_core.specs.Contents.{Content}
 use Rattle.fc_core.specs.Exchanges.{opening_is_live}
 use Rattle.fc_laws.specs.ExchangeLaws.{AllBefore, AreApart, AreInOrder, Draw, draws_by, draws_of, first_id}
-use Rattle.fc_core.specs.History.{History, Begins, Then, Seen, seen, and_then, did, ids_answered, job, received_at, stage, at_front, moment_by, ids_by}
+use Rattle.fc_core.specs.History.{History, Begins, Then, Seen, seen, and_then, did, ids_answered, job, received_at, stage, at_front, time_by, ids_by}
 use Rattle.fc_core.specs.Ids.{Ids, drawn, drawn_for, free_id, is_recent, last_drawn, no_draws}
 use Rattle.fc_core.specs.Receiving.{Received, Full, Refused, Settled, is_confirmable}
 use Rattle.fc_core.specs.Receiving as receiving
@@ -51,10 +51,10 @@ draw_needed : (b : Bool) (old : Ids) (m now : ℕ) → Draws old (if b then max 
 draw_needed true old m now = draw_if old (max m now) (is_recent (max m now) (last_drawn old)) refl
 draw_needed false old m now = Same refl
 
-event_draws : (e : Event) (s : Seen) → Draws s.ids (moment_by (at_front e) s) (ids_by (at_front e) s)
-event_draws (Deliver now to bytes) s = draw_received (received_at s now to bytes.now) s.ids (max s.moment now)
-event_draws (Answer k now) s = draw_answered (content_at (stage s k)) (opening_is_live (max s.moment now) (job s k).origin.opening) (job s k).confirmable s.ids s.moment now
-event_draws (Fresh k now) s = draw_needed (needs_id (stage s k)) s.ids s.moment now
+event_draws : (e : Event) (s : Seen) → Draws s.ids (time_by (at_front e) s) (ids_by (at_front e) s)
+event_draws (Deliver now to bytes) s = draw_received (received_at s now to bytes.now) s.ids (max s.time now)
+event_draws (Answer k now) s = draw_answered (content_at (stage s k)) (opening_is_live (max s.time now) (job s k).origin.opening) (job s k).confirmable s.ids s.time now
+event_draws (Fresh k now) s = draw_needed (needs_id (stage s k)) s.ids s.time now
 event_draws other s = Same refl
 
 kept_by : (old new : Ids) (at : ℕ) → Draws old at new → free_id old at ≡ None → new ≡ old
@@ -62,8 +62,8 @@ kept_by old new at (Same is) none = is
 kept_by old new at (Next fresh is) none = absurd (cc (sym none ∙ ap (λ (b : Bool). if b then None else Some old.next) fresh))
 
 -- if no message ID is available at its time, an event draws none.
-pub kept_where_none_free : (e : Event) (s : Seen) → free_id s.ids (moment_by (at_front e) s) ≡ None → ids_by (at_front e) s ≡ s.ids
-kept_where_none_free e s none = kept_by s.ids (ids_by (at_front e) s) (moment_by (at_front e) s) (event_draws e s) none
+pub kept_where_none_free : (e : Event) (s : Seen) → free_id s.ids (time_by (at_front e) s) ≡ None → ids_by (at_front e) s ≡ s.ids
+kept_where_none_free e s none = kept_by s.ids (ids_by (at_front e) s) (time_by (at_front e) s) (event_draws e s) none
 
 -- each draw was at the time when its message ID was last drawn, or before.
 abbrev AllKept : List (Option ℕ) → List Draw → Type 0
@@ -122,12 +122,12 @@ recent_not at None past = refl
 recent_not at (Some a) past = le-ltb at (a + 247000) (past a refl)
 
 -- invariant of the draws of a history.
-record AreKept (first : ℕ) (ids : Ids) (moment : ℕ) (ds : List Draw) : Type 0 where
+record AreKept (first : ℕ) (ids : Ids) (time : ℕ) (ds : List Draw) : Type 0 where
   next : ids.next ≡ (first + length ds) % 65536
   room : length ids.last ≡ 65536
   kept : AllKept ids.last ds
   drawn : AreDraws ids.last ds
-  past : AllAtMost moment ds
+  past : AllAtMost time ds
   order : AreInOrder first ds
   apart : AreApart ds
 
@@ -135,12 +135,12 @@ rises_if : (b : Bool) (m now : ℕ) → m ≤ (if b then max m now else m)
 rises_if true m now = le-max_left m now
 rises_if false m now = omega arith
 
-moment_rises : (e : Event) (s : Seen) → s.moment ≤ moment_by (at_front e) s
-moment_rises (Deliver now to bytes) s = le-max_left s.moment now
-moment_rises (Tick now) s = le-max_left s.moment now
-moment_rises (Answer k now) s = rises_if (is_some (content_at (stage s k))) s.moment now
-moment_rises (Fresh k now) s = rises_if (needs_id (stage s k)) s.moment now
-moment_rises other s = omega arith
+time_rises : (e : Event) (s : Seen) → s.time ≤ time_by (at_front e) s
+time_rises (Deliver now to bytes) s = le-max_left s.time now
+time_rises (Tick now) s = le-max_left s.time now
+time_rises (Answer k now) s = rises_if (is_some (content_at (stage s k))) s.time now
+time_rises (Fresh k now) s = rises_if (needs_id (stage s k)) s.time now
+time_rises other s = omega arith
 
 step : (first : ℕ) (old new : Ids) (m at : ℕ) (ds : List Draw) → m ≤ at → AreKept first old m ds → Draws old at new → AreKept first new at (draws_by (new.next == old.next) (record { id = old.next; at = at }) ds)
 step first old new m at ds le w (Same is) = subst (λ (b : Bool). AreKept first new at (draws_by b (record { id = old.next; at = at }) ds)) (sym (eq-eqb new.next old.next (ap (λ (x : Ids). x.next) is)))
@@ -169,10 +169,10 @@ none_drawn : AreDraws no_draws []
 unfolding no_draws
 none_drawn id a lt e = absurd (cc (sym (get_or-replicate {A = Option ℕ} 65536 id None None lt) ∙ e))
 
-all_kept : (h : History) → first_id h < 65536 → AreKept (first_id h) (seen h).ids (seen h).moment (draws_of h)
+all_kept : (h : History) → first_id h < 65536 → AreKept (first_id h) (seen h).ids (seen h).time (draws_of h)
 unfolding seen
 all_kept (Begins serial id policy) lt = record { next = omega (arith, lt); room = none_room; kept = tt; drawn = none_drawn; past = tt; order = tt; apart = tt }
-all_kept (Then h r) lt = step (first_id h) (seen h).ids (and_then r (seen h)).ids (seen h).moment (moment_by (at_front r.event) (seen h)) (draws_of h) (moment_rises r.event (seen h)) (all_kept h lt) (event_draws r.event (seen h))
+all_kept (Then h r) lt = step (first_id h) (seen h).ids (and_then r (seen h)).ids (seen h).time (time_by (at_front r.event) (seen h)) (draws_of h) (time_rises r.event (seen h)) (all_kept h lt) (event_draws r.event (seen h))
 
 pub next_small : (h : History) → first_id h < 65536 → (seen h).ids.next < 65536
 next_small h lt = let next = (all_kept h lt).next in omega (arith, next)
@@ -185,16 +185,16 @@ by_test ids at id true lt free = absurd (cc free)
 by_test ids at id false lt free = (ne_eqb ((ids.next + 1) % 65536) ids.next (λ q. omega (arith, q, lt)), cc free)
 
 module _ (h : History) (k now id : ℕ) (turn : Turn) (found : Option Ticket) (o : Option Emission) where
-  pub turn_draws : first_id h < 65536 → stage (seen h) k ≡ ToTell turn (turns.ToDraw found) → free_id (seen h).ids (max (seen h).moment now) ≡ Some id → draws_of (Then h (did (Fresh k now) o)) ≡ record { id = id; at = max (seen h).moment now } ∷ draws_of h
+  pub turn_draws : first_id h < 65536 → stage (seen h) k ≡ ToTell turn (turns.ToDraw found) → free_id (seen h).ids (max (seen h).time now) ≡ Some id → draws_of (Then h (did (Fresh k now) o)) ≡ record { id = id; at = max (seen h).time now } ∷ draws_of h
   unfolding seen
   turn_draws lt is free =
       let s = seen h in
-      let at = max s.moment now in
+      let at = max s.time now in
       let kept = all_kept h lt in
       let test = by_test s.ids at id (is_recent at (last_drawn s.ids)) (let next = kept.next in omega (arith, next)) free in
       let drew : ((and_then (did (Fresh k now) o) s).ids.next == s.ids.next) ≡ false = ap (λ (st : Stage). (if needs_id st then drawn s.ids at else s.ids).next == s.ids.next) is ∙ test.0 in
-      let moment : (and_then (did (Fresh k now) o) s).moment ≡ at = ap (λ (st : Stage). if needs_id st then at else s.moment) is in
-      λ i. draws_by (drew i) (record { id = test.1 i; at = moment i }) (draws_of h)
+      let time : (and_then (did (Fresh k now) o) s).time ≡ at = ap (λ (st : Stage). if needs_id st then at else s.time) is in
+      λ i. draws_by (drew i) (record { id = test.1 i; at = time i }) (draws_of h)
 
 pub ids_in_order : (h : History) → first_id h < 65536 → AreInOrder (first_id h) (draws_of h)
 ids_in_order h lt = (all_kept h lt).order
@@ -213,7 +213,7 @@ ids_free h at id lt = (to, from)
     ids : Ids
     ids = (seen h).ids
 
-    kept : AreKept (first_id h) ids (seen h).moment (draws_of h)
+    kept : AreKept (first_id h) ids (seen h).time (draws_of h)
     kept = all_kept h lt
 
     to : free_id ids at ≡ Some id → (id ≡ (first_id h + length (draws_of h)) % 65536) × AllBefore id at (draws_of h)

@@ -29,12 +29,12 @@ answered_as : (s : Seen) (k now : ℕ) (content : Content) (o : Option Emission)
 answered_as s k now content o is sent = subst (λ (st : Stage). AnswerEmits (content_at st) (job s k) (front_at s now) o) is sent
 
 -- to a request that is confirmable or not.
-replied : (s : Seen) (k now : ℕ) (content : Content) (e : Emission) (c : Bool) → stage s k ≡ ToAnswer content → (job s k).confirmable ≡ c → Emits s (Answer k now) (Some e) → (own : ℕ) × (reply_id c (job s k).origin.id (free_id s.ids (max s.moment now)) ≡ Some own) × IsAnswerTo (job s k) content (reply_kind c) own e
+replied : (s : Seen) (k now : ℕ) (content : Content) (e : Emission) (c : Bool) → stage s k ≡ ToAnswer content → (job s k).confirmable ≡ c → Emits s (Answer k now) (Some e) → (own : ℕ) × (reply_id c (job s k).origin.id (free_id s.ids (max s.time now)) ≡ Some own) × IsAnswerTo (job s k) content (reply_kind c) own e
 replied s k now content e c is confirms sent =
     let j = job s k in
-    let w = replies_by (opening_is_live (max s.moment now) j.origin.opening) (reply_id j.confirmable j.origin.id (free_id s.ids (max s.moment now))) j content e (answered_as s k now content (Some e) is sent) in (
+    let w = replies_by (opening_is_live (max s.time now) j.origin.opening) (reply_id j.confirmable j.origin.id (free_id s.ids (max s.time now))) j content e (answered_as s k now content (Some e) is sent) in (
       w.0,
-      ap (λ (b : Bool). reply_id b j.origin.id (free_id s.ids (max s.moment now))) (sym confirms) ∙ w.1,
+      ap (λ (b : Bool). reply_id b j.origin.id (free_id s.ids (max s.time now))) (sym confirms) ∙ w.1,
       record { response = w.2.response; says = w.2.says; is = w.2.emission_is ∙ ap (λ (b : Bool). sent_in (record { to = j.origin.endpoint; kind = reply_kind b; id = w.0; token = j.token.items }) w.2.response) confirms },
     )
 
@@ -44,7 +44,7 @@ acknowledges s k now content e is confirms sent =
     let own : (job s k).origin.id ≡ w.0 = cc w.1 in
     subst (λ (id : ℕ). IsAnswerTo (job s k) content Acknowledgement id e) (sym own) w.2
 
-pub answers_otherwise : (s : Seen) (k now : ℕ) (content : Content) (e : Emission) → stage s k ≡ ToAnswer content → (job s k).confirmable ≡ false → Emits s (Answer k now) (Some e) → (id : ℕ) × (free_id s.ids (max s.moment now) ≡ Some id) × IsAnswerTo (job s k) content NonConfirmable id e
+pub answers_otherwise : (s : Seen) (k now : ℕ) (content : Content) (e : Emission) → stage s k ≡ ToAnswer content → (job s k).confirmable ≡ false → Emits s (Answer k now) (Some e) → (id : ℕ) × (free_id s.ids (max s.time now) ≡ Some id) × IsAnswerTo (job s k) content NonConfirmable id e
 answers_otherwise s k now content e is confirms sent = replied s k now content e false is confirms sent
 
 -- ---- immediately

@@ -58,11 +58,11 @@ strictly n own (ip ∷ ips) es few less (inr w) =
     let split = suc-mul (length ips) n in
     omega (arith, one, rest, split)
 
-pub kept_free : (h : History) (now : ℕ) (to : Endpoint) (bytes : List ℕ) (m : Message) (ips : List (List ℕ)) → AreAmong ips (held_at (seen h) (max (seen h).moment now)) → IsOneOf to.ip ips
+pub kept_free : (h : History) (now : ℕ) (to : Endpoint) (bytes : List ℕ) (m : Message) (ips : List (List ℕ)) → AreAmong ips (held_at (seen h) (max (seen h).time now)) → IsOneOf to.ip ips
     → length ips * (seen h).policy.limits.share ≤ (places_of (seen h).policy.limits) → length (seen h).exchanges < 18446744073709551615 → IsCrowdedOut (seen h) now to bytes m → ⊥
 kept_free h now to bytes m ips among one fits ever w =
     let s = seen h in
-    let at = max s.moment now in
+    let at = max s.time now in
     let es = held_at s at in
     let few : (ip : List ℕ) → share_of ip es ≤ s.policy.limits.share = λ ip. within_share h at ip (omega arith) in
     let sum = strictly s.policy.limits.share to.ip ips es few w.share one in

@@ -31,16 +31,16 @@ use Rattle.fc_laws.proofs.front.Repeats.{new_as, opened_none, opening_is}
 
 -- ---- in time
 
-late_by : (b : Bool) (id : Option ℕ) (j : Job) (c : Content) (e : Emission) → IsAnswered b id j c (Some e) → b ≡ true
-late_by true id j c e w = refl
-late_by false id j c e w = absurd (cc w)
+overdue_by : (b : Bool) (id : Option ℕ) (j : Job) (c : Content) (e : Emission) → IsAnswered b id j c (Some e) → b ≡ true
+overdue_by true id j c e w = refl
+overdue_by false id j c e w = absurd (cc w)
 
-late_at : (c : Option Content) (j : Job) (f : FrontState) (e : Emission) → AnswerEmits c j f (Some e) → f.now < j.origin.opening.at + 247000
-late_at None j f e w = absurd (cc w)
-late_at (Some c) j f e w = ltb-true f.now (j.origin.opening.at + 247000) (late_by (opening_is_live f.now j.origin.opening) (id_in f j.confirmable j.origin.id) j c e w)
+overdue_at : (c : Option Content) (j : Job) (f : FrontState) (e : Emission) → AnswerEmits c j f (Some e) → f.now < j.origin.opening.at + 247000
+overdue_at None j f e w = absurd (cc w)
+overdue_at (Some c) j f e w = ltb-true f.now (j.origin.opening.at + 247000) (overdue_by (opening_is_live f.now j.origin.opening) (id_in f j.confirmable j.origin.id) j c e w)
 
-pub in_window : (s : Seen) (k now : ℕ) (e : Emission) → Emits s (Answer k now) (Some e) → max s.moment now < opened_at s k + 247000
-in_window s k now e w = late_at (content_at (stage s k)) (job s k) (front_at s now) e w
+pub in_window : (s : Seen) (k now : ℕ) (e : Emission) → Emits s (Answer k now) (Some e) → max s.time now < opened_at s k + 247000
+in_window s k now e w = overdue_at (content_at (stage s k)) (job s k) (front_at s now) e w
 
 id_by : (c : Bool) (id : ℕ) (f : FrontState) → (c ≡ true) ⊎ (is_some (free_id f.ids f.now) ≡ true) → is_some (id_in f c id) ≡ true
 id_by true id f w = refl
@@ -57,7 +57,7 @@ out_at : (c : Option Content) (content : Content) (j : Job) (f : FrontState) (o 
 out_at None content j f o is lt has w = absurd (cc is)
 out_at (Some c) content j f o is lt has w = out_by (opening_is_live f.now j.origin.opening) (id_in f j.confirmable j.origin.id) j c o (lt-ltb f.now (j.origin.opening.at + 247000) lt) (id_by j.confirmable j.origin.id f has) w
 
-pub goes_out : (s : Seen) (k now : ℕ) (content : Content) (o : Option Emission) → stage s k ≡ ToAnswer content → max s.moment now < opened_at s k + 247000 → HasId s k now → Emits s (Answer k now) o → is_some o ≡ true
+pub goes_out : (s : Seen) (k now : ℕ) (content : Content) (o : Option Emission) → stage s k ≡ ToAnswer content → max s.time now < opened_at s k + 247000 → HasId s k now → Emits s (Answer k now) o → is_some o ≡ true
 goes_out s k now content o is lt has w = out_at (content_at (stage s k)) content (job s k) (front_at s now) o (ap content_at is) lt has w
 
 -- ---- numbers are positions
@@ -92,7 +92,7 @@ numbered_more from (e ∷ es) x at to number w is = (w.0, numbered_more (from + 
 
 numbered_by : (e : Event) (o : Option Emission) (s : Seen) → AreNumbered 0 s.exchanges → AreNumbered 0 (exchanges_by (at_front e) o s)
 numbered_by (Deliver now to bytes) o s w = let x = received_at s now to bytes.now in
-    numbered_kept (length s.exchanges) (kept_of x o) (s.exchanges ++ opened_by x (next_opening (front_at s now)) to) (numbered_more 0 s.exchanges x (max s.moment now) to (length s.exchanges) w (omega arith))
+    numbered_kept (length s.exchanges) (kept_of x o) (s.exchanges ++ opened_by x (next_opening (front_at s now)) to) (numbered_more 0 s.exchanges x (max s.time now) to (length s.exchanges) w (omega arith))
 numbered_by (Answer k now) o s w = numbered_if (is_some (content_at (stage s k))) (exchange_of_job s k) o s.exchanges w
 numbered_by other o s w = w
 
@@ -174,7 +174,7 @@ new_keeps IsIgnored m f to opening = λ o kept n len is. nothing_sent kept o is
 received_answers : (s : Seen) (now : ℕ) (to : Endpoint) (x : Received) (o : Option Emission) → AreNumbered 0 s.exchanges → map answer_of (exchanges_received x to o s now) ≡ answers_with (kept_of x o) (length s.exchanges) (answers s ++ map answer_of (opened_by x (next_opening (front_at s now)) to))
 received_answers s now to x o w =
     let new = opened_by x (next_opening (front_at s now)) to in
-    kept_answers (length s.exchanges) (kept_of x o) (s.exchanges ++ new) (numbered_more 0 s.exchanges x (max s.moment now) to (length s.exchanges) w (omega arith))
+    kept_answers (length s.exchanges) (kept_of x o) (s.exchanges ++ new) (numbered_more 0 s.exchanges x (max s.time now) to (length s.exchanges) w (omega arith))
     ∙ ap (answers_with (kept_of x o) (length s.exchanges)) (map-append answer_of s.exchanges new)
 
 opened_keeps : (s : Seen) (e : Event) (o : Option Emission) → AreNumbered 0 s.exchanges → Opens s e → Emits s e o → map answer_of (exchanges_by (at_front e) o s) ≡ answers s ++ emitted_bytes o ∷ []

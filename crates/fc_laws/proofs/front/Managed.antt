@@ -16,7 +16,7 @@ use Rattle.coap_block.specs.Uploads.{Add, Continues, IsWhole, IsIncomplete, IsBa
 use Rattle.fc_observe.specs.declared.entry.Entry.{Entry as ObserverEntry}
 use Rattle.fc_observe.specs.declared.entry.Turn.{Turn}
 use Rattle.fc_observe.specs.Calls.{NextDue, observers_after}
-use Rattle.fc_observe.specs.Observers.{ObserverList, at_moment, entry_out, next_turn}
+use Rattle.fc_observe.specs.Observers.{ObserverList, list_at_time, entry_out, next_turn}
 use Rattle.fc_registry.specs.declared.job.Job.{Job}
 use Rattle.fc_registry.specs.declared.job.Opening.{Opening}
 use Rattle.fc_observe.specs.Views.{interest_of}
@@ -26,7 +26,7 @@ use Rattle.fc_core.specs.declared.event.Event.TheVariants.{Deliver, Due}
 use Rattle.fc_core.specs.declared.policy.Network.{Network}
 use Rattle.fc_core.specs.declared.stage.Task.{Task}
 use Rattle.fc_core.specs.Exchanges.{FrontState}
-use Rattle.fc_core.specs.History.{AsksTurn, Begins, Entry, History, Seen, Then, and_then, due_in, front_at, job, no_task, scene, seen, slot_at, task_at, tasks_brought, tasks_moved, turn_at, turns_by, watch}
+use Rattle.fc_core.specs.History.{AsksTurn, Begins, Entry, History, Seen, Then, and_then, due_in, front_at, job, no_task, inputs, seen, slot_at, task_at, tasks_brought, tasks_moved, turn_at, turns_by, watch}
 use Rattle.fc_core.specs.Laws.{HasCome}
 use Rattle.fc_core.specs.Policies.{is_allowed, is_manager}
 use Rattle.fc_core.specs.Receiving.{Received, add_in, ask_by, brought, job_of, look_in, looked, next_opening, received, received_added, received_as, received_if, received_read, request_received}
@@ -120,8 +120,8 @@ due_managed : (s : Seen) (o : Option ℕ) (i at : ℕ) → Each (IsManaged s.pol
 due_managed s None i at = tt
 due_managed s (Some k) i at =
     let n = 8 * k + i in
-    let noticed = (slot_at s n).noticed in
-    turn_managed s.policy.managers n (next_turn noticed (at_moment at (watch s n))) (observers_after (NextDue at noticed) (watch s n))
+    let notify_serial = (slot_at s n).notify_serial in
+    turn_managed s.policy.managers n (next_turn notify_serial (list_at_time at (watch s n))) (observers_after (NextDue at notify_serial) (watch s n))
 
 -- ---- all jobs
 
@@ -139,7 +139,7 @@ brought_managed s other = tt
 
 moved_managed : (s : Seen) (e : Event) (o : Option ℕ) → AllManaged s.policy.managers s.tasks → AllManaged s.policy.managers (tasks_moved o e s)
 moved_managed s e None w = w
-moved_managed s e (Some k) w = each_set (λ (t : Task). IsManaged s.policy.managers t.job) s.tasks k (task_moved (task_at s.tasks k) (row e (scene s k))) (λ lt. each_at (λ (t : Task). IsManaged s.policy.managers t.job) s.tasks k no_task w lt) w
+moved_managed s e (Some k) w = each_set (λ (t : Task). IsManaged s.policy.managers t.job) s.tasks k (task_moved (task_at s.tasks k) (row e (inputs s k))) (λ lt. each_at (λ (t : Task). IsManaged s.policy.managers t.job) s.tasks k no_task w lt) w
 
 all_managed : (h : History) → AllManaged (seen h).policy.managers (seen h).tasks
 unfolding seen

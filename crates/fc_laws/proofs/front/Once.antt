@@ -19,7 +19,7 @@ use Rattle.coap_dedup.specs.Exchanges.{Look, IsNew, IsBusy, IsAgain, IsSilent as
 use Rattle.coap_msg.specs.Endpoints.{same_endpoint}
 use Rattle.fc_observe.specs.declared.entry.Turn.{Turn}
 use Rattle.fc_observe.specs.Calls.{NextDue, observers_after}
-use Rattle.fc_observe.specs.Observers.{ObserverList, at_moment, entry_out, next_turn}
+use Rattle.fc_observe.specs.Observers.{ObserverList, list_at_time, entry_out, next_turn}
 use Rattle.fc_observe.specs.Views.{Interest, interest_of}
 use Rattle.fc_registry.specs.Turns.{job_of_turn, turn_job}
 use Rattle.fc_registry.specs.declared.job.Job.{Job}
@@ -104,9 +104,9 @@ still_open o other emitted s a = a
 
 -- a new job is no duplicate, and its exchange is opened with it.
 record IsNewJob (s : Seen) (es : List Exchange) (j : Job) : Type 0 where
-  moment : ℕ
-  none : repeated s moment j.origin.endpoint j.origin.id ≡ None
-  at_is : j.origin.opening.at ≡ moment
+  time : ℕ
+  none : repeated s time j.origin.endpoint j.origin.id ≡ None
+  at_is : j.origin.opening.at ≡ time
   opened : Any (IsOf j.origin) es
 
 module _ (s : Seen) (now : ℕ) (to : Endpoint) where
@@ -128,11 +128,11 @@ module _ (s : Seen) (now : ℕ) (to : Endpoint) where
   looked_new m new IsFull w = tt
   looked_new m new IsOverShare w = over_new (is_confirmable m.kind) m
 
-  no_repeat : (m : Message) → look_in (front_at s now) to m ≡ IsNew → repeated s (max s.moment now) to m.id ≡ None
-  no_repeat m is = (new_look (repeated s (max s.moment now) to m.id) (room_in s (max s.moment now) to.ip) (sym (look_is s now to m) ∙ is)).none
+  no_repeat : (m : Message) → look_in (front_at s now) to m ≡ IsNew → repeated s (max s.time now) to m.id ≡ None
+  no_repeat m is = (new_look (repeated s (max s.time now) to m.id) (room_in s (max s.time now) to.ip) (sym (look_is s now to m) ∙ is)).none
 
   added_new : (a : Add) (m : Message) (r : Asked) → look_in (front_at s now) to m ≡ IsNew → AreNew (received_added a m r)
-  added_new (IsWhole body) m r is = (record { moment = max s.moment now; none = no_repeat m is; at_is = refl; opened = inl (refl, refl, refl) }, tt)
+  added_new (IsWhole body) m r is = (record { time = max s.time now; none = no_repeat m is; at_is = refl; opened = inl (refl, refl, refl) }, tt)
   added_new Continues m r is = tt
   added_new IsIncomplete m r is = tt
   added_new IsBadLength m r is = tt
@@ -161,7 +161,7 @@ module _ (s : Seen) (now : ℕ) (to : Endpoint) where
 
   new_tasks : (x : Received) (emitted : Option Emission) (js : List Job) → Each (IsNewJob s (opened_by x opening to)) js → Each (λ t. IsNewJob s (answered_in (length s.exchanges) (kept_of x emitted) (s.exchanges ++ opened_by x opening to)) t.job) (map new_task js)
   new_tasks x emitted [] w = tt
-  new_tasks x emitted (j ∷ js) w = (record { moment = w.0.moment; none = w.0.none; at_is = w.0.at_is; opened = kept_in j.origin (length s.exchanges) (kept_of x emitted) (s.exchanges ++ opened_by x opening to) (any_right (IsOf j.origin) s.exchanges (opened_by x opening to) w.0.opened) }, new_tasks x emitted js w.1)
+  new_tasks x emitted (j ∷ js) w = (record { time = w.0.time; none = w.0.none; at_is = w.0.at_is; opened = kept_in j.origin (length s.exchanges) (kept_of x emitted) (s.exchanges ++ opened_by x opening to) (any_right (IsOf j.origin) s.exchanges (opened_by x opening to) w.0.opened) }, new_tasks x emitted js w.1)
 
 -- a lease is no request.
 turn_isnt : (s : Seen) (es : List Exchange) (n number : ℕ) (o : Option Interest) → Each (λ t. t.job.turn ≡ None → IsNewJob s es t.job) (map new_task (option_to_list (option_map (turn_job n number) o)) ++ [])
@@ -176,7 +176,7 @@ due_isnt : (s : Seen) (es : List Exchange) (i at : ℕ) (p : Option ℕ) → Eac
 due_isnt s es i at None = tt
 due_isnt s es i at (Some k) =
     let n = 8 * k + i in
-    turns_arent s es n (next_turn (slot_at s n).noticed (at_moment at (watch s n))) (observers_after (NextDue at (slot_at s n).noticed) (watch s n))
+    turns_arent s es n (next_turn (slot_at s n).notify_serial (list_at_time at (watch s n))) (observers_after (NextDue at (slot_at s n).notify_serial) (watch s n))
 
 each_weaker : {X : Type 0} (P Q : X → Type 0) (xs : List X) → ((x : X) → P x → Q x) → Each P xs → Each Q xs
 each_weaker P Q [] f w = tt
@@ -188,7 +188,7 @@ brought_new (Deliver now to bytes) emitted s =
     each_weaker (λ t. IsNewJob s es t.job) (λ t. t.job.turn ≡ None → IsNewJob s es t.job) (tasks_brought (Deliver now to bytes) s) (λ t w is. w)
     (new_tasks s now to (received_at s now to bytes.now) emitted (brought (received_at s now to bytes.now) (next_opening (front_at s now)) to) (new_in s now to bytes.now))
 brought_new (Due shard now) emitted s =
-    let at = max (s.shard_moment shard) now in
+    let at = max (s.shard_time shard) now in
     due_isnt s (exchanges_by (at_front (Due shard now)) emitted s) shard at (due_in s shard at)
 brought_new other emitted s = tt
 
@@ -202,7 +202,7 @@ one_job other o to = omega arith
 
 one_brought : (e : Event) (s : Seen) → length (tasks_brought e s) ≤ 1
 one_brought (Deliver now to bytes) s = one_job (received_at s now to bytes.now) (next_opening (front_at s now)) to
-one_brought (Due shard now) s = let at = max (s.shard_moment shard) now in one_turn (turn_at (due_in s shard at) s shard at)
+one_brought (Due shard now) s = let at = max (s.shard_time shard) now in one_turn (turn_at (due_in s shard at) s shard at)
 one_brought other s = omega arith
 
 length_after : (r : Entry) (s : Seen) → length (and_then r s).tasks ≡ length s.tasks + length (tasks_brought r.event s)
@@ -265,7 +265,7 @@ apart_after h r j k lt come w =
     (λ (le : length s.tasks ≤ k).
     let here : j < length s.tasks = omega (arith, length_after r s, one_brought r.event s, come) in
     subst (λ (a : Job). ApartJobs a (job (and_then r s) k)) (sym (job_stays r s j here))
-    (λ first second to id. let new = new_job r s k le come second in subst (λ (n : ℕ). (job s j).origin.opening.at + 247000 ≤ n) (sym new.at_is) (past_window s new.moment (job s j).origin (job (and_then r s) k).origin new.none (opened_for h j here first) to id)))
+    (λ first second to id. let new = new_job r s k le come second in subst (λ (n : ℕ). (job s j).origin.opening.at + 247000 ≤ n) (sym new.at_is) (past_window s new.time (job s j).origin (job (and_then r s) k).origin new.none (opened_for h j here first) to id)))
     (cases_lt k (length s.tasks))
 
 pub jobs_apart : (h : History) (j k : ℕ) → j < k → HasCome (seen h) k → (job (seen h) j).turn ≡ None → (job (seen h) k).turn ≡ None → (job (seen h) j).origin.endpoint ≡ (job (seen h) k).origin.endpoint → (job (seen h) j).origin.id ≡ (job (seen h) k).origin.id → (job (seen h) j).origin.opening.at + 247000 ≤ (job (seen h) k).origin.opening.at

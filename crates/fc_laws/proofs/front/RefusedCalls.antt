@@ -12,10 +12,10 @@ use Rattle.fc_verify.specs.Judged.{judged}
 use Rattle.fc_observe.specs.declared.entry.Entry.{Entry as ObserverEntry}
 use Rattle.fc_observe.specs.declared.entry.Turn.{Turn}
 use Rattle.fc_observe.specs.Calls.{ObserverCall, Advance, observers}
-use Rattle.fc_observe.specs.Observers.{ObserverList, at_moment, entry_out, is_missing, must_confirm_turn}
+use Rattle.fc_observe.specs.Observers.{ObserverList, list_at_time, entry_out, is_missing, must_confirm_turn}
 use Rattle.fc_observe.specs.Views.{interest_of}
 use Rattle.fc_registry.specs.declared.job.InitialVars.{InitialVars}
-use Rattle.fc_registry.specs.Calls.{clear_by, commits, is_out_at, miss_calls, outcome_by, put_by, initial_vars_of}
+use Rattle.fc_registry.specs.Calls.{clear_by, commits, is_out_at, mark_missing_calls, outcome_by, put_by, initial_vars_of}
 use Rattle.fc_registry.specs.Changes.{Change}
 use Rattle.fc_registry.specs.Notes.{note_to, observer_told, told_calls}
 use Rattle.fc_registry.specs.Slots.{Present, Ticket, last_serial}
@@ -25,24 +25,24 @@ use Rattle.fc_core.specs.Stage.{Stage}
 use Rattle.fc_core.specs.Stage.{ToAnswer, ToCommit, ToDescribe, ToInstall, ToRemove, ToTake, ToTell}
 use Rattle.fc_core.specs.TurnStage as turns
 use Rattle.fc_core.specs.Heads.{published}
-use Rattle.fc_core.specs.History.{Entry, Seen, additions_by, and_then, answered_in, at_front, calls_named, changes_after, did, exchanges_by, job, scene, stage, tasks_brought, tasks_moved, watch, words_seen, at_shard, calls_by}
+use Rattle.fc_core.specs.History.{Entry, Seen, additions_by, and_then, answered_in, at_front, calls_named, changes_after, did, exchanges_by, job, inputs, stage, tasks_brought, tasks_moved, watch, words_seen, at_shard, calls_by}
 use Rattle.fc_core.specs.Laws.{slot_of}
-use Rattle.fc_core.specs.Rows.{Move, Scene, call_at, install_if, move_of, names, row}
+use Rattle.fc_core.specs.Rows.{Move, Inputs, call_at, install_if, move_of, names, row}
 use Rattle.fc_core.specs.Stages.{content_at, image_of}
 use Rattle.fc_core.specs.Steps.{Commits, Installs, Removes}
-use Rattle.fc_laws.specs.RefusalLaws.{HasNoId, HasNoTicket, IsRefusedCall, IsStaleNote, IsStaleTaking, LeavesAllButStage, NotAccepted, NotCommitted, NotDescribed, NotInstalled, NotRemoved, NotSent, NothingTaken}
-use Rattle.fc_laws.specs.TurnLaws.{moment_at}
+use Rattle.fc_laws.specs.RefusalLaws.{HasNoId, HasNoTicket, IsRefusedCall, IsStaleNote, IsStaleSnapshot, LeavesAllButStage, NotAccepted, NotCommitted, NotDescribed, NotInstalled, NotRemoved, NotSent, NothingTaken}
+use Rattle.fc_laws.specs.TurnLaws.{time_at}
 
 -- ---- a transition that changes nothing
 
 -- it makes no call on the slot's observers except to pass them a time.
-data IsQuiet (calls : List ObserverCall) : Type 0 where
-  Nothing : (is : calls ≡ []) → IsQuiet calls
-  Moment : (at : ℕ) (is : calls ≡ Advance at ∷ []) → IsQuiet calls
+data IsIdle (calls : List ObserverCall) : Type 0 where
+  Nothing : (is : calls ≡ []) → IsIdle calls
+  Time : (at : ℕ) (is : calls ≡ Advance at ∷ []) → IsIdle calls
 
 record IsStill (m : Move) : Type 0 where
   changes : m.changes ≡ []
-  calls : IsQuiet m.calls
+  calls : IsIdle m.calls
   raises : m.raises ≡ None
 
 changes_still : (b : Bool) (cs own : List Change) → cs ≡ [] → (if b then cs ++ own else own) ≡ own
@@ -52,11 +52,11 @@ changes_still false cs own is = refl
 -- the observers of slot n after these calls are unchanged, except for their time.
 abbrev AreLeft : ℕ → ℕ → List ObserverCall → List ObserverCall → Type 0
 AreLeft n confirm_after own calls =
-    observers n confirm_after calls ≡ record (observers n confirm_after own) { moment = (observers n confirm_after calls).moment }
+    observers n confirm_after calls ≡ record (observers n confirm_after own) { time = (observers n confirm_after calls).time }
 
-observers_still : (b : Bool) (cs own : List ObserverCall) (n confirm_after : ℕ) → IsQuiet cs → AreLeft n confirm_after own ((if b then cs else []) ++ own)
+observers_still : (b : Bool) (cs own : List ObserverCall) (n confirm_after : ℕ) → IsIdle cs → AreLeft n confirm_after own ((if b then cs else []) ++ own)
 observers_still true cs own n confirm_after (Nothing is) = subst (λ (x : List ObserverCall). AreLeft n confirm_after own (x ++ own)) (sym is) refl
-observers_still true cs own n confirm_after (Moment at is) = subst (λ (x : List ObserverCall). AreLeft n confirm_after own (x ++ own)) (sym is) refl
+observers_still true cs own n confirm_after (Time at is) = subst (λ (x : List ObserverCall). AreLeft n confirm_after own (x ++ own)) (sym is) refl
 observers_still false cs own n confirm_after q = refl
 
 -- an event that names job k, and has no effect on the front except a draw of a message ID.
@@ -67,16 +67,16 @@ record IsOf (k : ℕ) (e : Event) (o : Option Emission) (s : Seen) : Type 0 wher
   added : additions_by (at_front e) s ≡ []
   kept : exchanges_by (at_front e) o s ≡ s.exchanges
 
-left : (k : ℕ) (e : Event) (o : Option Emission) (s : Seen) → IsOf k e o s → IsStill (row e (scene s k)) → LeavesAllButStage k s (and_then (did e o) s)
+left : (k : ℕ) (e : Event) (o : Option Emission) (s : Seen) → IsOf k e o s → IsStill (row e (inputs s k)) → LeavesAllButStage k s (and_then (did e o) s)
 left k e o s of still = record {
   slots = record {
     first = refl;
     slots = λ n.
         ap (λ (x : Option ℕ). changes_after x e s n) of.named
-        ∙ changes_still (slot_of s k == n) (row e (scene s k)).changes (s.changes n) still.changes;
+        ∙ changes_still (slot_of s k == n) (row e (inputs s k)).changes (s.changes n) still.changes;
     words = ap (λ (x : Option ℕ). words_seen x e s) of.named ∙ ap (λ (x : Option ℕ). published x (slot_of s k) s.words) still.raises;
   };
-  at = (row e (scene s k)).stage;
+  at = (row e (inputs s k)).stage;
   tasks =
       ap (λ (x : Option ℕ). tasks_moved x e s ++ tasks_brought e s) of.named
       ∙ (ap (λ ts. tasks_moved (Some k) e s ++ ts) of.brought ∙ append-nil (tasks_moved (Some k) e s));
@@ -84,35 +84,35 @@ left k e o s of still = record {
       subst (AreLeft n s.policy.confirm_after (s.calls n))
       (sym (ap (λ (x : Option ℕ). calls_named x e s n ++ (calls_by (at_shard e) s n ++ s.calls n)) of.named
       ∙ ap (λ (x : List ObserverCall). calls_named (Some k) e s n ++ (x ++ s.calls n)) (of.calm n)))
-      (observers_still (slot_of s k == n) (row e (scene s k)).calls (s.calls n) n s.policy.confirm_after still.calls);
+      (observers_still (slot_of s k == n) (row e (inputs s k)).calls (s.calls n) n s.policy.confirm_after still.calls);
   front = record { exchanges = of.kept; additions = ap (λ xs. xs ++ s.additions) of.added };
 }
 
 -- ---- the transitions of refused calls
 
 -- transition of an event of a job at this stage.
-abbrev move_at : Event → Scene → Stage → Move
+abbrev move_at : Event → Inputs → Stage → Move
 move_at e s x = move_of e s (call_at e s x)
 
-uncommitted : (k now count : ℕ) (t : Ticket) (s : Scene) (c b : Bool) → (c ≡ false) ⊎ (b ≡ false)
+uncommitted : (k now count : ℕ) (t : Ticket) (s : Inputs) (c b : Bool) → (c ≡ false) ⊎ (b ≡ false)
     → IsStill (move_of (Commit k now) s (Some (Commits count t (commits (outcome_by true c b) t s.slot.serial s.around.watch).answer)))
 uncommitted k now count t s false b w = record { changes = refl; calls = Nothing refl; raises = refl }
 uncommitted k now count t s true false w = record { changes = refl; calls = Nothing refl; raises = refl }
 uncommitted k now count t s true true (inl is) = absurd (cc is)
 uncommitted k now count t s true true (inr is) = absurd (cc is)
 
-unaccepted : (k : ℕ) (s : Scene) (memory : Bool) (v : InitialVars) (j : Judgement) → ((p : Program) → j ≡ Accepts p → ⊥)
+unaccepted : (k : ℕ) (s : Inputs) (memory : Bool) (v : InitialVars) (j : Judgement) → ((p : Program) → j ≡ Accepts p → ⊥)
     → IsStill (move_of (Install k memory) s (Some (install_if memory v j s.slot)))
 unaccepted k s false v j why = record { changes = refl; calls = Nothing refl; raises = refl }
 unaccepted k s true v (Accepts p) why = absurd (why p refl)
 unaccepted k s true v (Breaks rule slot) why = record { changes = refl; calls = Nothing refl; raises = refl }
 unaccepted k s true v Untypable why = record { changes = refl; calls = Nothing refl; raises = refl }
 
-at_end : (k : ℕ) (s : Scene) (p : Program) (v : InitialVars) (b : Bool) → b ≡ false → IsStill (move_of (Install k true) s (Some (Installs p v (put_by b s.slot p v).answer)))
+at_end : (k : ℕ) (s : Inputs) (p : Program) (v : InitialVars) (b : Bool) → b ≡ false → IsStill (move_of (Install k true) s (Some (Installs p v (put_by b s.slot p v).answer)))
 at_end k s p v true is = absurd (cc is)
 at_end k s p v false is = record { changes = refl; calls = Nothing refl; raises = refl }
 
-uninstalled : (k : ℕ) (s : Scene) (memory : Bool) (v : InitialVars) (j : Judgement) → (memory ≡ false) ⊎ (last_serial ≤ s.slot.serial)
+uninstalled : (k : ℕ) (s : Inputs) (memory : Bool) (v : InitialVars) (j : Judgement) → (memory ≡ false) ⊎ (last_serial ≤ s.slot.serial)
     → IsStill (move_of (Install k memory) s (Some (install_if memory v j s.slot)))
 uninstalled k s false v j why = record { changes = refl; calls = Nothing refl; raises = refl }
 uninstalled k s true v (Accepts p) (inl is) = absurd (cc is)
@@ -120,14 +120,14 @@ uninstalled k s true v (Accepts p) (inr last) = at_end k s p v (nat_lt s.slot.se
 uninstalled k s true v (Breaks rule slot) why = record { changes = refl; calls = Nothing refl; raises = refl }
 uninstalled k s true v Untypable why = record { changes = refl; calls = Nothing refl; raises = refl }
 
-unremoved : (k serial : ℕ) (s : Scene) (b : Bool) (o : Option Present) → (o ≡ None) ⊎ (b ≡ false)
+unremoved : (k serial : ℕ) (s : Inputs) (b : Bool) (o : Option Present) → (o ≡ None) ⊎ (b ≡ false)
     → IsStill (move_of (Remove k) s (Some (Removes (clear_by b serial o).answer)))
 unremoved k serial s b None why = record { changes = refl; calls = Nothing refl; raises = refl }
 unremoved k serial s false (Some p) why = record { changes = refl; calls = Nothing refl; raises = refl }
 unremoved k serial s true (Some p) (inl is) = absurd (cc is)
 unremoved k serial s true (Some p) (inr is) = absurd (cc is)
 
-present_missed : (b : Bool) (turn : Turn) (p : Present) → miss_calls b turn (Some p) ≡ []
+present_missed : (b : Bool) (turn : Turn) (p : Present) → mark_missing_calls b turn (Some p) ≡ []
 present_missed true turn p = refl
 present_missed false turn p = refl
 
@@ -148,8 +148,8 @@ unanswered false number o xs is = refl
 
 module _ (k : ℕ) (o : Option Emission) (s : Seen) where
   -- for an event at this stage of its job.
-  at_stage : (e : Event) (x : Stage) → IsOf k e o s → stage s k ≡ x → IsStill (move_at e (scene s k) x) → LeavesAllButStage k s (and_then (did e o) s)
-  at_stage e x of at still = left k e o s of (subst (λ (y : Stage). IsStill (move_at e (scene s k) y)) (sym at) still)
+  at_stage : (e : Event) (x : Stage) → IsOf k e o s → stage s k ≡ x → IsStill (move_at e (inputs s k) x) → LeavesAllButStage k s (and_then (did e o) s)
+  at_stage e x of at still = left k e o s of (subst (λ (y : Stage). IsStill (move_at e (inputs s k) y)) (sym at) still)
 
   by_call : (e : Event) → IsRefusedCall s k e o → LeavesAllButStage k s (and_then (did e o) s)
   by_call e (NothingTaken count memory readings is at why) = subst (λ (x : Event). LeavesAllButStage k s (and_then (did x o) s)) (sym is)
@@ -158,22 +158,22 @@ module _ (k : ℕ) (o : Option Emission) (s : Seen) where
   by_call e (NotCommitted now count t is at wanted why) = subst (λ (x : Event). LeavesAllButStage k s (and_then (did x o) s)) (sym is)
       (at_stage (Commit k now) (ToCommit count t) (record { named = refl; brought = refl; calm = λ n. refl; added = refl; kept = refl }) at
       (subst
-      (λ (b : Bool). IsStill (move_of (Commit k now) (scene s k) (Some (Commits count t
-      (commits (outcome_by b ((scene s k).slot.serial == t.serial) (nat_lt (scene s k).slot.serial last_serial)) t (scene s k).slot.serial
-      (scene s k).around.watch).answer))))
+      (λ (b : Bool). IsStill (move_of (Commit k now) (inputs s k) (Some (Commits count t
+      (commits (outcome_by b ((inputs s k).slot.serial == t.serial) (nat_lt (inputs s k).slot.serial last_serial)) t (inputs s k).slot.serial
+      (inputs s k).around.watch).answer))))
       (sym wanted)
-      (uncommitted k now count t (scene s k) ((scene s k).slot.serial == t.serial) (nat_lt (scene s k).slot.serial last_serial)
-      (⊎_elim (λ ne. inl (ne_eqb (scene s k).slot.serial t.serial ne)) (λ last. inr (le-ltb (scene s k).slot.serial last_serial last)) why))))
+      (uncommitted k now count t (inputs s k) ((inputs s k).slot.serial == t.serial) (nat_lt (inputs s k).slot.serial last_serial)
+      (⊎_elim (λ ne. inl (ne_eqb (inputs s k).slot.serial t.serial ne)) (λ last. inr (le-ltb (inputs s k).slot.serial last_serial last)) why))))
   by_call e (NotAccepted memory is at why) = subst (λ (x : Event). LeavesAllButStage k s (and_then (did x o) s)) (sym is)
       (at_stage (Install k memory) ToInstall (record { named = refl; brought = refl; calm = λ n. refl; added = refl; kept = refl }) at
-      (unaccepted k (scene s k) memory (initial_vars_of (job s k).ask) (judged (image_of (job s k).ask)) why))
+      (unaccepted k (inputs s k) memory (initial_vars_of (job s k).ask) (judged (image_of (job s k).ask)) why))
   by_call e (NotInstalled memory is at why) = subst (λ (x : Event). LeavesAllButStage k s (and_then (did x o) s)) (sym is)
       (at_stage (Install k memory) ToInstall (record { named = refl; brought = refl; calm = λ n. refl; added = refl; kept = refl }) at
-      (uninstalled k (scene s k) memory (initial_vars_of (job s k).ask) (judged (image_of (job s k).ask)) why))
+      (uninstalled k (inputs s k) memory (initial_vars_of (job s k).ask) (judged (image_of (job s k).ask)) why))
   by_call e (NotRemoved is at why) = subst (λ (x : Event). LeavesAllButStage k s (and_then (did x o) s)) (sym is)
       (at_stage (Remove k) ToRemove (record { named = refl; brought = refl; calm = λ n. refl; added = refl; kept = refl }) at
-      (unremoved k (scene s k).slot.serial (scene s k) (nat_lt (scene s k).slot.serial last_serial) (scene s k).slot.present
-      (⊎_elim (λ empty. inl empty) (λ last. inr (le-ltb (scene s k).slot.serial last_serial last)) why)))
+      (unremoved k (inputs s k).slot.serial (inputs s k) (nat_lt (inputs s k).slot.serial last_serial) (inputs s k).slot.present
+      (⊎_elim (λ empty. inl empty) (λ last. inr (le-ltb (inputs s k).slot.serial last_serial last)) why)))
   by_call e (NotDescribed is at empty) = subst (λ (x : Event). LeavesAllButStage k s (and_then (did x o) s)) (sym is)
       (at_stage (Receipt k) ToDescribe (record { named = refl; brought = refl; calm = λ n. refl; added = refl; kept = refl }) at
       (record { changes = refl; calls = Nothing refl; raises = refl }))
@@ -195,17 +195,17 @@ module _ (k : ℕ) (o : Option Emission) (s : Seen) where
       (at_stage (Take k false readings) (ToTell turn turns.ToTake) (record { named = refl; brought = refl; calm = λ n. refl; added = refl; kept = refl }) at
       (record {
         changes = refl;
-        calls = let now = (scene s k).around.moment in let out = is_out_at turn now (scene s k).around.watch in
-            Moment now (ap (λ (x : Option Present). miss_calls out turn x ++ Advance now ∷ []) found
+        calls = let now = (inputs s k).around.time in let out = is_out_at turn now (inputs s k).around.watch in
+            Time now (ap (λ (x : Option Present). mark_missing_calls out turn x ++ Advance now ∷ []) found
             ∙ ap (λ (x : List ObserverCall). x ++ Advance now ∷ []) (present_missed out turn p));
         raises = refl;
       }))
-  by_call e (IsStaleTaking turn memory readings is at stale) = subst (λ (x : Event). LeavesAllButStage k s (and_then (did x o) s)) (sym is)
+  by_call e (IsStaleSnapshot turn memory readings is at stale) = subst (λ (x : Event). LeavesAllButStage k s (and_then (did x o) s)) (sym is)
       (at_stage (Take k memory readings) (ToTell turn turns.ToTake) (record { named = refl; brought = refl; calm = λ n. refl; added = refl; kept = refl }) at
       (record {
         changes = refl;
-        calls = let now = (scene s k).around.moment in
-            Moment now (ap (λ (x : Option ObserverEntry). miss_calls (is_some x) turn (scene s k).slot.present ++ Advance now ∷ []) stale);
+        calls = let now = (inputs s k).around.time in
+            Time now (ap (λ (x : Option ObserverEntry). mark_missing_calls (is_some x) turn (inputs s k).slot.present ++ Advance now ∷ []) stale);
         raises = refl;
       }))
   by_call e (IsStaleNote now random id turn found is at stale) = subst (λ (x : Event). LeavesAllButStage k s (and_then (did x o) s)) (sym is)
@@ -213,8 +213,8 @@ module _ (k : ℕ) (o : Option Emission) (s : Seen) where
       (record { named = refl; brought = refl; calm = λ n. refl; added = refl; kept = refl }) at
       (record {
         changes = refl;
-        calls = let now_at = moment_at s k now in let w = at_moment now_at (watch s (slot_of s k)) in
-            Moment now_at (ap (λ (x : Option Emission). told_calls turn id random now_at found x ++ Advance now_at ∷ [])
+        calls = let now_at = time_at s k now in let w = list_at_time now_at (watch s (slot_of s k)) in
+            Time now_at (ap (λ (x : Option Emission). told_calls turn id random now_at found x ++ Advance now_at ∷ [])
             (ap (option_map (note_to id (must_confirm_turn turn w) found)) (none_told found turn w stale)));
         raises = refl;
       }))

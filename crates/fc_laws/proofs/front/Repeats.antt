@@ -66,14 +66,14 @@ table_at s at = record { limits = s.policy.limits; now = at; opened = length s.e
 abbrev pub room_in : Seen → ℕ → List ℕ → Room
 room_in s at ip = room_at (table_at s at) ip
 
-pub look_is : (s : Seen) (now : ℕ) (to : Endpoint) (m : Message) → look_in (front_at s now) to m ≡ look_by (repeated s (max s.moment now) to m.id) (room_in s (max s.moment now) to.ip)
-look_is s now to m = ap (λ o. look_by o (room_in s (max s.moment now) to.ip)) (find-filter (is_of to m.id) (is_within (max s.moment now)) s.exchanges)
+pub look_is : (s : Seen) (now : ℕ) (to : Endpoint) (m : Message) → look_in (front_at s now) to m ≡ look_by (repeated s (max s.time now) to m.id) (room_in s (max s.time now) to.ip)
+look_is s now to m = ap (λ o. look_by o (room_in s (max s.time now) to.ip)) (find-filter (is_of to m.id) (is_within (max s.time now)) s.exchanges)
 
-pub request_is : (s : Seen) (now : ℕ) (to : Endpoint) (bytes : List ℕ) (m : Message) (o : Option Exchange) → reading_of bytes ≡ Ok m → IsOnRequest (verdict m) → repeated s (max s.moment now) to m.id ≡ o → received_at s now to bytes ≡ looked (look_by o (room_in s (max s.moment now) to.ip)) m (new_as (front_at s now) to (verdict m) m)
+pub request_is : (s : Seen) (now : ℕ) (to : Endpoint) (bytes : List ℕ) (m : Message) (o : Option Exchange) → reading_of bytes ≡ Ok m → IsOnRequest (verdict m) → repeated s (max s.time now) to m.id ≡ o → received_at s now to bytes ≡ looked (look_by o (room_in s (max s.time now) to.ip)) m (new_as (front_at s now) to (verdict m) m)
 request_is s now to bytes m o read asks is =
     received_of (front_at s now) to bytes (Ok m) read
     ∙ (asking_looked (front_at s now) to m (verdict m) asks
-    ∙ ap (λ l. looked l m (new_as (front_at s now) to (verdict m) m)) (look_is s now to m ∙ ap (λ x. look_by x (room_in s (max s.moment now) to.ip)) is))
+    ∙ ap (λ l. looked l m (new_as (front_at s now) to (verdict m) m)) (look_is s now to m ∙ ap (λ x. look_by x (room_in s (max s.time now) to.ip)) is))
 
 -- ---- duplicates
 
@@ -129,11 +129,11 @@ brings_nothing s (Deliver now to bytes) x w = ap (λ (l : List Job). s.tasks ++ 
 brings_nothing s other x w = absurd w
 
 draws_nothing : (s : Seen) (e : Event) (x : Exchange) → Repeats s e x → ids_by (at_front e) s ≡ s.ids
-draws_nothing s (Deliver now to bytes) x w = (idle s now to bytes.now x w).draws s.ids (max s.moment now)
+draws_nothing s (Deliver now to bytes) x w = (idle s now to bytes.now x w).draws s.ids (max s.time now)
 draws_nothing s other x w = absurd w
 
 adds_nothing : (s : Seen) (e : Event) (x : Exchange) → Repeats s e x → additions_by (at_front e) s ++ s.additions ≡ s.additions
-adds_nothing s (Deliver now to bytes) x w = ap (λ (l : List Addition). l ++ s.additions) ((idle s now to bytes.now x w).adds (max s.moment now) to)
+adds_nothing s (Deliver now to bytes) x w = ap (λ (l : List Addition). l ++ s.additions) ((idle s now to bytes.now x w).adds (max s.time now) to)
 adds_nothing s other x w = absurd w
 
 emits_again : (s : Seen) (e : Event) (x : Exchange) (o : Option Emission) → Repeats s e x → Emits s e o → o ≡ repeat_emits e x
@@ -203,7 +203,7 @@ room_from share place below here = λ i. room_by (below i) (here i)
 
 pub opening_is : (s : Seen) (now : ℕ) (to : Endpoint) (bytes : List ℕ) (w : IsOpening s now to bytes) → received_at s now to bytes ≡ new_as (front_at s now) to (verdict w.message) w.message
 opening_is s now to bytes w =
-    let at = max s.moment now in
+    let at = max s.time now in
     request_is s now to bytes w.message None w.read w.asks w.new
     ∙ ap (λ b. looked (look_by None b) w.message (new_as (front_at s now) to (verdict w.message) w.message)) (room_from (has_share (table_at s at) to.ip) (has_place (table_at s at))
     (lt-ltb (shared_at s at to.ip) s.policy.limits.share w.share)
@@ -259,7 +259,7 @@ looked_opens IsOverShare m new o to ne = over_opens (is_confirmable m.kind) m o 
 
 pub opening_of : (s : Seen) (now : ℕ) (to : Endpoint) (bytes : List ℕ) (m : Message) → reading_of bytes ≡ Ok m → IsOnRequest (verdict m) → look_in (front_at s now) to m ≡ IsNew → IsOpening s now to bytes
 opening_of s now to bytes m read asks is =
-    let at = max s.moment now in
+    let at = max s.time now in
     let new = new_look (repeated s at to m.id) (room_in s at to.ip) (sym (look_is s now to m) ∙ is) in
     let both = room_parts (has_share (table_at s at) to.ip) (has_place (table_at s at)) new.here in
     let parts = and_parts (nat_lt (length (held_at s at)) (places_of s.policy.limits)) (nat_lt (length s.exchanges) 18446744073709551615) both.1 in

@@ -42,16 +42,16 @@ pub full_is : (s : Seen) (now : ℕ) (to : Endpoint) (bytes : List ℕ) (m : Mes
 full_is s now to bytes m w =
     request_is s now to bytes m None w.read w.asks w.new
     ∙ ap (λ b. looked (look_by None b) m (new_as (front_at s now) to (verdict m) m))
-    (full_by (has_share (table_at s (max s.moment now)) to.ip) (has_place (table_at s (max s.moment now)))
-    (lt-ltb (shared_at s (max s.moment now) to.ip) s.policy.limits.share w.share) (no_place s (max s.moment now) w.full))
+    (full_by (has_share (table_at s (max s.time now)) to.ip) (has_place (table_at s (max s.time now)))
+    (lt-ltb (shared_at s (max s.time now) to.ip) s.policy.limits.share w.share) (no_place s (max s.time now) w.full))
 
 -- it is classified as one from an address above its share.
 pub over_is : (s : Seen) (now : ℕ) (to : Endpoint) (bytes : List ℕ) (m : Message) → IsOverShare s now to bytes m → received_at s now to bytes ≡ over_share (is_confirmable m.kind) m
 over_is s now to bytes m w =
     request_is s now to bytes m None w.read w.asks w.new
     ∙ ap (λ b. looked (look_by None b) m (new_as (front_at s now) to (verdict m) m))
-    (over_by (has_share (table_at s (max s.moment now)) to.ip) (has_place (table_at s (max s.moment now)))
-    (le-ltb (shared_at s (max s.moment now) to.ip) s.policy.limits.share w.over))
+    (over_by (has_share (table_at s (max s.time now)) to.ip) (has_place (table_at s (max s.time now)))
+    (le-ltb (shared_at s (max s.time now) to.ip) s.policy.limits.share w.over))
 
 full_opens : (s : Seen) (e : Event) (m : Message) (o : Option Emission) → FindsNoExchange s e m → exchanges_by (at_front e) o s ≡ s.exchanges
 full_opens s (Deliver now to bytes) m o w = ap (λ (x : Received). exchanges_received x to o s now) (full_is s now to bytes.now m w) ∙ append-nil s.exchanges
@@ -62,7 +62,7 @@ full_brings s (Deliver now to bytes) m w = ap (λ (x : Received). s.tasks ++ map
 full_brings s other m w = absurd w
 
 full_adds : (s : Seen) (e : Event) (m : Message) → FindsNoExchange s e m → additions_by (at_front e) s ++ s.additions ≡ s.additions
-full_adds s (Deliver now to bytes) m w = ap (λ (x : Received). added_by x (max s.moment now) to ++ s.additions) (full_is s now to bytes.now m w)
+full_adds s (Deliver now to bytes) m w = ap (λ (x : Received). added_by x (max s.time now) to ++ s.additions) (full_is s now to bytes.now m w)
 full_adds s other m w = absurd w
 
 full_emits : (s : Seen) (e : Event) (m : Message) (o : Option Emission) → FindsNoExchange s e m → Emits s e o → o ≡ bare_by s e m 163
@@ -88,7 +88,7 @@ over_draws true m ids at kind = ap (λ (b : Bool). drawn_for b ids at) kind
 over_draws false m ids at kind = refl
 
 over_ids : (s : Seen) (e : Event) (m : Message) → ExceedsShare s e m → ids_by (at_front e) s ≡ s.ids
-over_ids s (Deliver now to bytes) m w = ap (λ (x : Received). drawn_by x s.ids (max s.moment now)) (over_is s now to bytes.now m w) ∙ over_draws (is_confirmable m.kind) m s.ids (max s.moment now) refl
+over_ids s (Deliver now to bytes) m w = ap (λ (x : Received). drawn_by x s.ids (max s.time now)) (over_is s now to bytes.now m w) ∙ over_draws (is_confirmable m.kind) m s.ids (max s.time now) refl
 over_ids s other m w = absurd w
 
 over_sent : (c : Bool) (s : Seen) (now : ℕ) (to : Endpoint) (bytes : Bor (List ℕ)) (m : Message) → sent (over_share c m) (front_at s now) to ≡ over_share_emits c s (Deliver now to bytes) m

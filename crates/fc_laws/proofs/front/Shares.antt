@@ -13,11 +13,11 @@ use Rattle.coap_dedup.specs.Exchanges.{Exchange, is_at, places_of, share_of}
 use Rattle.fc_core.specs.declared.event.Event.{Event}
 use Rattle.fc_core.specs.declared.event.Event.TheVariants.{Deliver}
 use Rattle.fc_core.specs.declared.policy.Policy.{Policy}
-use Rattle.fc_core.specs.History.{AtFront, Receives, Answers, Draws, Passes, Rests, Begins, Entry, History, Seen, Then, and_then, at_front, moment_by, seen}
+use Rattle.fc_core.specs.History.{AtFront, Receives, Answers, Draws, Passes, Rests, Begins, Entry, History, Seen, Then, and_then, at_front, time_by, seen}
 use Rattle.fc_core.specs.Policies.{default_policy}
 use Rattle.fc_laws.specs.ExchangeLaws.{Arrival, ArrivesBy, ExceedsShare, Opens, OpensOne, arrival_of, arrivals, held_at, is_within, shared_at}
 use Rattle.fc_laws.proofs.front.Repeats.{others_open_nothing, requests_open}
-use Rattle.fc_laws.proofs.front.Moving.{moment_rises}
+use Rattle.fc_laws.proofs.front.Moving.{time_rises}
 
 -- ---- arrivals
 
@@ -154,7 +154,7 @@ share_snoc at ip (x ∷ xs) a =
 
 -- ---- an opening finds space
 
-room_of : (s : Seen) (e : Event) → Opens s e → length (held_at s (moment_by (at_front e) s)) < (places_of s.policy.limits)
+room_of : (s : Seen) (e : Event) → Opens s e → length (held_at s (time_by (at_front e) s)) < (places_of s.policy.limits)
 room_of s (Deliver now to bytes) w = w.room
 room_of s other w = absurd w
 
@@ -166,18 +166,18 @@ equal_of Greater e = absurd (cc e)
 same_address : (a b : List ℕ) → pointwise nat_eq a b ≡ true → a ≡ b
 same_address a b is = slice_cmp-IsAntisymmetric nat_cmp-IsAntisymmetric a b (equal_of (slice_cmp nat_cmp a b) (sym (texts_ties a b) ∙ is))
 
-share_room : (s : Seen) (e : Event) (a : Arrival) (ip : List ℕ) → Opens s e → ArrivesBy s e a → is_of ip a ≡ true → shared_at s (moment_by (at_front e) s) ip < s.policy.limits.share
+share_room : (s : Seen) (e : Event) (a : Arrival) (ip : List ℕ) → Opens s e → ArrivesBy s e a → is_of ip a ≡ true → shared_at s (time_by (at_front e) s) ip < s.policy.limits.share
 share_room s (Deliver now to bytes) a ip w by is =
     let own : to.ip ≡ ip = same_address to.ip ip (ap (λ (x : Arrival). is_of ip x) (sym by.arrival_is) ∙ is) in
-    subst (λ (l : List ℕ). shared_at s (max s.moment now) l < s.policy.limits.share) own w.share
+    subst (λ (l : List ℕ). shared_at s (max s.time now) l < s.policy.limits.share) own w.share
 share_room s other a ip w by is = absurd w
 
 -- ---- each event keeps within the limits
 
-count_after : (r : Entry) (s : Seen) (at : ℕ) → (and_then r s).moment ≤ at → ((t : ℕ) → s.moment ≤ t → count t (arrivals s) ≤ (places_of s.policy.limits)) → count at (arrivals (and_then r s)) ≤ (places_of s.policy.limits)
+count_after : (r : Entry) (s : Seen) (at : ℕ) → (and_then r s).time ≤ at → ((t : ℕ) → s.time ≤ t → count t (arrivals s) ≤ (places_of s.policy.limits)) → count at (arrivals (and_then r s)) ≤ (places_of s.policy.limits)
 count_after r s at le held =
-    let now = moment_by (at_front r.event) s in
-    let rises = moment_rises s (at_front r.event) in
+    let now = time_by (at_front r.event) s in
+    let rises = time_rises s (at_front r.event) in
     ⊎_elim
     (λ (many : (places_of s.policy.limits) < count at (arrivals (and_then r s))).
     let not : Opens s r.event → ⊥ = λ w.
@@ -194,10 +194,10 @@ count_after r s at le held =
     (λ (few : count at (arrivals (and_then r s)) ≤ (places_of s.policy.limits)). few)
     (cases_lt (places_of s.policy.limits) (count at (arrivals (and_then r s))))
 
-share_after : (r : Entry) (s : Seen) (at : ℕ) (ip : List ℕ) → (and_then r s).moment ≤ at → ((t : ℕ) → s.moment ≤ t → share t ip (arrivals s) ≤ s.policy.limits.share) → share at ip (arrivals (and_then r s)) ≤ s.policy.limits.share
+share_after : (r : Entry) (s : Seen) (at : ℕ) (ip : List ℕ) → (and_then r s).time ≤ at → ((t : ℕ) → s.time ≤ t → share t ip (arrivals s) ≤ s.policy.limits.share) → share at ip (arrivals (and_then r s)) ≤ s.policy.limits.share
 share_after r s at ip le held =
-    let now = moment_by (at_front r.event) s in
-    let rises = moment_rises s (at_front r.event) in
+    let now = time_by (at_front r.event) s in
+    let rises = time_rises s (at_front r.event) in
     let before = held at (omega (arith, le, rises)) in
     ⊎_elim
     (λ (many : s.policy.limits.share < share at ip (arrivals (and_then r s))).
@@ -219,20 +219,20 @@ share_after r s at ip le held =
     (λ (few : share at ip (arrivals (and_then r s)) ≤ s.policy.limits.share). few)
     (cases_lt s.policy.limits.share (share at ip (arrivals (and_then r s))))
 
-counts : (h : History) (at : ℕ) → (seen h).moment ≤ at → count at (arrivals (seen h)) ≤ (places_of (seen h).policy.limits)
+counts : (h : History) (at : ℕ) → (seen h).time ≤ at → count at (arrivals (seen h)) ≤ (places_of (seen h).policy.limits)
 unfolding seen
 counts (Begins serial id policy) at le = omega arith
 counts (Then h r) at le = count_after r (seen h) at le (counts h)
 
-shares : (h : History) (at : ℕ) (ip : List ℕ) → (seen h).moment ≤ at → share at ip (arrivals (seen h)) ≤ (seen h).policy.limits.share
+shares : (h : History) (at : ℕ) (ip : List ℕ) → (seen h).time ≤ at → share at ip (arrivals (seen h)) ≤ (seen h).policy.limits.share
 unfolding seen
 shares (Begins serial id policy) at ip le = omega arith
 shares (Then h r) at ip le = share_after r (seen h) at ip le (λ t. shares h t ip)
 
-pub within_exchanges : (h : History) (at : ℕ) → (seen h).moment ≤ at → length (held_at (seen h) at) ≤ (places_of (seen h).policy.limits)
+pub within_exchanges : (h : History) (at : ℕ) → (seen h).time ≤ at → length (held_at (seen h) at) ≤ (places_of (seen h).policy.limits)
 within_exchanges h at le = let is = count_is (seen h) at in let few = counts h at le in omega (arith, is, few)
 
-pub within_share : (h : History) (at : ℕ) (ip : List ℕ) → (seen h).moment ≤ at → shared_at (seen h) at ip ≤ (seen h).policy.limits.share
+pub within_share : (h : History) (at : ℕ) (ip : List ℕ) → (seen h).time ≤ at → shared_at (seen h) at ip ≤ (seen h).policy.limits.share
 within_share h at ip le = let is = share_is (seen h) at ip in let few = shares h at ip le in omega (arith, is, few)
 
 -- ---- by default
@@ -244,7 +244,7 @@ share_few ip (e ∷ es) = let few = share_few ip es in elim (is_at ip e) as (λ 
 pub none_above : (h : History) (e : Event) (m : Message) → (seen h).policy ≡ default_policy → ExceedsShare (seen h) e m → ⊥
 none_above h (Deliver now to bytes) m is w =
     let s = seen h in
-    let at = max s.moment now in
+    let at = max s.time now in
     let over : 65536 ≤ shared_at s at to.ip = subst (λ (p : Policy). p.limits.share ≤ shared_at s at to.ip) is w.over in
     let few = share_few to.ip (held_at s at) in
     let within : length (held_at s at) ≤ 1024 = subst (λ (p : Policy). length (held_at s at) ≤ places_of p.limits) is (within_exchanges h at (omega arith)) in

@@ -55,7 +55,7 @@ module _ (s : Seen) (now : ℕ) (to : Endpoint) (bytes : Bor (List ℕ)) (o : Op
   nothing_brought Unanswered w = append-nil s.tasks
   nothing_brought other w = absurd w
 
-  nothing_added : (x : Received) → IsNothing x → added_by x (max s.moment now) to ++ s.additions ≡ s.additions
+  nothing_added : (x : Received) → IsNothing x → added_by x (max s.time now) to ++ s.additions ≡ s.additions
   nothing_added Ignored w = refl
   nothing_added (Rejected id) w = refl
   nothing_added (Full m) w = refl
@@ -71,7 +71,7 @@ module _ (s : Seen) (now : ℕ) (to : Endpoint) (bytes : Bor (List ℕ)) (o : Op
     };
     front = record {
       exchanges = ap (λ (y : Received). exchanges_received y to o s now) is ∙ nothing_opened x w;
-      additions = ap (λ (y : Received). added_by y (max s.moment now) to ++ s.additions) is ∙ nothing_added x w;
+      additions = ap (λ (y : Received). added_by y (max s.time now) to ++ s.additions) is ∙ nothing_added x w;
     };
   }
 
@@ -113,7 +113,7 @@ code_left (Deliver now to bytes) o s m answer w = record {
   slots = record { first = refl; slots = λ n. refl; words = refl };
   jobs = record { tasks = refused_brings (did (Deliver now to bytes) o) s m answer w; observers = λ n. refl };
   exchange = requests_open (did (Deliver now to bytes) o) s w.opens;
-  additions = ap (λ (y : Received). added_by y (max s.moment now) to ++ s.additions) (refused_is s now to bytes.now m answer w);
+  additions = ap (λ (y : Received). added_by y (max s.time now) to ++ s.additions) (refused_is s now to bytes.now m answer w);
 }
 code_left other o s m answer w = absurd w
 
@@ -129,7 +129,7 @@ silence_left o s now to bytes w silent =
         observers = λ n. refl;
       };
       exchange = requests_open (did (Deliver now to bytes) o) s w;
-      additions = ap (λ (y : Received). added_by y (max s.moment now) to ++ s.additions) is;
+      additions = ap (λ (y : Received). added_by y (max s.time now) to ++ s.additions) is;
     }
 
 check_by : (e : Event) (o : Option Emission) (s : Seen) → IsRefusedByCheck s e → LeavesAllButExchange (did e o) s
@@ -189,7 +189,7 @@ not_continued x m q b answer block is on =
 module _ (s : Seen) (now : ℕ) (to : Endpoint) (bytes : Bor (List ℕ)) (o : Option Emission) (m : Message) (q : Asked) (b : Place) (answer : ℕ)
     (w : Asks s (Deliver now to bytes) m q) (block : q.block1 ≡ Some b) (is : SettlesBy s (Deliver now to bytes) m q answer) where
   abbrev at : ℕ
-  at = max s.moment now
+  at = max s.time now
 
   abbrev n : ℕ
   n = slot_asked q.action
@@ -236,5 +236,5 @@ LeavesOthers = (held : List Transfer) (at now : ℕ) (from to : Endpoint) (m n :
 pub blocks_left : LeavesOthers → (e : Event) (o : Option Emission) (s : Seen) (m : Message) (q : Asked) (b : Place) (answer : ℕ) → Asks s e m q
     → q.block1 ≡ Some b → SettlesBy s e m q answer → LeavesAllButTransfer (did e o) s (sender e) (slot_asked q.action)
 blocks_left rest (Deliver now to bytes) o s m q b answer w block is = block_left s now to bytes o m q b answer w block is
-    (λ from k other. rest (transfers s.additions) (max s.moment now) (max s.moment now) to from (slot_asked q.action) k b q.payload (omega arith) other)
+    (λ from k other. rest (transfers s.additions) (max s.time now) (max s.time now) to from (slot_asked q.action) k b q.payload (omega arith) other)
 blocks_left rest other o s m q b answer w block is = absurd w

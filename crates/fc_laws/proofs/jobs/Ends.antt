@@ -5,24 +5,24 @@ use Rattle.fc_registry.specs.declared.job.Ask.{Ask}
 use Rattle.fc_registry.specs.declared.job.Job.{Job}
 use Rattle.fc_registry.specs.Slots.{Slot, Present, Ticket}
 use Rattle.fc_registry.specs.Changes.{Change}
-use Rattle.fc_registry.specs.Calls.{commit_of, run_of, taking, ticket_of}
+use Rattle.fc_registry.specs.Calls.{commit_of, run_of, snapshot, ticket_of}
 use Rattle.fc_core.specs.declared.event.Event.{Event}
 use Rattle.fc_core.specs.declared.event.Event.TheVariants.{Take, Install, Raise, Answer, Lose}
 use Rattle.fc_core.specs.Stage.{Stage}
 use Rattle.fc_core.specs.Stage.{ToTake, ToCommit, ToInstall, ToRaise, ToAnswer, Gone, ToTell}
 use Rattle.fc_core.specs.TurnStage as turns
 use Rattle.fc_core.specs.Contents.{Content, Unavailable}
-use Rattle.fc_core.specs.History.{around, Entry, History, Then, Seen, seen, and_then, did, job, scene, slot_at, stage, task_at}
-use Rattle.fc_core.specs.Laws.{HasCome, Taking, answers_of, gives, is_answered, is_named, followed_by, slot_of, takings_of}
+use Rattle.fc_core.specs.History.{around, Entry, History, Then, Seen, seen, and_then, did, job, inputs, slot_at, stage, task_at}
+use Rattle.fc_core.specs.Laws.{HasCome, Snapshot, answers_of, gives, is_answered, is_named, followed_by, slot_of, snapshots_of}
 use Rattle.fc_core.specs.Stages.{first_by, took}
-use Rattle.fc_core.specs.Rows.{Around, Scene, row}
+use Rattle.fc_core.specs.Rows.{Around, Inputs, row}
 use Rattle.fc_core.proofs.ByStep.{Step, by_move, by_step, event_by, move_by, stage_by}
 use Rattle.fc_core.proofs.ByStep as steps
 use Rattle.fc_laws.proofs.jobs.Along.{IsTold, along}
 use Rattle.fc_laws.proofs.jobs.Others.{is_here, kept_by, kept_later, named_stage, still_here}
 use Rattle.fc_laws.proofs.jobs.Steps.{becomes, gone_stays}
 
-abbrev at : Job → Slot → Around → Stage → Scene
+abbrev at : Job → Slot → Around → Stage → Inputs
 at job slot ws stage = record { job = job; slot = slot; around = ws; stage = stage }
 
 -- ---- answered at most once
@@ -115,7 +115,7 @@ raise_keeps s k word o content is = named_stage (did (Raise k) o) s k (is_here s
 pub take_refused : (s : Seen) (k count : ℕ) (readings : List ℕ) (o : Option Emission) (p : Present) → stage s k ≡ ToTake count → (slot_at s (slot_of s k)).present ≡ Some p → stage (and_then (did (Take k false readings) o) s) k ≡ ToAnswer Unavailable
 take_refused s k count readings o p is holds = named_stage (did (Take k false readings) o) s k (is_here s k (ToTake count) is (λ e. absurd (cc e))) refl
     ∙ (ap (λ (x : Stage). (row (Take k false readings) (at (job s k) (slot_at s (slot_of s k)) (around s (slot_of s k)) x)).stage) is
-    ∙ ap (λ (x : Option Present). took count (taking None (job s k) (slot_at s (slot_of s k)).serial x)) holds)
+    ∙ ap (λ (x : Option Present). took count (snapshot None (job s k) (slot_at s (slot_of s k)).serial x)) holds)
 
 -- a snapshot with memory keeps the readings that it was passed.
 pub take_keeps : (s : Seen) (k count : ℕ) (readings : List ℕ) (o : Option Emission) (p : Present) → stage s k ≡ ToTake count → (slot_at s (slot_of s k)).present ≡ Some p → (t : Ticket) × (stage (and_then (did (Take k true readings) o) s) k ≡ ToCommit (count + 1) t) × ((run_of t).input.readings ≡ readings) × ((commit_of t).readings ≡ readings)
@@ -123,7 +123,7 @@ take_keeps s k count readings o p is holds = (
   ticket_of (job s k) readings (slot_at s (slot_of s k)).serial p,
   named_stage (did (Take k true readings) o) s k (is_here s k (ToTake count) is (λ e. absurd (cc e))) refl
       ∙ (ap (λ (x : Stage). (row (Take k true readings) (at (job s k) (slot_at s (slot_of s k)) (around s (slot_of s k)) x)).stage) is
-      ∙ ap (λ (x : Option Present). took count (taking (Some readings) (job s k) (slot_at s (slot_of s k)).serial x)) holds),
+      ∙ ap (λ (x : Option Present). took count (snapshot (Some readings) (job s k) (slot_at s (slot_of s k)).serial x)) holds),
   refl,
   refl,
 )
@@ -154,17 +154,17 @@ settled_given (Take k true readings) job slot ws cs (ToTell turn turns.ToTake) f
 settled_given (Take k false readings) job slot ws cs s f = refl
 settled_given other job slot ws cs s f = refl
 
-none_more : (b : Bool) (new ts : List Taking) → new ≡ [] → (if b then new ++ ts else ts) ≡ ts
-none_more true new ts is = ap (λ (l : List Taking). l ++ ts) is
+none_more : (b : Bool) (new ts : List Snapshot) → new ≡ [] → (if b then new ++ ts else ts) ≡ ts
+none_more true new ts is = ap (λ (l : List Snapshot). l ++ ts) is
 none_more false new ts is = refl
 
-settled_later : (rs : List Entry) (h : History) (k : ℕ) → HasCome (seen h) k → IsSettled (stage (seen h) k) → takings_of (followed_by h rs) k ≡ takings_of h k
+settled_later : (rs : List Entry) (h : History) (k : ℕ) → HasCome (seen h) k → IsSettled (stage (seen h) k) → snapshots_of (followed_by h rs) k ≡ snapshots_of h k
 unfolding seen
 settled_later [] h k come f = refl
 settled_later (r ∷ rs) h k come f =
     let s = seen h in
     settled_later rs (Then h r) k (still_here r s k come) (kept_by IsSettled row_settled r s k (task_at (and_then r s).tasks k) (becomes r s k) come f)
-    ∙ none_more (is_named k r.event) (gives r.event (scene s k) (s.changes (slot_of s k))) (takings_of h k) (settled_given r.event (job s k) (slot_at s (slot_of s k)) (around s (slot_of s k)) (s.changes (slot_of s k)) (stage s k) f)
+    ∙ none_more (is_named k r.event) (gives r.event (inputs s k) (s.changes (slot_of s k))) (snapshots_of h k) (settled_given r.event (job s k) (slot_at s (slot_of s k)) (around s (slot_of s k)) (s.changes (slot_of s k)) (stage s k) f)
 
-pub none_taken_later : (h : History) (rs : List Entry) (k : ℕ) (content : Content) → stage (seen h) k ≡ ToAnswer content → takings_of (followed_by h rs) k ≡ takings_of h k
+pub none_taken_later : (h : History) (rs : List Entry) (k : ℕ) (content : Content) → stage (seen h) k ≡ ToAnswer content → snapshots_of (followed_by h rs) k ≡ snapshots_of h k
 none_taken_later h rs k content is = settled_later rs h k (is_here (seen h) k (ToAnswer content) is (λ e. absurd (cc e))) (subst IsSettled (sym is) tt)

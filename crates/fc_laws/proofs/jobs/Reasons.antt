@@ -15,7 +15,7 @@ use Rattle.fc_registry.specs.declared.job.Job.{Job}
 use Rattle.fc_registry.specs.declared.commit.CommitOutcome.{CommitOutcome}
 use Rattle.fc_registry.specs.declared.commit.CommitOutcome.TheVariants.{Writes, Keeps, Overtakes, Ends}
 use Rattle.fc_registry.specs.Slots.{Slot, Present, Ticket, last_serial}
-use Rattle.fc_registry.specs.Calls.{is_observed, clear_by, outcome, outcome_by, put_by, receipt_at, receipt_of, taking, wants, readings_if, initial_vars_of}
+use Rattle.fc_registry.specs.Calls.{is_observed, clear_by, outcome, outcome_by, put_by, receipt_at, receipt_of, snapshot, wants, readings_if, initial_vars_of}
 use Rattle.fc_core.specs.declared.event.Event.{Event}
 use Rattle.fc_core.specs.declared.event.Event.TheVariants.{Peek, Take, Commit, Install, Remove, Receipt}
 use Rattle.fc_core.specs.Stage.{Stage}
@@ -28,9 +28,9 @@ use Rattle.fc_core.specs.Fits.{HasNext}
 use Rattle.fc_core.specs.Heads.{is_match, is_present, serial_in, word_at}
 use Rattle.fc_core.specs.AnswerLaws.{HasSerial, IsCause, NoTicket, NoMemory, NothingDescribed, NothingTaken, Overtaken, LastCommit, LastInstall, LastRemoval}
 use Rattle.fc_core.specs.History.{around, Entry, History, Then, Seen, seen, and_then, did, job, slot_at, stage, task_at}
-use Rattle.fc_core.specs.Laws.{answer_at, slot_of, takings_of}
+use Rattle.fc_core.specs.Laws.{answer_at, slot_of, snapshots_of}
 use Rattle.fc_core.specs.Stages.{first_by, first_or_turn, image_of, made, matched_by, removed, run_content, told, took, matched}
-use Rattle.fc_core.specs.Rows.{Around, Scene, names, row, install_call, install_if}
+use Rattle.fc_core.specs.Rows.{Around, Inputs, names, row, install_call, install_if}
 use Rattle.fc_core.specs.Steps.{next_stage}
 use Rattle.fc_core.proofs.ByStep.{Step, by_step, event_by, move_by, names_job, stage_by, committed, IsAsked}
 use Rattle.fc_core.proofs.ByStep as steps
@@ -38,10 +38,10 @@ use Rattle.fc_laws.proofs.turns.Telling.{after_turn}
 use Rattle.fc_laws.proofs.jobs.Others.{is_here, named_stage}
 use Rattle.fc_laws.proofs.jobs.Steps.{Becomes, Moves, Stays, Comes, becomes}
 use Rattle.fc_core.proofs.Fitting.{fits_next}
-use Rattle.fc_laws.proofs.jobs.Takings.{Took, known}
+use Rattle.fc_laws.proofs.jobs.Snapshots.{Took, known}
 use Rattle.fc_laws.proofs.slots.Writing.{sound}
 
-abbrev at : Job → Slot → Around → Stage → Scene
+abbrev at : Job → Slot → Around → Stage → Inputs
 at job slot ws stage = record { job = job; slot = slot; around = ws; stage = stage }
 
 module _ (k : ℕ) (job : Job) (slot : Slot) (ws : Around) (taken : ℕ) where
@@ -56,10 +56,10 @@ module _ (k : ℕ) (job : Job) (slot : Slot) (ws : Around) (taken : ℕ) where
   so : (e : Event) (s : Stage) (c d : Content) → Why e s c → Some c ≡ Some d → Why e s d
   so e s c d why is = let same : c ≡ d = cc is in subst (Why e s) same why
 
-  taking_why : (memory : Bool) (readings : List ℕ) (n : ℕ) (p : Option Present) (c : Content) → slot.present ≡ p → Answered (Take k memory readings) (ToTake n) (took n (taking (readings_if memory readings) job slot.serial p)) c
-  taking_why memory readings n None c is e = so (Take k memory readings) (ToTake n) Missing c (NothingTaken memory readings n refl refl is) e
-  taking_why true readings n (Some p) c is e = absurd (cc)
-  taking_why false readings n (Some p) c is e = so (Take k false readings) (ToTake n) Unavailable c (NoTicket n readings p refl refl is) e
+  snapshot_why : (memory : Bool) (readings : List ℕ) (n : ℕ) (p : Option Present) (c : Content) → slot.present ≡ p → Answered (Take k memory readings) (ToTake n) (took n (snapshot (readings_if memory readings) job slot.serial p)) c
+  snapshot_why memory readings n None c is e = so (Take k memory readings) (ToTake n) Missing c (NothingTaken memory readings n refl refl is) e
+  snapshot_why true readings n (Some p) c is e = absurd (cc)
+  snapshot_why false readings n (Some p) c is e = so (Take k false readings) (ToTake n) Unavailable c (NoTicket n readings p refl refl is) e
 
   outcome_overtakes : (w same below : Bool) → outcome_by w same below ≡ Overtakes → (w ≡ true) × (same ≡ false)
   outcome_overtakes false same below e = absurd (cc)
@@ -181,7 +181,7 @@ step_why (steps.Matches n) k job slot ws taken c asked f e = inr (own_why k job 
 step_why (steps.Lists n seen) k job slot ws taken c asked f e = inr (listed_why k job slot ws taken seen n (nat_lt (length (seen.items ++ word_at ws.common.words n ∷ [])) 64) c (eqb-true n (length seen.items) asked) f refl e)
 step_why steps.Removes k job slot ws taken c asked f e = inr (clear_why k job slot ws taken (nat_lt slot.serial last_serial) slot.present c refl refl e)
 step_why steps.Describes k job slot ws taken c asked f e = inr (told_why k job slot ws taken slot.present c refl e)
-step_why (steps.Takes memory readings n) k job slot ws taken c asked f e = inr (taking_why k job slot ws taken memory readings n slot.present c refl e)
+step_why (steps.Takes memory readings n) k job slot ws taken c asked f e = inr (snapshot_why k job slot ws taken memory readings n slot.present c refl e)
 step_why (steps.TakesTurn memory readings turn) k job slot ws taken c asked f e = absurd (after_turn (λ st. answer_at st ≡ Some c → ⊥) (λ turn needs e. cc e) (λ e. cc e) (readings_if memory readings) turn (at job slot ws (ToTell turn turns.ToTake)) e)
 step_why (steps.Commits now n t) k job slot ws taken c asked f e = inr (committed_why k job slot ws taken now n t (outcome t slot) c f.0 f.1 refl e)
 step_why (steps.Installs memory) k job slot ws taken c asked f e = inr (verified_why k job slot ws taken memory c e)
@@ -196,7 +196,7 @@ row_why e k job slot ws s taken c =
     subst (λ (i : ℕ). (answer_at (stage_by x) ≡ Some c) ⊎ IsCause (event_by i x) k job slot ws.common.words (stage_by x) taken c) (sym same) (step_why x k job slot ws taken c asked f e))
     (λ d st rest named f e. inl e) e s
 
-count_is : (s : Stage) (h : History) (k : ℕ) → Took (takings_of h k) s → HasNext s → IsCount s (length (takings_of h k))
+count_is : (s : Stage) (h : History) (k : ℕ) → Took (snapshots_of h k) s → HasNext s → IsCount s (length (snapshots_of h k))
 count_is (ToCommit n t) h k f next = (f.0, f.1)
 count_is (ToList seen) h k f next = next
 count_is other h k f next = tt
@@ -210,12 +210,12 @@ none_of_turn : (j : Job) (o : Option ℕ) (c : Content) → answer_at (first_or_
 none_of_turn j None c e = none_first j.ask j.etags.items c e
 none_of_turn j (Some number) c e = absurd (cc e)
 
-why_by : (h : History) (r : Entry) (k : ℕ) (c : Content) (t : Task) → Becomes (names r.event) r.event (seen h) k t → answer_at t.stage ≡ Some c → (answer_at (stage (seen h) k) ≡ Some c) ⊎ IsCause r.event k (job (seen h) k) (slot_at (seen h) (slot_of (seen h) k)) (seen h).words (stage (seen h) k) (length (takings_of h k)) c
-why_by h r k c t (Moves named is) e = row_why r.event k (job (seen h) k) (slot_at (seen h) (slot_of (seen h) k)) (around (seen h) (slot_of (seen h) k)) (stage (seen h) k) (length (takings_of h k)) c named (count_is (stage (seen h) k) h k (known h k) (fits_next (job (seen h) k) (slot_at (seen h) (slot_of (seen h) k)) (stage (seen h) k) ((sound h).stages k))) (ap (λ (x : Task). answer_at x.stage) (sym is) ∙ e)
+why_by : (h : History) (r : Entry) (k : ℕ) (c : Content) (t : Task) → Becomes (names r.event) r.event (seen h) k t → answer_at t.stage ≡ Some c → (answer_at (stage (seen h) k) ≡ Some c) ⊎ IsCause r.event k (job (seen h) k) (slot_at (seen h) (slot_of (seen h) k)) (seen h).words (stage (seen h) k) (length (snapshots_of h k)) c
+why_by h r k c t (Moves named is) e = row_why r.event k (job (seen h) k) (slot_at (seen h) (slot_of (seen h) k)) (around (seen h) (slot_of (seen h) k)) (stage (seen h) k) (length (snapshots_of h k)) c named (count_is (stage (seen h) k) h k (known h k) (fits_next (job (seen h) k) (slot_at (seen h) (slot_of (seen h) k)) (stage (seen h) k) ((sound h).stages k))) (ap (λ (x : Task). answer_at x.stage) (sym is) ∙ e)
 why_by h r k c t (Stays other is) e = inl (ap (λ (x : Task). answer_at x.stage) (sym is) ∙ e)
 why_by h r k c t (Comes new j is) e = absurd (none_of_turn j j.turn c (ap (λ (x : Task). answer_at x.stage) (sym is) ∙ e))
 
-pub answers_have_causes : (h : History) (r : Entry) (k : ℕ) (c : Content) → answer_at (stage (seen (Then h r)) k) ≡ Some c → (answer_at (stage (seen h) k) ≡ Some c) ⊎ IsCause r.event k (job (seen h) k) (slot_at (seen h) (slot_of (seen h) k)) (seen h).words (stage (seen h) k) (length (takings_of h k)) c
+pub answers_have_causes : (h : History) (r : Entry) (k : ℕ) (c : Content) → answer_at (stage (seen (Then h r)) k) ≡ Some c → (answer_at (stage (seen h) k) ≡ Some c) ⊎ IsCause r.event k (job (seen h) k) (slot_at (seen h) (slot_of (seen h) k)) (seen h).words (stage (seen h) k) (length (snapshots_of h k)) c
 unfolding seen
 answers_have_causes h r k c e = why_by h r k c (task_at (and_then r (seen h)).tasks k) (becomes r (seen h) k) e
 
@@ -223,4 +223,4 @@ answers_have_causes h r k c e = why_by h r k c (task_at (and_then r (seen h)).ta
 pub empty_misses : (s : Seen) (k count : ℕ) (memory : Bool) (readings : List ℕ) (o : Option Emission) → stage s k ≡ ToTake count → (slot_at s (slot_of s k)).present ≡ None → stage (and_then (did (Take k memory readings) o) s) k ≡ ToAnswer Missing
 empty_misses s k count memory readings o is empty = named_stage (did (Take k memory readings) o) s k (is_here s k (ToTake count) is (λ e. absurd (cc e))) refl
     ∙ (ap (λ (x : Stage). (row (Take k memory readings) (at (job s k) (slot_at s (slot_of s k)) (around s (slot_of s k)) x)).stage) is
-    ∙ ap (λ (x : Option Present). took count (taking (readings_if memory readings) (job s k) (slot_at s (slot_of s k)).serial x)) empty)
+    ∙ ap (λ (x : Option Present). took count (snapshot (readings_if memory readings) (job s k) (slot_at s (slot_of s k)).serial x)) empty)

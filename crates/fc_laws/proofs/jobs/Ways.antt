@@ -14,12 +14,12 @@ use Rattle.fc_core.specs.Stage.{ToAnswer, ToCommit, ToMatch, ToTake}
 use Rattle.fc_core.specs.Heads.{head_word, is_match, is_present, serial_in, word_at}
 use Rattle.fc_core.specs.History.{Seen, and_then, around, did, job, slot_at, stage, watch}
 use Rattle.fc_core.specs.Laws.{slot_of}
-use Rattle.fc_core.specs.Rows.{Around, Scene, call_if, move_of, row}
+use Rattle.fc_core.specs.Rows.{Around, Inputs, call_if, move_of, row}
 use Rattle.fc_core.specs.Stages.{after_commit, matched_by, run_content}
 use Rattle.fc_core.specs.Steps.{Matches}
 use Rattle.fc_laws.proofs.jobs.Others.{is_here, named_stage}
 
-abbrev at : Job → Slot → Around → Stage → Scene
+abbrev at : Job → Slot → Around → Stage → Inputs
 at job slot ws stage = record { job = job; slot = slot; around = ws; stage = stage }
 
 -- ---- a read that finds none of the ETags

@@ -16,18 +16,18 @@ use Rattle.fc_core.specs.declared.event.Event.{Event}
 use Rattle.fc_core.specs.declared.event.Event.TheVariants.{Commit, Install, Remove}
 use Rattle.fc_core.specs.Stage.{Stage}
 use Rattle.fc_core.specs.Stage.{ToCommit, ToInstall, ToRemove}
-use Rattle.fc_core.specs.History.{around, Entry, History, Begins, Then, Seen, seen, and_then, job, scene, slot_at, stage}
+use Rattle.fc_core.specs.History.{around, Entry, History, Begins, Then, Seen, seen, and_then, job, inputs, slot_at, stage}
 use Rattle.fc_core.specs.Laws.{slot_of}
 use Rattle.fc_laws.specs.SlotLaws.{AllOfImages, ChangesBy, IsInstall, IsOfImage, IsRemoving, IsWriting, Clears, Installs, Nothing, Writes}
 use Rattle.fc_core.specs.Stages.{image_of}
-use Rattle.fc_core.specs.Rows.{Around, Scene, names, row, install_call, install_if}
+use Rattle.fc_core.specs.Rows.{Around, Inputs, names, row, install_call, install_if}
 use Rattle.fc_core.specs.Steps.{changes_told}
 use Rattle.fc_core.proofs.ByStep.{Step, by_step, event_by, move_by, stage_by, committed}
 use Rattle.fc_core.proofs.ByStep as steps
 use Rattle.fc_core.specs.Steps as call
 use Rattle.fc_laws.proofs.jobs.Others.{no_slot, other_slot, own_slot}
 
-abbrev at : Job → Slot → Around → Stage → Scene
+abbrev at : Job → Slot → Around → Stage → Inputs
 at job slot ws stage = record { job = job; slot = slot; around = ws; stage = stage }
 
 -- changes of a transition.
@@ -88,7 +88,7 @@ own_does r s k cs named grown (Leaves j now n t event stands is) =
 does_by : (r : Entry) (s : Seen) (n : ℕ) (o : Option ℕ) → names r.event ≡ o → ChangesBy r s n
 does_by r s n None named = Nothing (no_slot r s n named)
 does_by r s n (Some k) named = ⊎_elim
-    (λ (is : n ≡ slot_of s k). subst (ChangesBy r s) (sym is) (own_does r s k (row r.event (scene s k)).changes named (own_slot r s k named) (row_makes r.event (job s k) (slot_at s (slot_of s k)) (around s (slot_of s k)) (stage s k))))
+    (λ (is : n ≡ slot_of s k). subst (ChangesBy r s) (sym is) (own_does r s k (row r.event (inputs s k)).changes named (own_slot r s k named) (row_makes r.event (job s k) (slot_at s (slot_of s k)) (around s (slot_of s k)) (stage s k))))
     (λ (ne : n ≡ slot_of s k → ⊥). Nothing (other_slot r s k n named ne))
     (cases_eq n (slot_of s k))
 

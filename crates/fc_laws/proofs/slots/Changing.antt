@@ -10,7 +10,7 @@ use Rattle.fc_registry.specs.declared.job.Job.{Job}
 use Rattle.fc_registry.specs.declared.commit.CommitOutcome.{CommitOutcome}
 use Rattle.fc_registry.specs.declared.commit.CommitOutcome.TheVariants.{Writes, Keeps, Overtakes, Ends}
 use Rattle.fc_registry.specs.Slots.{Slot, Present, Ticket, last_serial}
-use Rattle.fc_registry.specs.Calls.{clear_by, outcome, put_by, receipt_of, taking, readings_if, initial_vars_of}
+use Rattle.fc_registry.specs.Calls.{clear_by, outcome, put_by, receipt_of, snapshot, readings_if, initial_vars_of}
 use Rattle.fc_core.specs.declared.event.Event.{Event}
 use Rattle.fc_core.specs.declared.event.Event.TheVariants.{Deliver, Due, ShardTick, Signal, Take, Tick}
 use Rattle.fc_core.specs.Stage.{Stage}
@@ -18,11 +18,11 @@ use Rattle.fc_core.specs.Stage.{ToMatch, ToTake, ToCommit, ToInstall, ToRemove, 
 use Rattle.fc_core.specs.TurnStage as turns
 use Rattle.fc_core.specs.Contents.{Content, Listed, Unavailable}
 use Rattle.fc_core.specs.Heads.{is_match, word_at}
-use Rattle.fc_core.specs.History.{around, Entry, History, Then, Seen, seen, and_then, job, scene, slot_at, stage}
-use Rattle.fc_core.specs.Laws.{HasCome, changes_by, is_named, is_job, is_stray, is_stray_at, own_of_named, slot_of, stage_named}
+use Rattle.fc_core.specs.History.{around, Entry, History, Then, Seen, seen, and_then, job, inputs, slot_at, stage}
+use Rattle.fc_core.specs.Laws.{HasCome, changes_by, is_named, is_job, is_noop, is_noop_at, own_of_named, slot_of, stage_named}
 use Rattle.fc_laws.specs.SlotLaws.{IsToRaise}
 use Rattle.fc_core.specs.Stages.{first_by, image_of, made, matched_by, removed, took}
-use Rattle.fc_core.specs.Rows.{Around, Scene, names, row, install_call, install_if}
+use Rattle.fc_core.specs.Rows.{Around, Inputs, names, row, install_call, install_if}
 use Rattle.fc_core.specs.Steps.{Installs, Removes, changes_told, next_stage}
 use Rattle.fc_core.proofs.ByStep.{Step, by_move, by_step, move_by, stage_by, committed}
 use Rattle.fc_core.proofs.ByStep as steps
@@ -31,7 +31,7 @@ use Rattle.fc_laws.proofs.jobs.Along.{IsTold, along, gone_before}
 use Rattle.fc_laws.proofs.jobs.Others.{named_stage, own_slot}
 use Rattle.fc_laws.proofs.jobs.Strays.{strays_stay}
 
-abbrev at : Job → Slot → Around → Stage → Scene
+abbrev at : Job → Slot → Around → Stage → Inputs
 at job slot ws stage = record { job = job; slot = slot; around = ws; stage = stage }
 
 -- number of changes that a job publishes at this stage.
@@ -39,10 +39,10 @@ abbrev raises : Stage → ℕ
 raises (ToRaise word content) = 1
 raises other = 0
 
-taking_raises : (kept : Option (List ℕ)) (job : Job) (slot : Slot) (n : ℕ) (p : Option Present) → 0 ≡ raises (took n (taking kept job slot.serial p))
-taking_raises kept job slot n None = refl
-taking_raises (Some readings) job slot n (Some p) = refl
-taking_raises None job slot n (Some p) = refl
+snapshot_raises : (kept : Option (List ℕ)) (job : Job) (slot : Slot) (n : ℕ) (p : Option Present) → 0 ≡ raises (took n (snapshot kept job slot.serial p))
+snapshot_raises kept job slot n None = refl
+snapshot_raises (Some readings) job slot n (Some p) = refl
+snapshot_raises None job slot n (Some p) = refl
 
 retaken_raises : (n : ℕ) (b : Bool) → 0 ≡ raises (if b then ToTake n else ToAnswer Unavailable)
 retaken_raises n true = refl
@@ -63,7 +63,7 @@ installed_raises v (Accepts p) slot = put_raises (nat_lt slot.serial last_serial
 installed_raises v (Breaks rule k) slot = refl
 installed_raises v Untypable slot = refl
 
-verified_raises : (memory : Bool) (s : Scene) → length (changes_told (install_if memory (initial_vars_of s.job.ask) (judged (image_of s.job.ask)) s.slot)) ≡ raises (next_stage (install_if memory (initial_vars_of s.job.ask) (judged (image_of s.job.ask)) s.slot))
+verified_raises : (memory : Bool) (s : Inputs) → length (changes_told (install_if memory (initial_vars_of s.job.ask) (judged (image_of s.job.ask)) s.slot)) ≡ raises (next_stage (install_if memory (initial_vars_of s.job.ask) (judged (image_of s.job.ask)) s.slot))
 verified_raises true s = installed_raises (initial_vars_of s.job.ask) (judged (image_of s.job.ask)) s.slot
 verified_raises false s = refl
 
@@ -83,7 +83,7 @@ listed_raises false words = refl
 step_raises : (c : Step) (job : Job) (slot : Slot) (ws : Around) → length (move_by c job slot ws).changes ≡ raises (move_by c job slot ws).stage
 step_raises (steps.Matches n) job slot ws = matched_raises (is_match (word_at ws.common.words n) job.etags.items) (word_at ws.common.words n)
 step_raises (steps.Lists n seen) job slot ws = listed_raises (nat_lt (length (seen.items ++ word_at ws.common.words n ∷ [])) 64) (seen.items ++ word_at ws.common.words n ∷ [])
-step_raises (steps.Takes memory readings n) job slot ws = taking_raises (readings_if memory readings) job slot n slot.present
+step_raises (steps.Takes memory readings n) job slot ws = snapshot_raises (readings_if memory readings) job slot n slot.present
 step_raises (steps.TakesTurn memory readings turn) job slot ws = after_turn (λ st. 0 ≡ raises st) (λ turn needs. refl) refl (readings_if memory readings) turn (at job slot ws (ToTell turn turns.ToTake))
 step_raises (steps.Commits now n t) job slot ws = committed_raises n t now slot.serial ws (outcome t slot)
 step_raises (steps.Installs memory) job slot ws = verified_raises memory (at job slot ws ToInstall)
@@ -93,11 +93,11 @@ step_raises other job slot ws = refl
 true_isnt : true ≡ false → ⊥
 true_isnt e = cc e
 
--- an event that isn't a stray makes as many changes as it leaves to publish.
-row_raises : (e : Event) (k : ℕ) (job : Job) (slot : Slot) (ws : Around) (s : Stage) → names e ≡ Some k → is_stray_at e job.origin.slot s ≡ false → length (row e (at job slot ws s)).changes ≡ raises (row e (at job slot ws s)).stage
+-- an event that isn't a no-op makes as many changes as it leaves to publish.
+row_raises : (e : Event) (k : ℕ) (job : Job) (slot : Slot) (ws : Around) (s : Stage) → names e ≡ Some k → is_noop_at e job.origin.slot s ≡ false → length (row e (at job slot ws s)).changes ≡ raises (row e (at job slot ws s)).stage
 row_raises e k job slot ws s =
-    by_step (λ d st m. names d ≡ Some k → is_stray_at d job.origin.slot st ≡ false → length m.changes ≡ raises m.stage) job slot ws
-    (λ j c asked named e. step_raises c job slot ws) (λ d st rest named e. absurd (true_isnt (sym (rest.stray k named) ∙ e))) e s
+    by_step (λ d st m. names d ≡ Some k → is_noop_at d job.origin.slot st ≡ false → length m.changes ≡ raises m.stage) job slot ws
+    (λ j c asked named e. step_raises c job slot ws) (λ d st rest named e. absurd (true_isnt (sym (rest.noop k named) ∙ e))) e s
 
 -- ---- at most once
 
@@ -181,14 +181,14 @@ fits_none (ToList seen) = refl
 fits_none other = zero_is_few
 
 abbrev more_changes : Event → Seen → ℕ → ℕ → ℕ
-more_changes e s k n = n + length (row e (scene s k)).changes
+more_changes e s k n = n + length (row e (inputs s k)).changes
 
 number_is : (k : ℕ) (o : Option ℕ) → is_job k o ≡ true → o ≡ Some k
 number_is k None e = absurd (cc)
 number_is k (Some j) e = ap Some (eqb-true j k e)
 
-own_length : (r : Entry) (s : Seen) (k : ℕ) → names r.event ≡ Some k → length ((and_then r s).changes (slot_of s k)) ≡ length (row r.event (scene s k)).changes + length (s.changes (slot_of s k))
-own_length r s k named = ap length (own_slot r s k named) ∙ length-append (row r.event (scene s k)).changes (s.changes (slot_of s k))
+own_length : (r : Entry) (s : Seen) (k : ℕ) → names r.event ≡ Some k → length ((and_then r s).changes (slot_of s k)) ≡ length (row r.event (inputs s k)).changes + length (s.changes (slot_of s k))
+own_length r s k named = ap length (own_slot r s k named) ∙ length-append (row r.event (inputs s k)).changes (s.changes (slot_of s k))
 
 counted_by : (r : Entry) (s : Seen) (k n : ℕ) (b : Bool) → is_named k r.event ≡ b → (if b then n + (length ((and_then r s).changes (slot_of s k)) - length (s.changes (slot_of s k))) else n) ≡ (if b then more_changes r.event s k n else n)
 counted_by r s k n true e = omega (arith, own_length r s k (number_is k (names r.event) e))
@@ -214,28 +214,28 @@ changed_once h k = one_change (stage (seen h) k) (changes_by h k) (along changes
 
 -- ---- and it is published
 
-named_stray : (e : Event) (own k : ℕ) → names e ≡ Some k → is_stray_at e own Gone ≡ true
-named_stray (Deliver now to bytes) own k e = absurd (cc)
-named_stray (Due shard now) own k e = absurd (cc)
-named_stray (Signal shard to id reset) own k e = absurd (cc)
-named_stray (Tick now) own k e = absurd (cc)
-named_stray (ShardTick shard now) own k e = absurd (cc)
-named_stray other own k e = refl
+named_noop : (e : Event) (own k : ℕ) → names e ≡ Some k → is_noop_at e own Gone ≡ true
+named_noop (Deliver now to bytes) own k e = absurd (cc)
+named_noop (Due shard now) own k e = absurd (cc)
+named_noop (Signal shard to id reset) own k e = absurd (cc)
+named_noop (Tick now) own k e = absurd (cc)
+named_noop (ShardTick shard now) own k e = absurd (cc)
+named_noop other own k e = refl
 
-came : (r : Entry) (s : Seen) (k : ℕ) → names r.event ≡ Some k → is_stray_at r.event (slot_of s k) (stage s k) ≡ false → HasCome s k
-came r s k named stray = ⊎_elim
+came : (r : Entry) (s : Seen) (k : ℕ) → names r.event ≡ Some k → is_noop_at r.event (slot_of s k) (stage s k) ≡ false → HasCome s k
+came r s k named noop = ⊎_elim
     (λ (lt : k < length s.tasks). lt)
-    (λ (le : length s.tasks ≤ k). let is : is_stray_at r.event (slot_of s k) (stage s k) ≡ true = ap (is_stray_at r.event (slot_of s k)) (gone_before s k le) ∙ named_stray r.event (slot_of s k) k named in absurd (cc (stray, is)))
+    (λ (le : length s.tasks ≤ k). let is : is_noop_at r.event (slot_of s k) (stage s k) ≡ true = ap (is_noop_at r.event (slot_of s k)) (gone_before s k le) ∙ named_noop r.event (slot_of s k) k named in absurd (cc (noop, is)))
     (cases_lt k (length s.tasks))
 
-stray_is : (r : Entry) (s : Seen) (k : ℕ) → names r.event ≡ Some k → is_stray s r.event ≡ is_stray_at r.event (slot_of s k) (stage s k)
-stray_is r s k named = ap (λ (o : Option ℕ). is_stray_at r.event (own_of_named s o) (stage_named s o)) named
+noop_is : (r : Entry) (s : Seen) (k : ℕ) → names r.event ≡ Some k → is_noop s r.event ≡ is_noop_at r.event (slot_of s k) (stage s k)
+noop_is r s k named = ap (λ (o : Option ℕ). is_noop_at r.event (own_of_named s o) (stage_named s o)) named
 
--- additions of an event that isn't a stray to its job's slot.
-adds : (r : Entry) (s : Seen) (k : ℕ) → names r.event ≡ Some k → is_stray_at r.event (slot_of s k) (stage s k) ≡ false → length ((and_then r s).changes (slot_of s k)) ≡ raises (stage (and_then r s) k) + length (s.changes (slot_of s k))
-adds r s k named stray =
+-- additions of an event that isn't a no-op to its job's slot.
+adds : (r : Entry) (s : Seen) (k : ℕ) → names r.event ≡ Some k → is_noop_at r.event (slot_of s k) (stage s k) ≡ false → length ((and_then r s).changes (slot_of s k)) ≡ raises (stage (and_then r s) k) + length (s.changes (slot_of s k))
+adds r s k named noop =
     own_length r s k named ∙ ap (λ (n : ℕ). n + length (s.changes (slot_of s k)))
-    (row_raises r.event k (job s k) (slot_at s (slot_of s k)) (around s (slot_of s k)) (stage s k) named stray ∙ ap raises (sym (named_stage r s k (came r s k named stray) named)))
+    (row_raises r.event k (job s k) (slot_at s (slot_of s k)) (around s (slot_of s k)) (stage s k) named noop ∙ ap raises (sym (named_stage r s k (came r s k named noop) named)))
 
 none_isnt_more : (P : Type 0) (n m : ℕ) → m ≡ 0 + n → n < m → P
 none_isnt_more P n m is lt = absurd (omega (arith, is, lt))
@@ -246,12 +246,12 @@ to_raise other n m is lt = none_isnt_more (IsToRaise other) n m is lt
 
 pub changes_are_published : (r : Entry) (s : Seen) (k : ℕ) → names r.event ≡ Some k → length (s.changes (slot_of s k)) < length ((and_then r s).changes (slot_of s k)) → IsToRaise (stage (and_then r s) k)
 changes_are_published r s k named lt = ⊎_elim
-    (λ (stray : is_stray_at r.event (slot_of s k) (stage s k) ≡ true). let same = strays_stay r s (stray_is r s k named ∙ stray) in absurd (omega (arith, lt, ap (λ (x : Seen). length (x.changes (slot_of s k))) same)))
-    (λ (acts : is_stray_at r.event (slot_of s k) (stage s k) ≡ false). to_raise (stage (and_then r s) k) (length (s.changes (slot_of s k))) (length ((and_then r s).changes (slot_of s k))) (adds r s k named acts) lt)
-    (cases_Bool (is_stray_at r.event (slot_of s k) (stage s k)))
+    (λ (noop : is_noop_at r.event (slot_of s k) (stage s k) ≡ true). let same = strays_stay r s (noop_is r s k named ∙ noop) in absurd (omega (arith, lt, ap (λ (x : Seen). length (x.changes (slot_of s k))) same)))
+    (λ (acts : is_noop_at r.event (slot_of s k) (stage s k) ≡ false). to_raise (stage (and_then r s) k) (length (s.changes (slot_of s k))) (length ((and_then r s).changes (slot_of s k))) (adds r s k named acts) lt)
+    (cases_Bool (is_noop_at r.event (slot_of s k) (stage s k)))
 
 pub only_changes_are_published : (r : Entry) (s : Seen) (k word : ℕ) (content : Content) → names r.event ≡ Some k → stage (and_then r s) k ≡ ToRaise word content → (stage s k ≡ ToRaise word content) ⊎ (length ((and_then r s).changes (slot_of s k)) ≡ length (s.changes (slot_of s k)) + 1)
 only_changes_are_published r s k word content named is = ⊎_elim
-    (λ (stray : is_stray_at r.event (slot_of s k) (stage s k) ≡ true). inl (sym (ap (λ (x : Seen). stage x k) (strays_stay r s (stray_is r s k named ∙ stray))) ∙ is))
-    (λ (acts : is_stray_at r.event (slot_of s k) (stage s k) ≡ false). inr (omega (arith, adds r s k named acts, ap raises is)))
-    (cases_Bool (is_stray_at r.event (slot_of s k) (stage s k)))
+    (λ (noop : is_noop_at r.event (slot_of s k) (stage s k) ≡ true). inl (sym (ap (λ (x : Seen). stage x k) (strays_stay r s (noop_is r s k named ∙ noop))) ∙ is))
+    (λ (acts : is_noop_at r.event (slot_of s k) (stage s k) ≡ false). inr (omega (arith, adds r s k named acts, ap raises is)))
+    (cases_Bool (is_noop_at r.event (slot_of s k) (stage s k)))

@@ -10,7 +10,7 @@ use Rattle.fc_registry.specs.declared.commit.CommitOutcome.{CommitOutcome}
 use Rattle.fc_registry.specs.declared.commit.CommitOutcome.TheVariants.{Writes, Keeps, Overtakes, Ends}
 use Rattle.fc_registry.specs.Slots.{Slot, Present, Ticket, last_serial}
 use Rattle.fc_registry.specs.Changes.{after_changes}
-use Rattle.fc_registry.specs.Calls.{clear_by, outcome, put_by, receipt_at, receipt_of, taking, readings_if, initial_vars_of}
+use Rattle.fc_registry.specs.Calls.{clear_by, outcome, put_by, receipt_at, receipt_of, snapshot, readings_if, initial_vars_of}
 use Rattle.fc_core.specs.declared.event.Event.{Event}
 use Rattle.fc_core.specs.Stage.{Stage}
 use Rattle.fc_core.specs.Stage.{ToTake, ToInstall, ToList, ToAnswer, ToTell}
@@ -21,7 +21,7 @@ use Rattle.fc_core.specs.Heads.{is_match, word_at}
 use Rattle.fc_core.specs.History.{around, Entry, History, Then, Seen, seen, and_then, job, slot_at, stage, task_at}
 use Rattle.fc_core.specs.Laws.{HasCome, answer_at, slot_of}
 use Rattle.fc_core.specs.Stages.{image_of, made, matched_by, removed, told, took}
-use Rattle.fc_core.specs.Rows.{Around, Scene, names, row, install_call, install_if}
+use Rattle.fc_core.specs.Rows.{Around, Inputs, names, row, install_call, install_if}
 use Rattle.fc_core.specs.Steps.{Removes, changes_told, next_stage}
 use Rattle.fc_core.proofs.ByStep.{Step, by_move, move_by, stage_by, committed}
 use Rattle.fc_core.proofs.ByStep as steps
@@ -29,14 +29,14 @@ use Rattle.fc_laws.proofs.turns.Telling.{after_turn}
 use Rattle.fc_laws.proofs.slots.Published.{own_after}
 use Rattle.fc_laws.proofs.jobs.Steps.{Becomes, Moves, Stays, Comes, becomes}
 
-abbrev at : Job → Slot → Around → Stage → Scene
+abbrev at : Job → Slot → Around → Stage → Inputs
 at job slot ws stage = record { job = job; slot = slot; around = ws; stage = stage }
 
 -- if the answer is this, the slot is empty.
 abbrev IsEmptied : Slot → Stage → Type 0
 IsEmptied slot s = answer_at s ≡ Some Deleted → slot.present ≡ None
 
-took_empties : (slot : Slot) (kept : Option (List ℕ)) (job : Job) (serial n : ℕ) (p : Option Present) → IsEmptied slot (took n (taking kept job serial p))
+took_empties : (slot : Slot) (kept : Option (List ℕ)) (job : Job) (serial n : ℕ) (p : Option Present) → IsEmptied slot (took n (snapshot kept job serial p))
 took_empties slot kept job serial n None e = absurd (cc e)
 took_empties slot (Some readings) job serial n (Some p) e = absurd (cc e)
 took_empties slot None job serial n (Some p) e = absurd (cc e)
@@ -60,7 +60,7 @@ installed_empties after slot v (Accepts p) e = put_empties after slot p v (nat_l
 installed_empties after slot v (Breaks rule k) e = absurd (cc e)
 installed_empties after slot v Untypable e = absurd (cc e)
 
-verified_empties : (after : Slot) (memory : Bool) (x : Scene) → IsEmptied after (next_stage (install_if memory (initial_vars_of x.job.ask) (judged (image_of x.job.ask)) x.slot))
+verified_empties : (after : Slot) (memory : Bool) (x : Inputs) → IsEmptied after (next_stage (install_if memory (initial_vars_of x.job.ask) (judged (image_of x.job.ask)) x.slot))
 verified_empties after true x e = installed_empties after x.slot (initial_vars_of x.job.ask) (judged (image_of x.job.ask)) e
 verified_empties after false x e = absurd (cc e)
 

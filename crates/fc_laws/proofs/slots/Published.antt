@@ -10,7 +10,7 @@ use Rattle.fc_registry.specs.declared.commit.CommitOutcome.{CommitOutcome}
 use Rattle.fc_registry.specs.declared.commit.CommitOutcome.TheVariants.{Writes, Keeps, Overtakes, Ends}
 use Rattle.fc_registry.specs.Slots.{Slot, Present, Ticket, last_serial, new_slot}
 use Rattle.fc_registry.specs.Changes.{after_changes, with_vars}
-use Rattle.fc_registry.specs.Calls.{clear_by, commit_of, outcome, put_by, receipt_of, taking, readings_if, initial_vars_of}
+use Rattle.fc_registry.specs.Calls.{clear_by, commit_of, outcome, put_by, receipt_of, snapshot, readings_if, initial_vars_of}
 use Rattle.fc_core.specs.declared.event.Event.{Event}
 use Rattle.fc_core.specs.Stage.{Stage}
 use Rattle.fc_core.specs.Stage.{ToMatch, ToTake, ToCommit, ToInstall, ToRemove, ToList, ToRaise, ToAnswer, ToTell}
@@ -19,12 +19,12 @@ use Rattle.fc_core.specs.declared.stage.Task.{Task}
 use Rattle.fc_core.specs.Contents.{Listed, Unavailable}
 use Rattle.fc_core.specs.Fits.{FitsStage}
 use Rattle.fc_core.specs.Heads.{head_word, is_match, word_at}
-use Rattle.fc_core.specs.History.{around, Entry, History, Then, Seen, seen, and_then, job, scene, slot_at, stage, task_at}
+use Rattle.fc_core.specs.History.{around, Entry, History, Then, Seen, seen, and_then, job, inputs, slot_at, stage, task_at}
 use Rattle.fc_laws.specs.HeadLaws.{PublishesAt}
 use Rattle.fc_core.specs.Laws.{HasCome, slot_of}
 use Rattle.fc_core.specs.Sound.{IsSoundlySeen}
 use Rattle.fc_core.specs.Stages.{image_of, made, matched_by, removed, took}
-use Rattle.fc_core.specs.Rows.{Around, Scene, names, row, install_call, install_if}
+use Rattle.fc_core.specs.Rows.{Around, Inputs, names, row, install_call, install_if}
 use Rattle.fc_core.specs.Steps.{Installs, Removes, changes_told, next_stage}
 use Rattle.fc_core.proofs.ByStep.{Step, by_move, move_by, stage_by, committed}
 use Rattle.fc_core.proofs.ByStep as steps
@@ -36,14 +36,14 @@ use Rattle.fc_laws.proofs.slots.Writing.{sound}
 
 -- ---- the raised head word
 
-abbrev at : Job → Slot → Around → Stage → Scene
+abbrev at : Job → Slot → Around → Stage → Inputs
 at job slot ws stage = record { job = job; slot = slot; around = ws; stage = stage }
 
 same_publishes : (slot : Slot) (s : Stage) → PublishesAt slot s s
 same_publishes slot (ToRaise word content) = inl refl
 same_publishes slot other = tt
 
-took_publishes : (after : Slot) (old : Stage) (kept : Option (List ℕ)) (job : Job) (serial n : ℕ) (p : Option Present) → PublishesAt after old (took n (taking kept job serial p))
+took_publishes : (after : Slot) (old : Stage) (kept : Option (List ℕ)) (job : Job) (serial n : ℕ) (p : Option Present) → PublishesAt after old (took n (snapshot kept job serial p))
 took_publishes after old kept job serial n None = tt
 took_publishes after old (Some readings) job serial n (Some p) = tt
 took_publishes after old None job serial n (Some p) = tt
@@ -69,7 +69,7 @@ installed_publishes slot v (Accepts p) = put_publishes slot p v (nat_lt slot.ser
 installed_publishes slot v (Breaks rule k) = tt
 installed_publishes slot v Untypable = tt
 
-verified_publishes : (memory : Bool) (x : Scene) → PublishesAt (after_changes x.slot (changes_told (install_if memory (initial_vars_of x.job.ask) (judged (image_of x.job.ask)) x.slot))) ToInstall (next_stage (install_if memory (initial_vars_of x.job.ask) (judged (image_of x.job.ask)) x.slot))
+verified_publishes : (memory : Bool) (x : Inputs) → PublishesAt (after_changes x.slot (changes_told (install_if memory (initial_vars_of x.job.ask) (judged (image_of x.job.ask)) x.slot))) ToInstall (next_stage (install_if memory (initial_vars_of x.job.ask) (judged (image_of x.job.ask)) x.slot))
 verified_publishes true x = installed_publishes x.slot (initial_vars_of x.job.ask) (judged (image_of x.job.ask))
 verified_publishes false x = tt
 
@@ -103,13 +103,13 @@ row_publishes e job slot ws s =
     (λ c asked. step_publishes c job slot ws) (λ st f. same_publishes slot st) e s
 
 -- the slot of the job that an event names, after it.
-pub own_after : (r : Entry) (s : Seen) (k : ℕ) → names r.event ≡ Some k → slot_at (and_then r s) (slot_of s k) ≡ after_changes (slot_at s (slot_of s k)) (row r.event (scene s k)).changes
-own_after r s k named = ap (after_changes (new_slot s.first_serial)) (own_slot r s k named) ∙ after_changes-append (new_slot s.first_serial) (row r.event (scene s k)).changes (s.changes (slot_of s k))
+pub own_after : (r : Entry) (s : Seen) (k : ℕ) → names r.event ≡ Some k → slot_at (and_then r s) (slot_of s k) ≡ after_changes (slot_at s (slot_of s k)) (row r.event (inputs s k)).changes
+own_after r s k named = ap (after_changes (new_slot s.first_serial)) (own_slot r s k named) ∙ after_changes-append (new_slot s.first_serial) (row r.event (inputs s k)).changes (s.changes (slot_of s k))
 
 publishes_by : (r : Entry) (s : Seen) (k : ℕ) (t : Task) → Becomes (names r.event) r.event s k t → IsSoundlySeen s → HasCome s k → PublishesAt (slot_at (and_then r s) (slot_of s k)) (stage s k) t.stage
 publishes_by r s k t (Moves named is) a come =
     subst (λ (x : Task). PublishesAt (slot_at (and_then r s) (slot_of s k)) (stage s k) x.stage) (sym is)
-    (subst (λ (x : Slot). PublishesAt x (stage s k) (row r.event (scene s k)).stage) (sym (own_after r s k named))
+    (subst (λ (x : Slot). PublishesAt x (stage s k) (row r.event (inputs s k)).stage) (sym (own_after r s k named))
     (row_publishes r.event (job s k) (slot_at s (slot_of s k)) (around s (slot_of s k)) (stage s k) (a.stages k)))
 publishes_by r s k t (Stays other is) a come = subst (λ (x : Task). PublishesAt (slot_at (and_then r s) (slot_of s k)) (stage s k) x.stage) (sym is) (same_publishes (slot_at (and_then r s) (slot_of s k)) (stage s k))
 publishes_by r s k t (Comes new j is) a come = absurd (omega (arith, new, come))

@@ -15,14 +15,14 @@ use Rattle.fc_registry.specs.Changes.{Change, Installed, after_changes, vars_ins
 use Rattle.fc_registry.specs.Slots.{Slot, last_serial, new_slot, vars_in}
 use Rattle.fc_registry.proofs.Installs.{empty_vars, kept_answer, kept_vars, other_vars}
 use Rattle.fc_core.specs.declared.event.Event.TheVariants.{Install}
-use Rattle.fc_core.specs.History.{Seen, and_then, did, job, scene, slot_at}
+use Rattle.fc_core.specs.History.{Seen, and_then, did, job, inputs, slot_at}
 use Rattle.fc_core.specs.Laws.{slot_of}
-use Rattle.fc_core.specs.Rows.{Scene, handed, install_call, install_if, row}
+use Rattle.fc_core.specs.Rows.{Inputs, handed, install_call, install_if, row}
 use Rattle.fc_core.specs.Stage.{Stage, ToInstall}
 use Rattle.fc_core.specs.Stages.{image_of, made}
 use Rattle.fc_core.specs.Steps.{Installs, changes_told, next_stage}
 use Rattle.fc_core.proofs.Calling.{verified_calls}
-use Rattle.fc_laws.specs.SlotLaws.{IsToInstall, scene_installing, vars_at}
+use Rattle.fc_laws.specs.SlotLaws.{IsToInstall, inputs_installing, vars_at}
 use Rattle.fc_laws.proofs.jobs.Others.{own_slot}
 
 -- ---- the variables after an install
@@ -38,7 +38,7 @@ installs s k p o w =
     let v = initial_vars_of (job s k).ask in
     own_slot (did (Install k true) o) s k refl
     ∙ ap (λ (cs : List Change). cs ++ s.changes (slot_of s k)) (
-    ap (λ (at : Stage). (row (Install k true) (record (scene s k) { stage = at })).changes) w.at
+    ap (λ (at : Stage). (row (Install k true) (record (inputs s k) { stage = at })).changes) w.at
     ∙ (ap (λ (j : Judgement). changes_told (install_call v j slot)) w.accepted
     ∙ put_told (nat_lt slot.serial last_serial) slot p v (lt-ltb slot.serial last_serial w.below)))
 
@@ -75,22 +75,22 @@ same_next true (Breaks rule n) slot = refl
 same_next true Untypable slot = refl
 same_next false j slot = refl
 
-abbrev standing : Stage → Scene → Scene
+abbrev standing : Stage → Inputs → Inputs
 standing at x = record x { stage = at }
 
-stage_either : (k : ℕ) (memory : Bool) (x : Scene) (image : ArrayVec ℕ) (at : Stage)
-    → (row (Install k memory) (scene_installing image Kept (standing at x))).stage ≡ (row (Install k memory) (scene_installing image Zeros (standing at x))).stage
+stage_either : (k : ℕ) (memory : Bool) (x : Inputs) (image : ArrayVec ℕ) (at : Stage)
+    → (row (Install k memory) (inputs_installing image Kept (standing at x))).stage ≡ (row (Install k memory) (inputs_installing image Zeros (standing at x))).stage
 stage_either k memory x image ToInstall = same_next memory (judged image.items) x.slot
 stage_either k memory x image other = refl
 
-pub same_stage : (k : ℕ) (memory : Bool) (x : Scene) (image : ArrayVec ℕ) → (row (Install k memory) (scene_installing image Kept x)).stage ≡ (row (Install k memory) (scene_installing image Zeros x)).stage
+pub same_stage : (k : ℕ) (memory : Bool) (x : Inputs) (image : ArrayVec ℕ) → (row (Install k memory) (inputs_installing image Kept x)).stage ≡ (row (Install k memory) (inputs_installing image Zeros x)).stage
 same_stage k memory x image = stage_either k memory x image x.stage
 
-calls_either : (k : ℕ) (memory : Bool) (x : Scene) (image : ArrayVec ℕ) (at : Stage)
-    → (row (Install k memory) (scene_installing image Kept (standing at x))).calls ≡ (row (Install k memory) (scene_installing image Zeros (standing at x))).calls
+calls_either : (k : ℕ) (memory : Bool) (x : Inputs) (image : ArrayVec ℕ) (at : Stage)
+    → (row (Install k memory) (inputs_installing image Kept (standing at x))).calls ≡ (row (Install k memory) (inputs_installing image Zeros (standing at x))).calls
 calls_either k memory x image ToInstall =
-    verified_calls x.around.moment 0 memory (scene_installing image Kept (standing ToInstall x)) ∙ sym (verified_calls x.around.moment 0 memory (scene_installing image Zeros (standing ToInstall x)))
+    verified_calls x.around.time 0 memory (inputs_installing image Kept (standing ToInstall x)) ∙ sym (verified_calls x.around.time 0 memory (inputs_installing image Zeros (standing ToInstall x)))
 calls_either k memory x image other = refl
 
-pub same_calls : (k : ℕ) (memory : Bool) (x : Scene) (image : ArrayVec ℕ) → (row (Install k memory) (scene_installing image Kept x)).calls ≡ (row (Install k memory) (scene_installing image Zeros x)).calls
+pub same_calls : (k : ℕ) (memory : Bool) (x : Inputs) (image : ArrayVec ℕ) → (row (Install k memory) (inputs_installing image Kept x)).calls ≡ (row (Install k memory) (inputs_installing image Zeros x)).calls
 same_calls k memory x image = calls_either k memory x image x.stage

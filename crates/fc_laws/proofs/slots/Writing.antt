@@ -22,18 +22,18 @@ use Rattle.fc_core.specs.Stage.{Stage}
 use Rattle.fc_core.specs.Stage.{ToTake, ToCommit, ToTell}
 use Rattle.fc_core.specs.TurnStage as turns
 use Rattle.fc_core.specs.declared.policy.Policy.{Policy}
-use Rattle.fc_core.specs.History.{around, Entry, History, Begins, Then, Seen, seen, and_then, begun, did, job, scene, slot_at, stage, watch}
-use Rattle.fc_core.specs.Laws.{HasCome, Taking, finds, finds_if, gives_at, is_named, slot_of, takings_of}
+use Rattle.fc_core.specs.History.{around, Entry, History, Begins, Then, Seen, seen, and_then, begun, did, job, inputs, slot_at, stage, watch}
+use Rattle.fc_core.specs.Laws.{HasCome, Snapshot, finds, finds_if, gives_at, is_named, slot_of, snapshots_of}
 use Rattle.fc_laws.specs.SlotLaws.{IsUnchanged, IsWritten}
 use Rattle.fc_core.specs.Sound.{IsSoundlySeen}
-use Rattle.fc_core.specs.Rows.{Around, Scene, names, row}
+use Rattle.fc_core.specs.Rows.{Around, Inputs, names, row}
 use Rattle.fc_core.proofs.ByStep.{committed}
 use Rattle.fc_laws.proofs.jobs.Along.{none_after}
 use Rattle.fc_core.proofs.Calling.{EntryWithin}
 use Rattle.fc_core.proofs.Keeping.{grows, still_sound}
 use Rattle.fc_core.proofs.Lists.{Each}
 use Rattle.fc_laws.proofs.jobs.Others.{job_stays, own_slot}
-use Rattle.fc_laws.proofs.jobs.Takings.{Took, is_told, known, more}
+use Rattle.fc_laws.proofs.jobs.Snapshots.{Took, is_told, known, more}
 
 -- ---- the chain
 
@@ -51,12 +51,12 @@ chains h n = (sound h).chain n
 -- ---- a snapshot found its slot as it was before it
 
 -- the slot of the job has these changes since the snapshot, which found the serial before them.
-record IsSince (s : Seen) (k : ℕ) (t : Taking) : Type 0 where
+record IsSince (s : Seen) (k : ℕ) (t : Snapshot) : Type 0 where
   since : List Change
   is : s.changes (slot_of s k) ≡ since ++ t.changes
   serial : t.ticket.serial ≡ (after_changes (new_slot s.first_serial) t.changes).serial
 
-later_since : (r : Entry) (s : Seen) (k : ℕ) (t : Taking) → HasCome s k → IsSince s k t → IsSince (and_then r s) k t
+later_since : (r : Entry) (s : Seen) (k : ℕ) (t : Snapshot) → HasCome s k → IsSince s k t → IsSince (and_then r s) k t
 later_since r s k t come w =
     let g = grows s r.event (names r.event) (slot_of s k) in
     let same : slot_of (and_then r s) k ≡ slot_of s k = ap (λ (j : Job). j.origin.slot) (job_stays r s k come) in
@@ -66,39 +66,39 @@ later_since r s k t come w =
       serial = w.serial;
     }
 
-all_later : (r : Entry) (s : Seen) (k : ℕ) (ts : List Taking) → HasCome s k → Each (IsSince s k) ts → Each (IsSince (and_then r s) k) ts
+all_later : (r : Entry) (s : Seen) (k : ℕ) (ts : List Snapshot) → HasCome s k → Each (IsSince s k) ts → Each (IsSince (and_then r s) k) ts
 all_later r s k [] come w = tt
 all_later r s k (t ∷ ts) come w = (later_since r s k t come w.0, all_later r s k ts come w.1)
 
-found_since : (s : Seen) (k : ℕ) (readings : List ℕ) (p : Option Present) (ts : List Taking) → Each (IsSince s k) ts → Each (IsSince s k) (finds (job s k) readings (slot_at s (slot_of s k)).serial p (s.changes (slot_of s k)) ++ ts)
+found_since : (s : Seen) (k : ℕ) (readings : List ℕ) (p : Option Present) (ts : List Snapshot) → Each (IsSince s k) ts → Each (IsSince s k) (finds (job s k) readings (slot_at s (slot_of s k)).serial p (s.changes (slot_of s k)) ++ ts)
 found_since s k readings None ts w = w
 found_since s k readings (Some found) ts w = (record { since = []; is = refl; serial = refl }, w)
 
-found_since_if : (s : Seen) (k : ℕ) (readings : List ℕ) (out : Bool) (ts : List Taking) → Each (IsSince s k) ts → Each (IsSince s k) (finds_if out (job s k) readings (slot_at s (slot_of s k)).serial (slot_at s (slot_of s k)).present (s.changes (slot_of s k)) ++ ts)
+found_since_if : (s : Seen) (k : ℕ) (readings : List ℕ) (out : Bool) (ts : List Snapshot) → Each (IsSince s k) ts → Each (IsSince s k) (finds_if out (job s k) readings (slot_at s (slot_of s k)).serial (slot_at s (slot_of s k)).present (s.changes (slot_of s k)) ++ ts)
 found_since_if s k readings true ts w = found_since s k readings (slot_at s (slot_of s k)).present ts w
 found_since_if s k readings false ts w = w
 
-at_since : (s : Seen) (k : ℕ) (readings : List ℕ) (at : Stage) (ts : List Taking) → Each (IsSince s k) ts → Each (IsSince s k) (gives_at readings (scene s k) at (s.changes (slot_of s k)) ++ ts)
+at_since : (s : Seen) (k : ℕ) (readings : List ℕ) (at : Stage) (ts : List Snapshot) → Each (IsSince s k) ts → Each (IsSince s k) (gives_at readings (inputs s k) at (s.changes (slot_of s k)) ++ ts)
 at_since s k readings (ToTake n) ts w = found_since s k readings (slot_at s (slot_of s k)).present ts w
-at_since s k readings (ToTell turn turns.ToTake) ts w = found_since_if s k readings (is_out_at turn (around s (slot_of s k)).moment (watch s (slot_of s k))) ts w
+at_since s k readings (ToTell turn turns.ToTake) ts w = found_since_if s k readings (is_out_at turn (around s (slot_of s k)).time (watch s (slot_of s k))) ts w
 at_since s k readings other ts w = w
 
-given_since : (s : Seen) (k : ℕ) (e : Event) (ts : List Taking) → Each (IsSince s k) ts → Each (IsSince s k) (more e s k ts)
+given_since : (s : Seen) (k : ℕ) (e : Event) (ts : List Snapshot) → Each (IsSince s k) ts → Each (IsSince s k) (more e s k ts)
 given_since s k (Take j true readings) ts w = at_since s k readings (stage s k) ts w
 given_since s k (Take j false readings) ts w = w
 given_since s k other ts w = w
 
-since_if : (s : Seen) (k : ℕ) (e : Event) (ts : List Taking) (b : Bool) → Each (IsSince s k) ts → Each (IsSince s k) (if b then more e s k ts else ts)
+since_if : (s : Seen) (k : ℕ) (e : Event) (ts : List Snapshot) (b : Bool) → Each (IsSince s k) ts → Each (IsSince s k) (if b then more e s k ts else ts)
 since_if s k e ts true w = given_since s k e ts w
 since_if s k e ts false w = w
 
-since_after : (h : History) (r : Entry) (k : ℕ) → Each (IsSince (seen h) k) (takings_of h k) → Each (IsSince (and_then r (seen h)) k) (takings_of (Then h r) k)
+since_after : (h : History) (r : Entry) (k : ℕ) → Each (IsSince (seen h) k) (snapshots_of h k) → Each (IsSince (and_then r (seen h)) k) (snapshots_of (Then h r) k)
 since_after h r k w = ⊎_elim
-    (λ (come : k < length (seen h).tasks). all_later r (seen h) k (takings_of (Then h r) k) come (since_if (seen h) k r.event (takings_of h k) (is_named k r.event) w))
-    (λ (le : length (seen h).tasks ≤ k). subst (Each (IsSince (and_then r (seen h)) k)) (sym (none_after takings_of more Took [] is_told h r k le)) tt)
+    (λ (come : k < length (seen h).tasks). all_later r (seen h) k (snapshots_of (Then h r) k) come (since_if (seen h) k r.event (snapshots_of h k) (is_named k r.event) w))
+    (λ (le : length (seen h).tasks ≤ k). subst (Each (IsSince (and_then r (seen h)) k)) (sym (none_after snapshots_of more Took [] is_told h r k le)) tt)
     (cases_lt k (length (seen h).tasks))
 
-all_since : (h : History) (k : ℕ) → Each (IsSince (seen h) k) (takings_of h k)
+all_since : (h : History) (k : ℕ) → Each (IsSince (seen h) k) (snapshots_of h k)
 unfolding seen
 all_since (Begins serial id policy) k = tt
 all_since (Then h r) k = since_after h r k (all_since h k)
@@ -111,25 +111,25 @@ none_since first cs ds since is same =
     let none : length since ≡ 0 = omega (arith, serials_count first cs, serials_count first ds) in
     is ∙ ap (λ (l : List Change). l ++ ds) (nil_from_length since none)
 
-unchanged_by : (s : Seen) (k n : ℕ) (t : Ticket) (ts : List Taking) → Took ts (ToCommit n t) → Each (IsSince s k) ts → (slot_at s (slot_of s k)).serial ≡ t.serial → IsUnchanged ts (s.changes (slot_of s k))
+unchanged_by : (s : Seen) (k n : ℕ) (t : Ticket) (ts : List Snapshot) → Took ts (ToCommit n t) → Each (IsSince s k) ts → (slot_at s (slot_of s k)).serial ≡ t.serial → IsUnchanged ts (s.changes (slot_of s k))
 unchanged_by s k n t [] took w same = absurd took.2
 unchanged_by s k n t (x ∷ xs) took w same = none_since s.first_serial (s.changes (slot_of s k)) x.changes w.0.since w.0.is (same ∙ (ap (λ (y : Ticket). y.serial) (sym took.2) ∙ w.0.serial))
 
-serial_by : (s : Seen) (k n : ℕ) (t : Ticket) (ts : List Taking) → Took ts (ToCommit n t) → Each (IsSince s k) ts → IsUnchanged ts (s.changes (slot_of s k)) → (slot_at s (slot_of s k)).serial ≡ t.serial
+serial_by : (s : Seen) (k n : ℕ) (t : Ticket) (ts : List Snapshot) → Took ts (ToCommit n t) → Each (IsSince s k) ts → IsUnchanged ts (s.changes (slot_of s k)) → (slot_at s (slot_of s k)).serial ≡ t.serial
 serial_by s k n t [] took w same = absurd took.2
 serial_by s k n t (x ∷ xs) took w same = ap (λ (cs : List Change). (after_changes (new_slot s.first_serial) cs).serial) same ∙ (sym w.0.serial ∙ ap (λ (y : Ticket). y.serial) took.2)
 
-took_at : (h : History) (k n : ℕ) (t : Ticket) → stage (seen h) k ≡ ToCommit n t → Took (takings_of h k) (ToCommit n t)
-took_at h k n t is = subst (Took (takings_of h k)) is (known h k)
+took_at : (h : History) (k n : ℕ) (t : Ticket) → stage (seen h) k ≡ ToCommit n t → Took (snapshots_of h k) (ToCommit n t)
+took_at h k n t is = subst (Took (snapshots_of h k)) is (known h k)
 
 -- a slot's changes are those before its job's last snapshot exactly if its serial is the ticket's.
-pub unchanged : (h : History) (k n : ℕ) (t : Ticket) → stage (seen h) k ≡ ToCommit n t → (slot_at (seen h) (slot_of (seen h) k)).serial ≡ t.serial → IsUnchanged (takings_of h k) ((seen h).changes (slot_of (seen h) k))
-unchanged h k n t is same = unchanged_by (seen h) k n t (takings_of h k) (took_at h k n t is) (all_since h k) same
+pub unchanged : (h : History) (k n : ℕ) (t : Ticket) → stage (seen h) k ≡ ToCommit n t → (slot_at (seen h) (slot_of (seen h) k)).serial ≡ t.serial → IsUnchanged (snapshots_of h k) ((seen h).changes (slot_of (seen h) k))
+unchanged h k n t is same = unchanged_by (seen h) k n t (snapshots_of h k) (took_at h k n t is) (all_since h k) same
 
-pub same_serial : (h : History) (k n : ℕ) (t : Ticket) → stage (seen h) k ≡ ToCommit n t → IsUnchanged (takings_of h k) ((seen h).changes (slot_of (seen h) k)) → (slot_at (seen h) (slot_of (seen h) k)).serial ≡ t.serial
-same_serial h k n t is same = serial_by (seen h) k n t (takings_of h k) (took_at h k n t is) (all_since h k) same
+pub same_serial : (h : History) (k n : ℕ) (t : Ticket) → stage (seen h) k ≡ ToCommit n t → IsUnchanged (snapshots_of h k) ((seen h).changes (slot_of (seen h) k)) → (slot_at (seen h) (slot_of (seen h) k)).serial ≡ t.serial
+same_serial h k n t is same = serial_by (seen h) k n t (snapshots_of h k) (took_at h k n t is) (all_since h k) same
 
-abbrev at : Job → Slot → Around → Stage → Scene
+abbrev at : Job → Slot → Around → Stage → Inputs
 at job slot ws stage = record { job = job; slot = slot; around = ws; stage = stage }
 
 commit_changes : (s : Seen) (k now n : ℕ) (o : Option Emission) (t : Ticket) (x : CommitOutcome) → stage s k ≡ ToCommit n t → outcome t (slot_at s (slot_of s k)) ≡ x → (and_then (did (Commit k now) o) s).changes (slot_of s k) ≡ (committed x n t now (slot_at s (slot_of s k)).serial (around s (slot_of s k))).changes ++ s.changes (slot_of s k)
@@ -171,7 +171,7 @@ pub keeps_unwanted : (t : Ticket) (slot : Slot) (w : Bool) → wants t ≡ w →
 keeps_unwanted t slot w is e = ap (λ (b : Bool). outcome_by b (slot.serial == t.serial) (nat_lt slot.serial last_serial)) (is ∙ e)
 
 -- a slot whose job, or another's, makes an unwanted commit.
-kept_if : (s : Seen) (e : Event) (k n : ℕ) (b : Bool) (at : Scene) → (row e at).changes ≡ [] → (if b then (row e at).changes ++ s.changes n else s.changes n) ≡ s.changes n
+kept_if : (s : Seen) (e : Event) (k n : ℕ) (b : Bool) (at : Inputs) → (row e at).changes ≡ [] → (if b then (row e at).changes ++ s.changes n else s.changes n) ≡ s.changes n
 kept_if s e k n true at is = ap (λ (cs : List Change). cs ++ s.changes n) is
 kept_if s e k n false at is = refl
 

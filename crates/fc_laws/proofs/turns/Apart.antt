@@ -18,7 +18,7 @@ use Rattle.fc_core.specs.Fits.{FitsStage}
 use Rattle.fc_core.specs.History.{Entry, History, Begins, Then, Seen, seen, and_then, around, did, job, no_task, slot_at, stage, task_at}
 use Rattle.fc_core.specs.Laws.{HasCome, followed_by, slot_of}
 use Rattle.fc_core.specs.Stages.{first_or_turn, first_stage, turn_took}
-use Rattle.fc_core.specs.Rows.{Around, Scene, names, row}
+use Rattle.fc_core.specs.Rows.{Around, Inputs, names, row}
 use Rattle.fc_core.proofs.ByStep.{Step, by_move, move_by, stage_by}
 use Rattle.fc_core.proofs.ByStep as steps
 use Rattle.fc_laws.proofs.jobs.Ends.{gone_later, lost_gone}
@@ -27,7 +27,7 @@ use Rattle.fc_laws.proofs.jobs.Steps.{Becomes, Moves, Stays, Comes, becomes}
 use Rattle.fc_laws.proofs.turns.Turning.{given_up_gone}
 use Rattle.fc_laws.proofs.slots.Writing.{sound}
 
-abbrev at : Job → Slot → Around → Stage → Scene
+abbrev at : Job → Slot → Around → Stage → Inputs
 at job slot ws stage = record { job = job; slot = slot; around = ws; stage = stage }
 
 -- ---- a property of each job of a history

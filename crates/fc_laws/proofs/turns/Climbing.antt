@@ -10,10 +10,10 @@ use Rattle.fc_observe.specs.declared.entry.Turn.{Turn}
 use Rattle.fc_observe.specs.Calls.{Advance, NextDue, ObserverCall, Tick as TickObservers, observers}
 use Rattle.fc_observe.specs.Entries.{is_entry_of}
 use Rattle.fc_observe.specs.Laws.{RegistersNone, noticed_for}
-use Rattle.fc_observe.specs.Observers.{ObserverList, at_moment, entry_out, is_out}
+use Rattle.fc_observe.specs.Observers.{ObserverList, list_at_time, entry_out, is_out}
 use Rattle.fc_observe.proofs.Rising.{Above, AreAbove, SentFrom, calls_from, ended_from, notified_from}
 use Rattle.fc_observe.proofs.Serials.{sent_above}
-use Rattle.fc_registry.specs.Calls.{is_cancellation, is_out_at, is_registration, miss_calls, observe_calls_by}
+use Rattle.fc_registry.specs.Calls.{is_cancellation, is_out_at, is_registration, mark_missing_calls, observe_calls_by}
 use Rattle.fc_registry.specs.Notes.{keeps_observer, note_at, note_calls, told_call}
 use Rattle.fc_registry.specs.Slots.{Present, Ticket}
 use Rattle.fc_registry.specs.Watches.{signal_call}
@@ -22,12 +22,12 @@ use Rattle.fc_core.specs.declared.event.Event.TheVariants.{Due, Note, ShardTick,
 use Rattle.fc_core.specs.Stage.{Stage}
 use Rattle.fc_core.specs.Stage.{ToTell}
 use Rattle.fc_core.specs.TurnStage as turns
-use Rattle.fc_core.specs.History.{Entry, History, Then, Seen, seen, and_then, around, calls_by, calls_named, did, due_in, is_place_of, job, late_in, scene, slot_at, stage, watch, at_shard}
+use Rattle.fc_core.specs.History.{Entry, History, Then, Seen, seen, and_then, around, calls_by, calls_named, did, due_in, is_place_of, job, overdue_in, inputs, slot_at, stage, watch, at_shard}
 use Rattle.fc_core.specs.Laws.{followed_by, slot_of}
 use Rattle.fc_laws.specs.ObserveLaws.{NoneRegisters, Registers}
 use Rattle.fc_core.specs.Rows.{names, row}
-use Rattle.fc_laws.specs.TurnLaws.{moment_at}
-use Rattle.fc_core.proofs.Calling.{CallsBy, NoCall, OfCommit, OfGiveUp, OfNote, OfTaking, row_calls}
+use Rattle.fc_laws.specs.TurnLaws.{time_at}
+use Rattle.fc_core.proofs.Calling.{CallsBy, NoCall, OfCommit, OfGiveUp, OfNote, OfSnapshot, row_calls}
 use Rattle.fc_laws.proofs.turns.Comers.{none_in, registers_none}
 use Rattle.fc_laws.proofs.turns.Notices.{found_holds, note_where_out, sent_above_last}
 use Rattle.fc_core.proofs.OnShards.{named_calm}
@@ -42,13 +42,13 @@ observed_above true c m t w = (λ k d lt. tt, tt)
 observed_above false true m t w = (λ k d lt. tt, tt)
 observed_above false false m t w = tt
 
-miss_above : (out : Bool) (turn : Turn) (present : Option Present) (m : ℕ) (w : ObserverList) → AreAbove (miss_calls out turn present ++ Advance m ∷ []) w
-miss_above true turn None m w = (λ k d lt. tt, (λ k d lt. tt, tt))
-miss_above true turn (Some p) m w = (λ k d lt. tt, tt)
-miss_above false turn present m w = (λ k d lt. tt, tt)
+mark_missing_above : (out : Bool) (turn : Turn) (present : Option Present) (m : ℕ) (w : ObserverList) → AreAbove (mark_missing_calls out turn present ++ Advance m ∷ []) w
+mark_missing_above true turn None m w = (λ k d lt. tt, (λ k d lt. tt, tt))
+mark_missing_above true turn (Some p) m w = (λ k d lt. tt, tt)
+mark_missing_above false turn present m w = (λ k d lt. tt, tt)
 
 -- a notification has a serial at least that for which its lease was granted.
-told_above : (b : Bool) (turn : Turn) (id random m serial n confirm_after : ℕ) (e : Emission) (calls : List ObserverCall) → noticed_for turn.number n confirm_after calls ≤ serial → All (Above (told_call b turn id random m serial e.bytes) (at_moment m (observers n confirm_after calls))) (observers n confirm_after calls).held
+told_above : (b : Bool) (turn : Turn) (id random m serial n confirm_after : ℕ) (e : Emission) (calls : List ObserverCall) → noticed_for turn.number n confirm_after calls ≤ serial → All (Above (told_call b turn id random m serial e.bytes) (list_at_time m (observers n confirm_after calls))) (observers n confirm_after calls).held
 told_above true turn id random m serial n confirm_after e calls le = sent_above n confirm_after m turn serial (Advance m ∷ calls) le
 told_above false turn id random m serial n confirm_after e calls le = λ k d lt. tt
 
@@ -67,12 +67,12 @@ signal_above false to id w = (λ k d lt. tt, tt)
 
 shard_above : (e : Event) (s : Seen) (n : ℕ) (w : ObserverList) → AreAbove (calls_by (at_shard e) s n) w
 shard_above (Due shard now) s n w =
-    let m = max (s.shard_moment shard) now in
-    one_above (is_place_of (due_in s shard m) shard n) (NextDue m (slot_at s n).noticed) w (λ k d lt. tt, tt)
+    let m = max (s.shard_time shard) now in
+    one_above (is_place_of (due_in s shard m) shard n) (NextDue m (slot_at s n).notify_serial) w (λ k d lt. tt, tt)
 shard_above (Signal shard from id reset) s n w = one_above ((n % 8) == shard) (signal_call reset from id) w (signal_above reset from id w)
 shard_above (ShardTick shard now) s n w =
-    let m = max (s.shard_moment shard) now in
-    one_above (is_place_of (late_in s shard m) shard n) (TickObservers m) w (λ k d lt. tt, tt)
+    let m = max (s.shard_time shard) now in
+    one_above (is_place_of (overdue_in s shard m) shard n) (TickObservers m) w (λ k d lt. tt, tt)
 shard_above other s n w = tt
 
 module _ (h : History) (r : Entry) (n : ℕ) where
@@ -82,16 +82,16 @@ module _ (h : History) (r : Entry) (n : ℕ) where
   row_above : (k : ℕ) (cs : List ObserverCall) → names r.event ≡ Some k → slot_of s k ≡ n → CallsBy r.event (around s (slot_of s k)) (stage s k) cs → AreAbove cs (observers n s.policy.confirm_after (s.calls n))
   row_above k cs named slot (NoCall is) = subst (λ (l : List ObserverCall). AreAbove l (watch s n)) (sym is) tt
   row_above k cs named slot (OfCommit j now count m t event stands is) = subst (λ (l : List ObserverCall). AreAbove l (watch s n)) (sym is) (observed_above (is_registration t) (is_cancellation t) m t (watch s n))
-  row_above k cs named slot (OfTaking turn m present t is) = subst (λ (l : List ObserverCall). AreAbove l (watch s n)) (sym is) (miss_above (is_out_at turn m t) turn present m (watch s n))
+  row_above k cs named slot (OfSnapshot turn m present t is) = subst (λ (l : List ObserverCall). AreAbove l (watch s n)) (sym is) (mark_missing_above (is_out_at turn m t) turn present m (watch s n))
   row_above k cs named slot (OfGiveUp turn m is) = subst (λ (l : List ObserverCall). AreAbove l (watch s n)) (sym is) (λ k d lt. tt, tt)
   row_above k cs named slot (OfNote j now random id turn found event stands is) =
-      let m = moment_at s k now in
+      let m = time_at s k now in
       subst (λ (l : List ObserverCall). AreAbove l (watch s n)) (sym is)
       (note_above turn id random m n s.policy.confirm_after found (note_at turn id m found (watch s (slot_of s k))) (s.calls n)
       (λ t same. subst (λ (i : ℕ). noticed_for turn.number i s.policy.confirm_after (s.calls i) ≤ t.serial) slot (found_noticed h k id turn t (stands ∙ ap (λ (x : Option Ticket). ToTell turn (turns.ToNote x id)) same))))
 
-  slot_above : (k : ℕ) (b : Bool) → names r.event ≡ Some k → (slot_of s k == n) ≡ b → AreAbove (if b then (row r.event (scene s k)).calls else []) (watch s n)
-  slot_above k true named is = row_above k (row r.event (scene s k)).calls named (eqb-true (slot_of s k) n is) (row_calls r.event (job s k) (slot_at s (slot_of s k)) (around s (slot_of s k)) (stage s k))
+  slot_above : (k : ℕ) (b : Bool) → names r.event ≡ Some k → (slot_of s k == n) ≡ b → AreAbove (if b then (row r.event (inputs s k)).calls else []) (watch s n)
+  slot_above k true named is = row_above k (row r.event (inputs s k)).calls named (eqb-true (slot_of s k) n is) (row_calls r.event (job s k) (slot_at s (slot_of s k)) (around s (slot_of s k)) (stage s k))
   slot_above k false named is = tt
 
   -- the calls of the job that it names come after those of its shard, of which there are none.
@@ -131,12 +131,12 @@ module _ (n m : ℕ) (to : Endpoint) (token : List ℕ) where
 
 -- ---- the notification
 
-module _ (h : History) (k now random id : ℕ) (turn : Turn) (t : Ticket) (o : ObserverEntry) (to : Endpoint) (token : List ℕ) (own : is_entry_of to token o ≡ true) (is : stage (seen h) k ≡ ToTell turn (turns.ToNote (Some t) id)) (out : entry_out turn (at_moment (moment_at (seen h) k now) (watch (seen h) (slot_of (seen h) k))) ≡ Some o) where
+module _ (h : History) (k now random id : ℕ) (turn : Turn) (t : Ticket) (o : ObserverEntry) (to : Endpoint) (token : List ℕ) (own : is_entry_of to token o ≡ true) (is : stage (seen h) k ≡ ToTell turn (turns.ToNote (Some t) id)) (out : entry_out turn (list_at_time (time_at (seen h) k now) (watch (seen h) (slot_of (seen h) k))) ≡ Some o) where
   abbrev n : ℕ
   n = slot_of (seen h) k
 
-  abbrev moment : ℕ
-  moment = moment_at (seen h) k now
+  abbrev time : ℕ
+  time = time_at (seen h) k now
 
   abbrev confirm_after : ℕ
   confirm_after = (seen h).policy.confirm_after
@@ -145,20 +145,20 @@ module _ (h : History) (k now random id : ℕ) (turn : Turn) (t : Ticket) (o : O
   calls = (seen h).calls n
 
   abbrev sent : Option Emission
-  sent = note_at turn id moment (Some t) (watch (seen h) n)
+  sent = note_at turn id time (Some t) (watch (seen h) n)
 
   -- the clock is advanced once.
-  out_again : entry_out turn (at_moment moment (observers n confirm_after (Advance moment ∷ calls))) ≡ Some o
+  out_again : entry_out turn (list_at_time time (observers n confirm_after (Advance time ∷ calls))) ≡ Some o
   out_again =
       let w = watch (seen h) n in
-      let same : max (max w.moment moment) moment ≡ max w.moment moment = omega arith in
-      ap (λ (x : ℕ). entry_out turn (record w { moment = x })) same ∙ out
+      let same : max (max w.time time) time ≡ max w.time time = omega arith in
+      ap (λ (x : ℕ). entry_out turn (record w { time = x })) same ∙ out
 
-  told_from : (b : Bool) (e : Emission) → All (SentFrom t.serial to token) (observers n confirm_after (told_call b turn id random moment t.serial e.bytes ∷ Advance moment ∷ calls)).held
-  told_from true e = notified_from n confirm_after turn (Advance moment ∷ calls) o to token own moment id t.serial random e.bytes out_again
-  told_from false e = ended_from n confirm_after turn (Advance moment ∷ calls) o to token own t.serial out
+  told_from : (b : Bool) (e : Emission) → All (SentFrom t.serial to token) (observers n confirm_after (told_call b turn id random time t.serial e.bytes ∷ Advance time ∷ calls)).held
+  told_from true e = notified_from n confirm_after turn (Advance time ∷ calls) o to token own time id t.serial random e.bytes out_again
+  told_from false e = ended_from n confirm_after turn (Advance time ∷ calls) o to token own t.serial out
 
-  note_from : (x : Option Emission) → is_some x ≡ true → All (SentFrom t.serial to token) (observers n confirm_after (note_calls turn id random moment (Some t) x ++ calls)).held
+  note_from : (x : Option Emission) → is_some x ≡ true → All (SentFrom t.serial to token) (observers n confirm_after (note_calls turn id random time (Some t) x ++ calls)).held
   note_from None some = absurd (cc some)
   note_from (Some e) some = told_from (keeps_observer (Some t)) e
 
@@ -166,7 +166,7 @@ module _ (h : History) (k now random id : ℕ) (turn : Turn) (t : Ticket) (o : O
   noted_from emitted =
       let some : is_some sent ≡ true = note_where_out h k now id turn (Some t) is ∙ ap (λ (x : Option ObserverEntry). is_some x) out in
       subst (λ (w : ObserverList). All (SentFrom t.serial to token) w.held)
-      (sym (ap (λ (b : Bool). observers n confirm_after ((if b then (row (Note k now random) (scene (seen h) k)).calls else []) ++ calls)) (eq-eqb n n refl)
+      (sym (ap (λ (b : Bool). observers n confirm_after ((if b then (row (Note k now random) (inputs (seen h) k)).calls else []) ++ calls)) (eq-eqb n n refl)
       ∙ ap (λ (st : Stage). observers n confirm_after ((row (Note k now random) (at_stage (seen h) k st)).calls ++ calls)) is))
       (note_from sent some)
 
@@ -175,10 +175,10 @@ module _ (h : History) (k now random id : ℕ) (turn : Turn) (t : Ticket) (o : O
   noted_seen emitted = noted_from emitted
 
   -- a later notification of that observer
-  pub serials_climb : (rs : List Entry) (g : History) (j next other : ℕ) (next_turn : Turn) (u : Ticket) (x : ObserverEntry) (emitted : Option Emission) → NoneRegisters (Then h (did (Note k now random) emitted)) rs n to token → g ≡ followed_by (Then h (did (Note k now random) emitted)) rs → stage (seen g) j ≡ ToTell next_turn (turns.ToNote (Some u) other) → slot_of (seen g) j ≡ n → entry_out next_turn (at_moment next (watch (seen g) n)) ≡ Some x → is_entry_of to token x ≡ true → t.serial < u.serial
+  pub serials_climb : (rs : List Entry) (g : History) (j next other : ℕ) (next_turn : Turn) (u : Ticket) (x : ObserverEntry) (emitted : Option Emission) → NoneRegisters (Then h (did (Note k now random) emitted)) rs n to token → g ≡ followed_by (Then h (did (Note k now random) emitted)) rs → stage (seen g) j ≡ ToTell next_turn (turns.ToNote (Some u) other) → slot_of (seen g) j ≡ n → entry_out next_turn (list_at_time next (watch (seen g) n)) ≡ Some x → is_entry_of to token x ≡ true → t.serial < u.serial
   serials_climb rs g j next other next_turn u x emitted none same is_next slot out_next own_next =
       let from = subst (λ (y : History). All (SentFrom t.serial to token) (watch (seen y) n).held) (sym same) (from_later n t.serial to token rs (Then h (did (Note k now random) emitted)) none (noted_seen emitted)) in
-      let le = (found_holds (SentFrom t.serial to token) (is_out next_turn (at_moment next (watch (seen g) n))) (watch (seen g) n).held x from out_next).0 own_next in
-      let there = ap (λ (i : ℕ). entry_out next_turn (at_moment next (watch (seen g) i))) slot ∙ out_next in
+      let le = (found_holds (SentFrom t.serial to token) (is_out next_turn (list_at_time next (watch (seen g) n))) (watch (seen g) n).held x from out_next).0 own_next in
+      let there = ap (λ (i : ℕ). entry_out next_turn (list_at_time next (watch (seen g) i))) slot ∙ out_next in
       let lt = sent_above_last g j next other next_turn u x is_next there in
       omega (arith, le, lt)

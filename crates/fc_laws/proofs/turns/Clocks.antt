@@ -8,11 +8,11 @@ use Rattle.coap_msg.specs.declared.types.Emission.{Emission}
 use Rattle.coap_msg.specs.declared.types.Endpoint.{Endpoint}
 use Rattle.fc_observe.specs.declared.entry.Turn.{Turn}
 use Rattle.fc_observe.specs.Calls.{Advance, GiveUp as GiveUpTurn, NextDue, Notify, ObserverCall, Register, Tick as TickObservers, after_calls, observers_after}
-use Rattle.fc_observe.specs.Observers.{ObserverList, at_moment, gives_turn, turn_given_by}
+use Rattle.fc_observe.specs.Observers.{ObserverList, list_at_time, gives_turn, turn_given_by}
 use Rattle.fc_registry.specs.declared.commit.CommitOutcome.{CommitOutcome}
 use Rattle.fc_registry.specs.declared.commit.CommitOutcome.TheVariants.{Writes, Keeps, Overtakes, Ends}
 use Rattle.fc_registry.specs.declared.job.Job.{Job}
-use Rattle.fc_registry.specs.Calls.{is_cancellation, is_out_at, is_registration, miss_calls, observe_calls_by, outcome}
+use Rattle.fc_registry.specs.Calls.{is_cancellation, is_out_at, is_registration, mark_missing_calls, observe_calls_by, outcome}
 use Rattle.fc_registry.specs.Notes.{keeps_observer, note_at, note_calls, serial_told, told_call}
 use Rattle.fc_registry.specs.Slots.{Present, Slot, Ticket}
 use Rattle.fc_registry.specs.Watches.{place_from, signal_call}
@@ -20,10 +20,10 @@ use Rattle.fc_core.specs.declared.event.Event.{Event}
 use Rattle.fc_core.specs.declared.event.Event.TheVariants.{Due, ShardTick, Signal}
 use Rattle.fc_core.specs.Stage.{Stage}
 use Rattle.fc_core.specs.Stage.{ToInstall}
-use Rattle.fc_core.specs.History.{Entry, History, Begins, Then, Seen, seen, and_then, around, calls_named, due_in, is_due_at, is_late_at, is_place_of, job, late_in, scene, shard_moment_after, slot_at, stage, watch, at_shard, hands_by, calls_by}
+use Rattle.fc_core.specs.History.{Entry, History, Begins, Then, Seen, seen, and_then, around, calls_named, due_in, is_due_at, is_overdue_at, is_place_of, job, overdue_in, inputs, shard_time_after, slot_at, stage, watch, at_shard, hands_by, calls_by}
 use Rattle.fc_core.specs.Laws.{slot_of}
-use Rattle.fc_core.specs.Rows.{Around, Scene, handed, names, row}
-use Rattle.fc_laws.specs.TurnLaws.{moment_at}
+use Rattle.fc_core.specs.Rows.{Around, Inputs, handed, names, row}
+use Rattle.fc_laws.specs.TurnLaws.{time_at}
 use Rattle.fc_core.proofs.ByStep.{Step, by_move, move_by, committed}
 use Rattle.fc_core.proofs.ByStep as steps
 use Rattle.fc_core.proofs.Calling.{verified_calls}
@@ -37,33 +37,33 @@ use Rattle.fc_core.proofs.Watches.{after_append}
 abbrev ReachesTo : ℕ → ObserverCall → Type 0
 ReachesTo m (Advance now) = now ≤ m
 ReachesTo m (Register now to token request szx serial) = now ≤ m
-ReachesTo m (NextDue now noticed) = now ≤ m
+ReachesTo m (NextDue now notify_serial) = now ≤ m
 ReachesTo m (Notify now turn id serial random bytes) = now ≤ m
 ReachesTo m (GiveUpTurn turn now) = now ≤ m
 ReachesTo m (TickObservers now) = now ≤ m
 ReachesTo m other = Unit {0}
 
-given_moment : (noticed : ℕ) (t : ObserverList) (b : Bool) → (turn_given_by b noticed t).moment ≡ t.moment
-given_moment noticed t true = refl
-given_moment noticed t false = refl
+given_time : (notify_serial : ℕ) (t : ObserverList) (b : Bool) → (turn_given_by b notify_serial t).time ≡ t.time
+given_time notify_serial t true = refl
+given_time notify_serial t false = refl
 
-call_reaches : (m : ℕ) (c : ObserverCall) (t : ObserverList) → ReachesTo m c → t.moment ≤ m → (observers_after c t).moment ≤ m
+call_reaches : (m : ℕ) (c : ObserverCall) (t : ObserverList) → ReachesTo m c → t.time ≤ m → (observers_after c t).time ≤ m
 call_reaches m (Advance now) t le before = omega (arith, le, before)
 call_reaches m (Register now to token request szx serial) t le before = omega (arith, le, before)
-call_reaches m (NextDue now noticed) t le before = let same = given_moment noticed (at_moment now t) (gives_turn noticed (at_moment now t)) in omega (arith, le, before, same)
+call_reaches m (NextDue now notify_serial) t le before = let same = given_time notify_serial (list_at_time now t) (gives_turn notify_serial (list_at_time now t)) in omega (arith, le, before, same)
 call_reaches m (Notify now turn id serial random bytes) t le before = omega (arith, le, before)
 call_reaches m (GiveUpTurn turn now) t le before = omega (arith, le, before)
 call_reaches m (TickObservers now) t le before = omega (arith, le, before)
 call_reaches m other t le before = before
 
-calls_reach : (m : ℕ) (cs : List ObserverCall) (t : ObserverList) → Each (ReachesTo m) cs → t.moment ≤ m → (after_calls cs t).moment ≤ m
+calls_reach : (m : ℕ) (cs : List ObserverCall) (t : ObserverList) → Each (ReachesTo m) cs → t.time ≤ m → (after_calls cs t).time ≤ m
 calls_reach m [] t each before = before
 calls_reach m (c ∷ cs) t each before = call_reaches m c (after_calls cs t) each.0 (calls_reach m cs t each.1 before)
 
 reaches_later : (m later : ℕ) (c : ObserverCall) → m ≤ later → ReachesTo m c → ReachesTo later c
 reaches_later m later (Advance now) rises le = omega (arith, rises, le)
 reaches_later m later (Register now to token request szx serial) rises le = omega (arith, rises, le)
-reaches_later m later (NextDue now noticed) rises le = omega (arith, rises, le)
+reaches_later m later (NextDue now notify_serial) rises le = omega (arith, rises, le)
 reaches_later m later (Notify now turn id serial random bytes) rises le = omega (arith, rises, le)
 reaches_later m later (GiveUpTurn turn now) rises le = omega (arith, rises, le)
 reaches_later m later (TickObservers now) rises le = omega (arith, rises, le)
@@ -75,7 +75,7 @@ reach_later m later (c ∷ cs) rises each = (reaches_later m later c rises each.
 
 -- ---- a transition
 
-abbrev at : Job → Slot → Around → Stage → Scene
+abbrev at : Job → Slot → Around → Stage → Inputs
 at job slot ws stage = record { job = job; slot = slot; around = ws; stage = stage }
 
 observed_reaches : (b c : Bool) (m : ℕ) (t : Ticket) → Each (ReachesTo m) (observe_calls_by b c m t)
@@ -83,16 +83,16 @@ observed_reaches true c m t = (omega arith, tt)
 observed_reaches false true m t = (tt, tt)
 observed_reaches false false m t = tt
 
-committed_reaches : (n now serial : ℕ) (t : Ticket) (ws : Around) (o : CommitOutcome) → Each (ReachesTo (handed (committed o n t now serial ws).hands ws.moment)) (committed o n t now serial ws).calls
-committed_reaches n now serial t ws Keeps = observed_reaches (is_registration t) (is_cancellation t) (max ws.moment now) t
+committed_reaches : (n now serial : ℕ) (t : Ticket) (ws : Around) (o : CommitOutcome) → Each (ReachesTo (handed (committed o n t now serial ws).hands ws.time)) (committed o n t now serial ws).calls
+committed_reaches n now serial t ws Keeps = observed_reaches (is_registration t) (is_cancellation t) (max ws.time now) t
 committed_reaches n now serial t ws Writes = tt
 committed_reaches n now serial t ws Overtakes = tt
 committed_reaches n now serial t ws Ends = tt
 
-miss_reaches : (out : Bool) (turn : Turn) (present : Option Present) (m : ℕ) → Each (ReachesTo m) (miss_calls out turn present ++ Advance m ∷ [])
-miss_reaches true turn None m = (tt, (omega arith, tt))
-miss_reaches true turn (Some p) m = (omega arith, tt)
-miss_reaches false turn present m = (omega arith, tt)
+mark_missing_reaches : (out : Bool) (turn : Turn) (present : Option Present) (m : ℕ) → Each (ReachesTo m) (mark_missing_calls out turn present ++ Advance m ∷ [])
+mark_missing_reaches true turn None m = (tt, (omega arith, tt))
+mark_missing_reaches true turn (Some p) m = (omega arith, tt)
+mark_missing_reaches false turn present m = (omega arith, tt)
 
 told_reaches : (b : Bool) (turn : Turn) (id random m serial : ℕ) (bytes : ArrayVec ℕ) → ReachesTo m (told_call b turn id random m serial bytes)
 told_reaches true turn id random m serial bytes = omega arith
@@ -102,17 +102,17 @@ note_reaches : (turn : Turn) (id random m : ℕ) (found : Option Ticket) (sent :
 note_reaches turn id random m found None = (omega arith, tt)
 note_reaches turn id random m found (Some e) = (told_reaches (keeps_observer found) turn id random m (serial_told found) e.bytes, (omega arith, tt))
 
-step_reaches : (c : Step) (job : Job) (slot : Slot) (ws : Around) → Each (ReachesTo (handed (move_by c job slot ws).hands ws.moment)) (move_by c job slot ws).calls
-step_reaches (steps.TakesTurn memory readings turn) job slot ws = miss_reaches (is_out_at turn ws.moment ws.watch) turn slot.present ws.moment
+step_reaches : (c : Step) (job : Job) (slot : Slot) (ws : Around) → Each (ReachesTo (handed (move_by c job slot ws).hands ws.time)) (move_by c job slot ws).calls
+step_reaches (steps.TakesTurn memory readings turn) job slot ws = mark_missing_reaches (is_out_at turn ws.time ws.watch) turn slot.present ws.time
 step_reaches (steps.Commits now n t) job slot ws = committed_reaches n now slot.serial t ws (outcome t slot)
-step_reaches (steps.Installs memory) job slot ws = subst (Each (ReachesTo (handed (move_by (steps.Installs memory) job slot ws).hands ws.moment))) (sym (verified_calls ws.moment 0 memory (at job slot ws ToInstall))) tt
-step_reaches (steps.Notes now random turn found id) job slot ws = note_reaches turn id random (max ws.moment now) found (note_at turn id (max ws.moment now) found ws.watch)
+step_reaches (steps.Installs memory) job slot ws = subst (Each (ReachesTo (handed (move_by (steps.Installs memory) job slot ws).hands ws.time))) (sym (verified_calls ws.time 0 memory (at job slot ws ToInstall))) tt
+step_reaches (steps.Notes now random turn found id) job slot ws = note_reaches turn id random (max ws.time now) found (note_at turn id (max ws.time now) found ws.watch)
 step_reaches (steps.GivesUp now turn needs) job slot ws = (omega arith, tt)
 step_reaches other job slot ws = tt
 
-row_reaches : (e : Event) (job : Job) (slot : Slot) (ws : Around) (s : Stage) → Each (ReachesTo (handed (row e (at job slot ws s)).hands ws.moment)) (row e (at job slot ws s)).calls
+row_reaches : (e : Event) (job : Job) (slot : Slot) (ws : Around) (s : Stage) → Each (ReachesTo (handed (row e (at job slot ws s)).hands ws.time)) (row e (at job slot ws s)).calls
 row_reaches e job slot ws s =
-    by_move (λ st m. Each (ReachesTo (handed m.hands ws.moment)) m.calls) job slot ws
+    by_move (λ st m. Each (ReachesTo (handed m.hands ws.time)) m.calls) job slot ws
     (λ c asked. step_reaches c job slot ws) (λ st. tt) e s
 
 -- ---- an event
@@ -129,9 +129,9 @@ due_low : (s : Seen) (i at k : ℕ) → due_in s i at ≡ Some k → i < 8
 unfolding due_in
 due_low s i at k is = low_by (is_due_at s i at) i k (nat_lt i 8) refl is
 
-late_low : (s : Seen) (i at k : ℕ) → late_in s i at ≡ Some k → i < 8
-unfolding late_in
-late_low s i at k is = low_by (is_late_at s i at) i k (nat_lt i 8) refl is
+overdue_low : (s : Seen) (i at k : ℕ) → overdue_in s i at ≡ Some k → i < 8
+unfolding overdue_in
+overdue_low s i at k is = low_by (is_overdue_at s i at) i k (nat_lt i 8) refl is
 
 -- the shard of the slot at a place
 shard_is : (k i n : ℕ) → i < 8 → 8 * k + i ≡ n → i ≡ n % 8
@@ -142,35 +142,35 @@ shard_is k i n low is =
 module _ (s : Seen) where
   -- time of a shard after an event.
   abbrev later : Event → ℕ → ℕ
-  later e i = handed (hands_by (at_shard e) i) (shard_moment_after (names e) e s i)
+  later e i = handed (hands_by (at_shard e) i) (shard_time_after (names e) e s i)
 
-  named_rises : (o : Option ℕ) (e : Event) (i : ℕ) → s.shard_moment i ≤ shard_moment_after o e s i
+  named_rises : (o : Option ℕ) (e : Event) (i : ℕ) → s.shard_time i ≤ shard_time_after o e s i
   named_rises None e i = omega arith
   named_rises (Some k) e i = by (slot_of s k % 8 == i)
     where
-      by : (b : Bool) → s.shard_moment i ≤ (if b then handed (row e (scene s k)).hands (s.shard_moment i) else s.shard_moment i)
-      by true = handed_rises (row e (scene s k)).hands (s.shard_moment i)
+      by : (b : Bool) → s.shard_time i ≤ (if b then handed (row e (inputs s k)).hands (s.shard_time i) else s.shard_time i)
+      by true = handed_rises (row e (inputs s k)).hands (s.shard_time i)
       by false = omega arith
 
-  shard_rises : (e : Event) (i : ℕ) → s.shard_moment i ≤ later e i
+  shard_rises : (e : Event) (i : ℕ) → s.shard_time i ≤ later e i
   shard_rises e i =
       let before = named_rises (names e) e i in
-      let own = handed_rises (hands_by (at_shard e) i) (shard_moment_after (names e) e s i) in
+      let own = handed_rises (hands_by (at_shard e) i) (shard_time_after (names e) e s i) in
       omega (arith, before, own)
 
   -- the calls of the job that it names
-  own_moment : (e : Event) (k : ℕ) → names e ≡ Some k → handed (row e (scene s k)).hands (s.shard_moment (slot_of s k % 8)) ≤ later e (slot_of s k % 8)
-  own_moment e k named =
+  own_time : (e : Event) (k : ℕ) → names e ≡ Some k → handed (row e (inputs s k)).hands (s.shard_time (slot_of s k % 8)) ≤ later e (slot_of s k % 8)
+  own_time e k named =
       let i = slot_of s k % 8 in
-      let is = (λ j. shard_moment_after (named j) e s i) ∙ ap (λ (b : Bool). if b then handed (row e (scene s k)).hands (s.shard_moment i) else s.shard_moment i) (eq-eqb i i refl) in
-      let own = handed_rises (hands_by (at_shard e) i) (shard_moment_after (names e) e s i) in
+      let is = (λ j. shard_time_after (named j) e s i) ∙ ap (λ (b : Bool). if b then handed (row e (inputs s k)).hands (s.shard_time i) else s.shard_time i) (eq-eqb i i refl) in
+      let own = handed_rises (hands_by (at_shard e) i) (shard_time_after (names e) e s i) in
       omega (arith, is, own)
 
-  slot_reaches : (e : Event) (k n : ℕ) (b : Bool) → names e ≡ Some k → (slot_of s k == n) ≡ b → Each (ReachesTo (later e (n % 8))) (if b then (row e (scene s k)).calls else [])
+  slot_reaches : (e : Event) (k n : ℕ) (b : Bool) → names e ≡ Some k → (slot_of s k == n) ≡ b → Each (ReachesTo (later e (n % 8))) (if b then (row e (inputs s k)).calls else [])
   slot_reaches e k n true named is =
       let m = slot_of s k in
-      subst (λ (x : ℕ). Each (ReachesTo (later e (x % 8))) (row e (scene s k)).calls) (eqb-true m n is)
-      (reach_later (handed (row e (scene s k)).hands (s.shard_moment (m % 8))) (later e (m % 8)) (row e (scene s k)).calls (own_moment e k named)
+      subst (λ (x : ℕ). Each (ReachesTo (later e (x % 8))) (row e (inputs s k)).calls) (eqb-true m n is)
+      (reach_later (handed (row e (inputs s k)).hands (s.shard_time (m % 8))) (later e (m % 8)) (row e (inputs s k)).calls (own_time e k named)
       (row_reaches e (job s k) (slot_at s m) (around s m) (stage s k)))
   slot_reaches e k n false named is = tt
 
@@ -179,22 +179,22 @@ module _ (s : Seen) where
   named_reach e n (Some k) named = slot_reaches e k n (slot_of s k == n) named refl
 
   -- those of its own shard
-  at_shard_moment : (shard now n : ℕ) → shard ≡ n % 8 → max (s.shard_moment shard) now ≤ handed (if (shard == (n % 8)) && nat_lt (n % 8) 8 then Some now else None) (s.shard_moment (n % 8))
-  at_shard_moment shard now n is =
-      let same = ap s.shard_moment is in
-      let yes = ap (λ (b : Bool). handed (if b then Some now else None) (s.shard_moment (n % 8))) (and_from (shard == (n % 8)) (nat_lt (n % 8) 8) (eq-eqb shard (n % 8) is) (lt-ltb (n % 8) 8 (omega arith))) in
+  at_shard_time : (shard now n : ℕ) → shard ≡ n % 8 → max (s.shard_time shard) now ≤ handed (if (shard == (n % 8)) && nat_lt (n % 8) 8 then Some now else None) (s.shard_time (n % 8))
+  at_shard_time shard now n is =
+      let same = ap s.shard_time is in
+      let yes = ap (λ (b : Bool). handed (if b then Some now else None) (s.shard_time (n % 8))) (and_from (shard == (n % 8)) (nat_lt (n % 8) 8) (eq-eqb shard (n % 8) is) (lt-ltb (n % 8) 8 (omega arith))) in
       omega (arith, same, yes)
 
-  due_reaches : (shard now n : ℕ) (b : Bool) → is_place_of (due_in s shard (max (s.shard_moment shard) now)) shard n ≡ b → Each (ReachesTo (later (Due shard now) (n % 8))) (if b then NextDue (max (s.shard_moment shard) now) (slot_at s n).noticed ∷ [] else [])
+  due_reaches : (shard now n : ℕ) (b : Bool) → is_place_of (due_in s shard (max (s.shard_time shard) now)) shard n ≡ b → Each (ReachesTo (later (Due shard now) (n % 8))) (if b then NextDue (max (s.shard_time shard) now) (slot_at s n).notify_serial ∷ [] else [])
   due_reaches shard now n true is =
-      let place = place_is (due_in s shard (max (s.shard_moment shard) now)) shard n is in
-      (at_shard_moment shard now n (shard_is place.0 shard n (due_low s shard (max (s.shard_moment shard) now) place.0 place.1) place.2), tt)
+      let place = place_is (due_in s shard (max (s.shard_time shard) now)) shard n is in
+      (at_shard_time shard now n (shard_is place.0 shard n (due_low s shard (max (s.shard_time shard) now) place.0 place.1) place.2), tt)
   due_reaches shard now n false is = tt
 
-  tick_reaches : (shard now n : ℕ) (b : Bool) → is_place_of (late_in s shard (max (s.shard_moment shard) now)) shard n ≡ b → Each (ReachesTo (later (ShardTick shard now) (n % 8))) (if b then TickObservers (max (s.shard_moment shard) now) ∷ [] else [])
+  tick_reaches : (shard now n : ℕ) (b : Bool) → is_place_of (overdue_in s shard (max (s.shard_time shard) now)) shard n ≡ b → Each (ReachesTo (later (ShardTick shard now) (n % 8))) (if b then TickObservers (max (s.shard_time shard) now) ∷ [] else [])
   tick_reaches shard now n true is =
-      let place = place_is (late_in s shard (max (s.shard_moment shard) now)) shard n is in
-      (at_shard_moment shard now n (shard_is place.0 shard n (late_low s shard (max (s.shard_moment shard) now) place.0 place.1) place.2), tt)
+      let place = place_is (overdue_in s shard (max (s.shard_time shard) now)) shard n is in
+      (at_shard_time shard now n (shard_is place.0 shard n (overdue_low s shard (max (s.shard_time shard) now) place.0 place.1) place.2), tt)
   tick_reaches shard now n false is = tt
 
   signal_reaches : (m id : ℕ) (to : Endpoint) (reset b : Bool) → Each (ReachesTo m) (if b then signal_call reset to id ∷ [] else [])
@@ -203,27 +203,27 @@ module _ (s : Seen) where
   signal_reaches m id to reset false = tt
 
   shard_reach : (e : Event) (n : ℕ) → Each (ReachesTo (later e (n % 8))) (calls_by (at_shard e) s n)
-  shard_reach (Due shard now) n = due_reaches shard now n (is_place_of (due_in s shard (max (s.shard_moment shard) now)) shard n) refl
-  shard_reach (ShardTick shard now) n = tick_reaches shard now n (is_place_of (late_in s shard (max (s.shard_moment shard) now)) shard n) refl
+  shard_reach (Due shard now) n = due_reaches shard now n (is_place_of (due_in s shard (max (s.shard_time shard) now)) shard n) refl
+  shard_reach (ShardTick shard now) n = tick_reaches shard now n (is_place_of (overdue_in s shard (max (s.shard_time shard) now)) shard n) refl
   shard_reach (Signal shard to id reset) n = signal_reaches (later (Signal shard to id reset) (n % 8)) id to reset ((n % 8) == shard)
   shard_reach other n = tt
 
-  follows_after : (r : Entry) (n : ℕ) → (watch s n).moment ≤ s.shard_moment (n % 8) → (watch (and_then r s) n).moment ≤ later r.event (n % 8)
+  follows_after : (r : Entry) (n : ℕ) → (watch s n).time ≤ s.shard_time (n % 8) → (watch (and_then r s) n).time ≤ later r.event (n % 8)
   follows_after r n before =
       let e = r.event in
       let named = calls_named (names e) e s n in
       let of_shard = calls_by (at_shard e) s n in
       let is = after_append n s.policy.confirm_after named (of_shard ++ s.calls n) ∙ ap (after_calls named) (after_append n s.policy.confirm_after of_shard (s.calls n)) in
       let rises = shard_rises e (n % 8) in
-      let here : (watch s n).moment ≤ later e (n % 8) = omega (arith, before, rises) in
-      subst (λ (t : ObserverList). t.moment ≤ later e (n % 8)) (sym is)
+      let here : (watch s n).time ≤ later e (n % 8) = omega (arith, before, rises) in
+      subst (λ (t : ObserverList). t.time ≤ later e (n % 8)) (sym is)
       (calls_reach (later e (n % 8)) named (after_calls of_shard (watch s n)) (named_reach e n (names e) refl) (calls_reach (later e (n % 8)) of_shard (watch s n) (shard_reach e n) here))
 
-pub follows_shard : (h : History) (n : ℕ) → (watch (seen h) n).moment ≤ (seen h).shard_moment (n % 8)
+pub follows_shard : (h : History) (n : ℕ) → (watch (seen h) n).time ≤ (seen h).shard_time (n % 8)
 unfolding seen
 follows_shard (Begins serial id policy) n = omega arith
 follows_shard (Then h r) n = follows_after (seen h) r n (follows_shard h n)
 
 -- the time of a lease's observers, if their shard is passed one.
-pub turn_moment : (h : History) (k now : ℕ) → max (watch (seen h) (slot_of (seen h) k)).moment (moment_at (seen h) k now) ≡ moment_at (seen h) k now
-turn_moment h k now = let le = follows_shard h (slot_of (seen h) k) in omega (arith, le)
+pub turn_time : (h : History) (k now : ℕ) → max (watch (seen h) (slot_of (seen h) k)).time (time_at (seen h) k now) ≡ time_at (seen h) k now
+turn_time h k now = let le = follows_shard h (slot_of (seen h) k) in omega (arith, le)

@@ -11,17 +11,17 @@ use Rattle.fc_observe.specs.Calls.{Advance, ObserverCall, NextDue, Tick as TickO
 use Rattle.fc_observe.specs.Laws.{RegistersNone}
 use Rattle.fc_observe.proofs.Hearing.{stays_gone}
 use Rattle.fc_observe.specs.declared.entry.Turn.{Turn}
-use Rattle.fc_registry.specs.Calls.{is_cancellation, observe_calls, observe_calls_by, is_registration, is_out_at, miss_calls}
+use Rattle.fc_registry.specs.Calls.{is_cancellation, observe_calls, observe_calls_by, is_registration, is_out_at, mark_missing_calls}
 use Rattle.fc_registry.specs.Notes.{keeps_observer, note_at, note_calls, serial_told, told_call}
 use Rattle.fc_registry.specs.Slots.{Present, Ticket}
 use Rattle.fc_registry.specs.Watches.{signal_call}
 use Rattle.fc_core.specs.declared.event.Event.{Event}
 use Rattle.fc_core.specs.declared.event.Event.TheVariants.{Commit, Signal, ShardTick, Due}
-use Rattle.fc_core.specs.History.{Entry, History, Then, Seen, seen, and_then, around, calls_named, due_in, is_place_of, job, late_in, scene, slot_at, stage, watch, at_shard, calls_by}
+use Rattle.fc_core.specs.History.{Entry, History, Then, Seen, seen, and_then, around, calls_named, due_in, is_place_of, job, overdue_in, inputs, slot_at, stage, watch, at_shard, calls_by}
 use Rattle.fc_core.specs.Laws.{followed_by, slot_of}
 use Rattle.fc_laws.specs.ObserveLaws.{NoneRegisters, Registers, is_held}
 use Rattle.fc_core.specs.Rows.{names, row}
-use Rattle.fc_core.proofs.Calling.{CallsBy, NoCall, OfCommit, OfGiveUp, OfNote, OfTaking, row_calls}
+use Rattle.fc_core.proofs.Calling.{CallsBy, NoCall, OfCommit, OfGiveUp, OfNote, OfSnapshot, row_calls}
 use Rattle.fc_laws.proofs.turns.Observing.{asked}
 use Rattle.fc_core.proofs.Watches.{after_append}
 
@@ -35,63 +35,63 @@ none_if : (b : Bool) (c : ObserverCall) (to : Endpoint) (token : List ℕ) → i
 none_if true c to token is = (is, tt)
 none_if false c to token is = tt
 
-miss_registers : (out : Bool) (turn : Turn) (present : Option Present) (moment : ℕ) (to : Endpoint) (token : List ℕ) → RegistersNone to token (miss_calls out turn present ++ Advance moment ∷ [])
-miss_registers true turn None moment to token = (refl, (refl, tt))
-miss_registers true turn (Some p) moment to token = (refl, tt)
-miss_registers false turn present moment to token = (refl, tt)
+mark_missing_registers : (out : Bool) (turn : Turn) (present : Option Present) (time : ℕ) (to : Endpoint) (token : List ℕ) → RegistersNone to token (mark_missing_calls out turn present ++ Advance time ∷ [])
+mark_missing_registers true turn None time to token = (refl, (refl, tt))
+mark_missing_registers true turn (Some p) time to token = (refl, tt)
+mark_missing_registers false turn present time to token = (refl, tt)
 
-told_registers : (b : Bool) (turn : Turn) (id random moment serial : ℕ) (bytes : ArrayVec ℕ) (to : Endpoint) (token : List ℕ) → is_registration_of to token (told_call b turn id random moment serial bytes) ≡ false
-told_registers true turn id random moment serial bytes to token = refl
-told_registers false turn id random moment serial bytes to token = refl
+told_registers : (b : Bool) (turn : Turn) (id random time serial : ℕ) (bytes : ArrayVec ℕ) (to : Endpoint) (token : List ℕ) → is_registration_of to token (told_call b turn id random time serial bytes) ≡ false
+told_registers true turn id random time serial bytes to token = refl
+told_registers false turn id random time serial bytes to token = refl
 
-note_registers : (turn : Turn) (id random moment : ℕ) (found : Option Ticket) (sent : Option Emission) (to : Endpoint) (token : List ℕ) → RegistersNone to token (note_calls turn id random moment found sent)
-note_registers turn id random moment found None to token = (refl, tt)
-note_registers turn id random moment found (Some e) to token = (told_registers (keeps_observer found) turn id random moment (serial_told found) e.bytes to token, (refl, tt))
+note_registers : (turn : Turn) (id random time : ℕ) (found : Option Ticket) (sent : Option Emission) (to : Endpoint) (token : List ℕ) → RegistersNone to token (note_calls turn id random time found sent)
+note_registers turn id random time found None to token = (refl, tt)
+note_registers turn id random time found (Some e) to token = (told_registers (keeps_observer found) turn id random time (serial_told found) e.bytes to token, (refl, tt))
 
 pub none_in : (e : Event) (s : Seen) (n : ℕ) (to : Endpoint) (token : List ℕ) → RegistersNone to token (calls_by (at_shard e) s n)
 none_in (Due shard now) s n to token =
-    let at = max (s.shard_moment shard) now in
-    none_if (is_place_of (due_in s shard at) shard n) (NextDue at (slot_at s n).noticed) to token refl
+    let at = max (s.shard_time shard) now in
+    none_if (is_place_of (due_in s shard at) shard n) (NextDue at (slot_at s n).notify_serial) to token refl
 none_in (Signal shard from id reset) s n to token = none_if ((n % 8) == shard) (signal_call reset from id) to token (signal_registers reset from to id token)
 none_in (ShardTick shard now) s n to token =
-    let at = max (s.shard_moment shard) now in
-    none_if (is_place_of (late_in s shard at) shard n) (TickObservers at) to token refl
+    let at = max (s.shard_time shard) now in
+    none_if (is_place_of (overdue_in s shard at) shard n) (TickObservers at) to token refl
 none_in other s n to token = tt
 
 -- ---- registrations
 
 -- a commit's calls register this client, or they don't
-module _ (to : Endpoint) (token : List ℕ) (moment : ℕ) (t : Ticket) where
+module _ (to : Endpoint) (token : List ℕ) (time : ℕ) (t : Ticket) where
   abbrev is_client : Bool
   is_client = same_endpoint t.origin.endpoint to && pointwise nat_eq t.token.items token
 
-  by_tests : (b c d : Bool) → is_registration t ≡ b → is_client ≡ d → RegistersNone to token (observe_calls_by b c moment t) ⊎ ((is_registration t ≡ true) × (is_client ≡ true))
+  by_tests : (b c d : Bool) → is_registration t ≡ b → is_client ≡ d → RegistersNone to token (observe_calls_by b c time t) ⊎ ((is_registration t ≡ true) × (is_client ≡ true))
   by_tests true c true r own = inr (r, own)
   by_tests true c false r own = inl (own, tt)
   by_tests false true d r own = inl (refl, tt)
   by_tests false false d r own = inl tt
 
-  registers_or_not : RegistersNone to token (observe_calls moment t) ⊎ ((is_registration t ≡ true) × (is_client ≡ true))
-  registers_or_not = subst (λ (b : Bool). RegistersNone to token (observe_calls_by b (is_cancellation t) moment t) ⊎ ((is_registration t ≡ true) × (is_client ≡ true))) refl (by_tests (is_registration t) (is_cancellation t) is_client refl refl)
+  registers_or_not : RegistersNone to token (observe_calls time t) ⊎ ((is_registration t ≡ true) × (is_client ≡ true))
+  registers_or_not = subst (λ (b : Bool). RegistersNone to token (observe_calls_by b (is_cancellation t) time t) ⊎ ((is_registration t ≡ true) × (is_client ≡ true))) refl (by_tests (is_registration t) (is_cancellation t) is_client refl refl)
 
 module _ (r : Entry) (s : Seen) (n : ℕ) (to : Endpoint) (token : List ℕ) where
   -- the calls of the event that names this job
   by_row : (k : ℕ) (cs : List ObserverCall) → names r.event ≡ Some k → slot_of s k ≡ n → CallsBy r.event (around s (slot_of s k)) (stage s k) cs → RegistersNone to token cs ⊎ Registers r s n to token
   by_row k cs named slot (NoCall is) = inl (subst (RegistersNone to token) (sym is) tt)
-  by_row k cs named slot (OfTaking turn moment present t is) = inl (subst (RegistersNone to token) (sym is) (miss_registers (is_out_at turn moment t) turn present moment to token))
+  by_row k cs named slot (OfSnapshot turn time present t is) = inl (subst (RegistersNone to token) (sym is) (mark_missing_registers (is_out_at turn time t) turn present time to token))
   by_row k cs named slot (OfNote j now random id turn found event stands is) =
-      let moment = max (around s (slot_of s k)).moment now in
-      inl (subst (RegistersNone to token) (sym is) (note_registers turn id random moment found (note_at turn id moment found (around s (slot_of s k)).watch) to token))
-  by_row k cs named slot (OfGiveUp turn moment is) = inl (subst (RegistersNone to token) (sym is) (refl, tt))
-  by_row k cs named slot (OfCommit j now count moment t event stands is) =
+      let time = max (around s (slot_of s k)).time now in
+      inl (subst (RegistersNone to token) (sym is) (note_registers turn id random time found (note_at turn id time found (around s (slot_of s k)).watch) to token))
+  by_row k cs named slot (OfGiveUp turn time is) = inl (subst (RegistersNone to token) (sym is) (refl, tt))
+  by_row k cs named slot (OfCommit j now count time t event stands is) =
       let same : k ≡ j = cc (sym named ∙ ap names event) in
       ⊎_elim
-      (λ (none : RegistersNone to token (observe_calls moment t)). inl (subst (RegistersNone to token) (sym is) none))
-      (λ (own : (is_registration t ≡ true) × (is_client to token moment t ≡ true)). inr (record { number = k; now = now; count = count; ticket = t; event = event ∙ ap (λ (i : ℕ). Commit i now) (sym same); at = stands; slot = slot; asks = asked t own.0; client = own.1 }))
-      (registers_or_not to token moment t)
+      (λ (none : RegistersNone to token (observe_calls time t)). inl (subst (RegistersNone to token) (sym is) none))
+      (λ (own : (is_registration t ≡ true) × (is_client to token time t ≡ true)). inr (record { number = k; now = now; count = count; ticket = t; event = event ∙ ap (λ (i : ℕ). Commit i now) (sym same); at = stands; slot = slot; asks = asked t own.0; client = own.1 }))
+      (registers_or_not to token time t)
 
-  by_slot : (k : ℕ) (b : Bool) → names r.event ≡ Some k → (slot_of s k == n) ≡ b → RegistersNone to token (if b then (row r.event (scene s k)).calls else []) ⊎ Registers r s n to token
-  by_slot k true named is = by_row k (row r.event (scene s k)).calls named (eqb-true (slot_of s k) n is) (row_calls r.event (job s k) (slot_at s (slot_of s k)) (around s (slot_of s k)) (stage s k))
+  by_slot : (k : ℕ) (b : Bool) → names r.event ≡ Some k → (slot_of s k == n) ≡ b → RegistersNone to token (if b then (row r.event (inputs s k)).calls else []) ⊎ Registers r s n to token
+  by_slot k true named is = by_row k (row r.event (inputs s k)).calls named (eqb-true (slot_of s k) n is) (row_calls r.event (job s k) (slot_at s (slot_of s k)) (around s (slot_of s k)) (stage s k))
   by_slot k false named is = inl tt
 
   by_name : (o : Option ℕ) → names r.event ≡ o → RegistersNone to token (calls_named o r.event s n) ⊎ Registers r s n to token

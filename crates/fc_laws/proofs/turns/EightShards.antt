@@ -10,15 +10,15 @@ use Rattle.fc_observe.specs.Calls.{NextDue, Tick as TickObservers}
 use Rattle.fc_registry.specs.Watches.{place_from, signal_call}
 use Rattle.fc_core.specs.declared.event.Event.{Event}
 use Rattle.fc_core.specs.declared.event.Event.TheVariants.{Due, ShardTick, Signal}
-use Rattle.fc_core.specs.History.{Entry, Seen, and_then, did, due_in, is_due_at, is_late_at, is_place_of, late_in, slot_at, turn_at}
+use Rattle.fc_core.specs.History.{Entry, Seen, and_then, did, due_in, is_due_at, is_overdue_at, is_place_of, overdue_in, slot_at, turn_at}
 use Rattle.fc_core.specs.Legal.{Emits, resent_at}
 use Rattle.fc_laws.specs.ShardLaws.{IsAsBefore, IsOfNoShard}
 use Rattle.fc_core.specs.Stages.{new_task}
 use Rattle.fc_core.specs.Rows.{handed}
 
-pub none_late : (s : Seen) (i at : ℕ) → 8 ≤ i → late_in s i at ≡ None
-unfolding late_in
-none_late s i at high = ap (λ (b : Bool). if b then place_from (is_late_at s i at) 8 0 else None) (le-ltb i 8 high)
+pub none_overdue : (s : Seen) (i at : ℕ) → 8 ≤ i → overdue_in s i at ≡ None
+unfolding overdue_in
+none_overdue s i at high = ap (λ (b : Bool). if b then place_from (is_overdue_at s i at) 8 0 else None) (le-ltb i 8 high)
 
 none_due : (s : Seen) (i at : ℕ) → 8 ≤ i → due_in s i at ≡ None
 unfolding due_in
@@ -35,23 +35,23 @@ not_handed shard i now before high = ap (λ (b : Bool). handed (if b then Some n
 module _ (o : Option Emission) (s : Seen) where
   due_before : (shard now : ℕ) → 8 ≤ shard → IsAsBefore s (and_then (did (Due shard now) o) s)
   due_before shard now high =
-      let at = max (s.shard_moment shard) now in
+      let at = max (s.shard_time shard) now in
       let none = none_due s shard at high in
       record {
-        moment = refl;
+        time = refl;
         exchanges = refl;
         additions = refl;
         ids = refl;
         tasks = ap (λ (p : Option ℕ). s.tasks ++ (map new_task (option_to_list (turn_at p s shard at)) ++ [])) none ∙ append-nil s.tasks;
         changes = λ n. refl;
-        shards = λ i. not_handed shard i now (s.shard_moment i) high;
-        calls = λ n. ap (λ (p : Option ℕ). (if is_place_of p shard n then NextDue at (slot_at s n).noticed ∷ [] else []) ++ s.calls n) none;
+        shards = λ i. not_handed shard i now (s.shard_time i) high;
+        calls = λ n. ap (λ (p : Option ℕ). (if is_place_of p shard n then NextDue at (slot_at s n).notify_serial ∷ [] else []) ++ s.calls n) none;
         words = refl;
       }
 
   signal_before : (shard id : ℕ) (to : Endpoint) (reset : Bool) → 8 ≤ shard → IsAsBefore s (and_then (did (Signal shard to id reset) o) s)
   signal_before shard id to reset high = record {
-    moment = refl;
+    time = refl;
     exchanges = refl;
     additions = refl;
     ids = refl;
@@ -64,16 +64,16 @@ module _ (o : Option Emission) (s : Seen) where
 
   tick_before : (shard now : ℕ) → 8 ≤ shard → IsAsBefore s (and_then (did (ShardTick shard now) o) s)
   tick_before shard now high =
-      let at = max (s.shard_moment shard) now in
+      let at = max (s.shard_time shard) now in
       record {
-        moment = refl;
+        time = refl;
         exchanges = refl;
         additions = refl;
         ids = refl;
         tasks = append-nil s.tasks;
         changes = λ n. refl;
-        shards = λ i. not_handed shard i now (s.shard_moment i) high;
-        calls = λ n. ap (λ (p : Option ℕ). (if is_place_of p shard n then TickObservers at ∷ [] else []) ++ s.calls n) (none_late s shard at high);
+        shards = λ i. not_handed shard i now (s.shard_time i) high;
+        calls = λ n. ap (λ (p : Option ℕ). (if is_place_of p shard n then TickObservers at ∷ [] else []) ++ s.calls n) (none_overdue s shard at high);
         words = refl;
       }
 
@@ -90,8 +90,8 @@ silent_by : (e : Event) (o : Option Emission) (s : Seen) → IsOfNoShard e → E
 silent_by (Due shard now) o s high sent = sent
 silent_by (Signal shard to id reset) o s high sent = sent
 silent_by (ShardTick shard now) o s high sent =
-    let at = max (s.shard_moment shard) now in
-    sent ∙ ap (λ (p : Option ℕ). resent_at p s shard at) (none_late s shard at high)
+    let at = max (s.shard_time shard) now in
+    sent ∙ ap (λ (p : Option ℕ). resent_at p s shard at) (none_overdue s shard at high)
 silent_by other o s high sent = absurd high
 
 pub is_silent : (r : Entry) (s : Seen) → IsOfNoShard r.event → Emits s r.event r.emitted → r.emitted ≡ None

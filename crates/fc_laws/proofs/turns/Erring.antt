@@ -6,7 +6,7 @@ use Rattle.coap_msg.specs.declared.types.Emission.{Emission}
 use Rattle.fc_observe.specs.declared.entry.Entry.{Entry as ObserverEntry}
 use Rattle.fc_observe.specs.declared.entry.Turn.{Turn}
 use Rattle.fc_observe.specs.Calls.{ObserverCall, Advance, End, observers}
-use Rattle.fc_observe.specs.Observers.{ObserverList, at_moment, entry_out}
+use Rattle.fc_observe.specs.Observers.{ObserverList, list_at_time, entry_out}
 use Rattle.fc_observe.proofs.Leaving.{observer_gone}
 use Rattle.fc_registry.specs.Notes.{note_calls}
 use Rattle.fc_registry.proofs.Endings.{error_ends}
@@ -15,12 +15,12 @@ use Rattle.fc_core.specs.declared.event.Event.TheVariants.{Note}
 use Rattle.fc_core.specs.Stage.{Stage}
 use Rattle.fc_core.specs.Stage.{ToTell}
 use Rattle.fc_core.specs.TurnStage as turns
-use Rattle.fc_core.specs.History.{Seen, and_then, did, scene, stage, watch}
+use Rattle.fc_core.specs.History.{Seen, and_then, did, inputs, stage, watch}
 use Rattle.fc_core.specs.Laws.{slot_of}
 use Rattle.fc_core.specs.Legal.{Emits}
 use Rattle.fc_laws.specs.ObserveLaws.{is_held}
 use Rattle.fc_core.specs.Rows.{row}
-use Rattle.fc_laws.specs.TurnLaws.{IsNoContent, moment_at}
+use Rattle.fc_laws.specs.TurnLaws.{IsNoContent, time_at}
 use Rattle.fc_laws.proofs.turns.Notices.{note_sends}
 use Rattle.fc_laws.proofs.turns.Turning.{at_stage}
 
@@ -34,16 +34,16 @@ module _ (s : Seen) (k now random id : ℕ) (turn : Turn) (found : Option Ticket
   n = slot_of s k
 
   abbrev at : ℕ
-  at = moment_at s k now
+  at = time_at s k now
 
   -- the list after the notification
   ended : stage s k ≡ ToTell turn (turns.ToNote found id) → IsNoContent found → Emits s (Note k now random) (Some e) → watch (and_then (did (Note k now random) (Some e)) s) n ≡ observers n s.policy.confirm_after (End turn ∷ Advance at ∷ s.calls n)
   ended is not sent =
-      ap (λ (b : Bool). observers n s.policy.confirm_after ((if b then (row (Note k now random) (scene s k)).calls else []) ++ s.calls n)) (eq-eqb n n refl)
+      ap (λ (b : Bool). observers n s.policy.confirm_after ((if b then (row (Note k now random) (inputs s k)).calls else []) ++ s.calls n)) (eq-eqb n n refl)
       ∙ (ap (λ (x : Stage). observers n s.policy.confirm_after ((row (Note k now random) (at_stage s k x)).calls ++ s.calls n)) is
       ∙ (ap (λ (o : Option Emission). observers n s.policy.confirm_after (note_calls turn id random at found o ++ s.calls n)) (sym (note_sends s k now random id turn found (Some e) is sent))
       ∙ ap (λ (cs : List ObserverCall). observers n s.policy.confirm_after (cs ++ s.calls n)) (turn_ends turn id random at found e not)))
 
-  pub observer_removed : (x : ObserverEntry) → stage s k ≡ ToTell turn (turns.ToNote found id) → IsNoContent found → entry_out turn (at_moment at (watch s n)) ≡ Some x → Emits s (Note k now random) (Some e) → is_held x.endpoint x.token.items (watch (and_then (did (Note k now random) (Some e)) s) n) ≡ false
+  pub observer_removed : (x : ObserverEntry) → stage s k ≡ ToTell turn (turns.ToNote found id) → IsNoContent found → entry_out turn (list_at_time at (watch s n)) ≡ Some x → Emits s (Note k now random) (Some e) → is_held x.endpoint x.token.items (watch (and_then (did (Note k now random) (Some e)) s) n) ≡ false
   observer_removed x is not out sent =
       ap (λ (w : ObserverList). is_held x.endpoint x.token.items w) (ended is not sent) ∙ observer_gone n s.policy.confirm_after turn x (Advance at ∷ s.calls n) out

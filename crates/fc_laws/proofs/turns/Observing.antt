@@ -11,7 +11,7 @@ use Rattle.fc_observe.specs.declared.entry.Entry.{Entry}
 use Rattle.fc_observe.specs.declared.observers.Registered.TheVariants.{Entered, Full}
 use Rattle.fc_observe.specs.Calls.{ObserverCall, observers}
 use Rattle.fc_observe.specs.Entries.{is_entry_of, new_entry}
-use Rattle.fc_observe.specs.Observers.{ObserverList, at_moment, cancelled, entered_by, registered, registration, registration_by, without_those}
+use Rattle.fc_observe.specs.Observers.{ObserverList, list_at_time, cancelled, entered_by, registered, registration, registration_by, without_those}
 use Rattle.fc_registry.specs.declared.commit.CommitOutcome.{CommitOutcome}
 use Rattle.fc_registry.specs.declared.commit.CommitOutcome.TheVariants.{Writes, Keeps, Overtakes, Ends}
 use Rattle.fc_registry.specs.Calls.{is_cancellation, has_observe, is_entered, is_first_block, is_observed, meaning_at, observe_calls_by, outcome, is_registration, szx_of, wants}
@@ -19,11 +19,11 @@ use Rattle.fc_registry.specs.Slots.{Ticket}
 use Rattle.fc_core.specs.declared.event.Event.TheVariants.{Commit}
 use Rattle.fc_core.specs.Stage.{Stage}
 use Rattle.fc_core.specs.Stage.{ToAnswer, ToCommit}
-use Rattle.fc_core.specs.History.{Seen, and_then, around, did, job, scene, slot_at, stage, watch}
+use Rattle.fc_core.specs.History.{Seen, and_then, around, did, job, inputs, slot_at, stage, watch}
 use Rattle.fc_core.specs.Laws.{slot_of}
 use Rattle.fc_laws.specs.ObserveLaws.{AsksToObserve, IsFirst, is_among}
 use Rattle.fc_core.specs.Stages.{run_content}
-use Rattle.fc_core.specs.Rows.{Around, Scene, row}
+use Rattle.fc_core.specs.Rows.{Around, Inputs, row}
 use Rattle.fc_core.proofs.ByStep.{committed}
 use Rattle.fc_laws.proofs.front.Once.{equal_endpoints, same_bytes}
 use Rattle.fc_laws.proofs.jobs.Others.{is_here, named_stage}
@@ -62,14 +62,14 @@ not_true false not = refl
 
 -- ---- a commit
 
-abbrev at : Seen → ℕ → Stage → Scene
+abbrev at : Seen → ℕ → Stage → Inputs
 at s k st = record { job = job s k; slot = slot_at s (slot_of s k); around = around s (slot_of s k); stage = st }
 
 -- the observers of the job's slot, by the commit's outcome.
 watched : (s : Seen) (k now n : ℕ) (t : Ticket) (o : Option Emission) (x : CommitOutcome) → stage s k ≡ ToCommit n t → outcome t (slot_at s (slot_of s k)) ≡ x → watch (and_then (did (Commit k now) o) s) (slot_of s k) ≡ observers (slot_of s k) s.policy.confirm_after ((committed x n t now (slot_at s (slot_of s k)).serial (around s (slot_of s k))).calls ++ s.calls (slot_of s k))
 watched s k now n t o x is comes =
     let m = slot_of s k in
-    ap (λ (b : Bool). observers m s.policy.confirm_after ((if b then (row (Commit k now) (scene s k)).calls else []) ++ s.calls m)) (eq-eqb m m refl)
+    ap (λ (b : Bool). observers m s.policy.confirm_after ((if b then (row (Commit k now) (inputs s k)).calls else []) ++ s.calls m)) (eq-eqb m m refl)
     ∙ (ap (λ (st : Stage). observers m s.policy.confirm_after ((row (Commit k now) (at s k st)).calls ++ s.calls m)) is
     ∙ ap (λ (y : CommitOutcome). observers m s.policy.confirm_after ((committed y n t now (slot_at s m).serial (around s m)).calls ++ s.calls m)) comes)
 
@@ -86,11 +86,11 @@ keeps s k t get = keeps_unwanted t (slot_at s (slot_of s k)) (wants t) refl (unw
 
 -- ---- registration
 
-pub get_registers : (s : Seen) (k now n : ℕ) (t : Ticket) (o : Option Emission) → stage s k ≡ ToCommit n t → t.request.method ≡ Get → AsksToObserve t → watch (and_then (did (Commit k now) o) s) (slot_of s k) ≡ registered t.origin.endpoint t.token t.request (szx_of t.block) t.serial (at_moment (max (s.shard_moment (slot_of s k % 8)) now) (watch s (slot_of s k)))
+pub get_registers : (s : Seen) (k now n : ℕ) (t : Ticket) (o : Option Emission) → stage s k ≡ ToCommit n t → t.request.method ≡ Get → AsksToObserve t → watch (and_then (did (Commit k now) o) s) (slot_of s k) ≡ registered t.origin.endpoint t.token t.request (szx_of t.block) t.serial (list_at_time (max (s.shard_time (slot_of s k % 8)) now) (watch s (slot_of s k)))
 get_registers s k now n t o is get a =
     let m = slot_of s k in
     watched s k now n t o Keeps is (keeps s k t get)
-    ∙ ap (λ (b : Bool). observers m s.policy.confirm_after (observe_calls_by b (is_cancellation t) (max (s.shard_moment (m % 8)) now) t ++ s.calls m)) (registers_asked t a)
+    ∙ ap (λ (b : Bool). observers m s.policy.confirm_after (observe_calls_by b (is_cancellation t) (max (s.shard_time (m % 8)) now) t ++ s.calls m)) (registers_asked t a)
 
 -- an entry has its own endpoint and token.
 pub own : (o : Entry) → is_entry_of o.endpoint o.token.items o ≡ true
@@ -112,10 +112,10 @@ room_among o held false true known room = (λ i. list_any (is_entry_of o.endpoin
 room_among o held false false known room = (λ i. list_any (is_entry_of o.endpoint o.token.items) (entered_by (if room i then Entered else Full) o.endpoint o.token.items o held)) ∙ (known ∙ λ i. is_entered (if sym room i then Entered else Full))
 
 -- the answer says that a client observes exactly if it is among the observers.
-observed_among : (t : Ticket) (now : ℕ) (w : ObserverList) → is_registration t ≡ true → is_observed t w ≡ is_among t (registered t.origin.endpoint t.token t.request (szx_of t.block) t.serial (at_moment now w))
+observed_among : (t : Ticket) (now : ℕ) (w : ObserverList) → is_registration t ≡ true → is_observed t w ≡ is_among t (registered t.origin.endpoint t.token t.request (szx_of t.block) t.serial (list_at_time now w))
 observed_among t now w r =
     let p = is_entry_of t.origin.endpoint t.token.items in
-    let o = new_entry (max w.moment now) t.origin.endpoint t.token t.request (szx_of t.block) t.serial in
+    let o = new_entry (max w.time now) t.origin.endpoint t.token t.request (szx_of t.block) t.serial in
     ap (λ (b : Bool). b && is_entered (registration t.origin.endpoint t.token.items w)) r
     ∙ sym (room_among o w.held (list_any p w.held) (nat_lt (length w.held) 32) refl refl)
 
@@ -123,7 +123,7 @@ pub registered_is_told : (s : Seen) (k now n : ℕ) (t : Ticket) (o : Option Emi
 registered_is_told s k now n t o is get a =
     leaves s k now n t o Keeps is (keeps s k t get)
     ∙ ap (λ (b : Bool). ToAnswer (run_content t b))
-    (observed_among t (max (s.shard_moment (slot_of s k % 8)) now) (watch s (slot_of s k)) (registers_asked t a) ∙ ap (is_among t) (sym (get_registers s k now n t o is get a)))
+    (observed_among t (max (s.shard_time (slot_of s k % 8)) now) (watch s (slot_of s k)) (registers_asked t a) ∙ ap (is_among t) (sym (get_registers s k now n t o is get a)))
 
 -- ---- cancellation
 
@@ -134,12 +134,12 @@ pub get_cancels : (s : Seen) (k now n : ℕ) (t : Ticket) (o : Option Emission) 
 get_cancels s k now n t o is get one =
     let m = slot_of s k in
     watched s k now n t o Keeps is (keeps s k t get)
-    ∙ (λ i. observers m s.policy.confirm_after (observe_calls_by (no_registration t one i) (has_observe 1 (one i)) (max (s.shard_moment (m % 8)) now) t ++ s.calls m))
+    ∙ (λ i. observers m s.policy.confirm_after (observe_calls_by (no_registration t one i) (has_observe 1 (one i)) (max (s.shard_time (m % 8)) now) t ++ s.calls m))
 
 -- ---- every other commit
 
 none_called : (x : CommitOutcome) (n now serial : ℕ) (t : Ticket) (ws : Around) → is_registration t ≡ false → is_cancellation t ≡ false → (committed x n t now serial ws).calls ≡ []
-none_called Keeps n now serial t ws r c = λ i. observe_calls_by (r i) (c i) (max ws.moment now) t
+none_called Keeps n now serial t ws r c = λ i. observe_calls_by (r i) (c i) (max ws.time now) t
 none_called Writes n now serial t ws r c = refl
 none_called Overtakes n now serial t ws r c = refl
 none_called Ends n now serial t ws r c = refl
@@ -153,4 +153,4 @@ others_call_nothing s k now n t o is asks one =
 
 -- another slot's
 pub other_slots_stay : (s : Seen) (k now m : ℕ) (o : Option Emission) → (m ≡ slot_of s k → ⊥) → watch (and_then (did (Commit k now) o) s) m ≡ watch s m
-other_slots_stay s k now m o ne = ap (λ (b : Bool). observers m s.policy.confirm_after ((if b then (row (Commit k now) (scene s k)).calls else []) ++ s.calls m)) (ne_eqb (slot_of s k) m (λ q. ne (sym q)))
+other_slots_stay s k now m o ne = ap (λ (b : Bool). observers m s.policy.confirm_after ((if b then (row (Commit k now) (inputs s k)).calls else []) ++ s.calls m)) (ne_eqb (slot_of s k) m (λ q. ne (sym q)))

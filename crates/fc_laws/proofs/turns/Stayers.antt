@@ -11,22 +11,22 @@ use Rattle.fc_observe.specs.declared.entry.Entry.{Entry as ObserverEntry}
 use Rattle.fc_observe.specs.declared.entry.Phase.{Phase}
 use Rattle.fc_observe.specs.declared.entry.Phase.TheVariants.{Outstanding}
 use Rattle.fc_observe.specs.declared.entry.Turn.{Turn}
-use Rattle.fc_observe.specs.Calls.{Acknowledge, Advance, Cancel, End, GiveUp as GiveUpTurn, Miss, NextDue, Notify, ObserverCall, Register, Reset, Tick as TickObservers, after_calls, observers, observers_after}
-use Rattle.fc_observe.specs.Entries.{is_entry_of, is_late, is_late_in, retransmission_in}
-use Rattle.fc_observe.specs.Observers.{ObserverList, at_moment, entry_out}
+use Rattle.fc_observe.specs.Calls.{Acknowledge, Advance, Cancel, End, GiveUp as GiveUpTurn, MarkMissing, NextDue, Notify, ObserverCall, Register, Reset, Tick as TickObservers, after_calls, observers, observers_after}
+use Rattle.fc_observe.specs.Entries.{is_entry_of, is_overdue, is_overdue_in, retransmission_in}
+use Rattle.fc_observe.specs.Observers.{ObserverList, list_at_time, entry_out}
 use Rattle.fc_observe.proofs.Resets.{so_is}
 use Rattle.fc_observe.proofs.Staying.{TakesAway, stays_or_goes}
-use Rattle.fc_registry.specs.Calls.{is_cancellation, is_out_at, is_registration, meaning_at, miss_calls, observe_calls, observe_calls_by, szx_of}
+use Rattle.fc_registry.specs.Calls.{is_cancellation, is_out_at, is_registration, meaning_at, mark_missing_calls, observe_calls, observe_calls_by, szx_of}
 use Rattle.fc_registry.specs.Notes.{keeps_observer, note_at, note_calls, serial_told, told_call}
 use Rattle.fc_registry.specs.Slots.{Present, Ticket}
 use Rattle.fc_core.specs.declared.event.Event.{Event}
 use Rattle.fc_core.specs.declared.event.Event.TheVariants.{Commit, Due, Note, ShardTick, Signal}
-use Rattle.fc_core.specs.History.{Entry, Seen, and_then, around, calls_by, calls_named, due_in, is_place_of, job, late_in, scene, slot_at, stage, watch, at_shard}
+use Rattle.fc_core.specs.History.{Entry, Seen, and_then, around, calls_by, calls_named, due_in, is_place_of, job, overdue_in, inputs, slot_at, stage, watch, at_shard}
 use Rattle.fc_core.specs.Laws.{slot_of}
 use Rattle.fc_laws.specs.ObserveLaws.{is_held}
 use Rattle.fc_core.specs.Rows.{names, row}
-use Rattle.fc_laws.specs.TurnLaws.{ByAnswer, ByCancellation, ByReset, ByTimeout, IsNoContent, Removes, moment_at}
-use Rattle.fc_core.proofs.Calling.{CallsBy, NoCall, OfCommit, OfGiveUp, OfNote, OfTaking, row_calls}
+use Rattle.fc_laws.specs.TurnLaws.{ByAnswer, ByCancellation, ByReset, ByTimeout, IsNoContent, Removes, time_at}
+use Rattle.fc_core.proofs.Calling.{CallsBy, NoCall, OfCommit, OfGiveUp, OfNote, OfSnapshot, row_calls}
 use Rattle.fc_laws.proofs.turns.Notices.{found_holds}
 use Rattle.fc_laws.proofs.turns.Observing.{value_is}
 use Rattle.fc_core.proofs.OnShards.{named_calm}
@@ -39,35 +39,35 @@ module _ (to : Endpoint) (token : List ℕ) where
   one_stays : (c : ObserverCall) (w : ObserverList) → (TakesAway to token c w → ⊥) → is_held to token w ≡ true → is_held to token (observers_after c w) ≡ true
   one_stays c w not some = ⊎_elim (λ (stays : is_held to token (observers_after c w) ≡ true). stays) (λ (goes : TakesAway to token c w). absurd (not goes)) (stays_or_goes to token c w some)
 
-  miss_stays : (out : Bool) (turn : Turn) (present : Option Present) (moment : ℕ) (w : ObserverList) → is_held to token w ≡ true → is_held to token (after_calls (miss_calls out turn present ++ Advance moment ∷ []) w) ≡ true
-  miss_stays true turn None moment w some = one_stays (Miss turn) (at_moment moment w) (λ x. x) some
-  miss_stays true turn (Some p) moment w some = some
-  miss_stays false turn present moment w some = some
+  mark_missing_stays : (out : Bool) (turn : Turn) (present : Option Present) (time : ℕ) (w : ObserverList) → is_held to token w ≡ true → is_held to token (after_calls (mark_missing_calls out turn present ++ Advance time ∷ []) w) ≡ true
+  mark_missing_stays true turn None time w some = one_stays (MarkMissing turn) (list_at_time time w) (λ x. x) some
+  mark_missing_stays true turn (Some p) time w some = some
+  mark_missing_stays false turn present time w some = some
 
   one_if : (b : Bool) (c : ObserverCall) (w : ObserverList) → (TakesAway to token c w → ⊥) → is_held to token w ≡ true → is_held to token (after_calls (if b then c ∷ [] else []) w) ≡ true
   one_if true c w not some = one_stays c w not some
   one_if false c w not some = some
 
   -- those of a commit, if the client isn't the one that cancels.
-  observed_stays : (moment : ℕ) (t : Ticket) (w : ObserverList) (b c : Bool) → is_cancellation t ≡ c → is_held to token w ≡ true → (is_held to token (after_calls (observe_calls_by b c moment t) w) ≡ true) ⊎ ((is_cancellation t ≡ true) × ((same_endpoint t.origin.endpoint to && pointwise nat_eq t.token.items token) ≡ true))
-  observed_stays moment t w true c is some = inl (one_stays (Register moment t.origin.endpoint t.token t.request (szx_of t.block) t.serial) w (λ x. x) some)
-  observed_stays moment t w false true is some = ⊎_elim
+  observed_stays : (time : ℕ) (t : Ticket) (w : ObserverList) (b c : Bool) → is_cancellation t ≡ c → is_held to token w ≡ true → (is_held to token (after_calls (observe_calls_by b c time t) w) ≡ true) ⊎ ((is_cancellation t ≡ true) × ((same_endpoint t.origin.endpoint to && pointwise nat_eq t.token.items token) ≡ true))
+  observed_stays time t w true c is some = inl (one_stays (Register time t.origin.endpoint t.token t.request (szx_of t.block) t.serial) w (λ x. x) some)
+  observed_stays time t w false true is some = ⊎_elim
       (λ (stays : is_held to token (observers_after (Cancel t.origin.endpoint t.token.items) w) ≡ true). inl stays)
       (λ (goes : TakesAway to token (Cancel t.origin.endpoint t.token.items) w). inr (is, goes))
       (stays_or_goes to token (Cancel t.origin.endpoint t.token.items) w some)
-  observed_stays moment t w false false is some = inl some
+  observed_stays time t w false false is some = inl some
 
   -- those of a notification, if the client isn't the one whose lease ends in this way.
-  told_stays : (b : Bool) (turn : Turn) (id random moment serial : ℕ) (bytes : ArrayVec ℕ) (w : ObserverList) → is_held to token w ≡ true → (is_held to token (observers_after (told_call b turn id random moment serial bytes) (at_moment moment w)) ≡ true) ⊎ ((b ≡ false) × ((o : ObserverEntry) × (entry_out turn (at_moment moment w) ≡ Some o) × (is_entry_of to token o ≡ true)))
-  told_stays true turn id random moment serial bytes w some = inl (one_stays (Notify moment turn id serial random bytes) (at_moment moment w) (λ x. x) some)
-  told_stays false turn id random moment serial bytes w some = ⊎_elim
-      (λ (stays : is_held to token (observers_after (End turn) (at_moment moment w)) ≡ true). inl stays)
-      (λ (goes : TakesAway to token (End turn) (at_moment moment w)). inr (refl, goes))
-      (stays_or_goes to token (End turn) (at_moment moment w) some)
+  told_stays : (b : Bool) (turn : Turn) (id random time serial : ℕ) (bytes : ArrayVec ℕ) (w : ObserverList) → is_held to token w ≡ true → (is_held to token (observers_after (told_call b turn id random time serial bytes) (list_at_time time w)) ≡ true) ⊎ ((b ≡ false) × ((o : ObserverEntry) × (entry_out turn (list_at_time time w) ≡ Some o) × (is_entry_of to token o ≡ true)))
+  told_stays true turn id random time serial bytes w some = inl (one_stays (Notify time turn id serial random bytes) (list_at_time time w) (λ x. x) some)
+  told_stays false turn id random time serial bytes w some = ⊎_elim
+      (λ (stays : is_held to token (observers_after (End turn) (list_at_time time w)) ≡ true). inl stays)
+      (λ (goes : TakesAway to token (End turn) (list_at_time time w)). inr (refl, goes))
+      (stays_or_goes to token (End turn) (list_at_time time w) some)
 
-  note_stays : (turn : Turn) (id random moment : ℕ) (found : Option Ticket) (sent : Option Emission) (w : ObserverList) → is_held to token w ≡ true → (is_held to token (after_calls (note_calls turn id random moment found sent) w) ≡ true) ⊎ ((keeps_observer found ≡ false) × ((o : ObserverEntry) × (entry_out turn (at_moment moment w) ≡ Some o) × (is_entry_of to token o ≡ true)))
-  note_stays turn id random moment found None w some = inl some
-  note_stays turn id random moment found (Some e) w some = told_stays (keeps_observer found) turn id random moment (serial_told found) e.bytes w some
+  note_stays : (turn : Turn) (id random time : ℕ) (found : Option Ticket) (sent : Option Emission) (w : ObserverList) → is_held to token w ≡ true → (is_held to token (after_calls (note_calls turn id random time found sent) w) ≡ true) ⊎ ((keeps_observer found ≡ false) × ((o : ObserverEntry) × (entry_out turn (list_at_time time w) ≡ Some o) × (is_entry_of to token o ≡ true)))
+  note_stays turn id random time found None w some = inl some
+  note_stays turn id random time found (Some e) w some = told_stays (keeps_observer found) turn id random time (serial_told found) e.bytes w some
 
 no_content : (found : Option Ticket) → keeps_observer found ≡ false → IsNoContent found
 no_content None not = tt
@@ -87,9 +87,9 @@ last_by : (e : Emission) (n : ℕ) (b : Bool) → nat_lt n 4 ≡ b → (if b the
 last_by e n true few none = absurd (cc none)
 last_by e n false few none = ⊎_elim (λ (lt : n < 4). let yes = lt-ltb n 4 lt in absurd (cc (yes, few))) (λ (le : 4 ≤ n). le) (cases_lt n 4)
 
-last_in : (now : ℕ) (to : Endpoint) (p : Phase) → is_late_in now p ≡ true → retransmission_in to p ≡ None → IsLast p
-last_in now to (Outstanding sent_at timeout n bytes) late none = record { sent_at = sent_at; timeout = timeout; retransmissions = n; bytes = bytes; outstanding = refl; four = last_by (record { to = to; bytes = bytes }) n (nat_lt n 4) refl none }
-last_in now to other late none = absurd (cc late)
+last_in : (now : ℕ) (to : Endpoint) (p : Phase) → is_overdue_in now p ≡ true → retransmission_in to p ≡ None → IsLast p
+last_in now to (Outstanding sent_at timeout n bytes) overdue none = record { sent_at = sent_at; timeout = timeout; retransmissions = n; bytes = bytes; outstanding = refl; four = last_by (record { to = to; bytes = bytes }) n (nat_lt n 4) refl none }
+last_in now to other overdue none = absurd (cc overdue)
 
 -- ---- an event
 
@@ -103,20 +103,20 @@ module _ (r : Entry) (s : Seen) (n : ℕ) (to : Endpoint) (token : List ℕ) whe
   -- that names a job
   by_row : (k : ℕ) (cs : List ObserverCall) → names r.event ≡ Some k → slot_of s k ≡ n → CallsBy r.event (around s (slot_of s k)) (stage s k) cs → is_held to token w ≡ true → Stays cs
   by_row k cs named slot (NoCall is) some = inl (subst (λ (l : List ObserverCall). is_held to token (after_calls l w) ≡ true) (sym is) some)
-  by_row k cs named slot (OfTaking turn moment present t is) some = inl (subst (λ (l : List ObserverCall). is_held to token (after_calls l w) ≡ true) (sym is) (miss_stays to token (is_out_at turn moment t) turn present moment w some))
-  by_row k cs named slot (OfGiveUp turn moment is) some = inl (subst (λ (l : List ObserverCall). is_held to token (after_calls l w) ≡ true) (sym is) (one_stays to token (GiveUpTurn turn moment) w (λ x. x) some))
-  by_row k cs named slot (OfCommit j now count moment t event stands is) some =
+  by_row k cs named slot (OfSnapshot turn time present t is) some = inl (subst (λ (l : List ObserverCall). is_held to token (after_calls l w) ≡ true) (sym is) (mark_missing_stays to token (is_out_at turn time t) turn present time w some))
+  by_row k cs named slot (OfGiveUp turn time is) some = inl (subst (λ (l : List ObserverCall). is_held to token (after_calls l w) ≡ true) (sym is) (one_stays to token (GiveUpTurn turn time) w (λ x. x) some))
+  by_row k cs named slot (OfCommit j now count time t event stands is) some =
       let same : k ≡ j = cc (sym named ∙ ap names event) in
       subst Stays (sym is) (⊎_elim
-      (λ (stays : is_held to token (after_calls (observe_calls moment t) w) ≡ true). inl stays)
+      (λ (stays : is_held to token (after_calls (observe_calls time t) w) ≡ true). inl stays)
       (λ (goes : (is_cancellation t ≡ true) × ((same_endpoint t.origin.endpoint to && pointwise nat_eq t.token.items token) ≡ true)). inr (ByCancellation (record { number = k; now = now; count = count; ticket = t; event = event ∙ ap (λ (i : ℕ). Commit i now) (sym same); at = stands; slot = slot; asks = value_is 1 t.observe goes.0; client = goes.1 })))
-      (observed_stays to token moment t w (is_registration t) (is_cancellation t) refl some))
+      (observed_stays to token time t w (is_registration t) (is_cancellation t) refl some))
   by_row k cs named slot (OfNote j now random id turn found event stands is) some =
       let same : k ≡ j = cc (sym named ∙ ap names event) in
-      let moment = moment_at s k now in
+      let time = time_at s k now in
       subst Stays (sym is) (⊎_elim
-      (λ (stays : is_held to token (after_calls (note_calls turn id random moment found (note_at turn id moment found (watch s (slot_of s k)))) w) ≡ true). inl stays)
-      (λ (goes : (keeps_observer found ≡ false) × ((o : ObserverEntry) × (entry_out turn (at_moment moment w) ≡ Some o) × (is_entry_of to token o ≡ true))). inr (ByAnswer (record {
+      (λ (stays : is_held to token (after_calls (note_calls turn id random time found (note_at turn id time found (watch s (slot_of s k)))) w) ≡ true). inl stays)
+      (λ (goes : (keeps_observer found ≡ false) × ((o : ObserverEntry) × (entry_out turn (list_at_time time w) ≡ Some o) × (is_entry_of to token o ≡ true))). inr (ByAnswer (record {
         number = k;
         now = now;
         random = random;
@@ -131,10 +131,10 @@ module _ (r : Entry) (s : Seen) (n : ℕ) (to : Endpoint) (token : List ℕ) whe
         own = goes.1.2;
         answer = no_content found goes.0;
       })))
-      (note_stays to token turn id random moment found (note_at turn id moment found (watch s (slot_of s k))) w some))
+      (note_stays to token turn id random time found (note_at turn id time found (watch s (slot_of s k))) w some))
 
-  by_slot : (k : ℕ) (b : Bool) → names r.event ≡ Some k → (slot_of s k == n) ≡ b → is_held to token w ≡ true → Stays (if b then (row r.event (scene s k)).calls else [])
-  by_slot k true named is some = by_row k (row r.event (scene s k)).calls named (eqb-true (slot_of s k) n is) (row_calls r.event (job s k) (slot_at s (slot_of s k)) (around s (slot_of s k)) (stage s k)) some
+  by_slot : (k : ℕ) (b : Bool) → names r.event ≡ Some k → (slot_of s k == n) ≡ b → is_held to token w ≡ true → Stays (if b then (row r.event (inputs s k)).calls else [])
+  by_slot k true named is some = by_row k (row r.event (inputs s k)).calls named (eqb-true (slot_of s k) n is) (row_calls r.event (job s k) (slot_at s (slot_of s k)) (around s (slot_of s k)) (stage s k)) some
   by_slot k false named is some = inl some
 
   -- that has a shard of its own.
@@ -147,16 +147,16 @@ module _ (r : Entry) (s : Seen) (n : ℕ) (to : Endpoint) (token : List ℕ) whe
       inr (ByReset (record { shard = shard; id = id; entry = goes.0; event = event ∙ ap (λ (x : Endpoint). Signal shard x id true) (sym last.0); slot = eqb-true (n % 8) shard here; held = goes.1; own = goes.2; last = last.1 })))
       (stays_or_goes to token (Reset from id) w some)
 
-  tick_by : (shard now : ℕ) (b : Bool) → r.event ≡ ShardTick shard now → is_place_of (late_in s shard (max (s.shard_moment shard) now)) shard n ≡ b → is_held to token w ≡ true → Stays (if b then TickObservers (max (s.shard_moment shard) now) ∷ [] else [])
+  tick_by : (shard now : ℕ) (b : Bool) → r.event ≡ ShardTick shard now → is_place_of (overdue_in s shard (max (s.shard_time shard) now)) shard n ≡ b → is_held to token w ≡ true → Stays (if b then TickObservers (max (s.shard_time shard) now) ∷ [] else [])
   tick_by shard now false event here some = inl some
   tick_by shard now true event here some =
-      let at = max (s.shard_moment shard) now in
-      let place = place_is (late_in s shard at) shard n here in
+      let at = max (s.shard_time shard) now in
+      let place = place_is (overdue_in s shard at) shard n here in
       ⊎_elim
       (λ (stays : is_held to token (observers_after (TickObservers at) w) ≡ true). inl stays)
       (λ (goes : TakesAway to token (TickObservers at) w).
-      let late = (found_holds (λ (o : ObserverEntry). Unit {0}) (is_late (max w.moment at)) w.held goes.0 (λ k d lt. tt) goes.1).1 in
-      let last = last_in (max w.moment at) goes.0.endpoint goes.0.phase late goes.3 in
+      let overdue = (found_holds (λ (o : ObserverEntry). Unit {0}) (is_overdue (max w.time at)) w.held goes.0 (λ k d lt. tt) goes.1).1 in
+      let last = last_in (max w.time at) goes.0.endpoint goes.0.phase overdue goes.3 in
       inr (ByTimeout (record {
         shard = shard;
         now = now;
@@ -169,7 +169,7 @@ module _ (r : Entry) (s : Seen) (n : ℕ) (to : Endpoint) (token : List ℕ) whe
         event = event;
         slot = place.2;
         first = place.1;
-        late = goes.1;
+        overdue = goes.1;
         own = goes.2;
         outstanding = last.outstanding;
         four = last.four;
@@ -178,11 +178,11 @@ module _ (r : Entry) (s : Seen) (n : ℕ) (to : Endpoint) (token : List ℕ) whe
 
   by_shard : (d : Event) → r.event ≡ d → is_held to token w ≡ true → Stays (calls_by (at_shard d) s n)
   by_shard (Due shard now) event some =
-      let at = max (s.shard_moment shard) now in
-      inl (one_if to token (is_place_of (due_in s shard at) shard n) (NextDue at (slot_at s n).noticed) w (λ x. x) some)
+      let at = max (s.shard_time shard) now in
+      inl (one_if to token (is_place_of (due_in s shard at) shard n) (NextDue at (slot_at s n).notify_serial) w (λ x. x) some)
   by_shard (Signal shard from id true) event some = reset_by shard id from ((n % 8) == shard) event refl some
   by_shard (Signal shard from id false) event some = inl (one_if to token ((n % 8) == shard) (Acknowledge from id) w (λ x. x) some)
-  by_shard (ShardTick shard now) event some = tick_by shard now (is_place_of (late_in s shard (max (s.shard_moment shard) now)) shard n) event refl some
+  by_shard (ShardTick shard now) event some = tick_by shard now (is_place_of (overdue_in s shard (max (s.shard_time shard) now)) shard n) event refl some
   by_shard other event some = inl some
 
   -- after its calls the list is this one

@@ -6,9 +6,9 @@ use Rattle.fc_registry.specs.Taken.{Given, Missing, Stale, Refused}
 use Rattle.fc_core.specs.Stage.{Stage}
 use Rattle.fc_core.specs.Stage.{ToTell, Gone}
 use Rattle.fc_core.specs.TurnStage.{TurnStage}
-use Rattle.fc_registry.specs.Calls.{is_out_at, turn_taking}
+use Rattle.fc_registry.specs.Calls.{is_out_at, turn_snapshot}
 use Rattle.fc_core.specs.Stages.{turn_took}
-use Rattle.fc_core.specs.Rows.{Scene}
+use Rattle.fc_core.specs.Rows.{Inputs}
 
 -- a property of each of these stages.
 pub told_or_gone : (P : Stage → Type 0) → ((turn : Turn) (needs : TurnStage) → P (ToTell turn needs)) → P Gone → (turn : Turn) (x : Taken) → P (turn_took turn x)
@@ -17,5 +17,5 @@ told_or_gone P told gone turn Missing = told turn _
 told_or_gone P told gone turn Stale = gone
 told_or_gone P told gone turn Refused = told turn _
 
-pub after_turn : (P : Stage → Type 0) → ((turn : Turn) (needs : TurnStage) → P (ToTell turn needs)) → P Gone → (kept : Option (List ℕ)) (turn : Turn) (x : Scene) → P (turn_took turn (turn_taking (is_out_at turn x.around.moment x.around.watch) kept x.job x.slot.serial x.slot.present))
+pub after_turn : (P : Stage → Type 0) → ((turn : Turn) (needs : TurnStage) → P (ToTell turn needs)) → P Gone → (kept : Option (List ℕ)) (turn : Turn) (x : Inputs) → P (turn_took turn (turn_snapshot (is_out_at turn x.around.time x.around.watch) kept x.job x.slot.serial x.slot.present))
 after_turn P told gone kept turn x = told_or_gone P told gone turn _

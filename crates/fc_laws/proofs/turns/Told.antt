@@ -7,15 +7,15 @@ use Rattle.std.specs.Option.{option_map, option_to_list}
 use Rattle.std.proofs.lemmas.Bool.{and_right, eq-eqb, eqb-true, false_from_ne_true}
 use Rattle.coap_msg.specs.declared.types.Endpoint.{Endpoint}
 use Rattle.fc_observe.specs.declared.entry.Turn.{Turn}
-use Rattle.fc_observe.specs.Calls.{ObserverCall, Advance, NextDue, Miss, observers}
+use Rattle.fc_observe.specs.Calls.{ObserverCall, Advance, NextDue, MarkMissing, observers}
 use Rattle.fc_observe.specs.Laws.{noticed_for}
-use Rattle.fc_observe.specs.Observers.{ObserverList, at_moment, entry_out, gives_turn, next_turn_by, turn_given, turn_given_by}
+use Rattle.fc_observe.specs.Observers.{ObserverList, list_at_time, entry_out, gives_turn, next_turn_by, turn_given, turn_given_by}
 use Rattle.fc_observe.specs.Views.{Interest, interest_of}
 use Rattle.fc_observe.proofs.Hearing.{more_turns}
 use Rattle.fc_observe.proofs.Lasting.{HasMissed, missed_begin, missed_last}
 use Rattle.fc_registry.specs.declared.job.Job.{Job}
 use Rattle.fc_registry.specs.declared.job.Opening.{Opening}
-use Rattle.fc_registry.specs.Calls.{is_out_at, miss_calls, turn_of, turn_taking, readings_if}
+use Rattle.fc_registry.specs.Calls.{is_out_at, mark_missing_calls, turn_of, turn_snapshot, readings_if}
 use Rattle.fc_registry.specs.Slots.{Present, Slot, Ticket}
 use Rattle.fc_registry.specs.Turns.{job_of_turn, turn_job}
 use Rattle.fc_registry.proofs.Noticed.{noticed_within}
@@ -27,12 +27,12 @@ use Rattle.fc_core.specs.declared.stage.Task.{Task}
 use Rattle.fc_core.specs.TurnStage.{TurnStage}
 use Rattle.fc_core.specs.TurnStage as turns
 use Rattle.fc_core.specs.Fits.{FitsStage}
-use Rattle.fc_core.specs.History.{Entry, History, Begins, Then, Seen, seen, and_then, around, calls_by, calls_named, common, due_in, front_at, is_place_of, job, no_task, received_at, scene, slot_at, stage, task_at, tasks_brought, tasks_moved, turn_at, watch, at_shard}
+use Rattle.fc_core.specs.History.{Entry, History, Begins, Then, Seen, seen, and_then, around, calls_by, calls_named, common, due_in, front_at, is_place_of, job, no_task, received_at, inputs, slot_at, stage, task_at, tasks_brought, tasks_moved, turn_at, watch, at_shard}
 use Rattle.fc_core.specs.Laws.{slot_of}
 use Rattle.fc_core.specs.Receiving.{Received, Opened, brought, job_of, next_opening}
 use Rattle.fc_core.specs.Sound.{IsSoundlySeen}
 use Rattle.fc_core.specs.Stages.{first_stage, new_task, turn_took, with_id}
-use Rattle.fc_core.specs.Rows.{Common, Around, Scene, names, row, task_moved}
+use Rattle.fc_core.specs.Rows.{Common, Around, Inputs, names, row, task_moved}
 use Rattle.fc_core.proofs.ByStep.{Step, by_move, move_by, stage_by}
 use Rattle.fc_core.proofs.ByStep as steps
 use Rattle.fc_laws.proofs.turns.Apart.{IsToldOf, is_told_of}
@@ -70,16 +70,16 @@ turns_last n confirm_after number cs calls lt =
     omega (arith, lt, more, same)
 
 -- a later lease has another number.
-another_turn : (turns number noticed old : ℕ) (b : Bool) → number < turns → cond (b && (turns == number)) noticed old ≡ old
-another_turn turns number noticed old b lt =
+another_turn : (turns number notify_serial old : ℕ) (b : Bool) → number < turns → cond (b && (turns == number)) notify_serial old ≡ old
+another_turn turns number notify_serial old b lt =
     let other : (turns == number) ≡ false = false_from_ne_true (turns == number) (λ e. let same = eqb-true turns number e in absurd (omega (arith, same, lt))) in
-    ap (λ (c : Bool). cond c noticed old) (and_right b (turns == number) other)
+    ap (λ (c : Bool). cond c notify_serial old) (and_right b (turns == number) other)
 
 noticed_lasts : (n confirm_after number : ℕ) (cs calls : List ObserverCall) → number < (observers n confirm_after calls).turns → noticed_for number n confirm_after (cs ++ calls) ≡ noticed_for number n confirm_after calls
 noticed_lasts n confirm_after number [] calls lt = refl
-noticed_lasts n confirm_after number (NextDue now noticed ∷ cs) calls lt =
+noticed_lasts n confirm_after number (NextDue now notify_serial ∷ cs) calls lt =
     let t = observers n confirm_after (cs ++ calls) in
-    another_turn t.turns number noticed (noticed_for number n confirm_after (cs ++ calls)) (gives_turn noticed (at_moment now t)) (turns_last n confirm_after number cs calls lt) ∙ noticed_lasts n confirm_after number cs calls lt
+    another_turn t.turns number notify_serial (noticed_for number n confirm_after (cs ++ calls)) (gives_turn notify_serial (list_at_time now t)) (turns_last n confirm_after number cs calls lt) ∙ noticed_lasts n confirm_after number cs calls lt
 noticed_lasts n confirm_after number (other ∷ cs) calls lt = noticed_lasts n confirm_after number cs calls lt
 
 found_lasts : (n confirm_after : ℕ) (cs calls : List ObserverCall) (turn : Turn) (found : Option Ticket) → turn.number < (observers n confirm_after calls).turns → KnowsFound n confirm_after calls turn found → KnowsFound n confirm_after (cs ++ calls) turn found
@@ -97,29 +97,29 @@ lasts n confirm_after cs calls serial later other rises w = tt
 
 -- ---- each transition
 
-abbrev at : Job → Slot → Around → Stage → Scene
+abbrev at : Job → Slot → Around → Stage → Inputs
 at job slot ws stage = record { job = job; slot = slot; around = ws; stage = stage }
 
-module _ (n confirm_after : ℕ) (calls : List ObserverCall) (serial : ℕ) (turn : Turn) (moment : ℕ) (job : Job) where
+module _ (n confirm_after : ℕ) (calls : List ObserverCall) (serial : ℕ) (turn : Turn) (time : ℕ) (job : Job) where
   abbrev out : Bool
-  out = is_out_at turn moment (observers n confirm_after calls)
+  out = is_out_at turn time (observers n confirm_after calls)
 
-  taking_knows : (b : Bool) (kept : Option (List ℕ)) (p : Option Present) → is_some (entry_out turn (at_moment moment (observers n confirm_after calls))) ≡ b → turn.number < (observers n confirm_after calls).turns → noticed_for turn.number n confirm_after calls ≤ serial → Knows n confirm_after ((miss_calls b turn p ++ Advance moment ∷ []) ++ calls) serial (turn_took turn (turn_taking b kept job serial p))
-  taking_knows false kept p is lt le = tt
-  taking_knows true kept None is lt le = (turns_last n confirm_after turn.number (Miss turn ∷ Advance moment ∷ []) calls lt, missed_begin turn n confirm_after (Advance moment ∷ calls) is)
-  taking_knows true (Some readings) (Some p) is lt le = (lt, le)
-  taking_knows true None (Some p) is lt le = (lt, le)
+  snapshot_knows : (b : Bool) (kept : Option (List ℕ)) (p : Option Present) → is_some (entry_out turn (list_at_time time (observers n confirm_after calls))) ≡ b → turn.number < (observers n confirm_after calls).turns → noticed_for turn.number n confirm_after calls ≤ serial → Knows n confirm_after ((mark_missing_calls b turn p ++ Advance time ∷ []) ++ calls) serial (turn_took turn (turn_snapshot b kept job serial p))
+  snapshot_knows false kept p is lt le = tt
+  snapshot_knows true kept None is lt le = (turns_last n confirm_after turn.number (MarkMissing turn ∷ Advance time ∷ []) calls lt, missed_begin turn n confirm_after (Advance time ∷ calls) is)
+  snapshot_knows true (Some readings) (Some p) is lt le = (lt, le)
+  snapshot_knows true None (Some p) is lt le = (lt, le)
 
 drawn_knows : (n confirm_after : ℕ) (calls : List ObserverCall) (serial : ℕ) (turn : Turn) (found : Option Ticket) (free : Option ℕ) → KnowsFound n confirm_after calls turn found → KnowsTurn n confirm_after calls serial turn (with_id found free)
 drawn_knows n confirm_after calls serial turn found (Some id) w = w
 drawn_knows n confirm_after calls serial turn found None w = w
 
-module _ (n confirm_after : ℕ) (calls : List ObserverCall) (common : Common) (moment : ℕ) where
+module _ (n confirm_after : ℕ) (calls : List ObserverCall) (common : Common) (time : ℕ) where
   abbrev ws : Around
-  ws = record { common = common; moment = moment; watch = observers n confirm_after calls }
+  ws = record { common = common; time = time; watch = observers n confirm_after calls }
 
   step_knows : (c : Step) (job : Job) (slot : Slot) (turn : Turn) → IsToldOf turn (stage_by c) → Knows n confirm_after calls slot.serial (stage_by c) → Knows n confirm_after ((move_by c job slot ws).calls ++ calls) slot.serial (move_by c job slot ws).stage
-  step_knows (steps.TakesTurn memory readings mine) job slot turn own w = taking_knows n confirm_after calls slot.serial mine moment job (is_out_at mine moment (observers n confirm_after calls)) (readings_if memory readings) slot.present refl w.0 w.1
+  step_knows (steps.TakesTurn memory readings mine) job slot turn own w = snapshot_knows n confirm_after calls slot.serial mine time job (is_out_at mine time (observers n confirm_after calls)) (readings_if memory readings) slot.present refl w.0 w.1
   step_knows (steps.Draws now mine found) job slot turn own w = (w.0, drawn_knows n confirm_after calls slot.serial mine found (common.free now) w.1)
   step_knows (steps.Notes now random mine found id) job slot turn own w = tt
   step_knows (steps.GivesUp now mine needs) job slot turn own w = tt
@@ -133,9 +133,9 @@ module _ (n confirm_after : ℕ) (calls : List ObserverCall) (common : Common) (
 
 -- ---- each event
 
-newly_given : (t : ObserverList) (noticed old : ℕ) (b : Bool) → b ≡ true → (t.turns < (turn_given_by b noticed t).turns) × (cond (b && (t.turns == t.turns)) noticed old ≡ noticed)
-newly_given t noticed old true is = (omega arith, ap (λ (b : Bool). cond b noticed old) (eq-eqb t.turns t.turns refl))
-newly_given t noticed old false is = absurd (cc is)
+newly_given : (t : ObserverList) (notify_serial old : ℕ) (b : Bool) → b ≡ true → (t.turns < (turn_given_by b notify_serial t).turns) × (cond (b && (t.turns == t.turns)) notify_serial old ≡ notify_serial)
+newly_given t notify_serial old true is = (omega arith, ap (λ (b : Bool). cond b notify_serial old) (eq-eqb t.turns t.turns refl))
+newly_given t notify_serial old false is = absurd (cc is)
 
 abbrev KnowsAt : Seen → Job → Stage → Type 0
 KnowsAt s j st = Knows j.origin.slot s.policy.confirm_after (s.calls j.origin.slot) (slot_at s j.origin.slot).serial st
@@ -169,19 +169,19 @@ module _ (r : Entry) (s : Seen) where
       (lasts n s.policy.confirm_after (calls_by (at_shard e) s n) (s.calls n) (slot_at s n).serial (slot_at after n).serial t.stage (serial_rises n) w)
 
   -- the calls of the event that names a job
-  own_calls : (k : ℕ) → names e ≡ Some k → after.calls (slot_of s k) ≡ (row e (scene s k)).calls ++ s.calls (slot_of s k)
+  own_calls : (k : ℕ) → names e ≡ Some k → after.calls (slot_of s k) ≡ (row e (inputs s k)).calls ++ s.calls (slot_of s k)
   own_calls k named =
       let n = slot_of s k in
       (λ i. calls_named (named i) e s n ++ (calls_by (named_calm e k named i) s n ++ s.calls n))
-      ∙ ap (λ (b : Bool). (if b then (row e (scene s k)).calls else []) ++ s.calls n) (eq-eqb n n refl)
+      ∙ ap (λ (b : Bool). (if b then (row e (inputs s k)).calls else []) ++ s.calls n) (eq-eqb n n refl)
 
-  moved_by : (k : ℕ) → names e ≡ Some k → ((number : ℕ) → (job s k).turn ≡ Some number → IsToldOf (turn_of (job s k) number) (stage s k)) → (o : Option ℕ) → (job s k).turn ≡ o → FitsStage (job s k) (slot_at s (slot_of s k)) (row e (scene s k)).stage → KnowsAt s (job s k) (stage s k) → KnowsAt after (job s k) (row e (scene s k)).stage
-  moved_by k named own None asks fits w = not_told (slot_of s k) s.policy.confirm_after (slot_at after (slot_of s k)).serial (after.calls (slot_of s k)) (job s k) (slot_at s (slot_of s k)) (row e (scene s k)).stage asks fits
+  moved_by : (k : ℕ) → names e ≡ Some k → ((number : ℕ) → (job s k).turn ≡ Some number → IsToldOf (turn_of (job s k) number) (stage s k)) → (o : Option ℕ) → (job s k).turn ≡ o → FitsStage (job s k) (slot_at s (slot_of s k)) (row e (inputs s k)).stage → KnowsAt s (job s k) (stage s k) → KnowsAt after (job s k) (row e (inputs s k)).stage
+  moved_by k named own None asks fits w = not_told (slot_of s k) s.policy.confirm_after (slot_at after (slot_of s k)).serial (after.calls (slot_of s k)) (job s k) (slot_at s (slot_of s k)) (row e (inputs s k)).stage asks fits
   moved_by k named own (Some number) of_turn fits w =
       let n = slot_of s k in
-      subst (λ (cs : List ObserverCall). Knows n s.policy.confirm_after cs (slot_at after n).serial (row e (scene s k)).stage) (sym (own_calls k named))
-      (lasts n s.policy.confirm_after [] ((row e (scene s k)).calls ++ s.calls n) (slot_at s n).serial (slot_at after n).serial (row e (scene s k)).stage (serial_rises n)
-      (row_knows n s.policy.confirm_after (s.calls n) (common s) (s.shard_moment (n % 8)) e (job s k) (slot_at s n) (turn_of (job s k) number) (stage s k) (own number of_turn) w))
+      subst (λ (cs : List ObserverCall). Knows n s.policy.confirm_after cs (slot_at after n).serial (row e (inputs s k)).stage) (sym (own_calls k named))
+      (lasts n s.policy.confirm_after [] ((row e (inputs s k)).calls ++ s.calls n) (slot_at s n).serial (slot_at after n).serial (row e (inputs s k)).stage (serial_rises n)
+      (row_knows n s.policy.confirm_after (s.calls n) (common s) (s.shard_time (n % 8)) e (job s k) (slot_at s n) (turn_of (job s k) number) (stage s k) (own number of_turn) w))
 
   -- ---- the new lease
 
@@ -194,55 +194,55 @@ module _ (r : Entry) (s : Seen) where
   brought_asked (Opened m asked body) o to = (asked_known (job_of o to m asked body) refl, tt)
   brought_asked other o to = tt
 
-  module _ (shard now k : ℕ) (is : e ≡ Due shard now) (due : due_in s shard (max (s.shard_moment shard) now) ≡ Some k) where
-    abbrev moment : ℕ
-    moment = max (s.shard_moment shard) now
+  module _ (shard now k : ℕ) (is : e ≡ Due shard now) (due : due_in s shard (max (s.shard_time shard) now) ≡ Some k) where
+    abbrev time : ℕ
+    time = max (s.shard_time shard) now
 
     abbrev n : ℕ
     n = 8 * k + shard
 
-    abbrev noticed : ℕ
-    noticed = (slot_at s n).noticed
+    abbrev notify_serial : ℕ
+    notify_serial = (slot_at s n).notify_serial
 
     abbrev t : ObserverList
-    t = at_moment moment (watch s n)
+    t = list_at_time time (watch s n)
 
-    due_calls : after.calls n ≡ NextDue moment noticed ∷ s.calls n
+    due_calls : after.calls n ≡ NextDue time notify_serial ∷ s.calls n
     due_calls =
         (λ i. calls_named (names (is i)) (is i) s n ++ (calls_by (at_shard (is i)) s n ++ s.calls n))
-        ∙ (ap (λ (p : Option ℕ). (if is_place_of p shard n then NextDue moment noticed ∷ [] else []) ++ s.calls n) due
-        ∙ ap (λ (b : Bool). (if b then NextDue moment noticed ∷ [] else []) ++ s.calls n) (eq-eqb n n refl))
+        ∙ (ap (λ (p : Option ℕ). (if is_place_of p shard n then NextDue time notify_serial ∷ [] else []) ++ s.calls n) due
+        ∙ ap (λ (b : Bool). (if b then NextDue time notify_serial ∷ [] else []) ++ s.calls n) (eq-eqb n n refl))
 
-    new_known : gives_turn noticed t ≡ true → Knows n s.policy.confirm_after (after.calls n) (slot_at after n).serial (ToTell (record { slot = n; number = t.turns }) turns.ToTake)
+    new_known : gives_turn notify_serial t ≡ true → Knows n s.policy.confirm_after (after.calls n) (slot_at after n).serial (ToTell (record { slot = n; number = t.turns }) turns.ToTake)
     new_known gives =
-        let w = newly_given t noticed (noticed_for t.turns n s.policy.confirm_after (s.calls n)) (gives_turn noticed t) gives in
+        let w = newly_given t notify_serial (noticed_for t.turns n s.policy.confirm_after (s.calls n)) (gives_turn notify_serial t) gives in
         let same = w.1 in
         let rises = serial_rises n in
         let within = noticed_within s.first_serial (s.changes n) in
         subst (λ (cs : List ObserverCall). Knows n s.policy.confirm_after cs (slot_at after n).serial (ToTell (record { slot = n; number = t.turns }) turns.ToTake)) (sym due_calls) (w.0, omega (arith, same, rises, within))
 
-    told_of : (x : Option Interest) → gives_turn noticed t ≡ true → Each (KnowsTask after) (map new_task (option_to_list (option_map (turn_job n t.turns) x)) ++ [])
+    told_of : (x : Option Interest) → gives_turn notify_serial t ≡ true → Each (KnowsTask after) (map new_task (option_to_list (option_map (turn_job n t.turns) x)) ++ [])
     told_of None gives = tt
     told_of (Some o) gives = (new_known gives, tt)
 
-    turn_known : (b : Bool) → gives_turn noticed t ≡ b → Each (KnowsTask after) (map new_task (option_to_list (job_of_turn n (next_turn_by b t) (turn_given noticed t))) ++ [])
-    turn_known true gives = told_of (option_map interest_of (entry_out (record { slot = t.slot; number = t.turns }) (turn_given noticed t))) gives
+    turn_known : (b : Bool) → gives_turn notify_serial t ≡ b → Each (KnowsTask after) (map new_task (option_to_list (job_of_turn n (next_turn_by b t) (turn_given notify_serial t))) ++ [])
+    turn_known true gives = told_of (option_map interest_of (entry_out (record { slot = t.slot; number = t.turns }) (turn_given notify_serial t))) gives
     turn_known false gives = tt
 
-  due_known : (shard now : ℕ) → e ≡ Due shard now → (p : Option ℕ) → due_in s shard (max (s.shard_moment shard) now) ≡ p → Each (KnowsTask after) (map new_task (option_to_list (turn_at p s shard (max (s.shard_moment shard) now))) ++ [])
+  due_known : (shard now : ℕ) → e ≡ Due shard now → (p : Option ℕ) → due_in s shard (max (s.shard_time shard) now) ≡ p → Each (KnowsTask after) (map new_task (option_to_list (turn_at p s shard (max (s.shard_time shard) now))) ++ [])
   due_known shard now is None due = tt
-  due_known shard now is (Some k) due = turn_known shard now k is due (gives_turn (noticed shard now k is due) (t shard now k is due)) refl
+  due_known shard now is (Some k) due = turn_known shard now k is due (gives_turn (notify_serial shard now k is due) (t shard now k is due)) refl
 
   brought_known : (d : Event) → e ≡ d → Each (KnowsTask after) (tasks_brought d s)
   brought_known (Deliver now to bytes) is = brought_asked (received_at s now to bytes.now) (next_opening (front_at s now)) to
-  brought_known (Due shard now) is = due_known shard now is (due_in s shard (max (s.shard_moment shard) now)) refl
+  brought_known (Due shard now) is = due_known shard now is (due_in s shard (max (s.shard_time shard) now)) refl
   brought_known other is = tt
 
   module _ (a : IsSoundlySeen s) (own : (k number : ℕ) → (job s k).turn ≡ Some number → IsToldOf (turn_of (job s k) number) (stage s k)) (before : (k : ℕ) → KnowsTask s (task_at s.tasks k)) where
     moved_known : (p : Option ℕ) → names e ≡ p → (k : ℕ) → KnowsTask after (task_at (tasks_moved p e s) k)
     moved_known None named k = still_known (task_at s.tasks k) (before k)
     moved_known (Some j) named k =
-        written_all (KnowsTask after) s.tasks j (task_moved (task_at s.tasks j) (row e (scene s j))) no_task (λ i. still_known (task_at s.tasks i) (before i))
+        written_all (KnowsTask after) s.tasks j (task_moved (task_at s.tasks j) (row e (inputs s j))) no_task (λ i. still_known (task_at s.tasks i) (before i))
         (moved_by j named (own j) (job s j).turn refl (row_fits e (job s j) (slot_at s (slot_of s j)) (around s (slot_of s j)) (stage s j) (a.stages j)) (before j)) k
 
     all_known : (k : ℕ) → KnowsTask after (task_at after.tasks k)

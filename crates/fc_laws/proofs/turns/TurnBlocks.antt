@@ -12,11 +12,11 @@ use Rattle.coap_reply.specs.Responses.{bare, content, etag, observe_option, text
 use Rattle.coap_block.specs.Cuts.{part_bytes}
 use Rattle.fc_observe.specs.declared.entry.Turn.{Turn}
 use Rattle.fc_observe.specs.Calls.{NextDue, observers_after}
-use Rattle.fc_observe.specs.Observers.{ObserverList, at_moment, entry_out, next_turn}
+use Rattle.fc_observe.specs.Observers.{ObserverList, list_at_time, entry_out, next_turn}
 use Rattle.fc_observe.specs.Views.{Interest, interest_of}
 use Rattle.fc_registry.specs.declared.job.Job.{Job}
 use Rattle.fc_registry.specs.declared.job.Opening.{Opening}
-use Rattle.fc_registry.specs.Calls.{is_out_at, meaning_at, turn_of, turn_taking, readings_if}
+use Rattle.fc_registry.specs.Calls.{is_out_at, meaning_at, turn_of, turn_snapshot, readings_if}
 use Rattle.fc_registry.specs.Slots.{Present, Slot, Ticket}
 use Rattle.fc_registry.specs.Turns.{first_block, job_of_turn, turn_job}
 use Rattle.fc_core.specs.declared.event.Event.{Event}
@@ -26,12 +26,12 @@ use Rattle.fc_core.specs.Stage.{ToTell}
 use Rattle.fc_core.specs.declared.stage.Task.{Task}
 use Rattle.fc_core.specs.TurnStage as turns
 use Rattle.fc_core.specs.Fits.{FitsStage}
-use Rattle.fc_core.specs.History.{History, Begins, Then, Seen, seen, due_in, front_at, job, no_task, received_at, scene, slot_at, stage, task_at, tasks_brought, tasks_moved, turn_at, watch}
+use Rattle.fc_core.specs.History.{History, Begins, Then, Seen, seen, due_in, front_at, job, no_task, received_at, inputs, slot_at, stage, task_at, tasks_brought, tasks_moved, turn_at, watch}
 use Rattle.fc_core.specs.Laws.{slot_of}
 use Rattle.fc_laws.specs.ObserveLaws.{IsFirst}
 use Rattle.fc_core.specs.Receiving.{Received, Opened, brought, next_opening}
 use Rattle.fc_core.specs.Stages.{first_or_turn, new_task, turn_took, with_id}
-use Rattle.fc_core.specs.Rows.{Around, Scene, names, row, task_moved}
+use Rattle.fc_core.specs.Rows.{Around, Inputs, names, row, task_moved}
 use Rattle.fc_laws.specs.TurnLaws.{response_of}
 use Rattle.fc_core.proofs.ByStep.{Step, by_move, move_by, stage_by}
 use Rattle.fc_core.proofs.ByStep as steps
@@ -39,7 +39,7 @@ use Rattle.fc_laws.proofs.turns.Apart.{IsToldOf, every, first_apart, row_apart}
 use Rattle.fc_core.proofs.Lists.{Each, appended_all, written_all}
 use Rattle.fc_laws.proofs.slots.Writing.{sound}
 
-abbrev at : Job → Slot → Around → Stage → Scene
+abbrev at : Job → Slot → Around → Stage → Inputs
 at job slot ws stage = record { job = job; slot = slot; around = ws; stage = stage }
 
 -- ---- the block of a lease's job
@@ -67,16 +67,16 @@ due_first : (s : Seen) (i m : ℕ) (p : Option ℕ) → Each (λ t. AsksFirst t.
 due_first s i m None = tt
 due_first s i m (Some k) =
     let n = 8 * k + i in
-    turn_first n (next_turn (slot_at s n).noticed (at_moment m (watch s n))) (observers_after (NextDue m (slot_at s n).noticed) (watch s n))
+    turn_first n (next_turn (slot_at s n).notify_serial (list_at_time m (watch s n))) (observers_after (NextDue m (slot_at s n).notify_serial) (watch s n))
 
 all_brought : (e : Event) (s : Seen) → Each (λ t. AsksFirst t.job) (tasks_brought e s)
 all_brought (Deliver now to bytes) s = brought_first (received_at s now to bytes.now) (next_opening (front_at s now)) to
-all_brought (Due shard now) s = let m = max (s.shard_moment shard) now in due_first s shard m (due_in s shard m)
+all_brought (Due shard now) s = let m = max (s.shard_time shard) now in due_first s shard m (due_in s shard m)
 all_brought other s = tt
 
 all_moved : (e : Event) (s : Seen) (o : Option ℕ) → ((k : ℕ) → AsksFirst (job s k)) → (k : ℕ) → AsksFirst (task_at (tasks_moved o e s) k).job
 all_moved e s None before k = before k
-all_moved e s (Some j) before k = written_all (λ t. AsksFirst t.job) s.tasks j (task_moved (task_at s.tasks j) (row e (scene s j))) no_task before (before j) k
+all_moved e s (Some j) before k = written_all (λ t. AsksFirst t.job) s.tasks j (task_moved (task_at s.tasks j) (row e (inputs s j))) no_task before (before j) k
 
 asks_first : (h : History) (k : ℕ) → AsksFirst (job (seen h) k)
 unfolding seen
@@ -94,7 +94,7 @@ HasBlock j (ToTell turn (turns.ToDraw found)) = IsBlockOf j found
 HasBlock j (ToTell turn (turns.ToNote found id)) = IsBlockOf j found
 HasBlock j other = Unit {0}
 
-taken_block : (own : Turn) (out : Bool) (kept : Option (List ℕ)) (j : Job) (serial : ℕ) (p : Option Present) → HasBlock j (turn_took own (turn_taking out kept j serial p))
+taken_block : (own : Turn) (out : Bool) (kept : Option (List ℕ)) (j : Job) (serial : ℕ) (p : Option Present) → HasBlock j (turn_took own (turn_snapshot out kept j serial p))
 taken_block own false kept j serial p = tt
 taken_block own true kept j serial None = tt
 taken_block own true (Some readings) j serial (Some p) = refl
@@ -105,7 +105,7 @@ drawn_block own j found (Some id) w = w
 drawn_block own j found None w = w
 
 step_block : (c : Step) (j : Job) (slot : Slot) (ws : Around) (turn : Turn) → IsToldOf turn (stage_by c) → HasBlock j (stage_by c) → HasBlock j (move_by c j slot ws).stage
-step_block (steps.TakesTurn memory readings mine) j slot ws turn own w = taken_block mine (is_out_at mine ws.moment ws.watch) (readings_if memory readings) j slot.serial slot.present
+step_block (steps.TakesTurn memory readings mine) j slot ws turn own w = taken_block mine (is_out_at mine ws.time ws.watch) (readings_if memory readings) j slot.serial slot.present
 step_block (steps.Draws now mine found) j slot ws turn own w = drawn_block mine j found (ws.common.free now) w
 step_block (steps.Notes now random mine found id) j slot ws turn own w = tt
 step_block (steps.GivesUp now mine needs) j slot ws turn own w = tt

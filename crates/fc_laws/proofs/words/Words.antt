@@ -19,16 +19,16 @@ use Rattle.fc_core.specs.Stage.{Stage}
 use Rattle.fc_core.specs.Stage.{ToMatch, ToInstall, ToRaise, ToAnswer}
 use Rattle.fc_laws.specs.HeadLaws.{raises_of, word_to_raise, words_raised}
 use Rattle.fc_core.specs.Heads.{head_word, is_match, published, serial_in, word_at, word_raised}
-use Rattle.fc_core.specs.History.{around, Entry, History, Begins, Then, Seen, seen, and_then, did, job, scene, slot_at, stage, words_seen}
+use Rattle.fc_core.specs.History.{around, Entry, History, Begins, Then, Seen, seen, and_then, did, job, inputs, slot_at, stage, words_seen}
 use Rattle.fc_core.specs.Laws.{slot_of}
 use Rattle.fc_core.specs.Stages.{image_of, matched_by, matched}
-use Rattle.fc_core.specs.Rows.{Around, Scene, names, row, call_if, install_call, install_if, move_of}
+use Rattle.fc_core.specs.Rows.{Around, Inputs, names, row, call_if, install_call, install_if, move_of}
 use Rattle.fc_core.specs.Steps.{Matches, word_told}
 use Rattle.fc_core.proofs.ByStep.{Step, by_step, event_by, move_by, stage_by, Rests}
 use Rattle.fc_core.proofs.ByStep as steps
 use Rattle.fc_laws.proofs.jobs.Others.{is_here, named_stage}
 
-abbrev at : Job → Slot → Around → Stage → Scene
+abbrev at : Job → Slot → Around → Stage → Inputs
 at job slot ws stage = record { job = job; slot = slot; around = ws; stage = stage }
 
 -- ---- the head word that a transition raises
@@ -38,7 +38,7 @@ installed_raises v (Accepts p) slot = refl
 installed_raises v (Breaks rule k) slot = refl
 installed_raises v Untypable slot = refl
 
-verified_raises : (memory : Bool) (x : Scene) → word_told (install_if memory (initial_vars_of x.job.ask) (judged (image_of x.job.ask)) x.slot) ≡ None
+verified_raises : (memory : Bool) (x : Inputs) → word_told (install_if memory (initial_vars_of x.job.ask) (judged (image_of x.job.ask)) x.slot) ≡ None
 verified_raises true x = installed_raises (initial_vars_of x.job.ask) (judged (image_of x.job.ask)) x.slot
 verified_raises false x = refl
 
@@ -51,7 +51,7 @@ step_raises k (steps.Installs memory) job slot ws = verified_raises memory (at j
 step_raises k other job slot ws = refl
 
 rest_raises : (e : Event) (job : Job) (s : Stage) → Rests e job s → None ≡ raise_by e s
-rest_raises (Raise k) job (ToRaise word content) rest = absurd (cc (rest.stray k refl))
+rest_raises (Raise k) job (ToRaise word content) rest = absurd (cc (rest.noop k refl))
 rest_raises (Raise k) job other rest = refl
 rest_raises other job s rest = refl
 
@@ -68,7 +68,7 @@ published_length (Some w) n ws = length-set ws n (max (word_at ws n) w)
 
 words_length : (o : Option ℕ) (e : Event) (s : Seen) → length (words_seen o e s) ≡ length s.words
 words_length None e s = refl
-words_length (Some k) e s = published_length (row e (scene s k)).raises (slot_of s k) s.words
+words_length (Some k) e s = published_length (row e (inputs s k)).raises (slot_of s k) s.words
 
 sixty_four : (h : History) → length (seen h).words ≡ 64
 unfolding seen
@@ -109,7 +109,7 @@ to_raise false k other = refl
 module _ (e : Event) (s : Seen) (k n : ℕ) (lt : n < length s.words) where
   by_raise : word_at (words_seen (Some k) e s) n ≡ max (word_at s.words n) (greatest (words_in (slot_of s k == n) (raise_by e (stage s k))))
   by_raise =
-      word_published (row e (scene s k)).raises (slot_of s k) n s.words lt
+      word_published (row e (inputs s k)).raises (slot_of s k) n s.words lt
       ∙ ap (λ (o : Option ℕ). max (word_at s.words n) (greatest (words_in (slot_of s k == n) o))) (row_raises e (job s k) (slot_at s (slot_of s k)) (around s (slot_of s k)) (stage s k))
 
   by_none : raise_by e (stage s k) ≡ None → word_at (words_seen (Some k) e s) n ≡ max (word_at s.words n) 0

@@ -1,6 +1,6 @@
 use Rattle.std.proofs.Common.{true, false, None, ap}
 use Rattle.std.specs.Prelude.{sum_by}
-use Rattle.coap_client.specs.Heard.{Tells}
+use Rattle.coap_client.specs.Handled.{Tells}
 use Rattle.coap_client.specs.Schedules.{seconds_of}
 use Rattle.coap_client.proofs.Scheduled.{sent_once, unanswered, waited_for}
 use Rattle.coap_client.proofs.laws.no_answer_is_told_too_soon.Goals as goal

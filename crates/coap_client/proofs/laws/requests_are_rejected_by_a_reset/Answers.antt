@@ -1,5 +1,5 @@
 use Rattle.std.proofs.Common.{true}
-use Rattle.coap_client.specs.Heard.{Tells}
+use Rattle.coap_client.specs.Handled.{Tells}
 use Rattle.coap_client.proofs.Scheduled.{rejected}
 use Rattle.coap_client.proofs.Resets.{reset_leaving, reset_registering, reset_requesting}
 use Rattle.coap_client.proofs.laws.requests_are_rejected_by_a_reset.Goals as goal

@@ -1,5 +1,5 @@
 use Rattle.std.proofs.Common.{true, false}
-use Rattle.coap_client.specs.Heard.{Tells}
+use Rattle.coap_client.specs.Handled.{Tells}
 use Rattle.coap_client.proofs.Scheduled.{answered, sent_once, unanswered}
 use Rattle.coap_client.proofs.laws.requests_are_sent_by_the_schedule.Goals as goal
 

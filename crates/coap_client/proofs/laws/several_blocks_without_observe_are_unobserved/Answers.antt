@@ -11,7 +11,7 @@ unlast (next.Ask part) h = refl
 unlast next.Last h = absurd (cc h)
 unlast next.Refused h = refl
 unlast next.Stale h = refl
-unlast next.Misfit h = refl
+unlast next.Malformed h = refl
 
 unshown : (known : Bool) (n : Next) (rest : Bool) → (known && (is_first_part n && rest)) ≡ true → (known && is_last_part n) ≡ false
 unshown false n rest h = refl

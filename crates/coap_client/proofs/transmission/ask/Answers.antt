@@ -1,5 +1,5 @@
 use Rattle.std.proofs.Common.{take, subst}
-use Rattle.coap_client.specs.Heard.{TellsSent}
+use Rattle.coap_client.specs.Handled.{TellsSent}
 use Rattle.coap_client.specs.PeerCalls.{received_bytes}
 use Rattle.coap_client.specs.Transmissions.{MakesCalls, IsTransmitted}
 use Rattle.coap_client.proofs.Transmitting.{transmitted, unanswered}

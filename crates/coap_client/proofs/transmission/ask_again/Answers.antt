@@ -1,7 +1,7 @@
 use Rattle.std.proofs.Common.{false, true, take, arith, subst}
 use Rattle.coap_client.specs.Faults.{IsOfPeer, IsRejectedBy, IsRejection}
-use Rattle.coap_client.specs.Heard.{TellsSent}
-use Rattle.coap_client.specs.Listening.{IsHeard, IsPassedOver}
+use Rattle.coap_client.specs.Handled.{TellsSent}
+use Rattle.coap_client.specs.Listening.{IsHandled, IsPassedOver}
 use Rattle.coap_client.specs.Transmissions.{MakesCalls}
 use Rattle.coap_client.proofs.Failing.{of_peer, of_peer_result, raised, rejected, rejected_later}
 use Rattle.coap_client.proofs.Transmitting.{again, answered, awaited, in_vain, in_vain_to_the_end}
@@ -15,7 +15,7 @@ loop-sendings-preserved g c =
     in_vain (IsPassedOver tells false) c.args.request.now.datagram.now.items c.loop-sendings.sendings (g.P.Peer.called c.args.peer.now) (g.P.Peer.called c.loop-sendings.peer) after
     c.loop-sendings.invariant
     (again _ c.loop-sendings.sendings c.ack_timeout.result _ sent after _ c.ack_timeout.ensures c.in_ok-send.ensures.called
-    (subst (λ x. MakesCalls sent after (IsHeard tells false c.listen.new.buffer x)) c.in-Nothing.is c.in_ok-count.ensures.called))
+    (subst (λ x. MakesCalls sent after (IsHandled tells false c.listen.new.buffer x)) c.in-Nothing.is c.in_ok-count.ensures.called))
 
 pub returns-in-Answer-clause-called : goal.returns-in-Answer-clause-called
 returns-in-Answer-clause-called g c =
@@ -25,17 +25,17 @@ returns-in-Answer-clause-called g c =
     answered tells c.args.request.now.datagram.now.items c.loop-sendings.sendings (take c.in-Answer.count c.listen.new.buffer) (g.P.Peer.called c.args.peer.now)
     (g.P.Peer.called c.loop-sendings.peer) after c.loop-sendings-test.true c.loop-sendings.invariant
     (again _ c.loop-sendings.sendings c.ack_timeout.result _ sent after _ c.ack_timeout.ensures c.in_ok-send.ensures.called
-    (subst (λ x. MakesCalls sent after (IsHeard tells false c.listen.new.buffer x)) c.in-Answer.is c.in_ok-count.ensures.called))
+    (subst (λ x. MakesCalls sent after (IsHandled tells false c.listen.new.buffer x)) c.in-Answer.is c.in_ok-count.ensures.called))
 
 pub returns-in-Acknowledged-clause-called : goal.returns-in-Acknowledged-clause-called
 returns-in-Acknowledged-clause-called g c =
     let tells = TellsSent c.args.request.now in
     let sent = g.P.Peer.called c.send.new.peer in
-    let heard = g.P.Peer.called c.listen.new.peer in
+    let handled = g.P.Peer.called c.listen.new.peer in
     awaited tells c.args.request.now.datagram.now.items c.loop-sendings.sendings c.ack_timeout.result c.await_separate.new.buffer (g.P.Peer.called c.args.peer.now)
-    (g.P.Peer.called c.loop-sendings.peer) sent heard (g.P.Peer.called c.begin_wait.new.self) (g.P.Peer.called c.await_separate.new.peer)
+    (g.P.Peer.called c.loop-sendings.peer) sent handled (g.P.Peer.called c.begin_wait.new.self) (g.P.Peer.called c.await_separate.new.peer)
     c.loop-sendings-test.true c.loop-sendings.invariant c.ack_timeout.ensures c.in_ok-send.ensures.called
-    (subst (λ x. MakesCalls sent heard (IsHeard tells false c.listen.new.buffer x)) c.in-Acknowledged.is c.in_ok-count.ensures.called)
+    (subst (λ x. MakesCalls sent handled (IsHandled tells false c.listen.new.buffer x)) c.in-Acknowledged.is c.in_ok-count.ensures.called)
     c.in_ok-begin_wait-in-Acknowledged.ensures.called c.await_separate.result c.await_separate.ensures.called
 
 pub returns-clause-called : goal.returns-clause-called
@@ -59,11 +59,11 @@ pub returns-in-Acknowledged-clause-fault : goal.returns-in-Acknowledged-clause-f
 returns-in-Acknowledged-clause-fault g c =
     let tells = TellsSent c.args.request.now in
     let sent = g.P.Peer.called c.send.new.peer in
-    let heard = g.P.Peer.called c.listen.new.peer in
+    let handled = g.P.Peer.called c.listen.new.peer in
     let begun = g.P.Peer.called c.begin_wait.new.self in
     let after = g.P.Peer.called c.await_separate.new.peer in
     of_peer_result g.P.Peer.is_error (MakesCalls begun after (IsRejectedBy tells true)) _ c.await_separate.result
     (λ other. rejected_later tells c.args.request.now.datagram.now.items c.loop-sendings.sendings c.ack_timeout.result (g.P.Peer.called c.args.peer.now)
-    (g.P.Peer.called c.loop-sendings.peer) sent heard begun after c.loop-sendings-test.true c.loop-sendings.invariant c.ack_timeout.ensures c.in_ok-send.ensures.called
-    (subst (λ x. MakesCalls sent heard (IsHeard tells false c.listen.new.buffer x)) c.in-Acknowledged.is c.in_ok-count.ensures.called)
+    (g.P.Peer.called c.loop-sendings.peer) sent handled begun after c.loop-sendings-test.true c.loop-sendings.invariant c.ack_timeout.ensures c.in_ok-send.ensures.called
+    (subst (λ x. MakesCalls sent handled (IsHandled tells false c.listen.new.buffer x)) c.in-Acknowledged.is c.in_ok-count.ensures.called)
     c.in_ok-begin_wait-in-Acknowledged.ensures.called other) c.await_separate.ensures.fault

@@ -1,5 +1,5 @@
 use Rattle.std.proofs.Common.{false}
-use Rattle.coap_client.specs.Heard.{TellsSent}
+use Rattle.coap_client.specs.Handled.{TellsSent}
 use Rattle.coap_client.specs.Listening.{IsPassedOver}
 use Rattle.coap_client.specs.Transmissions.{AreInVain, MakesCalls}
 use Rattle.coap_client.proofs.transmission.ask_again.Given as goal

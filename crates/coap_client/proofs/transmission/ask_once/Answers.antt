@@ -1,6 +1,6 @@
 use Rattle.std.proofs.Common.{true}
 use Rattle.coap_client.specs.Faults.{IsRejectedBy}
-use Rattle.coap_client.specs.Heard.{TellsSent}
+use Rattle.coap_client.specs.Handled.{TellsSent}
 use Rattle.coap_client.specs.Transmissions.{MakesCalls}
 use Rattle.coap_client.proofs.Failing.{of_peer_result, rejected_once}
 use Rattle.coap_client.proofs.Transmitting.{once}

@@ -1,5 +1,5 @@
 use Rattle.std.proofs.Common.{◌≤◌, length, take, sym, ◌∙◌, arith}
-use Rattle.coap_client.specs.Heard.{TellsSent}
+use Rattle.coap_client.specs.Handled.{TellsSent}
 use Rattle.coap_client.specs.Listening.{IsPassedOver}
 use Rattle.coap_client.proofs.Failing.{rejection_came}
 use Rattle.coap_client.proofs.Transmitting.{acknowledgement_came, answer_came, awaited_answer, ended_by, flooded, none_come, one_comes, over, passed, some_of}
@@ -12,9 +12,9 @@ pub loop-received-preserved : goal.loop-received-preserved
 loop-received-preserved g c =
     let tells = TellsSent c.args.request.now in
     one_comes (IsPassedOver tells c.args.awaited) c.loop-received.received c.in-Some.count c.receive.new.buffer _ (g.P.Peer.called c.args.peer.now) (g.P.Peer.called c.loop-received.peer)
-    (g.P.Peer.called c.receive.new.self) (g.P.Peer.called c.hear_from.new.peer) c.in-Some.is c.loop-received.invariant c.in_ok-count.ensures.called
-    (passed tells c.args.awaited _ c.in_ok-heard.heard (g.P.Peer.called c.receive.new.self) (g.P.Peer.called c.hear_from.new.peer) c.in_ok-heard.ensures.heard
-    (sym c.is_passed_over.ensures ∙ c.if-is_passed_over.true) c.in_ok-heard.ensures.called)
+    (g.P.Peer.called c.receive.new.self) (g.P.Peer.called c.handle_from.new.peer) c.in-Some.is c.loop-received.invariant c.in_ok-count.ensures.called
+    (passed tells c.args.awaited _ c.in_ok-handled.handled (g.P.Peer.called c.receive.new.self) (g.P.Peer.called c.handle_from.new.peer) c.in_ok-handled.ensures.handled
+    (sym c.is_passed_over.ensures ∙ c.if-is_passed_over.true) c.in_ok-handled.ensures.called)
 
 pub returns-in_default-clause-called : goal.returns-in_default-clause-called
 returns-in_default-clause-called g c =
@@ -25,16 +25,16 @@ pub returns-in-Acknowledged-clause-called : goal.returns-in-Acknowledged-clause-
 returns-in-Acknowledged-clause-called g c =
     let tells = TellsSent c.args.request.now in
     let ends = sym c.is_passed_over.ensures ∙ c.if-is_passed_over.false in
-    acknowledgement_came tells c.args.awaited (take c.in-Some.count c.receive.new.buffer) c.in_ok-heard.heard (g.P.Peer.called c.args.peer.now) (g.P.Peer.called c.hear_from.new.peer)
-    c.in_ok-heard.ensures.heard ends c.in-Acknowledged.is
-    (ended_by tells c.args.awaited c.loop-received.received c.in-Some.count c.receive.new.buffer _ c.in_ok-heard.heard (g.P.Peer.called c.args.peer.now) (g.P.Peer.called c.loop-received.peer)
-    (g.P.Peer.called c.receive.new.self) (g.P.Peer.called c.hear_from.new.peer) c.in-Some.is c.loop-received.invariant c.in_ok-count.ensures.called ends c.in_ok-heard.ensures.called)
+    acknowledgement_came tells c.args.awaited (take c.in-Some.count c.receive.new.buffer) c.in_ok-handled.handled (g.P.Peer.called c.args.peer.now) (g.P.Peer.called c.handle_from.new.peer)
+    c.in_ok-handled.ensures.handled ends c.in-Acknowledged.is
+    (ended_by tells c.args.awaited c.loop-received.received c.in-Some.count c.receive.new.buffer _ c.in_ok-handled.handled (g.P.Peer.called c.args.peer.now) (g.P.Peer.called c.loop-received.peer)
+    (g.P.Peer.called c.receive.new.self) (g.P.Peer.called c.handle_from.new.peer) c.in-Some.is c.loop-received.invariant c.in_ok-count.ensures.called ends c.in_ok-handled.ensures.called)
 
 pub returns-in_default-2-clause-listened : goal.returns-in_default-2-clause-listened
 returns-in_default-2-clause-listened g c =
     let came = some_of _ c.in-Some.count (λ n. (n ≤ length c.receive.new.buffer) × g.P.Peer.came (take n c.receive.new.buffer)) c.in-Some.is c.in_ok-count.ensures.came in (
       came.0,
-      awaited_answer g.P.Peer.came c.args.request.now c.args.awaited _ c.in_ok-heard.heard came.1 c.in_ok-heard.ensures.heard (sym c.is_passed_over.ensures ∙ c.if-is_passed_over.false)
+      awaited_answer g.P.Peer.came c.args.request.now c.args.awaited _ c.in_ok-handled.handled came.1 c.in_ok-handled.ensures.handled (sym c.is_passed_over.ensures ∙ c.if-is_passed_over.false)
           c.in_default-2.not-Acknowledged c.in_default-2.not-Rejected,
     )
 
@@ -42,10 +42,10 @@ pub returns-in_default-2-clause-called : goal.returns-in_default-2-clause-called
 returns-in_default-2-clause-called g c =
     let tells = TellsSent c.args.request.now in
     let ends = sym c.is_passed_over.ensures ∙ c.if-is_passed_over.false in
-    answer_came tells c.args.awaited (take c.in-Some.count c.receive.new.buffer) c.in_ok-heard.heard (g.P.Peer.called c.args.peer.now) (g.P.Peer.called c.hear_from.new.peer)
-    c.in_ok-heard.ensures.heard ends c.in_default-2.not-Acknowledged c.in_default-2.not-Rejected
-    (ended_by tells c.args.awaited c.loop-received.received c.in-Some.count c.receive.new.buffer _ c.in_ok-heard.heard (g.P.Peer.called c.args.peer.now) (g.P.Peer.called c.loop-received.peer)
-    (g.P.Peer.called c.receive.new.self) (g.P.Peer.called c.hear_from.new.peer) c.in-Some.is c.loop-received.invariant c.in_ok-count.ensures.called ends c.in_ok-heard.ensures.called)
+    answer_came tells c.args.awaited (take c.in-Some.count c.receive.new.buffer) c.in_ok-handled.handled (g.P.Peer.called c.args.peer.now) (g.P.Peer.called c.handle_from.new.peer)
+    c.in_ok-handled.ensures.handled ends c.in_default-2.not-Acknowledged c.in_default-2.not-Rejected
+    (ended_by tells c.args.awaited c.loop-received.received c.in-Some.count c.receive.new.buffer _ c.in_ok-handled.handled (g.P.Peer.called c.args.peer.now) (g.P.Peer.called c.loop-received.peer)
+    (g.P.Peer.called c.receive.new.self) (g.P.Peer.called c.handle_from.new.peer) c.in-Some.is c.loop-received.invariant c.in_ok-count.ensures.called ends c.in_ok-handled.ensures.called)
 
 pub returns-clause-called : goal.returns-clause-called
 returns-clause-called g c =
@@ -56,7 +56,7 @@ pub returns-in-Rejected-clause-fault : goal.returns-in-Rejected-clause-fault
 returns-in-Rejected-clause-fault g c =
     let tells = TellsSent c.args.request.now in
     let ends = sym c.is_passed_over.ensures ∙ c.if-is_passed_over.false in
-    rejection_came tells c.args.awaited (take c.in-Some.count c.receive.new.buffer) c.in_ok-heard.heard (g.P.Peer.called c.args.peer.now) (g.P.Peer.called c.hear_from.new.peer)
-    c.in_ok-heard.ensures.heard c.in-Rejected.is
-    (ended_by tells c.args.awaited c.loop-received.received c.in-Some.count c.receive.new.buffer _ c.in_ok-heard.heard (g.P.Peer.called c.args.peer.now) (g.P.Peer.called c.loop-received.peer)
-    (g.P.Peer.called c.receive.new.self) (g.P.Peer.called c.hear_from.new.peer) c.in-Some.is c.loop-received.invariant c.in_ok-count.ensures.called ends c.in_ok-heard.ensures.called)
+    rejection_came tells c.args.awaited (take c.in-Some.count c.receive.new.buffer) c.in_ok-handled.handled (g.P.Peer.called c.args.peer.now) (g.P.Peer.called c.handle_from.new.peer)
+    c.in_ok-handled.ensures.handled c.in-Rejected.is
+    (ended_by tells c.args.awaited c.loop-received.received c.in-Some.count c.receive.new.buffer _ c.in_ok-handled.handled (g.P.Peer.called c.args.peer.now) (g.P.Peer.called c.loop-received.peer)
+    (g.P.Peer.called c.receive.new.self) (g.P.Peer.called c.handle_from.new.peer) c.in-Some.is c.loop-received.invariant c.in_ok-count.ensures.called ends c.in_ok-handled.ensures.called)

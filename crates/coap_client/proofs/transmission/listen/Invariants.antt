@@ -1,4 +1,4 @@
-use Rattle.coap_client.specs.Heard.{TellsSent}
+use Rattle.coap_client.specs.Handled.{TellsSent}
 use Rattle.coap_client.specs.Listening.{ArePassedOver, IsPassedOver}
 use Rattle.coap_client.specs.Transmissions.{MakesCalls}
 use Rattle.coap_client.proofs.transmission.listen.Given as goal

@@ -1,4 +1,4 @@
-use Rattle.fc_calls.proofs.Takings.{takes_nothing}
+use Rattle.fc_calls.proofs.Snapshots.{takes_nothing}
 use Rattle.fc_calls.proofs.laws.requests_take_and_change_nothing.Goals as goal
 
 pub returns : goal.returns

@@ -10,7 +10,7 @@ use Rattle.fc_core.specs.Ends.{refused}
 use Rattle.fc_verify.specs.Judged.{judged}
 use Rattle.fc_verify.specs.Refusals.{IsFaultOf, IsRefusal}
 use Rattle.fc_registry.specs.Slots.{slot_in}
-use Rattle.fc_core.specs.Rows.{Scene, install_call, install_move, move_of, shard_moved}
+use Rattle.fc_core.specs.Rows.{Inputs, install_call, install_move, move_of, shard_moved}
 use Rattle.fc_core.specs.Steps.{Call, Rejects, next_stage}
 use Rattle.fc_core.proofs.Rejections.{rejected_call, same_slot}
 use Rattle.fc_core.proofs.task.verify_and_install.Goals as goal
@@ -31,5 +31,5 @@ returns-in-Err-Broken-clause-shard c = λ s.
 
 pub returns-in-Ok-clause-shard : goal.returns-in-Ok-clause-shard
 returns-in-Ok-clause-shard c =
-    subst (λ (j : Judgement). OnOk c.install_program.result ((s : Scene) → c.install_program.new.shard ≡ shard_moved (install_move c.args.initial j (record s { slot = slot_in c.args.shard.now c.args.slot })) c.args.slot c.args.shard.now))
+    subst (λ (j : Judgement). OnOk c.install_program.result ((s : Inputs) → c.install_program.new.shard ≡ shard_moved (install_move c.args.initial j (record s { slot = slot_in c.args.shard.now c.args.slot })) c.args.slot c.args.shard.now))
     (sym c.in-Ok.ensures.judged) c.install_program.ensures.shard

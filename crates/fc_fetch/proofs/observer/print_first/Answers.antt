@@ -1,5 +1,5 @@
 use Rattle.std.proofs.Common.{ap, take, subst, sym, ◌∙◌}
-use Rattle.coap_client.specs.declared.notice.Notice.TheVariants as notice
+use Rattle.coap_client.specs.declared.notice.NotificationClass.TheVariants as notice
 use Rattle.coap_client.proofs.Failing.{raised}
 use Rattle.coap_client.specs.Transmissions.{MakesCalls}
 use Rattle.fc_fetch.specs.declared.observer.NotesError.TheVariants as notes_error
@@ -14,9 +14,9 @@ pub returns-clause-shown : goal.returns-clause-shown
 returns-clause-shown g c =
     let registered = c.in_ok-count.ensures.registered.1 in
     let read = sym c.read.ensures.function ∙ c.in-Ok.is in
-    let told = c.in_ok-at.ensures.moment in
+    let told = c.in_ok-at.ensures.time in
     let appends = c.in_ok-write_note.ensures in
-    let is = IsFirstShown g.P.Peer.went g.P.Peer.came g.P.Peer.is_moment c.args.observer.now c.args.shown (g.W.Write.contents c.args.out.now) (g.W.Write.contents c.write_note.new.out) in
+    let is = IsFirstShown g.P.Peer.went g.P.Peer.came g.P.Peer.is_time c.args.observer.now c.args.shown (g.W.Write.contents c.args.out.now) (g.W.Write.contents c.write_note.new.out) in
     elim c.match-notice_of.branch [
       | in-State+in_ok-first-in-State w ↦
           let f = w.in_ok-first-in-State in
@@ -28,7 +28,7 @@ returns-clause-shown g c =
 pub returns-in-Older-clause-fault : goal.returns-in-Older-clause-fault
 returns-in-Older-clause-fault g c =
     let before = g.P.Peer.called c.args.peer.now in
-    let after = g.P.Peer.called c.moment.new.peer in
+    let after = g.P.Peer.called c.time.new.peer in
     let unfit = unfit_first g.P.Peer.went g.P.Peer.came c.args.observer.now _ c.in-Ok.message c.notice_of.result c.in_ok-count.ensures.registered.1 (sym c.read.ensures.function ∙ c.in-Ok.is)
     c.notice_of.ensures c.in-Older.is in
     stopped_unfit g.P.Peer.came g.P.Peer.is_error (MakesCalls before after) c.args.observer.now unfit.0 c.unfit.result (c.unfit.ensures ∙ ap unfit_error (sym unfit.1))
@@ -38,12 +38,12 @@ returns-in-Older-clause-fault g c =
 pub returns-clause-called : goal.returns-clause-called
 returns-clause-called g c =
     dated c.args.observer.now (take c.in_ok-count.count c.register.new.buffer) c.in_ok-at.at (g.P.Peer.called c.args.peer.now) (g.P.Peer.called c.register.new.peer)
-    (g.P.Peer.called c.moment.new.peer) c.in_ok-count.ensures.called c.in_ok-at.ensures.called
+    (g.P.Peer.called c.time.new.peer) c.in_ok-count.ensures.called c.in_ok-at.ensures.called
 
 pub returns-in_err-first-in-State-clause-fault : goal.returns-in_err-first-in-State-clause-fault
 returns-in_err-first-in-State-clause-fault g c =
     let before = g.P.Peer.called c.args.peer.now in
-    let after = g.P.Peer.called c.moment.new.peer in
+    let after = g.P.Peer.called c.time.new.peer in
     raised c.from_residual-in_err-first-in-State.result (notes_error.Memory c.in_err-first-in-State.field-0.0)
     (IsFirstFault g.P.Peer.came g.P.Peer.is_error (MakesCalls before after) c.args.observer.now) c.from_residual-in_err-first-in-State.ensures.1
     (unmarked g.P.Peer.went g.P.Peer.came before after c.args.observer.now _ c.in-Ok.message _ c.in_ok-count.ensures.registered.1 (sym c.read.ensures.function ∙ c.in-Ok.is)
@@ -54,7 +54,7 @@ returns-in_err-first-in-State-clause-fault g c =
 pub returns-in_err-write_note-clause-fault : goal.returns-in_err-write_note-clause-fault
 returns-in_err-write_note-clause-fault g c =
     let before = g.P.Peer.called c.args.peer.now in
-    let after = g.P.Peer.called c.moment.new.peer in
+    let after = g.P.Peer.called c.time.new.peer in
     raised c.from_residual-in_err-write_note.result (notes_error.Print c.in_err-write_note.field-0.0)
     (IsFirstFault g.P.Peer.came g.P.Peer.is_error (MakesCalls before after) c.args.observer.now) c.from_residual-in_err-write_note.ensures.1
     (dated c.args.observer.now (take c.in_ok-count.count c.register.new.buffer) c.in_ok-at.at before (g.P.Peer.called c.register.new.peer) after c.in_ok-count.ensures.called

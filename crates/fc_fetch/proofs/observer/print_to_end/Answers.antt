@@ -18,7 +18,7 @@ returns-in_err-leave-in-Ok-clause-fault g c =
     let between = g.P.Peer.called c.print_notes.new.peer in
     let after = g.P.Peer.called c.leave.new.peer in
     raised c.from_residual-in_err-leave-in-Ok.result (notes_error.Fault c.in_err-leave-in-Ok.field-0.0)
-    (IsEndFault g.P.Peer.went g.P.Peer.came g.P.Peer.is_moment g.P.Peer.is_error g.P.Peer.called c.args.peer.now c.leave.new.peer o c.args.extent.seconds) c.from_residual-in_err-leave-in-Ok.ensures.1
+    (IsEndFault g.P.Peer.went g.P.Peer.came g.P.Peer.is_time g.P.Peer.is_error g.P.Peer.called c.args.peer.now c.leave.new.peer o c.args.extent.seconds) c.from_residual-in_err-leave-in-Ok.ensures.1
     (inr (left_in_vain g.P.Peer.is_error before between after o c.args.extent.seconds c.in-Ok.end c.in_err-leave-in-Ok.field-0.0 c.in-Ok.ensures.called c.in_err-leave-in-Ok.ensures.fault))
 
 pub returns-in_err-leave-in-Ok-clause-leaves : goal.returns-in_err-leave-in-Ok-clause-leaves

@@ -20,7 +20,7 @@ returns-clause-continues c h now to m r b is =
 
 pub returns-clause-most : goal.returns-clause-most
 returns-clause-most c h now to m r body e =
-    c.bodies_are_bounded.ensures.most (transfers (seen h).additions) (max (seen h).moment now) to (slot_asked r.action) r.block1 r.payload body (is_whole _ m r body e)
+    c.bodies_are_bounded.ensures.most (transfers (seen h).additions) (max (seen h).time now) to (slot_asked r.action) r.block1 r.payload body (is_whole _ m r body e)
 
 pub returns-clause-few : goal.returns-clause-few
 returns-clause-few c h = c.transfers_are_payloads_joined.ensures.few (seen h).additions

@@ -1,8 +1,8 @@
 use Rattle.fc_laws.proofs.front.Kept.{goes_out, in_window}
 use Rattle.fc_laws.proofs.exchange_laws.answers_go_out_in_time.Goals as goal
 
-pub returns-clause-late : goal.returns-clause-late
-returns-clause-late c = in_window
+pub returns-clause-overdue : goal.returns-clause-overdue
+returns-clause-overdue c = in_window
 
 pub returns-clause-in_time : goal.returns-clause-in_time
 returns-clause-in_time c = goes_out

@@ -13,7 +13,7 @@ pub returns-clause-confirmable : goal.returns-clause-confirmable
 returns-clause-confirmable c = λ confirm_after now o. (leb-true (o.confirmed + confirm_after) now, le-leb (o.confirmed + confirm_after) now)
 
 pub returns-clause-turn : goal.returns-clause-turn
-returns-clause-turn c = λ turn t o out. ap (λ (x : Option Entry). must_confirm_by x t.confirm_after t.moment) out
+returns-clause-turn c = λ turn t o out. ap (λ (x : Option Entry). must_confirm_by x t.confirm_after t.time) out
 
 pub returns-clause-same : goal.returns-clause-same
 returns-clause-same c = confirm_after_is

@@ -3,4 +3,4 @@ use Rattle.fc_service.specs.Rounds.{round_calls}
 use Rattle.fc_service.proofs.laws.served_rounds_are_one_history.Goals as goal
 
 pub returns : goal.returns
-returns g c = rounds_are_one_history g.Z.Sensors.are_sensed (round_calls g.S.Source.received g.M.Moments.is_moment g.K.Sink.went) g.C.Recorder.recorded
+returns g c = rounds_are_one_history g.Z.Sensors.are_sensed (round_calls g.S.Source.received g.M.TimeSource.is_time g.K.Sink.went) g.C.Recorder.recorded

@@ -16,7 +16,7 @@ loop-text-init g c = (
 pub loop-text-preserved : goal.loop-text-preserved
 loop-text-preserved g c =
     let next = next_text vec_items _ _ _ c.in-Ok.text c.deref.ensures.value c.loop-text.invariant.0 (c.in-Some.is ∙ ap (λ (r : Result _ _). Some r) c.in-Ok.is) c.next.ensures.steps.2 in
-    let more = plays_on g.N.LineIntake.hands g.N.Intake.calls c.args.intake.now c.loop-text.intake c.play_line.new.intake _ _ _ _ _ _ c.deref.result.now c.loop-text.invariant.1 next c.in_ok-play_line-in-Ok.ensures.played in
+    let more = plays_on g.N.LineIngress.hands g.N.Ingress.calls c.args.ingress.now c.loop-text.ingress c.play_line.new.ingress _ _ _ _ _ _ c.deref.result.now c.loop-text.invariant.1 next c.in_ok-play_line-in-Ok.ensures.played in
     (c.next.ensures.steps.1 ∙ c.loop-text.invariant.0, more.0, omega (arith, more.1, c.loop-text.invariant.2, c.saturating_add-number.ensures))
 
 pub returns-in_err-play_line-in-Ok-clause-bad : goal.returns-in_err-play_line-in-Ok-clause-bad
@@ -24,7 +24,7 @@ returns-in_err-play_line-in-Ok-clause-bad g c = λ number stops.
     let p = err_from_is_err_and c.from_residual.result c.from_residual.ensures.1 in
     let is : c.play_line.result ≡ Err (BadLine number) = cc (c.in_err-play_line-in-Ok.was, p.1, p.2, stops) in
     let w = c.play_line.ensures.bad number is in
-    stops_at g.N.LineIntake.hands g.N.Intake.calls number c.args.intake.now c.loop-text.intake c.play_line.new.intake _ _ _ _ _ c.loop-text.invariant.1 w.2 w.3
+    stops_at g.N.LineIngress.hands g.N.Ingress.calls number c.args.ingress.now c.loop-text.ingress c.play_line.new.ingress _ _ _ _ _ c.loop-text.invariant.1 w.2 w.3
     (omega (arith, w.0, c.saturating_add-number.ensures, c.loop-text.invariant.2))
 
 pub returns-in-Err-clause-bad : goal.returns-in-Err-clause-bad

@@ -8,6 +8,6 @@ use Rattle.fc_service.proofs.lines.play_lines.Given as goal
 abbrev pub invariant-loop-text : goal.invariant-loop-text
 invariant-loop-text g l =
     (split_byte l.text-iterator ≡ 10)
-    × (h : HasPlayed g.N.LineIntake.hands g.N.Intake.calls l.fn.intake l.intake
+    × (h : HasPlayed g.N.LineIngress.hands g.N.Ingress.calls l.fn.ingress l.ingress
     (g.R.Read.remaining l.fn.input) (split_known_bytes g.R.Read.remaining l.text-iterator) (g.W.Write.contents l.fn.out) (g.W.Write.contents l.out))
     × (l.number ≡ saturated (length h.lines))

@@ -2,22 +2,22 @@ use Rattle.std.proofs.Common.{◌≡◌, ◌-◌, subst}
 use Rattle.std.specs.Prelude.{IfOk, vec_len}
 use Rattle.fc_jobs.specs.Ends.{nothing_got}
 use Rattle.fc_workers.specs.Shares.{AreSharesOf}
-use Rattle.fc_workers.specs.Workers.{Seat}
-use Rattle.fc_service.specs.Pooled.{open_shop}
+use Rattle.fc_workers.specs.Workers.{WorkerSeed}
+use Rattle.fc_service.specs.Pooled.{open_view}
 use Rattle.fc_service.proofs.Seats.{all_before}
 use Rattle.fc_service.proofs.pool.run_at.Goals as goal
 
 -- the handles except the last are the workers', whose shares were returned.
 pub returns-clause-fed : goal.returns-clause-fed
 returns-clause-fed g c =
-    let s = open_shop g.B.Bench.changes g.B.Bench.ended g.B.Bench.called g.B.Bench.logged g.M.Moments.is_moment g.M.Moments.is_random g.W.Wire.called in
+    let s = open_view g.B.Bench.changes g.B.Bench.ended g.B.Bench.called g.B.Bench.logged g.M.TimeSource.is_time g.M.TimeSource.is_random g.W.Wire.called in
     let channel = c.in_ok-jobs.jobs in
     record {
       channel = channel;
-      fed = c.feed_workers-given.ensures.fed.1;
+      fed = c.drive_workers-given.ensures.fed.1;
       shares_are = record {
         seats = c.pop.new.self.items;
-        new = all_before (λ (seat : Seat _). seat.got ≡ nothing_got channel) (vec_len c.in_ok-jobs.seats - 1) c.in_ok-jobs.seats.items c.pop.ensures.rest c.in_ok-jobs.ensures.seats.got;
-        worked = subst (λ r. IfOk r (λ v. AreSharesOf s c.pop.new.self.items v.items)) c.in_ok-shares.was c.feed_workers-given.ensures.shares;
+        new = all_before (λ (seat : WorkerSeed _). seat.got ≡ nothing_got channel) (vec_len c.in_ok-jobs.seats - 1) c.in_ok-jobs.seats.items c.pop.ensures.rest c.in_ok-jobs.ensures.seats.got;
+        worked = subst (λ r. IfOk r (λ v. AreSharesOf s c.pop.new.self.items v.items)) c.in_ok-shares.was c.drive_workers-given.ensures.shares;
       };
     }

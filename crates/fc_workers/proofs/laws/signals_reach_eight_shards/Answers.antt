@@ -6,7 +6,7 @@ use Rattle.fc_workers.proofs.laws.signals_reach_eight_shards.Goals as goal
 
 pub returns : goal.returns
 unfolding AreSignalled
-returns g c handover from id reset old new w =
+returns g c offload from id reset old new w =
     let w7 = w.0 in
     let w6 = w7.1 in
     let w5 = w6.1 in

@@ -2,7 +2,7 @@ use Rattle.std.proofs.Common.{◌≡◌, ◌∙◌, ◌<◌, ◌-◌, [], ◌∷
 use Rattle.std.specs.Prelude.{vec_len}
 use Rattle.std.proofs.lemmas.List.{length-append, map-append}
 use Rattle.fc_jobs.specs.Ends.{Got, nothing_got}
-use Rattle.fc_workers.specs.Workers.{Seat}
+use Rattle.fc_workers.specs.Workers.{WorkerSeed}
 use Rattle.fc_workers.proofs.Seats.{all_popped, all_pushed}
 use Rattle.fc_workers.proofs.pool.seats_at.Goals as goal
 
@@ -15,6 +15,6 @@ loop-own-preserved g c =
       all_popped (λ (x : Got). x ≡ nothing_got c.args.jobs.now) (vec_len c.loop-own.gots - 1) c.loop-own.gots.items c.pop.ensures.rest c.loop-own.invariant.0,
       omega (arith, c.in-Some-pop.ensures.cases, c.loop-own.invariant.1, length-append c.loop-own.yielded (c.in-Some.own ∷ [])),
       omega (arith, c.in-Some-pop-2.ensures.cases, c.loop-own.invariant.2, length-append c.loop-own.yielded (c.in-Some.own ∷ [])),
-      all_pushed (λ (s : Seat _). s.got ≡ nothing_got c.args.jobs.now) c.loop-own.seats.items c.in_ok-new.field-0 c.in_ok-push.ensures.items c.loop-own.invariant.3 (c.in_ok-new.ensures.got ∙ got),
+      all_pushed (λ (s : WorkerSeed _). s.got ≡ nothing_got c.args.jobs.now) c.loop-own.seats.items c.in_ok-new.field-0 c.in_ok-push.ensures.items c.loop-own.invariant.3 (c.in_ok-new.ensures.got ∙ got),
       search (rules, map-append),
     )

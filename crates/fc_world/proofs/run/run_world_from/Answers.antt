@@ -32,8 +32,8 @@ returns-clause-shards c = subst AreShards (sym c.into_shards.ensures) (has_run c
 pub returns-clause-slots : goal.returns-clause-slots
 returns-clause-slots c = let run = has_run c.loop-event.invariant c.loop-event.auto.event-index-end c.loop-event-test.false in λ n lt. ap (λ (xs : List Shard). slot_in_shards xs n) c.into_shards.ensures ∙ run.agrees.shards.slot n lt
 
-pub returns-clause-moments : goal.returns-clause-moments
-returns-clause-moments c = let run = has_run c.loop-event.invariant c.loop-event.auto.event-index-end c.loop-event-test.false in λ i lt. ap (λ (xs : List Shard). (shard_at xs i).now) c.into_shards.ensures ∙ run.agrees.shards.now i lt
+pub returns-clause-times : goal.returns-clause-times
+returns-clause-times c = let run = has_run c.loop-event.invariant c.loop-event.auto.event-index-end c.loop-event-test.false in λ i lt. ap (λ (xs : List Shard). (shard_at xs i).now) c.into_shards.ensures ∙ run.agrees.shards.now i lt
 
 pub returns-clause-chains : goal.returns-clause-chains
 returns-clause-chains c = let run = has_run c.loop-event.invariant c.loop-event.auto.event-index-end c.loop-event-test.false in λ n lt. run.chain n

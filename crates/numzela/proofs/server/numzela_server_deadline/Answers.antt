@@ -1,6 +1,6 @@
 use Rattle.std.proofs.Common.{refl, subst}
-use Rattle.fc_server.specs.Alone.{StaysQuietAlone}
-use Rattle.fc_server.specs.Settling.{AreQuietUntil}
+use Rattle.fc_server.specs.SingleThread.{StaysIdleAlone}
+use Rattle.fc_server.specs.Flushing.{AreIdleUntil}
 use Rattle.numzela.specs.declared.server.Serving.{Serving}
 use Rattle.numzela.proofs.server.numzela_server_deadline.Goals as goal
 
@@ -12,6 +12,6 @@ returns-clause-ok c = λ _. (
     before = c.in-Some.serving.value;
     held = search;
     holds = search;
-    quiet = subst (λ (s : Serving). AreQuietUntil (λ shard until. StaysQuietAlone shard s.alone until) c.quiet_until.result) c.deref.ensures c.quiet_until.ensures;
+    idle = subst (λ (s : Serving). AreIdleUntil (λ shard until. StaysIdleAlone shard s.alone until) c.idle_until.result) c.deref.ensures c.idle_until.ensures;
   },
 )

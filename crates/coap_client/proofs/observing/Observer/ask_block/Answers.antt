@@ -11,7 +11,7 @@ pub returns-clause-called : goal.returns-clause-called
 returns-clause-called g c =
     let o = c.args.self.now in
     let id = c.args.id in
-    let request = message_bytes (block_request o.errand.now c.args.number c.args.szx id) in
+    let request = message_bytes (block_request o.client_request.now c.args.number c.args.szx id) in
     let before = g.P.Peer.called c.args.peer.now in
     let between = g.P.Peer.called c.ask.new.peer in
     let answer = take c.in-Some.count c.ask.new.buffer in
@@ -26,7 +26,7 @@ pub returns-in_default-clause-called : goal.returns-in_default-clause-called
 returns-in_default-clause-called g c =
     let o = c.args.self.now in
     let id = c.args.id in
-    let request = message_bytes (block_request o.errand.now c.args.number c.args.szx id) in
+    let request = message_bytes (block_request o.client_request.now c.args.number c.args.szx id) in
     let before = g.P.Peer.called c.args.peer.now in
     let after = g.P.Peer.called c.ask.new.peer in
     unanswered true (TellsRequest o.token (block_token id) id) request before after

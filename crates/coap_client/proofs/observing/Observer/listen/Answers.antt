@@ -14,7 +14,7 @@ loop-received-preserved g c =
     let o = c.args.self.now in
     one_comes (IsPassedOver (TellsRequest o.token c.args.own.now c.args.id) c.args.awaited) c.loop-received.received c.in-Some.count c.receive.new.buffer _ (g.P.Peer.called c.args.peer.now)
     (g.P.Peer.called c.loop-received.peer) (g.P.Peer.called c.receive.new.self) (g.P.Peer.called c.receive.new.self) c.in-Some.is c.loop-received.invariant c.in_ok-count.ensures.called
-    (passed_quietly o.token c.args.own.now c.args.id c.args.awaited _ c.hear_datagram-heard.result (g.P.Peer.called c.receive.new.self) c.hear_datagram-heard.ensures (sym c.is_passed_over.ensures ∙ c.if-is_passed_over.true))
+    (passed_quietly o.token c.args.own.now c.args.id c.args.awaited _ c.handle_datagram-handled.result (g.P.Peer.called c.receive.new.self) c.handle_datagram-handled.ensures (sym c.is_passed_over.ensures ∙ c.if-is_passed_over.true))
 
 pub returns-in_default-clause-called : goal.returns-in_default-clause-called
 returns-in_default-clause-called g c =
@@ -24,8 +24,8 @@ returns-in_default-clause-called g c =
 pub returns-in-Acknowledged-clause-called : goal.returns-in-Acknowledged-clause-called
 returns-in-Acknowledged-clause-called g c =
     let tells = TellsRequest c.args.self.now.token c.args.own.now c.args.id in
-    acknowledgement_came tells c.args.awaited (take c.in-Some.count c.receive.new.buffer) c.hear_datagram-heard.result (g.P.Peer.called c.args.peer.now) (g.P.Peer.called c.receive.new.self)
-    c.hear_datagram-heard.ensures (sym c.is_passed_over.ensures ∙ c.if-is_passed_over.false) c.in-Acknowledged.is
+    acknowledgement_came tells c.args.awaited (take c.in-Some.count c.receive.new.buffer) c.handle_datagram-handled.result (g.P.Peer.called c.args.peer.now) (g.P.Peer.called c.receive.new.self)
+    c.handle_datagram-handled.ensures (sym c.is_passed_over.ensures ∙ c.if-is_passed_over.false) c.in-Acknowledged.is
     (ended (IsPassedOver tells c.args.awaited) c.loop-received.received c.in-Some.count c.receive.new.buffer _ (g.P.Peer.called c.args.peer.now) (g.P.Peer.called c.loop-received.peer)
     (g.P.Peer.called c.receive.new.self) c.in-Some.is c.loop-received.invariant c.in_ok-count.ensures.called)
 
@@ -34,15 +34,15 @@ returns-in_default-2-clause-listened g c =
     let o = c.args.self.now in
     let came = some_of _ c.in-Some.count (λ n. (n ≤ length c.receive.new.buffer) × g.P.Peer.came (take n c.receive.new.buffer)) c.in-Some.is c.in_ok-count.ensures.came in (
       came.0,
-      arrived g.P.Peer.came o.token c.args.own.now c.args.id c.args.awaited _ c.hear_datagram-heard.result came.1 c.hear_datagram-heard.ensures (sym c.is_passed_over.ensures ∙ c.if-is_passed_over.false)
+      arrived g.P.Peer.came o.token c.args.own.now c.args.id c.args.awaited _ c.handle_datagram-handled.result came.1 c.handle_datagram-handled.ensures (sym c.is_passed_over.ensures ∙ c.if-is_passed_over.false)
           c.in_default-2.not-Acknowledged c.in_default-2.not-Rejected,
     )
 
 pub returns-in_default-2-clause-called : goal.returns-in_default-2-clause-called
 returns-in_default-2-clause-called g c =
     let tells = TellsRequest c.args.self.now.token c.args.own.now c.args.id in
-    answer_came tells c.args.awaited (take c.in-Some.count c.receive.new.buffer) c.hear_datagram-heard.result (g.P.Peer.called c.args.peer.now) (g.P.Peer.called c.receive.new.self)
-    c.hear_datagram-heard.ensures (sym c.is_passed_over.ensures ∙ c.if-is_passed_over.false) c.in_default-2.not-Acknowledged c.in_default-2.not-Rejected
+    answer_came tells c.args.awaited (take c.in-Some.count c.receive.new.buffer) c.handle_datagram-handled.result (g.P.Peer.called c.args.peer.now) (g.P.Peer.called c.receive.new.self)
+    c.handle_datagram-handled.ensures (sym c.is_passed_over.ensures ∙ c.if-is_passed_over.false) c.in_default-2.not-Acknowledged c.in_default-2.not-Rejected
     (ended (IsPassedOver tells c.args.awaited) c.loop-received.received c.in-Some.count c.receive.new.buffer _ (g.P.Peer.called c.args.peer.now) (g.P.Peer.called c.loop-received.peer)
     (g.P.Peer.called c.receive.new.self) c.in-Some.is c.loop-received.invariant c.in_ok-count.ensures.called)
 
@@ -54,7 +54,7 @@ returns-clause-called g c =
 pub returns-in-Rejected-clause-fault : goal.returns-in-Rejected-clause-fault
 returns-in-Rejected-clause-fault g c =
     let tells = TellsRequest c.args.self.now.token c.args.own.now c.args.id in
-    rejection_came tells c.args.awaited (take c.in-Some.count c.receive.new.buffer) c.hear_datagram-heard.result (g.P.Peer.called c.args.peer.now) (g.P.Peer.called c.receive.new.self)
-    c.hear_datagram-heard.ensures c.in-Rejected.is
+    rejection_came tells c.args.awaited (take c.in-Some.count c.receive.new.buffer) c.handle_datagram-handled.result (g.P.Peer.called c.args.peer.now) (g.P.Peer.called c.receive.new.self)
+    c.handle_datagram-handled.ensures c.in-Rejected.is
     (ended (IsPassedOver tells c.args.awaited) c.loop-received.received c.in-Some.count c.receive.new.buffer _ (g.P.Peer.called c.args.peer.now) (g.P.Peer.called c.loop-received.peer)
     (g.P.Peer.called c.receive.new.self) c.in-Some.is c.loop-received.invariant c.in_ok-count.ensures.called)

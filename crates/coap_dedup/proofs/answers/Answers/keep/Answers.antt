@@ -1,6 +1,6 @@
 use Rattle.std.proofs.Common.{◌+◌, ◌-◌, ◌∙◌, List, true, length, replicate, set, ap, arith, length-append}
 use Rattle.std.proofs.lemmas.List.{length-replicate}
-use Rattle.coap_dedup.specs.declared.exchange.Kept.{Kept}
+use Rattle.coap_dedup.specs.declared.exchange.StoredResponse.{StoredResponse}
 use Rattle.coap_dedup.specs.Views.{answered_at, no_answer, padded}
 use Rattle.coap_dedup.proofs.Padding.{keeps}
 use Rattle.coap_dedup.proofs.answers.Answers.keep.Goals as goal
@@ -17,4 +17,4 @@ returns c =
     let few = c.self.invariant.1 in
     (λ i. padded places (set (c.touch.ensures.items i) (is i) (record { answered = true; bytes = c.write_over.ensures i })))
     ∙ (keeps places c.args.number n kept c.args.bytes.now (omega (arith, few, below)) (omega (arith, few, below, long, rest, is))
-    ∙ ap (λ (l : List Kept). answered_at l c.args.number c.args.bytes.now) c.self.view_is)
+    ∙ ap (λ (l : List StoredResponse). answered_at l c.args.number c.args.bytes.now) c.self.view_is)

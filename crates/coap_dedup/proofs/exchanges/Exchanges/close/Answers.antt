@@ -2,7 +2,7 @@ use Rattle.std.proofs.Common.{◌≡◌, ◌∙◌, ap, sym, set, subst, Option,
 use Rattle.std.specs.List.{list_any}
 use Rattle.std.specs.Option.{MatchOption}
 use Rattle.coap_dedup.specs.declared.exchange.Opened.{Opened}
-use Rattle.coap_dedup.specs.declared.exchange.Kept.{Kept}
+use Rattle.coap_dedup.specs.declared.exchange.StoredResponse.{StoredResponse}
 use Rattle.coap_dedup.specs.Exchanges.{Table}
 use Rattle.coap_dedup.specs.Calls.{answered, closing, is_open}
 use Rattle.coap_dedup.specs.Views.{IsGone, IsNumbered, as_exchange}
@@ -28,10 +28,10 @@ returns-in-Some-clause-after c =
     let i = length os - (c.self.inside.opened - c.args.opening) in
     let place = numbered_from c.self.inside.opened c.self.inside.now c.args.opening os c.in-Some.opened numbered a in
     let kept = c.self.inside.answers in
-    let k : Kept = record { answered = true; bytes = c.args.bytes.now } in
+    let k : StoredResponse = record { answered = true; bytes = c.args.bytes.now } in
     let one = one_answered a.first 0 c.self.inside.now c.args.now i kept c.args.bytes.now os c.in-Some.opened (let few = c.self.invariant.0.few in let places = c.self.invariant.0.places in omega (arith, few, places)) numbered.place (sym c.is_live.ensures ∙ c.if-is_live.true) a.order in
     let held : map (as_exchange c.keep.new.self) os ≡ map (answered c.args.now c.args.opening c.args.bytes.now) (map (as_exchange kept) os) =
-    ap (λ (l : List Kept). map (as_exchange l) os) c.keep.ensures
+    ap (λ (l : List StoredResponse). map (as_exchange l) os) c.keep.ensures
     ∙ (ap (λ (n : ℕ). map (as_exchange (set kept (n % length kept) k)) os) (sym place)
     ∙ (one ∙ ap (λ (n : ℕ). map (answered c.args.now n c.args.bytes.now) (map (as_exchange kept) os)) place)) in
     (λ j. record { limits = c.self.inside.limits; now = c.self.inside.now; opened = c.self.inside.opened; held = held j }) ∙ ap (λ (t : Table). record { limits = t.limits; now = t.now; opened = t.opened; held = map (answered c.args.now c.args.opening c.args.bytes.now) t.held }) c.self.view_is

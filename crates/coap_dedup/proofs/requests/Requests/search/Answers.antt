@@ -29,14 +29,14 @@ at-requires-clause-index c =
     omega (arith, lt, within, long)
 
 pub order-requires : goal.order-requires
-order-requires c = let few = fewer (keys (by_key c.args.self.now.items)) c.args.key.now c.halves.low c.halves.high c.halves.probes c.halves.invariant c.halves-test.true in omega (arith, few)
+order-requires c = let few = fewer (keys (by_key c.args.self.now.items)) c.args.key.now c.halves.low c.halves.high c.halves.comparisons c.halves.invariant c.halves-test.true in omega (arith, few)
 
 pub halves-preserved-in-Less : goal.halves-preserved-in-Less
 halves-preserved-in-Less c =
     let m = by_key c.args.self.now.items in
-    let next : suc c.halves.probes ≡ c.order.new.probes = omega arith ∙ sym c.order.ensures.counted in
+    let next : suc c.halves.comparisons ≡ c.order.new.comparisons = omega arith ∙ sym c.order.ensures.counted in
     subst (λ (n : ℕ). IsBetween (keys m) c.args.key.now (c.halves.low + (c.halves.high - c.halves.low) / 2 + 1) c.halves.high n) next
-    (upper (entries m) c.args.key.now c.at.result.now.key c.halves.low c.halves.high (c.halves.low + (c.halves.high - c.halves.low) / 2) c.halves.probes (entries_sorted m) c.halves.invariant c.halves-test.true refl
+    (upper (entries m) c.args.key.now c.at.result.now.key c.halves.low c.halves.high (c.halves.low + (c.halves.high - c.halves.low) / 2) c.halves.comparisons (entries_sorted m) c.halves.invariant c.halves-test.true refl
     (key_at c.args.self.now.items (c.halves.low + (c.halves.high - c.halves.low) / 2) c.at.result.now.key c.at.result.now.number c.at.ensures.entry) (sym c.order.ensures.order ∙ c.in-Less.is))
 
 pub returns-in-Equal-clause-found : goal.returns-in-Equal-clause-found
@@ -46,16 +46,16 @@ returns-in-Equal-clause-found c =
 
 pub returns-in-Equal-clause-most : goal.returns-in-Equal-clause-most
 returns-in-Equal-clause-most c =
-    let few = fewer (keys (by_key c.args.self.now.items)) c.args.key.now c.halves.low c.halves.high c.halves.probes c.halves.invariant c.halves-test.true in
+    let few = fewer (keys (by_key c.args.self.now.items)) c.args.key.now c.halves.low c.halves.high c.halves.comparisons c.halves.invariant c.halves-test.true in
     let next = c.order.ensures.counted in
     omega (arith, few, next)
 
 pub halves-preserved : goal.halves-preserved
 halves-preserved c =
     let m = by_key c.args.self.now.items in
-    let next : suc c.halves.probes ≡ c.order.new.probes = omega arith ∙ sym c.order.ensures.counted in
+    let next : suc c.halves.comparisons ≡ c.order.new.comparisons = omega arith ∙ sym c.order.ensures.counted in
     subst (λ (n : ℕ). IsBetween (keys m) c.args.key.now c.halves.low (c.halves.low + (c.halves.high - c.halves.low) / 2) n) next
-    (lower (entries m) c.args.key.now c.at.result.now.key c.halves.low c.halves.high (c.halves.low + (c.halves.high - c.halves.low) / 2) c.halves.probes (entries_sorted m) c.halves.invariant c.halves-test.true refl
+    (lower (entries m) c.args.key.now c.at.result.now.key c.halves.low c.halves.high (c.halves.low + (c.halves.high - c.halves.low) / 2) c.halves.comparisons (entries_sorted m) c.halves.invariant c.halves-test.true refl
     (key_at c.args.self.now.items (c.halves.low + (c.halves.high - c.halves.low) / 2) c.at.result.now.key c.at.result.now.number c.at.ensures.entry) (sym c.order.ensures.order ∙ c.in-Greater.is))
 
 pub returns-clause-absent : goal.returns-clause-absent
@@ -69,7 +69,7 @@ returns-clause-absent c =
 pub returns-in-Equal-clause-few : goal.returns-in-Equal-clause-few
 returns-in-Equal-clause-few c = λ small.
     let less = keys_at_most c.args.self.now.items in
-    let some = fewer_than_eleven (keys (by_key c.args.self.now.items)) c.args.key.now c.halves.low c.halves.high c.halves.probes c.halves.invariant c.halves-test.true (omega (arith, small, less)) in
+    let some = fewer_than_eleven (keys (by_key c.args.self.now.items)) c.args.key.now c.halves.low c.halves.high c.halves.comparisons c.halves.invariant c.halves-test.true (omega (arith, small, less)) in
     let next = c.order.ensures.counted in
     omega (arith, some, next)
 

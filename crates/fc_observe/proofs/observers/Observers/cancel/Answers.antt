@@ -1,7 +1,7 @@
 use Rattle.std.proofs.Common.{sym, subst, arith}
 use Rattle.fc_observe.specs.Entries.{is_entry_of}
-use Rattle.fc_observe.specs.Quiet.{AreQuietUntil}
-use Rattle.fc_observe.proofs.Quiet.{quiet_without}
+use Rattle.fc_observe.specs.Quiet.{AreIdleUntil}
+use Rattle.fc_observe.proofs.Quiet.{idle_without}
 use Rattle.fc_observe.proofs.observers.Observers.cancel.Goals as goal
 
 pub invariant_of-self : goal.invariant_of-self
@@ -11,6 +11,6 @@ invariant_of-self c =
     let room = c.self.invariant.1 in (
       omega (arith, few, c.remove_of.ensures.fewer),
       omega (arith, room, c.remove_of.ensures.room),
-      subst (AreQuietUntil s.quiet_until s.quiet_for) (sym c.remove_of.ensures.held) (quiet_without s.quiet_until s.quiet_for
+      subst (AreIdleUntil s.idle_until s.idle_for) (sym c.remove_of.ensures.held) (idle_without s.idle_until s.idle_for
           (is_entry_of c.args.endpoint c.args.token.now.items) s.held.items c.self.invariant.2),
     )

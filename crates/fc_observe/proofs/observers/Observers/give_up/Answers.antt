@@ -7,7 +7,7 @@ use Rattle.fc_observe.proofs.observers.Observers.give_up.Goals as goal
 
 pub returns-in-Some : goal.returns-in-Some
 returns-in-Some c =
-    let change = λ (l : ObserverList) (o : Entry). given_up l.moment o ∷ [] in
+    let change = λ (l : ObserverList) (o : Entry). given_up l.time o ∷ [] in
     let made = ap (λ (o : Entry). o ∷ []) (sym c.give_up.ensures) in
     out_changed c.args.turn _ _ c.self.view_is change c.in-Some.place c.index_mut.result.now c.give_up.new.self c.in-Some.ensures.place
     c.index_mut.ensures.value made
@@ -15,6 +15,6 @@ returns-in-Some c =
 
 pub returns-in_default : goal.returns-in_default
 returns-in_default c =
-    let change = λ (o : Entry). given_up c.advance.new.self.moment o ∷ [] in
+    let change = λ (o : Entry). given_up c.advance.new.self.time o ∷ [] in
     none_changed c.args.turn change _ c.in_default.ensures.place
     ∙ ap (turn_given_up c.args.turn) c.advance.ensures

@@ -8,8 +8,8 @@ use Rattle.fc_observe.proofs.observers.Observers.must_confirm.Goals as goal
 pub returns-in-Some : goal.returns-in-Some
 returns-in-Some c =
     let found = out_there c.args.turn _ _ c.self.view_is c.in-Some.place c.index.result.now c.in-Some.ensures.place c.index.ensures in
-    c.must_confirm.ensures ∙ (ap (λ (l : ObserverList). must_confirm l.confirm_after l.moment c.index.result.now) c.self.view_is
-    ∙ sym (ap (λ (o : Option Entry). must_confirm_by o c.args.self.now.confirm_after c.args.self.now.moment) found))
+    c.must_confirm.ensures ∙ (ap (λ (l : ObserverList). must_confirm l.confirm_after l.time c.index.result.now) c.self.view_is
+    ∙ sym (ap (λ (o : Option Entry). must_confirm_by o c.args.self.now.confirm_after c.args.self.now.time) found))
 
 pub returns-in-None : goal.returns-in-None
-returns-in-None c = sym (ap (λ (o : Option Entry). must_confirm_by o c.args.self.now.confirm_after c.args.self.now.moment) (none_out c.args.turn c.args.self.now c.in-None.ensures.place))
+returns-in-None c = sym (ap (λ (o : Option Entry). must_confirm_by o c.args.self.now.confirm_after c.args.self.now.time) (none_out c.args.turn c.args.self.now c.in-None.ensures.place))

@@ -20,5 +20,5 @@ returns-clause-observer c =
 pub returns-clause-confirmable : goal.returns-clause-confirmable
 returns-clause-confirmable c =
     let found = out_there c.args.turn _ _ c.self.view_is c.in_ok-place.place c.index.result.now c.in_ok-place.ensures.place c.index.ensures in
-    c.observer.ensures.confirmable ∙ (ap (λ (l : ObserverList). must_confirm l.confirm_after l.moment c.index.result.now) c.self.view_is
-    ∙ sym (ap (λ (o : Option Entry). must_confirm_by o c.args.self.now.confirm_after c.args.self.now.moment) found))
+    c.observer.ensures.confirmable ∙ (ap (λ (l : ObserverList). must_confirm l.confirm_after l.time c.index.result.now) c.self.view_is
+    ∙ sym (ap (λ (o : Option Entry). must_confirm_by o c.args.self.now.confirm_after c.args.self.now.time) found))

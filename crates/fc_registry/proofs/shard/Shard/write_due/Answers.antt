@@ -18,10 +18,10 @@ invariant_of-self-3 c =
     let n = (get_or (map as_seen in_.slots.items) k (new_slot 0)).serial in
     let sent = watch_sent in_.slots.items in_.watches.items k inv.0 inv.2
     (c.in-Some.ensures.within) inv.4 was c.next_turn.new.watch c.index_mut-watch.ensures.value
-    (λ old. subst (IsSentUpTo n) (sym c.next_turn.ensures.watch) (sent_after n (NextDue c.max-self-inside.result c.noticed_at-noticed.result ∷ []) was
+    (λ old. subst (IsSentUpTo n) (sym c.next_turn.ensures.watch) (sent_after n (NextDue c.max-self-inside.result c.noticed_at-notify_serial.result ∷ []) was
     (tt, tt) old)) in
     let empty = λ (none : was.held ≡ []). ap (λ (l : ObserverList). l.held) c.next_turn.ensures.watch
-    ∙ stays_empty (NextDue c.max-self-inside.result c.noticed_at-noticed.result) was tt none in
+    ∙ stays_empty (NextDue c.max-self-inside.result c.noticed_at-notify_serial.result) was tt none in
     let watched = watched_there in_.watched in_.watches.items k was c.next_turn.new.watch (let lt = c.in-Some.ensures.within in let eight = inv.2 in omega
     (arith, lt, eight)) c.index_mut-watch.ensures.value empty inv.5 in
     (inv.0, inv.1, length-set in_.watches.items k c.next_turn.new.watch ∙ inv.2, inv.3, sent, watched)

@@ -1,5 +1,5 @@
 use Rattle.std.proofs.Common.{◌≡◌, ℕ, ◌<◌, ◌∙◌, [], ap, arith, get_or, length-set, map, subst, sym}
-use Rattle.fc_observe.specs.Observers.{ObserverList, at_moment}
+use Rattle.fc_observe.specs.Observers.{ObserverList, list_at_time}
 use Rattle.fc_observe.proofs.Nobody.{empty_after}
 use Rattle.fc_registry.specs.Notes.{IsNotedIn, note_calls, noted_as, sent_of, ticket_told}
 use Rattle.fc_registry.specs.Slots.{Slot, new_slot}
@@ -23,10 +23,10 @@ invariant_of-self c =
     let serial : c.serial_of-serial.result ≡ n = c.serial_of-serial.ensures
     ∙ ap (λ (s : Slot). s.serial) (slot_there in_.slots.items in_.watches.items k inv.0 inv.2 lt inv.4 c.index.result.now c.index.ensures) in
     let noted = noted_as c.note.result c.note.new.emission in
-    let is = subst (λ (m : ℕ). IsNotedIn c.args.told.now c.args.turn c.args.id m (at_moment now was) noted) serial c.note.ensures.noted in
+    let is = subst (λ (m : ℕ). IsNotedIn c.args.told.now c.args.turn c.args.id m (list_at_time now was) noted) serial c.note.ensures.noted in
     let sent = watch_sent in_.slots.items in_.watches.items k inv.0 inv.2 lt inv.4 was c.note.new.watch c.index_mut-watch.ensures.value
     (λ old. subst (IsSentUpTo n) (sym c.note.ensures.watch) (sent_noted n c.args.told.now c.args.turn c.args.id c.args.random now
-    (at_moment now was) was noted is old)) in
+    (list_at_time now was) was noted is old)) in
     let calls = note_calls c.args.turn c.args.id c.args.random now (ticket_told c.args.told.now) (sent_of noted) in
     let enters = note_enters c.args.turn c.args.id c.args.random now (ticket_told c.args.told.now) (sent_of noted) in
     let empty = λ (none : was.held ≡ []). ap (λ (l : ObserverList). l.held) c.note.ensures.watch ∙ empty_after calls was enters none in

@@ -2,11 +2,11 @@ use Rattle.std.proofs.Common.{◌∙◌, ◌+◌, ℕ, ap, inl, inr, refl, subst
 use Rattle.fc_core.specs.Stage.{Stage, ToCommit}
 use Rattle.fc_registry.specs.declared.job.Job.{Job}
 use Rattle.fc_workers.specs.Workers.{Dispatched}
-use Rattle.fc_workers.specs.declared.dispatcher.Handover.TheVariants.{Dear}
-use Rattle.fc_workers.specs.declared.tools.Tools.{Tools}
-use Rattle.fc_workers.specs.Called.{shop}
+use Rattle.fc_workers.specs.declared.dispatcher.Offload.TheVariants.{Expensive}
+use Rattle.fc_workers.specs.declared.scratch.Scratch.{Scratch}
+use Rattle.fc_workers.specs.Called.{worker_view}
 use Rattle.fc_workers.specs.Answers.{saturated}
-use Rattle.fc_workers.specs.Dispatch.{IsDearAt, IsDispatched, unsent}
+use Rattle.fc_workers.specs.Dispatch.{IsExpensiveAt, IsDispatched, unsent}
 use Rattle.fc_workers.specs.Steps.{IsReady, IsToCommit, Walked}
 use Rattle.fc_workers.specs.Work.{IsReplied}
 use Rattle.fc_workers.proofs.dispatcher.Dispatcher.dispatch_request.Goals as goal
@@ -14,39 +14,39 @@ use Rattle.fc_workers.proofs.dispatcher.Dispatcher.dispatch_request.Goals as goa
 pub work_begun-requires-clause-ready : goal.work_begun-requires-clause-ready
 work_begun-requires-clause-ready g c =
     let job = c.args.self.now.job in
-    let ready = subst (λ (t : Tools). IsReady job t.stage) (sym c.send_if-sent.ensures.tools) (c.begin.ensures.begun 0).ready in
-    subst (λ (j : Job). IsReady j c.send_if-sent.new.self.tools.stage) (sym c.if-sent.ensures.sent.1) ready
+    let ready = subst (λ (t : Scratch). IsReady job t.stage) (sym c.send_if-sent.ensures.scratch) (c.begin.ensures.begun 0).ready in
+    subst (λ (j : Job). IsReady j c.send_if-sent.new.self.scratch.stage) (sym c.if-sent.ensures.sent.1) ready
 
-dear_commits : (least : ℕ) (stage : Stage) → IsDearAt least stage → IsToCommit stage
-dear_commits least (ToCommit count t) dear = tt
-dear_commits least other dear = absurd dear
+expensive_commits : (least : ℕ) (stage : Stage) → IsExpensiveAt least stage → IsToCommit stage
+expensive_commits least (ToCommit count t) expensive = tt
+expensive_commits least other expensive = absurd expensive
 
 pub returns-then-sent-clause-dispatched : goal.returns-then-sent-clause-dispatched
 returns-then-sent-clause-dispatched g c =
-    let s = (shop g.B.Bench.changes g.B.Bench.ended g.B.Bench.called g.B.Bench.logged
-    g.M.Moments.is_moment g.M.Moments.is_random g.G.Gate.passed g.W.Wire.called) in
-    let stage = c.begin.new.tools.stage in
-    let dear = c.stands_dear-goes.ensures c.if-sent.ensures.sent.0 in
-    let found = c.begin.ensures.found 18446744073709551615 (dear_commits c.args.least stage dear) in
+    let s = (worker_view g.B.Bench.changes g.B.Bench.ended g.B.Bench.called g.B.Bench.logged
+    g.M.TimeSource.is_time g.M.TimeSource.is_random g.G.Gate.passed g.W.Wire.called) in
+    let stage = c.begin.new.scratch.stage in
+    let expensive = c.stands_expensive-goes.ensures c.if-sent.ensures.sent.0 in
+    let found = c.begin.ensures.found 18446744073709551615 (expensive_commits c.args.least stage expensive) in
     let is = c.forget.ensures.done ∙ c.if-sent.ensures.sent.1 in
-    subst (λ (d : Dispatched _). IsDispatched s (Dear c.args.least) c.args.self.now.job c.args.self.now.done d) (sym is) (inl (record {
+    subst (λ (d : Dispatched _). IsDispatched s (Expensive c.args.least) c.args.self.now.job c.args.self.now.done d) (sym is) (inl (record {
       sent = refl;
-      may_go = inr (record { asks = found.0; request = c.requires; stage = stage; took = found.1; dear = dear; ended = c.begin.ensures.ended });
+      may_go = inr (record { asks = found.0; request = c.requires; stage = stage; took = found.1; expensive = expensive; ended = c.begin.ensures.ended });
     }))
 
 -- the job that isn't sent was begun here, and is continued from there.
 pub returns-else-sent-clause-dispatched : goal.returns-else-sent-clause-dispatched
 returns-else-sent-clause-dispatched g c =
-    let s = (shop g.B.Bench.changes g.B.Bench.ended g.B.Bench.called g.B.Bench.logged
-    g.M.Moments.is_moment g.M.Moments.is_random g.G.Gate.passed g.W.Wire.called) in
+    let s = (worker_view g.B.Bench.changes g.B.Bench.ended g.B.Bench.called g.B.Bench.logged
+    g.M.TimeSource.is_time g.M.TimeSource.is_random g.G.Gate.passed g.W.Wire.called) in
     let before = c.args.self.now.done in
     let now = c.send_if-sent.new.self in
     let is = c.if-sent.ensures.sent.0 in
     let same = c.if-sent.ensures.sent.1 in
     let begun = c.begin.ensures.begun unsent in
-    let stands = subst (λ (t : Tools). Walked s unsent c.args.self.now.job t.stage before.share c.begin.new.share) (sym c.send_if-sent.ensures.tools) begun in
-    let kept = subst (λ (d : Dispatched _). Walked s unsent c.args.self.now.job now.tools.stage before.share d.share) (sym is) stands in
-    let walked = subst (λ (j : Job). Walked s unsent j now.tools.stage before.share now.done.share) (sym same) kept in
+    let stands = subst (λ (t : Scratch). Walked s unsent c.args.self.now.job t.stage before.share c.begin.new.share) (sym c.send_if-sent.ensures.scratch) begun in
+    let kept = subst (λ (d : Dispatched _). Walked s unsent c.args.self.now.job now.scratch.stage before.share d.share) (sym is) stands in
+    let walked = subst (λ (j : Job). Walked s unsent j now.scratch.stage before.share now.done.share) (sym same) kept in
     inr (record {
       sent = ap (λ (d : Dispatched _). d.sent) is;
       log = before.share.log;

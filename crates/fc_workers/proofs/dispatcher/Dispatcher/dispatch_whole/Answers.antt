@@ -1,6 +1,6 @@
 use Rattle.std.proofs.Common.{◌∙◌, ap, inr, subst, sym}
 use Rattle.fc_registry.specs.declared.job.Job.{Job}
-use Rattle.fc_workers.specs.Called.{shop}
+use Rattle.fc_workers.specs.Called.{worker_view}
 use Rattle.fc_workers.specs.Dispatch.{IsPriced, IsWorkedHere, logged_at}
 use Rattle.fc_workers.specs.Logs.{TrackedLog}
 use Rattle.fc_workers.specs.Workers.{Dispatched}
@@ -9,8 +9,8 @@ use Rattle.fc_workers.proofs.dispatcher.Dispatcher.dispatch_whole.Goals as goal
 -- the job that isn't sent is the one that arrived, and its slot's receipt was returned since.
 pub returns-then-not-sent-clause-dispatched : goal.returns-then-not-sent-clause-dispatched
 returns-then-not-sent-clause-dispatched g c =
-    let s = (shop g.B.Bench.changes g.B.Bench.ended g.B.Bench.called g.B.Bench.logged
-    g.M.Moments.is_moment g.M.Moments.is_random g.G.Gate.passed g.W.Wire.called) in
+    let s = (worker_view g.B.Bench.changes g.B.Bench.ended g.B.Bench.called g.B.Bench.logged
+    g.M.TimeSource.is_time g.M.TimeSource.is_random g.G.Gate.passed g.W.Wire.called) in
     let before = c.args.self.now.done in
     let same = c.if-not-sent.ensures.sent.1 ∙ c.may_go-goes.ensures.job in
     let is = c.if-not-sent.ensures.sent.0 ∙ c.may_go-goes.ensures.kept in

@@ -2,9 +2,9 @@ use Rattle.std.proofs.Common.{◌≡◌, Bool, true, false, List, [], ◌∷◌,
 use Rattle.std.specs.Option.{option_to_list}
 use Rattle.coap_msg.specs.declared.types.Emission.{Emission}
 use Rattle.fc_core.specs.Receiving.{emission_if}
-use Rattle.fc_server.proofs.SettlingSteps.{done_at_bound, done_at_end, next_step}
-use Rattle.fc_server.specs.Alone.{alone_calls}
-use Rattle.fc_server.specs.Settling.{sent_in_step, sent_in_steps}
+use Rattle.fc_server.proofs.FlushingSteps.{done_at_bound, done_at_end, next_step}
+use Rattle.fc_server.specs.SingleThread.{alone_calls}
+use Rattle.fc_server.specs.Flushing.{sent_in_step, sent_in_steps}
 use Rattle.numzela.proofs.server.Serving.flush.Goals as goal
 
 abbrev Silent : List Emission → Type 0
@@ -22,11 +22,11 @@ none_by : (es : List Emission) (b : Bool) (e : Emission) → es ≡ [] → b ≡
 none_by es b e none told = sent_after es (emission_if b e) none ∙ ap (λ (c : Bool). option_to_list (emission_if c e)) told
 
 pub steps-init : goal.steps-init
-steps-init c = let w = c.begin-settling.ensures in ((w.0, w.1, omega arith, w.2), refl)
+steps-init c = let w = c.begin-flushing.ensures in ((w.0, w.1, omega arith, w.2), refl)
 
 pub returns-then-is_at_end-clause-flushed : goal.returns-then-is_at_end-clause-flushed
 returns-then-is_at_end-clause-flushed c =
-    let w = done_at_end alone_calls Silent c.steps.taken c.args.now c.args.self.now.alone c.steps.self.alone c.steps.settling c.steps.invariant.0
+    let w = done_at_end alone_calls Silent c.steps.taken c.args.now c.args.self.now.alone c.steps.self.alone c.steps.flushing c.steps.invariant.0
     (c.is_at_end.ensures.0 c.if-is_at_end.true) in
     record { steps = w.0; taken = w.1; writes = inl (refl, w.2, w.3) }
 
@@ -44,14 +44,14 @@ returns-then-step-clause-flushed c =
 pub steps-preserved : goal.steps-preserved
 steps-preserved c =
     let e = c.step.new.emission in (
-      next_step alone_calls Silent Silent c.steps.taken c.args.now c.args.self.now.alone c.steps.self.alone c.step.new.intake c.steps.settling c.step.new.self
+      next_step alone_calls Silent Silent c.steps.taken c.args.now c.args.self.now.alone c.steps.self.alone c.step.new.ingress c.steps.flushing c.step.new.self
           (emission_if c.step.result e) c.steps.invariant.0 c.step.ensures (λ es none. none_by es c.step.result e none c.if-step.false),
       c.steps.invariant.1,
     )
 
 pub returns-clause-flushed : goal.returns-clause-flushed
 returns-clause-flushed c =
-    let w = done_at_bound alone_calls Silent c.steps.taken c.args.now c.args.self.now.alone c.steps.self.alone c.steps.settling c.steps.invariant.0 c.steps-test.false in
+    let w = done_at_bound alone_calls Silent c.steps.taken c.args.now c.args.self.now.alone c.steps.self.alone c.steps.flushing c.steps.invariant.0 c.steps-test.false in
     record { steps = w.0; taken = w.1; writes = inl (refl, w.2, w.3) }
 
 -- nothing was written before the step that sends

@@ -1,5 +1,0 @@
-use Rattle.fc_laws.proofs.jobs.Takings.{answers_newest}
-use Rattle.fc_laws.proofs.laws.answers_are_of_the_last_taking.Goals as goal
-
-pub returns : goal.returns
-returns c = answers_newest

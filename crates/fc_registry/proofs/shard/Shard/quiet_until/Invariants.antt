@@ -1,8 +1,0 @@
-use Rattle.std.proofs.Common.{ℕ, ◌<◌}
-use Rattle.fc_observe.specs.Quiet.{AreQuietUntil}
-use Rattle.fc_registry.specs.Watches.{noticed_at, watch_at}
-use Rattle.fc_registry.proofs.shard.Shard.quiet_until.Given as goal
-
--- the places so far.
-abbrev pub invariant-loop-place : goal.invariant-loop-place
-invariant-loop-place l = (k : ℕ) → k < l.place → AreQuietUntil l.until (noticed_at l.self k) (watch_at l.self k).held

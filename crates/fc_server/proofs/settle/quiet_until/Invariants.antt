@@ -1,8 +1,0 @@
-use Rattle.std.proofs.Common.{◌≡◌, ℕ, List, length}
-use Rattle.fc_server.specs.Settling.{AreTold, earliest}
-use Rattle.fc_server.proofs.settle.quiet_until.Given as goal
-
--- the shards so far
-abbrev pub invariant-loop-shard : goal.invariant-loop-shard
-invariant-loop-shard g l =
-    (told : List ℕ) × AreTold (λ shard until. g.N.Intake.calls.stays_quiet shard l.intake until) told × (length told ≡ l.shard) × (l.until ≡ earliest told)

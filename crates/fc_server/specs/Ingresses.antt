@@ -1,0 +1,32 @@
+-- Effects and results of the calls of a server that handles datagrams.
+use Rattle.std.specs.Prelude.{ℕ, List, Bool, true, false}
+use Rattle.std.specs.Borrow.{Bor}
+use Rattle.coap_msg.specs.declared.types.Emission.{Emission}
+use Rattle.coap_msg.specs.declared.types.Endpoint.{Endpoint}
+use Rattle.fc_core.specs.declared.front.Handled.{Handled}
+use Rattle.fc_core.specs.declared.front.Handled.TheVariants.{Reply}
+use Rattle.fc_observe.specs.declared.observers.Ticked.{Ticked}
+use Rattle.fc_server.specs.Notified.{Notified}
+
+-- whether the written datagram is to be sent.
+abbrev pub is_reply : Handled → Bool
+is_reply Reply = true
+is_reply other = false
+
+-- effects and results of the calls of an ingress.
+pub record IngressCalls (S : Type 0) : Type 1 where
+  -- a datagram with these bytes was received from an endpoint at this time: its classification, and
+  -- the response that was written.
+  pub handles : ℕ → Endpoint → Bor (List ℕ) → S → S → Handled → Emission → Type 0
+  -- time passed until this time.
+  pub passes : ℕ → S → S → Type 0
+  -- a shard was advanced to this time, with this result.
+  pub resends : ℕ → ℕ → S → S → Ticked → Type 0
+  -- a shard that was idle at this time was advanced to it.
+  pub passes_over : ℕ → ℕ → S → S → Type 0
+  -- a shard was asked at this time for the first observer with a pending notification, with this
+  -- result.
+  pub notifies : ℕ → ℕ → S → S → Notified → Type 0
+  -- a shard is idle until this time: no notification has timed out, and no observer has a pending
+  -- one.
+  pub stays_idle : ℕ → S → ℕ → Type 0

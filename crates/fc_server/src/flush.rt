@@ -1,0 +1,175 @@
+//! The work after a datagram or a tick: retransmissions and notifications.
+ghost use Rattle.std.specs.Prelude.{◌≡◌, ◌+◌, ◌<◌, ◌≤◌, ◌↔◌, [], false, true, IsTrue, List};
+ghost use Rattle.coap_msg.specs.declared.types.Emission.{Emission as Emitted};
+ghost use Rattle.fc_core.specs.Legal.{resent};
+ghost use Rattle.fc_core.specs.Receiving.{emission_if};
+ghost use Rattle.fc_observe.specs.declared.observers.Ticked.{Ticked};
+ghost use Rattle.fc_server.specs.Notified.{Notified, notification_in, notified_as};
+ghost use Rattle.fc_server.specs.Flushing.{AreIdleUntil, Asked, AreStepsTo, IsPlace, IsStepBy, Moves, Resent, FlushingStep, sent_in_step, sent_in_steps};
+
+use crate::engine::NotifyOutcome;
+use crate::ingress::Ingress;
+use coap_msg::Emission;
+use fc_observe::Ticked;
+use fc_registry::SHARDS;
+
+/// More steps than there can be at one time.
+///
+/// Each of 32 observers of each of 64 slots gets at most one retransmission and one notification.
+/// Each shard reports once for each of these two that nothing is left.
+pub const STEPS: u16 = 8192;
+
+/// The position of a server in the remaining work at one time.
+///
+/// At each shard, notifications that have timed out are retransmitted first, until there is none.
+/// Then its observers are notified, until none has a pending notification.
+#[derive(Drop)]
+pub struct Flushing {
+    shard: u8,
+    notifies: bool,
+}
+
+impl Flushing {
+    /// Returns the position of the first shard that isn't idle at `now`, or the end.
+    ///
+    /// `now` is in milliseconds. The shards before it are advanced. Most shards are idle, and no
+    /// memory for a datagram is needed for them.
+    pub fn begin<N: Ingress>(ingress: &mut N, now: u64) -> Flushing
+        ensures { (steps : List FlushingStep) × AreStepsTo N.calls now steps ingress.old ingress.new result × (sent_in_steps steps ≡ []) }
+    {
+        let mut flushing = Flushing {
+            shard: 0,
+            notifies: false,
+        };
+        'idle: while flushing.shard < SHARDS && ingress.advance_if_idle(flushing.shard, now) {
+            flushing.pass();
+        }
+        flushing
+    }
+
+    /// Returns whether nothing is left.
+    pub fn is_at_end(&self) -> bool
+        ensures { IsTrue result ↔ 8 ≤ self.now.shard }
+    {
+        self.shard >= SHARDS
+    }
+
+    /// Takes a step at the current shard.
+    ///
+    /// The datagram to send, if there is one, is written over `emission`. Returns whether there is
+    /// one. If no message ID is available, nothing is left.
+    #[inline(never)]
+    pub fn step<N: Ingress>(&mut self, ingress: &mut N, now: u64, emission: &mut Emission) -> bool
+        requires { self.old.shard < 8 }
+        ensures { (step : FlushingStep) × IsStepBy N.calls now step ingress.old ingress.new
+            × (sent_in_step step ≡ emission_if result emission.new) × Moves self.old step self.new }
+    {
+        if self.notifies {
+            return self.notify(ingress, now, emission);
+        }
+        if ingress.advance_if_idle(self.shard, now) {
+            self.pass();
+            return false;
+        }
+        self.resend(ingress, now, emission)
+    }
+
+    // Retransmits the first notification of the shard that has timed out, or goes on to its
+    // observers. Retransmissions are rare, so no memory is set aside for one unless it is needed.
+    #[inline(never)]
+    fn resend<N: Ingress>(&mut self, ingress: &mut N, now: u64, emission: &mut Emission) -> bool
+        requires shard { self.old.shard < 8 }
+        requires overdue { self.old.notifies ≡ false }
+        ensures { (ticked : Ticked) × N.calls.resends self.old.shard now ingress.old ingress.new ticked
+            × (emission_if result emission.new ≡ resent ticked) × Moves self.old (Resent self.old.shard ticked) self.new }
+    {
+        let ticked = ingress.resend(self.shard, now);
+        self.resent(ticked, emission)
+    }
+
+    // Notifies the first observer of the shard that has a pending notification, or goes on to the
+    // next shard. If no message ID is available, goes to the end.
+    fn notify<N: Ingress>(&mut self, ingress: &mut N, now: u64, emission: &mut Emission) -> bool
+        requires shard { self.old.shard < 8 }
+        requires due { self.old.notifies ≡ true }
+        ensures { (told : Notified) × N.calls.notifies self.old.shard now ingress.old ingress.new told
+            × (emission_if result emission.new ≡ notification_in told) × Moves self.old (Asked self.old.shard told) self.new }
+    {
+        let outcome = ingress.notify(self.shard, now, emission);
+        self.notified(outcome)
+    }
+
+    // Goes on to the next shard.
+    fn pass(&mut self)
+        requires { self.old.shard < 8 }
+        ensures shard { self.new.shard ≡ self.old.shard + 1 }
+        ensures overdue { self.new.notifies ≡ false }
+    {
+        self.shard += 1;
+        self.notifies = false;
+    }
+
+    // Goes on after the shard was ticked. The datagram to send is written over `emission`. Returns
+    // whether there is one.
+    fn resent(&mut self, ticked: Ticked, emission: &mut Emission) -> bool
+        requires shard { self.old.shard < 8 }
+        requires overdue { self.old.notifies ≡ false }
+        ensures sent { emission_if result emission.new ≡ resent ticked }
+        ensures moves { Moves self.old (Resent self.old.shard ticked) self.new }
+    {
+        match ticked {
+            Ticked::Resend(again) => {
+                *emission = again;
+                true
+            }
+            Ticked::Removed => false,
+            Ticked::Quiet => {
+                self.notifies = true;
+                false
+            }
+        }
+    }
+
+    // Goes on after the shard was asked for a lease. Returns whether the written datagram is to be
+    // sent.
+    fn notified(&mut self, outcome: NotifyOutcome) -> bool
+        requires shard { self.old.shard < 8 }
+        requires due { self.old.notifies ≡ true }
+        ensures sent { (e : Emitted) → emission_if result e ≡ notification_in (notified_as outcome e) }
+        ensures moves { (e : Emitted) → Moves self.old (Asked self.old.shard (notified_as outcome e)) self.new }
+    {
+        match outcome {
+            NotifyOutcome::Sent => true,
+            NotifyOutcome::Unsent => false,
+            NotifyOutcome::Starved => {
+                self.end();
+                false
+            }
+            NotifyOutcome::Nobody => {
+                self.pass();
+                false
+            }
+        }
+    }
+
+    fn end(&mut self)
+        ensures shard { self.new.shard ≡ 8 }
+        ensures overdue { self.new.notifies ≡ false }
+    {
+        self.shard = SHARDS;
+        self.notifies = false;
+    }
+}
+
+/// Returns the earliest of the times until which the eight shards are idle.
+///
+/// The result is in milliseconds; it is `u64::MAX` if the shards return no earlier time.
+pub fn idle_until<N: Ingress>(ingress: &N) -> u64
+    ensures { AreIdleUntil (λ shard until. N.calls.stays_idle shard ingress.now until) result }
+{
+    let mut until = u64::MAX;
+    for shard in 0..SHARDS {
+        until = until.min(ingress.idle_until(shard));
+    }
+    until
+}

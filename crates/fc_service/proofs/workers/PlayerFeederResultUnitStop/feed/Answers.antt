@@ -1,5 +1,0 @@
-use Rattle.fc_service.proofs.Played.{fed_by_lines}
-use Rattle.fc_service.proofs.workers.PlayerFeederResultUnitStop.feed.Goals as goal
-
-pub returns : goal.returns
-returns g c = fed_by_lines (λ w. w.intake.now) _ (λ readings old new same. same) g.N.Intake.calls _ _ _ _ _ c.play_lines.result c.play_lines.ensures.played

@@ -1,0 +1,60 @@
+-- Effects of the calls of an ingress.
+use Rattle.std.specs.Prelude.{◌≡◌, ◌⊎◌, ℕ, List, Bool, true, false, Option}
+use Rattle.std.specs.Borrow.{Bor}
+use Rattle.coap_msg.specs.declared.types.Emission.{Emission}
+use Rattle.coap_msg.specs.declared.types.Endpoint.{Endpoint}
+use Rattle.fc_core.specs.Receiving.{emission_if}
+use Rattle.fc_core.specs.declared.front.Handled.{Handled}
+use Rattle.fc_core.specs.declared.front.Handled.TheVariants.{Job}
+use Rattle.fc_server.specs.Ingresses.{IngressCalls, is_reply}
+use Rattle.fc_server.specs.Notified.{Notified, Sent, Starved, Unsent}
+use Rattle.fc_host.specs.Sockets.{Incoming}
+
+-- a datagram was handled once, whole and from its endpoint, and this was the immediate response.
+pub record IsHandledBy {S : Type 0} (Handles : ℕ → Endpoint → Bor (List ℕ) → S → S → Handled → Emission → Type 0) (now : ℕ) (incoming : Incoming) (old : S) (sent : Option Emission) (new : S) : Type 0 where
+  pub borrow : Bor (List ℕ)
+  pub bytes_are : borrow.now ≡ incoming.bytes
+  pub handled : Handled
+  pub reply : Emission
+  pub handles : Handles now incoming.from borrow old new handled reply
+  pub sent_is : sent ≡ emission_if (is_reply handled) reply
+
+-- an ingress that waits for workers handled a datagram as the inner ingress did: with the same result
+-- and the same written emission, unless the inner result was a job.
+abbrev pub IsWaitedFor : {S : Type 0} → (ℕ → Endpoint → Bor (List ℕ) → S → S → Handled → Emission → Type 0) → ℕ → Endpoint → Bor (List ℕ) → S → S → Handled → Emission → Type 0
+IsWaitedFor Handles now from bytes old new handled reply =
+    (told : Handled) × (written : Emission) × Handles now from bytes old new told written × ((told ≡ Job) ⊎ ((handled ≡ told) × (reply ≡ written)))
+
+-- a lease has ended: a notification is sent, or none is, since a message ID or memory is missing.
+abbrev pub has_ended : Notified → Bool
+has_ended (Sent emission) = true
+has_ended Starved = true
+has_ended other = false
+
+-- the result for a lease, of an ingress that waits for workers: the inner result or, if nothing had
+-- been sent, how the lease ended.
+abbrev pub IsTurnWaitedFor : Notified → Notified → Type 0
+IsTurnWaitedFor Unsent told = has_ended told ≡ true
+IsTurnWaitedFor asked told = told ≡ asked
+
+-- the calls of an ingress that waits for workers, by the inner ingress's calls.
+abbrev pub waited_calls : {S : Type 0} → IngressCalls S → IngressCalls S
+waited_calls calls = record {
+  handles = IsWaitedFor calls.handles;
+  passes = calls.passes;
+  resends = calls.resends;
+  passes_over = calls.passes_over;
+  notifies = λ shard now old new told. (asked : Notified) × calls.notifies shard now old new asked × IsTurnWaitedFor asked told;
+  stays_idle = calls.stays_idle;
+}
+
+-- the calls of a holder of a server, by the server's calls.
+abbrev pub calls_through : {H S : Type 0} → (H → S) → IngressCalls S → IngressCalls H
+calls_through held calls = record {
+  handles = λ now from bytes old new handled reply. calls.handles now from bytes (held old) (held new) handled reply;
+  passes = λ now old new. calls.passes now (held old) (held new);
+  resends = λ shard now old new ticked. calls.resends shard now (held old) (held new) ticked;
+  passes_over = λ shard now old new. calls.passes_over shard now (held old) (held new);
+  notifies = λ shard now old new told. calls.notifies shard now (held old) (held new) told;
+  stays_idle = λ shard now until. calls.stays_idle shard (held now) until;
+}

@@ -1,9 +1,0 @@
-use Rattle.std.proofs.Common.{◌≤◌}
-use Rattle.fc_workers.specs.Called.{shop}
-use Rattle.fc_workers.specs.Dispatch.{AreSignalled}
-use Rattle.fc_workers.proofs.workshop.Workshop.signal.Given as goal
-
-abbrev pub invariant-shards : goal.invariant-shards
-invariant-shards g l = (l.shard ≤ 8) × AreSignalled
-    (shop g.B.Bench.changes g.B.Bench.ended g.B.Bench.called g.B.Bench.logged g.M.Moments.is_moment g.M.Moments.is_random g.G.Gate.passed g.W.Wire.called)
-    l.shard l.from l.id l.reset l.initial.log l.log

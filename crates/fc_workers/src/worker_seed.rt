@@ -1,0 +1,237 @@
+//! Workers, each with a seat of its own.
+ghost use Rattle.std.specs.Prelude.{◌≡◌, ◌+◌, ℕ, true, None, IfOk};
+ghost use Rattle.fc_core.specs.Receiving.{emission_if};
+ghost use Rattle.fc_workers.specs.Answers.{saturated};
+ghost use Rattle.fc_workers.specs.Called.{worker_view};
+ghost use Rattle.fc_workers.specs.Shares.{IsShareOf};
+ghost use Rattle.fc_workers.specs.Outgoing.{GoesOut};
+ghost use Rattle.fc_workers.specs.Steps.{IsReady, IsToAnswer, Walked};
+ghost use Rattle.fc_workers.specs.Work.{IsFinished, IsReplied, IsRequestWorked, IsWorked, IsWorkedTo};
+ghost use Rattle.fc_workers.specs.Workers.{Share as Done};
+
+use crate::bench::Bench;
+use crate::context::{Context, Gate, TimeSource, Wire};
+use crate::scratch::Scratch;
+use crate::share::Share;
+use crate::track_log::TrackLog;
+use coap_msg::Emission;
+use fc_jobs::{Got, Jobs};
+use fc_machine::Frame;
+use fc_observe::Turn;
+use fc_registry::Job;
+use std::alloc::{AllocError, Global};
+use std::sync::Wait;
+
+/// The initial state of a worker.
+///
+/// It has the worker's place at the channel, its backend's tallies, its log, and the frame that its
+/// programs run in.
+#[derive(Drop)]
+pub struct WorkerSeed<T: Drop, L: Drop> {
+    pub got: Got,
+    pub tallies: T,
+    pub log: L,
+    pub frame: Frame,
+}
+
+impl<T: Drop, L: Drop> WorkerSeed<T, L> {
+    /// Makes a seat with a new frame.
+    ///
+    /// # Errors
+    /// Returns `AllocError` if memory for the frame can't be allocated.
+    pub fn new(alloc: Global, got: Got, tallies: T, log: L) -> Result<WorkerSeed<T, L>, AllocError>
+        ensures got { IfOk result (λ s. s.got ≡ got) }
+        ensures tallies { IfOk result (λ s. s.tallies ≡ tallies) }
+        ensures log { IfOk result (λ s. s.log ≡ log) }
+    {
+        let frame = Frame::new(alloc)?;
+        Ok(WorkerSeed {
+            got,
+            tallies,
+            log,
+            frame,
+        })
+    }
+}
+
+/// Runs jobs until the channel is closed and empty.
+///
+/// Each job is run and answered. Its reply, if there is one, is sent and counted. The worker has
+/// ended exactly the jobs that it received.
+pub fn worker<B: Bench, G: Gate, W: Wire, M: TimeSource, R: Wait>(
+    rt: &R,
+    context: &Context<'_, B, G, W, M>,
+    jobs: &Jobs,
+    seat: WorkerSeed<B::Tallies, TrackLog<B::Book>>,
+) -> Share<B::Tallies, TrackLog<B::Book>>
+    requires { seat.got.channel ≡ jobs.now }
+    ensures { IsShareOf (worker_view B.changes B.ended B.called B.logged M.is_time M.is_random G.passed W.called) seat result }
+{
+    let WorkerSeed {
+        got,
+        tallies,
+        log,
+        frame,
+    } = seat;
+    let mut share = Share::new(got, tallies, log);
+    let mut scratch = Scratch::new(context.bench, frame);
+    for _ in rt.forever() {
+        let Some((number, job)) = jobs.next(rt, &mut share.got) else {
+            break;
+        };
+        context.work(rt, &mut scratch, number, &job, &mut share);
+    }
+    share
+}
+
+impl<'a, B: Bench, G: Gate, W: Wire, M: TimeSource> Context<'a, B, G, W, M> {
+    /// Runs a job under its number.
+    ///
+    /// A request is answered, and a lease's observer is notified. If there is a reply, it is sent
+    /// under the number, and counted by whether it went out. The last call reports to the
+    /// transmitter that the job has ended.
+    pub fn work<R: Wait>(
+        &self,
+        rt: &R,
+        scratch: &mut Scratch,
+        number: u64,
+        job: &Job,
+        share: &mut Share<B::Tallies, TrackLog<B::Book>>,
+    )
+        requires { scratch.old.heads.table ≡ B.heads self.now.bench.now }
+        ensures heads { scratch.new.heads.table ≡ scratch.old.heads.table }
+        ensures worked { IsReplied (worker_view B.changes B.ended B.called B.logged M.is_time M.is_random G.passed W.called)
+            number job.now share.old share.new }
+        ensures ended { B.ended share.new.tallies ≡ saturated (B.ended share.old.tallies + 1) }
+        ensures got { share.new.got ≡ share.old.got }
+    {
+        let replies = self.reply(rt, scratch, number, job, share);
+        self.finish(rt, number, replies, &scratch.reply, share);
+    }
+
+    /// Runs a request's job from its present stage, and then answers it.
+    ///
+    /// The reply is sent and the job is ended, as `work` does. If calls led from the first stage to
+    /// this one, the job is run by these calls and further ones.
+    pub(crate) fn work_begun<R: Wait>(
+        &self,
+        rt: &R,
+        scratch: &mut Scratch,
+        number: u64,
+        job: &Job,
+        share: &mut Share<B::Tallies, TrackLog<B::Book>>,
+    )
+        requires asked { job.now.turn ≡ None }
+        requires ready { IsReady job.now scratch.old.stage }
+        requires heads { scratch.old.heads.table ≡ B.heads self.now.bench.now }
+        ensures heads { scratch.new.heads.table ≡ scratch.old.heads.table }
+        ensures worked { (before : Done B.Tallies)
+            → Walked (worker_view B.changes B.ended B.called B.logged M.is_time M.is_random G.passed W.called)
+            number job.now scratch.old.stage before share.old
+            → IsReplied (worker_view B.changes B.ended B.called B.logged M.is_time M.is_random G.passed W.called)
+            number job.now before share.new }
+        ensures ended { B.ended share.new.tallies ≡ saturated (B.ended share.old.tallies + 1) }
+    {
+        self.work_on(rt, scratch, number, job, share);
+        let replies = self.respond(rt, scratch, job, share);
+        self.finish(rt, number, replies, &scratch.reply, share);
+    }
+
+    // Runs a job, and writes its reply. Returns whether there is one.
+    fn reply<R: Wait>(
+        &self,
+        rt: &R,
+        scratch: &mut Scratch,
+        number: u64,
+        job: &Job,
+        share: &mut Share<B::Tallies, TrackLog<B::Book>>,
+    ) -> bool
+        requires { scratch.old.heads.table ≡ B.heads self.now.bench.now }
+        ensures heads { scratch.new.heads.table ≡ scratch.old.heads.table }
+        ensures worked { IsWorked (worker_view B.changes B.ended B.called B.logged M.is_time M.is_random G.passed W.called)
+            number job.now share.old share.new (emission_if result scratch.new.reply) }
+        ensures ended { B.ended share.new.tallies ≡ saturated (B.ended share.old.tallies + 1) }
+        ensures got { share.new.got ≡ share.old.got }
+    {
+        match job.turn {
+            None => self.answer(rt, scratch, number, job, share),
+            Some(number) => {
+                let slot = job.origin.slot.number();
+                let turn = Turn { slot, number };
+                self.notify(rt, scratch, job, turn, share)
+            }
+        }
+    }
+
+    // Runs a request's job, answers it, and writes its reply. Returns whether there is one.
+    fn answer<R: Wait>(
+        &self,
+        rt: &R,
+        scratch: &mut Scratch,
+        number: u64,
+        job: &Job,
+        share: &mut Share<B::Tallies, TrackLog<B::Book>>,
+    ) -> bool
+        requires asked { job.now.turn ≡ None }
+        requires heads { scratch.old.heads.table ≡ B.heads self.now.bench.now }
+        ensures heads { scratch.new.heads.table ≡ scratch.old.heads.table }
+        ensures worked { IsRequestWorked (worker_view B.changes B.ended B.called B.logged M.is_time M.is_random G.passed W.called)
+            number job.now share.old share.new (emission_if result scratch.new.reply) }
+        ensures ended { B.ended share.new.tallies ≡ saturated (B.ended share.old.tallies + 1) }
+        ensures got { share.new.got ≡ share.old.got }
+    {
+        self.work_off(rt, scratch, number, job, share);
+        self.respond(rt, scratch, job, share)
+    }
+
+    // Answers a request's job that was run, and writes its reply. Returns whether there is one.
+    fn respond<R: Wait>(
+        &self,
+        rt: &R,
+        scratch: &mut Scratch,
+        job: &Job,
+        share: &mut Share<B::Tallies, TrackLog<B::Book>>,
+    ) -> bool
+        requires { IsToAnswer job.now scratch.old.stage }
+        ensures heads { scratch.new.heads ≡ scratch.old.heads }
+        ensures worked { (number : ℕ) (before : Done B.Tallies)
+            → IsWorkedTo (worker_view B.changes B.ended B.called B.logged M.is_time M.is_random G.passed W.called)
+            number job.now scratch.old.stage before share.old
+            → IsRequestWorked (worker_view B.changes B.ended B.called B.logged M.is_time M.is_random G.passed W.called)
+            number job.now before share.new (emission_if result scratch.new.reply) }
+        ensures goes_out { result ≡ true → GoesOut scratch.new.reply }
+        ensures ended { B.ended share.new.tallies ≡ saturated (B.ended share.old.tallies + 1) }
+        ensures got { share.new.got ≡ share.old.got }
+    {
+        let Some(answer) = scratch.stage.content() else {
+            unreachable!()
+        };
+        let Share { tallies, log, .. } = share;
+        let now = self.now(rt, log);
+        self.bench
+            .respond(rt, now, job, answer, &mut scratch.reply, tallies, log)
+    }
+
+    // Sends the reply of a job, if it has one, and counts it. The last call reports to the
+    // transmitter that the job has ended.
+    fn finish<R: Wait>(
+        &self,
+        rt: &R,
+        number: u64,
+        replies: bool,
+        reply: &Emission,
+        share: &mut Share<B::Tallies, TrackLog<B::Book>>,
+    )
+        requires { replies ≡ true → GoesOut reply.now }
+        ensures finished { IsFinished (worker_view B.changes B.ended B.called B.logged M.is_time M.is_random G.passed W.called)
+            number (emission_if replies reply.now) share.old share.new }
+        ensures tallies { share.new.tallies ≡ share.old.tallies }
+        ensures got { share.new.got ≡ share.old.got }
+    {
+        if replies {
+            let out = self.send(rt, number, reply, &mut share.log);
+            share.count_reply(out);
+        }
+        self.ended(rt, number, &mut share.log);
+    }
+}
