@@ -27,8 +27,8 @@ abbrev pub observe_value : ObserveOption → ℕ
 observe_value Register = 0
 observe_value Deregister = 1
 
--- the GET with a token that registers or deregisters an observer of a client request's resource (RFC 7641,
--- sections 3.1 and 3.6).
+-- the GET with a token that registers or deregisters an observer of a client request's resource
+-- (RFC 7641, sections 3.1 and 3.6).
 abbrev pub observe_request : ClientRequest → ObserveOption → List ℕ → ℕ → Message
 observe_request e interest token id = record {
   kind = Confirmable;

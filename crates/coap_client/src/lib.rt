@@ -12,10 +12,10 @@
 //!   from 1, and says which of these it is. Or it says that the text doesn't begin with a slash.
 //! - A datagram is received into 1,281 bytes, one more than the maximum length of a message. A
 //!   datagram that fills them may be truncated, and is skipped.
-//! - Each request of a client request is a message that fits a datagram. It has the whole body, a block of
-//!   it, or a block option that requests a further block of the response. The size of that block is
-//!   the one that the server named last. A Content-Format, if the client request has one, is in each
-//!   request with the body or a block of it, between the path and the query.
+//! - Each request of a client request is a message that fits a datagram. It has the whole body, a
+//!   block of it, or a block option that requests a further block of the response. The size of that
+//!   block is the one that the server named last. A Content-Format, if the client request has one,
+//!   is in each request with the body or a block of it, between the path and the query.
 //! - Each datagram has one meaning for a request: a piggybacked response, a separate response, an
 //!   acknowledgement, a rejection, or none of these. The next step after each response is defined
 //!   exactly. There is none after a response with an unknown critical option, or with two Block1 or
@@ -125,9 +125,10 @@
 //!   milliseconds from its start to a reading.
 //! - An observer reads the clock after the receive of each notification, and its acknowledgement.
 //!
-//! By the contracts of `Path::parse`, `ClientRequest::new`, `ClientRequest::write`, `is_reply`, `is_separate`,
-//! `next_of`, `fetch`, `laws`; `Observer::register`, `deregister`, `deregister_by`, `notice_of`,
-//! `is_newer`, `Observation::notice_of`, `keep`, `next`, `complete`; `Joining`; `ask_block`; `ping`; `UdpPeer`.
+//! By the contracts of `Path::parse`, `ClientRequest::new`, `ClientRequest::write`, `is_reply`,
+//! `is_separate`, `next_of`, `fetch`, `laws`; `Observer::register`, `deregister`, `deregister_by`,
+//! `notice_of`, `is_newer`, `Observation::notice_of`, `keep`, `next`, `complete`; `Joining`;
+//! `ask_block`; `ping`; `UdpPeer`.
 //!
 //! No public clause of [`UdpPeer`] says which bytes its socket sends and receives, or that a
 //! receive ends with its wait. Tests try that over a socket.

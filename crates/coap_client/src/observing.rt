@@ -38,8 +38,8 @@ pub const TOKEN: usize = 4;
 
 /// An observer of a resource.
 ///
-/// It has the client request that names the resource, the token that identifies its notifications, and the
-/// message ID of the registration. The deregistration has the next message ID.
+/// It has the client request that names the resource, the token that identifies its notifications,
+/// and the message ID of the registration. The deregistration has the next message ID.
 #[derive(Clone, Copy)]
 pub struct Observer<'a> {
     pub client_request: &'a ClientRequest<'a>,

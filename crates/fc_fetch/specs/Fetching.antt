@@ -109,7 +109,8 @@ pub record HasStopped (Stops : FetchStop → Type 0) (status : Status) : Type 0 
 
 -- ---- the request
 
--- the client request has the options' method, message type and Content-Format, with this resource and body.
+-- the client request has the options' method, message type and Content-Format, with this resource
+-- and body.
 pub record IsAsking (asking : FetchOptions) (target : RequestTarget) (body : List ℕ) (e : ClientRequest) : Type 0 where
   pub confirmable : e.confirmable ≡ asking.confirmable
   pub method : e.method ≡ asking.method

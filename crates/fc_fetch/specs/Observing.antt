@@ -148,8 +148,8 @@ IsToldEnd other status = status ≡ Done
 
 -- ---- from the target on
 
--- an observer of a client request observed at the server of this address, and ended in this way. Its token
--- and message ID were drawn, and the client connected to that server.
+-- an observer of a client request observed at the server of this address, and ended in this way.
+-- Its token and message ID were drawn, and the client connected to that server.
 pub record IsObservedAt {S : Type 0} (connected : S → SocketAddrV4 → Type 0) (drawn went came : List ℕ → Type 0) (told : ℕ → Type 0) (called : S → List PeerCall → Type 0) (observing : Observing)
     (e : ClientRequest) (server : SocketAddrV4) (before after : Option (List ℕ)) (end : ObservationEnd) : Type 0 where
   pub observer : Observer
@@ -308,7 +308,8 @@ IsEndFault went came told is_error called before after o seconds e =
 
 -- ---- the reasons to stop
 
--- the observer of a client request failed at the server that the client connected to, and deregistered.
+-- the observer of a client request failed at the server that the client connected to, and
+-- deregistered.
 pub record IsObservedInVain {S : Type 0} (connected : S → SocketAddrV4 → Type 0) (drawn went came tried : List ℕ → Type 0) (told : ℕ → Type 0) (is_error : PeerError → Type 0) (called : S → List PeerCall → Type 0)
     (observing : Observing) (e : ClientRequest) (server : SocketAddrV4) (error : NotesError) : Type 0 where
   pub observer : Observer

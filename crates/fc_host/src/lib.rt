@@ -41,7 +41,8 @@
 //! - **Tested, not proved**: a time is the clock's, and a random word is its low bits. A file is
 //!   read again. A socket is opened at its address and port; tests show what it sends and how long
 //!   it waits.
-//! - **Not claimed**: that a scripted host returns the reply that was sent and the readings that were set.
+//! - **Not claimed**: that a scripted host returns the reply that was sent and the readings that
+//!   were set.
 //!
 //! By the contracts of `clock::SensingDevice`, `sensors::NoSensors`, `read_sensed`,
 //! `socket::Source`, `endpoint_of`, `address_of`, `Replying`, `timers::Timers`, `Timed`,

@@ -36,9 +36,9 @@
 //! - **Sending**: exactly the emissions of a round, the reply first, are passed to the sink, once
 //!   each, in that order. Each is counted once, by the sink's result. The log of the receive, the
 //!   time and these calls has no other call. Only reading the code shows that the receiver passes
-//!   no other log (`SentReplies::new` alone makes one). The rounds' receives are the source's, in order,
-//!   if these are known: how long each waited, and the datagram received. Those of a real socket
-//!   are unknown (`Source::came`, `Sink::went`).
+//!   no other log (`SentReplies::new` alone makes one). The rounds' receives are the source's, in
+//!   order, if these are known: how long each waited, and the datagram received. Those of a real
+//!   socket are unknown (`Source::came`, `Sink::went`).
 //! - **Waits**: the first receive waits 100 ms, and so does each receive after a datagram. After an
 //!   idle round the wait lasts until the earliest time that the shards returned, and at least 100
 //!   ms. It is unlimited if they returned none (`run_rounds`, by `WaitsAfter`). A test shows that
@@ -50,12 +50,12 @@
 //!   doesn't say which times its clock gives. It says nothing about a server that returns no source
 //!   or doesn't end. Tests show that `serve` opens its socket at the given address and receives
 //!   from it.
-//! - **With one worker** the rounds are lists of events of one server, which begins at the serial of
-//!   the given start and at the given message ID. A round's list has its datagram, or its time, and the calls of its
-//!   shards. A shard's result is true: that no notification has timed out, that an observer was
-//!   removed, or that no observer has a pending notification (`laws`). The readings are each
-//!   round's time and the sensor readings. The contract doesn't say that with `--readings` these
-//!   are the file's; without it they are zeros (`serve_alone`, by `HasServed`).
+//! - **With one worker** the rounds are lists of events of one server, which begins at the serial
+//!   of the given start and at the given message ID. A round's list has its datagram, or its time,
+//!   and the calls of its shards. A shard's result is true: that no notification has timed out,
+//!   that an observer was removed, or that no observer has a pending notification (`laws`). The
+//!   readings are each round's time and the sensor readings. The contract doesn't say that with
+//!   `--readings` these are the file's; without it they are zeros (`serve_alone`, by `HasServed`).
 //! - **One history**: all rounds of a server on one thread, or all lines that it plays, are one
 //!   history of events. Exactly the datagrams that came are delivered, in order. Exactly the
 //!   emissions of its events were passed to the sink, or are printed, in that order. Each datagram

@@ -15,8 +15,8 @@
 //! ```
 //!
 //! No type in that function's signature may name a ledger. The function opens the server, splits
-//! the unassigned shares into the tallies of its workers, and runs them. Then it merges their tallies, and
-//! closes the server.
+//! the unassigned shares into the tallies of its workers, and runs them. Then it merges their
+//! tallies, and closes the server.
 ghost use Rattle.std.specs.Prelude.{◌≡◌, ◌+◌, ◌*◌, ◌-◌, ◌<◌, ◌≤◌, ◌%◌, true, map, slice_index, take, vec_len, IfOk};
 ghost use Rattle.coap_msg.specs.declared.types.Emission.{Emission as Emitted};
 ghost use Rattle.fc_core.specs.Answering.{emission_of, responded};
@@ -184,8 +184,8 @@ impl<'a, B: Books, D: Device> Locked<'a, B, D> {
     /// Makes a server with slots 0 to 63 empty, each at `first_serial`.
     ///
     /// It has this policy, and draws `first_id` first. Its programs get the readings of `device`.
-    /// It opens the ledgers, and the unassigned shares are all their parts. The calls of its front are filed
-    /// in `book`; each thread of the book has a log.
+    /// It opens the ledgers, and the unassigned shares are all their parts. The calls of its front
+    /// are filed in `book`; each thread of the book has a log.
     ///
     /// # Errors
     /// Returns `AllocError` if memory for the server can't be allocated.
