@@ -107,7 +107,7 @@ fn find_all(rt: &impl Abort, exchanges: &mut Exchanges)
         let comparisons = exchanges.comparisons();
         assert!(rt;
             found && 0 < comparisons && comparisons <= 11,
-            "{number}: {probes}"
+            "{number}: {comparisons}"
         );
     }
 }

@@ -637,7 +637,7 @@ fn ask_for_readings<R: Abort + Net + Clock + RandomSource + AllocGlobal>(
     thread::sleep(rt, Duration::from_millis(300));
     let readings = readings_of(&client, at_port(port), 9)?;
     let time = u16::from_le_bytes([readings[0], readings[1]]);
-    assert!(rt; time >= 300, "{moment}");
+    assert!(rt; time >= 300, "{time}");
     assert!(rt; readings[2..].iter().all(|byte| *byte == 0));
     Ok(())
 }
