@@ -278,7 +278,7 @@ def datagrams():
     tell("POST of a program that calls `notify` alone, 32 observers", post, one(one_slot, now, post))
     waited, later = waited_for()
     ping = bytes.fromhex("40000001")
-    tell("a ping, while 2,048 notifications of 64 slots are late: all are sent again", ping, played(waited + [line(later + 5_000, 200, ping)]) - played(waited))
+    tell("a ping, while 2,048 notifications of 64 slots are overdue: all are sent again", ping, played(waited + [line(later + 5_000, 200, ping)]) - played(waited))
     full = [it for slot in range(SLOTS) for it in put(image(PLAIN), slot, 60_000 + slot)]
     core = get(CORE, number=7)
     tell(f"GET of `{CORE}`, 64 slots with a program", core, one(full, 0, core))
@@ -305,11 +305,11 @@ def waited_for():
 
 def ticks():
     """Counts lines `now - -`, one millisecond apart."""
-    head("A moment that passes, as a line `now - -`", "instructions")
+    head("Time that passes, as a line `now - -`", "instructions")
     waited, later = waited_for()
     observed, now = registered(SLOTS)
     for what, before, begun in [("nobody observes", put(image(PLAIN)), 0), ("2,048 observers, none of whom is due", observed, now),
-                                ("2,048 confirmable notifications are waited for, and none is late", waited, later)]:
+                                ("2,048 confirmable notifications are waited for, and none is overdue", waited, later)]:
         row(what, each(before, [f"{begun + 1 + k} - -\n" for k in range(100)]))
 
 

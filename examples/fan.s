@@ -1,7 +1,7 @@
 ; A fan by a temperature: bytes 8 and 9 of the readings, in tenths of a degree, with a sign, the least byte first. A POST looks at it: the fan is on from 30.0
 ; degrees and off from 29.0 down, and observers are told where that changes. Each answer is `on` or `off`. Variables: byte 0 whether it is on.
 ; --format 2 --vars 8 --budget auto
-mov64 r7, r2                ; R2 and R4 are unset behind a call
+mov64 r7, r2                ; R2 and R4 are unset after a call
 ldxb r6, r1, 0              ; the method: 1 GET, 2 POST
 jne r6, 2, reply
 ldsxh r5, r4, 8             ; the temperature, which has a sign

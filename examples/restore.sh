@@ -4,7 +4,7 @@
 #
 # Use: restore.sh PORT FOLDER [SECONDS]
 #
-# The server listens at PORT of 127.0.0.1. The script waits for it for 10 seconds, or SECONDS. FCREQ
+# The server listens on PORT of 127.0.0.1. The script waits for it for 10 seconds, or SECONDS. FCREQ
 # names the client, if it isn't `fcreq` on the path. The output has a line for each slot: the server's
 # response, or why there is none.
 #
@@ -12,7 +12,7 @@
 # didn't respond in time.
 port=$1 folder=$2 tries=$((${3:-10} * 20)) client=${FCREQ:-fcreq} failed=0
 
-# While no server listens at the port, fcreq ends immediately with status 3. Any response is accepted,
+# While no server listens on the port, fcreq ends immediately with status 3. Any response is accepted,
 # also 5.03.
 until "$client" --port "$port" get /.well-known/core -f /dev/null > /dev/null 2>&1 || [ $? = 1 ]; do
     tries=$((tries - 1))
