@@ -27,6 +27,7 @@ pub fn compare(relation: Relation, width: Width, left: u64, right: u64) -> bool
     }
 }
 
+/// Returns whether two 32-bit numbers are in the relation.
 #[tactic(auto, unfolding(crate::specs::Comparison::holds))]
 #[inline(always)]
 fn compare32(relation: Relation, a: u32, b: u32) -> bool
@@ -47,6 +48,7 @@ fn compare32(relation: Relation, a: u32, b: u32) -> bool
     }
 }
 
+/// Returns whether two 64-bit numbers are in the relation.
 #[tactic(auto, unfolding(crate::specs::Comparison::holds))]
 #[inline(always)]
 fn compare64(relation: Relation, a: u64, b: u64) -> bool

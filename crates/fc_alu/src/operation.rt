@@ -26,6 +26,9 @@ pub(crate) fn low_half(n: u64) -> u32
     (n & 0xffff_ffff) as u32
 }
 
+/// Computes an operation on two 32-bit numbers (RFC 9669, section 4.1).
+///
+/// A division by 0 gives 0, and a modulo by 0 gives `a`. Shifts use the low 5 bits of `b`.
 #[tactic(auto, unfolding(crate::specs::Arithmetic::computed))]
 #[inline(always)]
 fn compute32(op: AluOp, a: u32, b: u32) -> u32
@@ -49,6 +52,9 @@ fn compute32(op: AluOp, a: u32, b: u32) -> u32
     }
 }
 
+/// Computes an operation on two 64-bit numbers (RFC 9669, section 4.1).
+///
+/// A division by 0 gives 0, and a modulo by 0 gives `a`. Shifts use the low 6 bits of `b`.
 #[tactic(auto, unfolding(crate::specs::Arithmetic::computed))]
 #[inline(always)]
 fn compute64(op: AluOp, a: u64, b: u64) -> u64
@@ -72,7 +78,7 @@ fn compute64(op: AluOp, a: u64, b: u64) -> u64
     }
 }
 
-/// Returns the signed quotient, truncated toward zero.
+/// Returns the signed quotient, truncated toward zero; 0 if `b` is 0.
 ///
 /// The least number divided by -1 is itself.
 #[tactic(auto, unfolding(crate::specs::Arithmetic::computed))]
@@ -87,7 +93,9 @@ fn sdiv32(a: u32, b: u32) -> u32
         .cast_unsigned()
 }
 
-/// Returns the remainder of the signed quotient, with the dividend's sign.
+/// Returns the remainder of the signed quotient; `a` if `b` is 0.
+///
+/// It has the dividend's sign.
 #[tactic(auto, unfolding(crate::specs::Arithmetic::computed))]
 fn smod32(a: u32, b: u32) -> u32
     ensures { result ≡ computed 32 AluOp.Smod a b }
@@ -100,7 +108,7 @@ fn smod32(a: u32, b: u32) -> u32
         .cast_unsigned()
 }
 
-/// Returns the signed quotient, truncated toward zero.
+/// Returns the signed quotient, truncated toward zero; 0 if `b` is 0.
 ///
 /// The least number divided by -1 is itself.
 #[tactic(auto, unfolding(crate::specs::Arithmetic::computed))]
@@ -115,7 +123,9 @@ fn sdiv64(a: u64, b: u64) -> u64
         .cast_unsigned()
 }
 
-/// Returns the remainder of the signed quotient, with the dividend's sign.
+/// Returns the remainder of the signed quotient; `a` if `b` is 0.
+///
+/// It has the dividend's sign.
 #[tactic(auto, unfolding(crate::specs::Arithmetic::computed))]
 fn smod64(a: u64, b: u64) -> u64
     ensures { result ≡ computed 64 AluOp.Smod a b }

@@ -27,6 +27,9 @@ pub fn assemble(alloc: Global, text: &str) -> Result<Vec<Insn>, AsmError>
 }
 
 /// Assembles the lines of a source text, one after another.
+///
+/// # Errors
+/// Returns the errors of [`assemble`].
 fn assemble_lines(alloc: Global, names: &Names, text: &str) -> Result<Vec<Insn>, AsmError>
     ensures program { IfOk result (λ v. IsAssembled (lines_of text.now) v.items) }
     ensures slots { IfOk result (λ v. IsTrue (is_program v.items)) }
@@ -42,7 +45,13 @@ fn assemble_lines(alloc: Global, names: &Names, text: &str) -> Result<Vec<Insn>,
     Ok(program)
 }
 
-/// Appends the slots of the line with this number.
+/// Appends the slots of the line `code`, which has this number.
+///
+/// A line without an instruction has none.
+///
+/// # Errors
+/// Returns the line's mistake, or `NoMemory` if memory can't be allocated. The contract then
+/// doesn't say what `program` has.
 fn assemble_line(
     alloc: Global,
     names: &Names,
@@ -69,7 +78,7 @@ fn assemble_line(
     }
 }
 
-/// Returns an instruction's slots; a wide load has two.
+/// Returns an instruction's slots: itself, and a wide load's second half or `None`.
 fn slots(insn: Insn) -> (Insn, Option<Insn>)
     ensures first { result.0 ≡ insn }
     ensures second { result.1 ≡ second_slot insn }

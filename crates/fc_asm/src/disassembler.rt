@@ -148,7 +148,7 @@ impl fmt::Display for ListingLine {
     }
 }
 
-/// Returns the mnemonic of a line, or `None` for the second half of a wide load.
+/// Returns an instruction's mnemonic, or `None` for a wide load's second half.
 fn mnemonic(insn: Insn) -> Option<Mnemonic>
     ensures { result ≡ mnemonic_of insn }
 {
@@ -171,6 +171,7 @@ fn mnemonic(insn: Insn) -> Option<Mnemonic>
     })
 }
 
+/// Returns the mnemonic of a move with sign extension.
 fn extend(extension: SignExtension) -> Mnemonic
     ensures { Some result ≡ mnemonic_of (Insn.SignExtend extension 0 0) }
 {
@@ -180,7 +181,7 @@ fn extend(extension: SignExtension) -> Mnemonic
     }
 }
 
-/// Returns the number of bits that are extended.
+/// Returns the number of low bits that a sign extension extends.
 fn bits(extension: SignExtension) -> i32
     ensures { result ≡ pos (extended_bits extension) }
 {
@@ -192,6 +193,8 @@ fn bits(extension: SignExtension) -> i32
 }
 
 /// Returns an instruction's operands, in the order of the line.
+///
+/// A wide load's second half has none, and no line either.
 fn shown_operands(insn: Insn) -> Operands
     ensures { shown_texts result ≡ operands_of insn }
 {

@@ -1,4 +1,7 @@
 //! Parsing of a line: from its words to the instruction.
+//!
+//! A function for a sort of instruction returns `Mistake::Operand` if the operands are too few, too
+//! many or of another sort. Otherwise it returns `Mistake::OutOfRange` if a number is out of range.
 ghost use Rattle.std.specs.Prelude.{IfOk, OnOk, map, ◌++◌, ◌≡◌};
 ghost use Rattle.fc_asm.specs.Operands.{if_ok, imm_from, map_ok, offset_from, target_from};
 ghost use Rattle.fc_asm.specs.Syntax.{split_commas, insn_from, meaning, one_of, split_words, three_of, two_of, words_of};
@@ -10,9 +13,12 @@ use crate::operand::{both, extension, imm, offset, operand, register, target, wi
 use fc_isa::{AluOp, Insn, Jump, LoadType, Relation, Size, Target, Width};
 use std::alloc::{AllocError, Global};
 
-/// Splits a line into its words.
+/// Splits a line into its words, up to a comment.
 ///
-/// Spaces and commas separate words, and a comment ends them.
+/// Spaces and commas separate words, and `;` begins a comment.
+///
+/// # Errors
+/// Returns `AllocError` if memory can't be allocated.
 pub fn words<'a>(alloc: Global, line: &'a str) -> Result<Vec<&'a str>, AllocError>
     ensures { IfOk result (λ v. map (λ word. word.now) v.items ≡ words_of line.now) }
 {
@@ -22,7 +28,7 @@ pub fn words<'a>(alloc: Global, line: &'a str) -> Result<Vec<&'a str>, AllocErro
     }
 }
 
-/// Splits a text at spaces and commas.
+/// Splits a text without a comment into its words, at spaces and commas.
 fn parts<'a>(alloc: Global, code: &'a str) -> Result<Vec<&'a str>, AllocError>
     ensures { IfOk result (λ v. map (λ word. word.now) v.items ≡ split_words code.now) }
 {
@@ -33,7 +39,7 @@ fn parts<'a>(alloc: Global, code: &'a str) -> Result<Vec<&'a str>, AllocError>
     Ok(words)
 }
 
-/// Appends the parts between commas.
+/// Appends the parts of a text between commas, other than empty ones.
 fn push_words<'a>(words: &mut Vec<&'a str>, part: &'a str) -> Result<(), AllocError>
     ensures { OnOk result (map (λ word. word.now) words.new.items ≡ map (λ word. word.now) words.old.items ++ split_commas part.now) }
 {
@@ -45,7 +51,11 @@ fn push_words<'a>(words: &mut Vec<&'a str>, part: &'a str) -> Result<(), AllocEr
     Ok(())
 }
 
-/// Parses the instruction in the words of a line; a blank line has none.
+/// Parses the instruction in the words of a line, or `None` for a blank line.
+///
+/// # Errors
+/// Returns `UnknownWord` if the first word is no mnemonic. Otherwise returns the mistake of the
+/// operands, `Operand` in preference to `OutOfRange`.
 pub fn read(names: &Names, words: &[&str]) -> Result<Option<Insn>, Mistake>
     ensures { result ≡ meaning (map (λ word. word.now) words.now) }
 {
@@ -58,7 +68,7 @@ pub fn read(names: &Names, words: &[&str]) -> Result<Option<Insn>, Mistake>
     }
 }
 
-/// Returns the instruction with a mnemonic and its operands.
+/// Parses the operands of a mnemonic, and returns their instruction.
 fn insn(mnemonic: Mnemonic, operands: &[&str]) -> Result<Insn, Mistake>
     ensures { result ≡ insn_from mnemonic (map (λ word. word.now) operands.now) }
 {
@@ -98,6 +108,7 @@ fn insn(mnemonic: Mnemonic, operands: &[&str]) -> Result<Insn, Mistake>
     }
 }
 
+/// Parses `DST, SRC|NUMBER`, the operands of an arithmetic instruction.
 fn arithmetic(op: AluOp, width: Width, operands: &[&str]) -> Result<Insn, Mistake>
     ensures { result ≡ insn_from (Mnemonic.Alu op width) (map (λ word. word.now) operands.now) }
 {
@@ -111,6 +122,7 @@ fn arithmetic(op: AluOp, width: Width, operands: &[&str]) -> Result<Insn, Mistak
     })
 }
 
+/// Parses `DST, SRC, BITS`, the operands of a move with sign extension.
 fn extend(width: Width, operands: &[&str]) -> Result<Insn, Mistake>
     ensures { result ≡ insn_from (Mnemonic.SignExtend width) (map (λ word. word.now) operands.now) }
 {
@@ -123,6 +135,7 @@ fn extend(width: Width, operands: &[&str]) -> Result<Insn, Mistake>
     })
 }
 
+/// Parses `DST, NUMBER`, the operands of a wide load.
 fn load_wide(operands: &[&str]) -> Result<Insn, Mistake>
     ensures { result ≡ insn_from Mnemonic.LoadWide (map (λ word. word.now) operands.now) }
 {
@@ -131,6 +144,7 @@ fn load_wide(operands: &[&str]) -> Result<Insn, Mistake>
     Ok(Insn::LoadWide { dst, value })
 }
 
+/// Parses `DST, BASE, OFFSET`, the operands of a load.
 fn load(loaded: LoadType, operands: &[&str]) -> Result<Insn, Mistake>
     ensures { result ≡ insn_from (Mnemonic.Load loaded) (map (λ word. word.now) operands.now) }
 {
@@ -144,6 +158,7 @@ fn load(loaded: LoadType, operands: &[&str]) -> Result<Insn, Mistake>
     })
 }
 
+/// Parses `BASE, OFFSET, NUMBER`, the operands of a store of a number.
 fn store_imm(size: Size, operands: &[&str]) -> Result<Insn, Mistake>
     ensures { result ≡ insn_from (Mnemonic.StoreImm size) (map (λ word. word.now) operands.now) }
 {
@@ -157,6 +172,7 @@ fn store_imm(size: Size, operands: &[&str]) -> Result<Insn, Mistake>
     })
 }
 
+/// Parses `BASE, OFFSET, SRC`, the operands of a store of a register.
 fn store(size: Size, operands: &[&str]) -> Result<Insn, Mistake>
     ensures { result ≡ insn_from (Mnemonic.Store size) (map (λ word. word.now) operands.now) }
 {
@@ -170,6 +186,7 @@ fn store(size: Size, operands: &[&str]) -> Result<Insn, Mistake>
     })
 }
 
+/// Parses `SRC, SRC|NUMBER, TARGET`, the operands of a conditional jump.
 fn jump_if(relation: Relation, width: Width, operands: &[&str]) -> Result<Insn, Mistake>
     ensures { result ≡ insn_from (Mnemonic.JumpIf relation width) (map (λ word. word.now) operands.now) }
 {
@@ -185,6 +202,8 @@ fn jump_if(relation: Relation, width: Width, operands: &[&str]) -> Result<Insn, 
 }
 
 /// Parses the only operand as a writable register.
+///
+/// Returns the mistake `Operand` if there isn't exactly one operand.
 fn only_target(operands: &[&str]) -> Result<Target, Mistake>
     ensures { result ≡ if_ok (one_of (map (λ word. word.now) operands.now)) target_from }
 {
@@ -195,6 +214,8 @@ fn only_target(operands: &[&str]) -> Result<Target, Mistake>
 }
 
 /// Parses the only operand as a 32-bit number.
+///
+/// Returns the mistake `Operand` if there isn't exactly one operand.
 fn only_imm(operands: &[&str]) -> Result<i32, Mistake>
     ensures { result ≡ if_ok (one_of (map (λ word. word.now) operands.now)) imm_from }
 {
@@ -205,6 +226,8 @@ fn only_imm(operands: &[&str]) -> Result<i32, Mistake>
 }
 
 /// Parses the only operand as a 16-bit number.
+///
+/// Returns the mistake `Operand` if there isn't exactly one operand.
 fn only_offset(operands: &[&str]) -> Result<i16, Mistake>
     ensures { result ≡ if_ok (one_of (map (λ word. word.now) operands.now)) offset_from }
 {
@@ -214,7 +237,7 @@ fn only_offset(operands: &[&str]) -> Result<i16, Mistake>
     }
 }
 
-/// Returns the operands, if there are exactly two.
+/// Returns the two operands, or the mistake `Operand` for any other number of them.
 fn two<'a>(operands: &[&'a str]) -> Result<(&'a str, &'a str), Mistake>
     ensures { map_ok (λ p. (p.0.now, p.1.now)) result ≡ two_of (map (λ word. word.now) operands.now) }
 {
@@ -224,7 +247,7 @@ fn two<'a>(operands: &[&'a str]) -> Result<(&'a str, &'a str), Mistake>
     }
 }
 
-/// Returns the operands, if there are exactly three.
+/// Returns the three operands, or the mistake `Operand` if there aren't three.
 fn three<'a>(operands: &[&'a str]) -> Result<(&'a str, &'a str, &'a str), Mistake>
     ensures { map_ok (λ p. (p.0.now, p.1.now, p.2.now)) result ≡ three_of (map (λ word. word.now) operands.now) }
 {

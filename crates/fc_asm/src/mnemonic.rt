@@ -52,7 +52,7 @@ impl fmt::Display for Mnemonic {
     }
 }
 
-/// Returns the word of a mnemonic, in two parts.
+/// Returns the word of a mnemonic as a stem and a suffix, for `Display`.
 fn parts(mnemonic: Mnemonic) -> (&'static str, &'static str)
     ensures { result.0.now ++ result.1.now ≡ name_of mnemonic }
 {

@@ -29,7 +29,7 @@ impl Names {
         Ok(Names { by_name })
     }
 
-    /// Returns the mnemonic with this name.
+    /// Returns the mnemonic with this name, or `None` if no instruction has it.
     pub fn find(&self, word: &str) -> Option<Mnemonic>
         ensures { result ≡ mnemonic_named word.now }
     {

@@ -1,4 +1,7 @@
-//! Parsing of operands.
+//! Parsing of operands, each from a word of a line.
+//!
+//! The functions return `Mistake::Operand` for a word of another sort, and `Mistake::OutOfRange`
+//! for a number that the operand can't be.
 ghost use Rattle.std.specs.Prelude.{◌≡◌};
 ghost use Rattle.fc_asm.specs.Operands.{both_of, graver, imm_from, is_digits, writes_number, offset_from, operand_from, register_from, target_from, wide_from, extension_from};
 
@@ -80,7 +83,7 @@ pub fn wide(word: &str) -> Result<u64, Mistake>
     }
 }
 
-/// Parses a register or a number.
+/// Parses a register or a signed 32-bit number.
 pub fn operand(word: &str) -> Result<Operand, Mistake>
     ensures { result ≡ operand_from word.now }
 {
@@ -90,7 +93,9 @@ pub fn operand(word: &str) -> Result<Operand, Mistake>
     }
 }
 
-/// Parses the number of bits to extend to this width.
+/// Parses the number of bits that a move to `width` sign-extends.
+///
+/// It is 8 or 16, or 32 if the width is 64. Any other number is out of range.
 pub fn extension(width: Width, word: &str) -> Result<SignExtension, Mistake>
     ensures { result ≡ extension_from width word.now }
 {
@@ -117,7 +122,7 @@ pub fn both<A: Drop, B: Drop>(
     }
 }
 
-/// Returns the mistake that is reported first.
+/// Returns the mistake to report of two: `b` if `a` is `OutOfRange`, else `a`.
 fn graver(a: Mistake, b: Mistake) -> Mistake
     ensures { result ≡ graver a b }
 {
@@ -137,6 +142,7 @@ fn writes_number(word: &str) -> bool
     }
 }
 
+/// Returns whether the bytes are decimal digits, at least one.
 fn is_digits(digits: &[u8]) -> bool
     ensures { result ≡ is_digits digits.now }
 {

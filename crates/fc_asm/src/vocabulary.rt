@@ -1,4 +1,4 @@
-//! The words that the assembler knows.
+//! The words that the assembler knows, for the preprocessor and for explanations of mistakes.
 ghost use Rattle.std.specs.Prelude.{IfOk, is_some, is_ok, ◌≡◌};
 ghost use Rattle.fc_asm.specs.Names.{mnemonic_named};
 ghost use Rattle.fc_asm.specs.Operands.{register_from};
@@ -11,7 +11,8 @@ use std::alloc::{AllocError, Global};
 /// Returns the operands of the instruction with this name, in order.
 ///
 /// Returns `None` if no instruction has this name. `DST` is a writable register, and `SRC` and
-/// `BASE` are registers. `TARGET`, `OFFSET` and the other words are numbers.
+/// `BASE` are registers. `TARGET`, `OFFSET` and the other words are numbers. The contract states
+/// only whether there is an instruction, and not its operands.
 ///
 /// # Errors
 /// Returns `AllocError` if memory can't be allocated.
@@ -24,6 +25,7 @@ pub fn operands_of(alloc: Global, word: &str) -> Result<Option<&'static str>, Al
     }
 }
 
+/// Returns the operands of a mnemonic, as an explanation prints them.
 fn operands(mnemonic: Mnemonic) -> &'static str {
     match mnemonic {
         Mnemonic::Alu(_, _) => "DST, SRC|NUMBER",
@@ -40,7 +42,7 @@ fn operands(mnemonic: Mnemonic) -> &'static str {
     }
 }
 
-/// Returns whether it is one of `r0` to `r10`.
+/// Returns whether a word is one of `r0` to `r10`.
 pub fn is_register(word: &str) -> bool
     ensures { result ≡ is_ok (register_from word.now) }
 {

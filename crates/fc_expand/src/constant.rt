@@ -24,7 +24,12 @@ struct Definition<'a> {
     after: &'a [u8],
 }
 
-/// Returns the constants of a source whose lines are well formed.
+/// Returns the constants of a source, without those of malformed lines.
+///
+/// `expand_constant` reports the mistake of a malformed line later.
+///
+/// # Errors
+/// Returns `AllocError` if memory can't be allocated.
 pub(crate) fn constants_of<'a>(
     alloc: Global,
     text: &'a [u8],
@@ -46,6 +51,8 @@ pub(crate) fn constants_of<'a>(
 }
 
 /// Returns the number of the constant with this name, as its line writes it.
+///
+/// Returns `None` if no constant has the name.
 pub(crate) fn value_of<'a>(constants: &[Constant<'a>], name: &[u8]) -> Option<&'a [u8]> {
     match constants.iter().find(|constant| constant.name == name) {
         Some(constant) => Some(constant.value),
@@ -54,6 +61,10 @@ pub(crate) fn value_of<'a>(constants: &[Constant<'a>], name: &[u8]) -> Option<&'
 }
 
 /// Appends the text after a constant's number, and nothing of its line before that.
+///
+/// # Errors
+/// Returns the mistake of a malformed line, or of a name that an earlier constant or something else
+/// has. Returns `NoMemory` if memory can't be allocated.
 pub(crate) fn expand_constant(
     out: &mut Vec<u8>,
     body: &[u8],
@@ -73,7 +84,7 @@ pub(crate) fn expand_constant(
     Ok(())
 }
 
-/// Returns whether an earlier line has the constant.
+/// Returns whether an earlier line defines a constant with this name.
 fn is_defined(constants: &[Constant<'_>], name: &[u8], line: usize) -> bool {
     match constants.iter().find(|constant| constant.name == name) {
         Some(constant) => constant.line < line,
@@ -81,7 +92,7 @@ fn is_defined(constants: &[Constant<'_>], name: &[u8], line: usize) -> bool {
     }
 }
 
-/// Returns whether it is the name of a register, an instruction or a helper.
+/// Returns whether a name is that of a register, an instruction or a helper.
 fn is_meant(name: &[u8], alloc: Global) -> Result<bool, AllocError> {
     match str::from_utf8(name) {
         Ok(word) => Ok(
@@ -94,6 +105,9 @@ fn is_meant(name: &[u8], alloc: Global) -> Result<bool, AllocError> {
 }
 
 /// Returns the name in a constant's line, its number, and the text after that.
+///
+/// # Errors
+/// Returns the mistake of a malformed line, or `NoMemory` if memory can't be allocated.
 fn definition_of<'a>(body: &'a [u8], alloc: Global) -> Result<Definition<'a>, PieceError> {
     let (_, more) = split_word(body);
     let (name, more) = split_word(more);

@@ -1,4 +1,7 @@
 //! The preprocessor: replaces labels, constants and names in each line of a source.
+//!
+//! The functions that append to `out` return the first mistake, or `NoMemory` if memory can't be
+//! allocated. The text so far is then dropped.
 ghost use Rattle.std.specs.Prelude.{IfOk, length, map, true, ◌≡◌, ◌≤◌};
 ghost use Rattle.fc_expand.specs.Expanded.{as_space, is_plain, is_plain_but_for_tabs};
 
@@ -103,6 +106,8 @@ pub fn expand(alloc: Global, text: &[u8]) -> Result<Vec<u8>, ExpandError>
 }
 
 /// Returns the labels of a source, with slots counted from the lines before them.
+///
+/// If several lines have the same label, each is returned.
 fn labels_of<'a>(alloc: Global, text: &'a [u8]) -> Result<Vec<Label<'a>>, AllocError> {
     let mut labels = Vec::new(alloc);
     let mut slot: u32 = 0;
@@ -118,6 +123,7 @@ fn labels_of<'a>(alloc: Global, text: &'a [u8]) -> Result<Vec<Label<'a>>, AllocE
     Ok(labels)
 }
 
+/// Expands the lines of a source, with these meanings of its names.
 fn expand_lines(text: &[u8], names: LabelNames<'_>) -> Result<Vec<u8>, ExpandError> {
     let mut out = Vec::with_capacity(names.alloc, text.len())?;
     let mut slot: u32 = 0;
@@ -137,6 +143,8 @@ fn expand_lines(text: &[u8], names: LabelNames<'_>) -> Result<Vec<u8>, ExpandErr
 }
 
 /// Appends the line that replaces this one, and returns its number of slots.
+///
+/// `line` is its number, counted from 1, and `slot` the slot of its instruction.
 fn expand_line(
     out: &mut Vec<u8>,
     code: &[u8],
@@ -170,7 +178,7 @@ fn expand_line(
     Ok(slots_of(body))
 }
 
-/// Returns whether an earlier line has the label.
+/// Returns whether an earlier line than `line` has the label `name`.
 fn is_taken(labels: &[Label<'_>], name: &[u8], line: usize) -> bool {
     match labels.iter().find(|label| label.name == name) {
         Some(label) => label.line < line,
@@ -192,7 +200,8 @@ fn expand_words(out: &mut Vec<u8>, body: &[u8], place: &Place<'_>) -> Result<(),
 
 /// Appends the replacement of the first piece of `rest`, and returns its size.
 ///
-/// The size is in bytes.
+/// The size is that of the piece in bytes, and 0 at the line's end. `before` is the line's text
+/// before `rest`.
 fn expand_piece(
     out: &mut Vec<u8>,
     before: &[u8],
@@ -210,6 +219,7 @@ fn expand_piece(
     }
 }
 
+/// Appends `bytes` as `push_spaced` does, and returns their number.
 fn spaced(out: &mut Vec<u8>, bytes: &[u8]) -> Result<usize, PieceError>
     ensures { IfOk result (λ n. n ≡ length bytes.now) }
 {
@@ -217,9 +227,10 @@ fn spaced(out: &mut Vec<u8>, bytes: &[u8]) -> Result<usize, PieceError>
     Ok(bytes.len())
 }
 
-/// Appends the replacement of a word.
+/// Appends the replacement of the first word of `rest`, and returns its size.
 ///
-/// It is that of a hexadecimal number, of a name as an operand, or the word itself.
+/// The replacement is that of a hexadecimal number, of a name as an operand, or the word itself.
+/// The size is the word's. `before` is the line's text before `rest`.
 fn word(
     out: &mut Vec<u8>,
     before: &[u8],
@@ -242,6 +253,8 @@ fn word(
 }
 
 /// Appends the replacement of a name that is an operand and no constant.
+///
+/// A name that the instruction doesn't accept at this place is appended unchanged.
 fn push_name(
     out: &mut Vec<u8>,
     name: &[u8],
@@ -257,6 +270,9 @@ fn push_name(
 }
 
 /// Appends the offset to a label, counted in slots from the one after the jump.
+///
+/// # Errors
+/// Returns `UnknownLabel` if no line has the label, or `NoMemory` if memory can't be allocated.
 fn push_offset(out: &mut Vec<u8>, name: &[u8], place: &Place<'_>) -> Result<(), PieceError> {
     match place.names.labels.iter().find(|label| label.name == name) {
         Some(label) => {
@@ -269,6 +285,9 @@ fn push_offset(out: &mut Vec<u8>, name: &[u8], place: &Place<'_>) -> Result<(), 
 }
 
 /// Appends the number of a helper.
+///
+/// # Errors
+/// Returns `UnknownHelper` if no helper has the name, or `NoMemory` if memory can't be allocated.
 fn push_helper(out: &mut Vec<u8>, name: &[u8], alloc: Global) -> Result<(), PieceError> {
     match number_of_helper(name) {
         Some(number) => push_number(out, alloc, number),
@@ -276,7 +295,9 @@ fn push_helper(out: &mut Vec<u8>, name: &[u8], alloc: Global) -> Result<(), Piec
     }
 }
 
-/// Returns the number of slots of a line without a label.
+/// Returns the number of slots of a line without a label: two for a wide load.
+///
+/// A blank line and a constant's have none, and any other has one.
 fn slots_of(body: &[u8]) -> u32 {
     match first_word(body) {
         [] | b".const" => 0,
@@ -293,7 +314,7 @@ pub(crate) fn is_constant(body: &[u8]) -> bool {
     }
 }
 
-/// Returns the kind of name that an instruction accepts.
+/// Returns the kind of name that an instruction with this first word accepts.
 fn wanted_by(word: &[u8]) -> Wanted {
     match word {
         b"call" => Wanted::Helper,

@@ -30,7 +30,7 @@ pub enum Form {
 }
 
 impl Form {
-    /// Returns the mistake of the line.
+    /// Returns the assembler's mistake as which this one is reported.
     pub fn mistake(self) -> Mistake {
         match self {
             Form::DoubleLabel | Form::DoubleConstant | Form::TakenConstant => Mistake::UnknownWord,
@@ -40,7 +40,7 @@ impl Form {
         }
     }
 
-    /// Returns the mistake in words.
+    /// Returns the mistake in words, for an explanation.
     pub fn text(self) -> &'static str {
         match self {
             Form::UnknownLabel => "a jump or `callf` to a label that no line has",
@@ -59,7 +59,7 @@ impl Form {
         }
     }
 
-    /// Returns the change that corrects it.
+    /// Returns the change that corrects the mistake, for an explanation.
     pub fn correction(self) -> &'static str {
         match self {
             Form::UnknownLabel => "write `NAME:` in front of the instruction that it is to lead to",

@@ -24,9 +24,13 @@ impl<T: Drop> From<AllocFailed<T>> for PieceError {
     }
 }
 
-/// Appends the number of the first piece of `rest`, or its word; returns its size.
+/// Appends the number that `rest` begins with, or its first word otherwise.
 ///
-/// The size is in bytes.
+/// Returns the number of bytes of `rest` that it replaces.
+///
+/// # Errors
+/// Returns the mistake in a character, a text or a hexadecimal number, or `NoMemory` if memory
+/// can't be allocated.
 pub(crate) fn number_piece(
     out: &mut Vec<u8>,
     rest: &[u8],
@@ -46,6 +50,12 @@ pub(crate) fn number_piece(
 }
 
 /// Appends the code of a character, from after its first `'`.
+///
+/// Returns the number of bytes from the first `'` to the second, both included.
+///
+/// # Errors
+/// Returns the mistake `Character` if there isn't one printed character, a second `'` and the end
+/// of the word. Returns `NoMemory` if memory can't be allocated.
 fn character(out: &mut Vec<u8>, more: &[u8], alloc: Global) -> Result<usize, PieceError>
     ensures { IfOk result (λ n. n ≤ length more.now + 1) }
 {
@@ -58,11 +68,18 @@ fn character(out: &mut Vec<u8>, more: &[u8], alloc: Global) -> Result<usize, Pie
     }
 }
 
+/// Returns whether the byte is printed ASCII, space to `~`.
 fn is_printed(byte: u8) -> bool {
     byte == b' ' || byte.is_ascii_graphic()
 }
 
 /// Appends the number of a text, from after its `.text`.
+///
+/// Returns the number of bytes from `.text` to the second `"`, both included.
+///
+/// # Errors
+/// Returns the mistake `Packed` or `LongPacked` of a malformed text, or `NoMemory` if memory can't
+/// be allocated.
 fn packed(out: &mut Vec<u8>, more: &[u8], alloc: Global) -> Result<usize, PieceError>
     ensures { IfOk result (λ n. n ≤ length more.now + 5) }
 {
@@ -83,6 +100,9 @@ fn packed(out: &mut Vec<u8>, more: &[u8], alloc: Global) -> Result<usize, PieceE
 }
 
 /// Returns the number whose bytes, in little-endian order, are the characters.
+///
+/// # Errors
+/// Returns the mistake in a text of more than eight characters, or with others than printed ASCII.
 fn packed_number(text: &[u8]) -> Result<u64, PieceError> {
     if text.len() > 8 {
         return Err(PieceError::Form(Form::LongPacked));
@@ -96,6 +116,10 @@ fn packed_number(text: &[u8]) -> Result<u64, PieceError> {
 }
 
 /// Appends a word, or the number that its hexadecimal digits represent.
+///
+/// # Errors
+/// Returns the mistake `LongNumber` if the number has more than 64 bits, or `NoMemory` if memory
+/// can't be allocated.
 pub(crate) fn push_word(out: &mut Vec<u8>, word: &[u8], alloc: Global) -> Result<(), PieceError> {
     match word {
         [b'-', b'0', b'x', digits @ ..] if is_hex(digits) => {
@@ -114,6 +138,9 @@ fn is_hex(digits: &[u8]) -> bool {
 }
 
 /// Returns the number that hexadecimal digits represent.
+///
+/// # Errors
+/// Returns the mistake `LongNumber` if the number has more than 64 bits.
 fn hexadecimal(digits: &[u8]) -> Result<u64, PieceError> {
     match str::from_utf8(digits) {
         Ok(digits) => match u64::from_str_radix(digits, 16) {
@@ -124,6 +151,7 @@ fn hexadecimal(digits: &[u8]) -> Result<u64, PieceError> {
     }
 }
 
+/// Appends a number in decimal digits.
 pub(crate) fn push_number(out: &mut Vec<u8>, alloc: Global, number: u64) -> Result<(), PieceError> {
     let text = format!(in alloc; "{number}")?;
     Ok(out.extend_from_slice(text.as_bytes())?)

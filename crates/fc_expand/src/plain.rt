@@ -7,7 +7,7 @@ use std::alloc::AllocError;
 
 /// Returns whether a source has nothing to expand but tabs and carriage returns.
 ///
-/// No mark begins anywhere in it.
+/// That is so if no mark begins anywhere in it. `expand` then only replaces these by spaces.
 pub(crate) fn is_plain_but_for_tabs(text: &[u8]) -> bool
     ensures { result ≡ is_plain_but_for_tabs text.now }
 {
@@ -35,18 +35,21 @@ fn begins_mark(rest: &[u8]) -> bool
     }
 }
 
+/// Returns whether a byte by itself is a mark.
 fn is_mark(byte: u8) -> bool
     ensures { result ≡ is_mark byte }
 {
     byte == b':' || byte == b'\'' || byte == b'"'
 }
 
+/// Returns whether two bytes are a mark: `0x` or `.c`.
 fn is_pair(first: u8, second: u8) -> bool
     ensures { result ≡ is_short_form first second }
 {
     (first == b'0' && second == b'x') || (first == b'.' && second == b'c')
 }
 
+/// Returns whether a byte is a digit or `-`.
 fn begins_number(byte: u8) -> bool
     ensures { result ≡ begins_number byte }
 {
@@ -63,6 +66,7 @@ pub(crate) fn push_spaced(out: &mut Vec<u8>, bytes: &[u8]) -> Result<(), AllocEr
     Ok(())
 }
 
+/// Returns a space for a tab or a carriage return, and any other byte unchanged.
 fn as_space(byte: u8) -> u8
     ensures { result ≡ as_space byte }
 {

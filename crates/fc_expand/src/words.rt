@@ -1,4 +1,4 @@
-//! The words of a line, and its label.
+//! The words of a line, and its label, for the preprocessor and for explanations.
 ghost use Rattle.std.specs.Prelude.{length, ◌≤◌, ◌≡◌};
 ghost use Rattle.fc_expand.specs.Expanded.{is_space, is_tab, parts_words};
 
@@ -16,7 +16,9 @@ pub(crate) fn is_space(byte: u8) -> bool
     byte == b' ' || is_tab(byte)
 }
 
-/// Returns a line's label, if it has one, and the text after that.
+/// Returns a line's label and the text after it, or `None` and the whole line.
+///
+/// A label is a name directly before the line's first `:`, with nothing but spaces before the name.
 pub fn split_label(code: &[u8]) -> (Option<&[u8]>, &[u8]) {
     let Some(colon) = code.iter().position(|byte| *byte == b':') else {
         return (None, code);
@@ -31,6 +33,8 @@ pub fn split_label(code: &[u8]) -> (Option<&[u8]>, &[u8]) {
 }
 
 /// Returns whether a word has letters, digits and `_` only, and no digit first.
+///
+/// An empty word is no name.
 pub(crate) fn is_name(word: &[u8]) -> bool {
     match word {
         [] => false,
@@ -42,7 +46,7 @@ fn is_name_byte(byte: u8) -> bool {
     byte == b'_' || byte.is_ascii_alphanumeric()
 }
 
-/// Returns whether nothing is left, or the rest begins with the end of a word.
+/// Returns whether `rest` is empty, or begins with a separator or a comment.
 pub(crate) fn is_ended(rest: &[u8]) -> bool {
     match rest {
         [] => true,
@@ -50,7 +54,7 @@ pub(crate) fn is_ended(rest: &[u8]) -> bool {
     }
 }
 
-/// Returns the number of bytes before a separator or a comment.
+/// Returns the number of bytes up to a separator, a comment or the end.
 pub(crate) fn word_size(rest: &[u8]) -> usize
     ensures { result ≤ length rest.now }
 {
@@ -60,11 +64,12 @@ pub(crate) fn word_size(rest: &[u8]) -> usize
     }
 }
 
+/// Returns whether the byte separates words or begins a comment.
 fn ends_word(byte: u8) -> bool {
     parts_words(byte) || byte == b';'
 }
 
-/// Returns whether there is no word before a comment.
+/// Returns whether a line has no word before a comment.
 pub(crate) fn is_blank(code: &[u8]) -> bool {
     first_word(code).is_empty()
 }
@@ -76,18 +81,18 @@ pub(crate) fn parts_words(byte: u8) -> bool
     is_space(byte) || byte == b','
 }
 
-/// Returns the first word of a line, or nothing.
+/// Returns the first word of a line, or an empty one if the line has none.
 pub fn first_word(body: &[u8]) -> &[u8] {
     split_word(body).0
 }
 
-/// Returns the first word of a line, or nothing, and the text after it.
+/// Returns the first word of a line, or an empty one, and the text after it.
 pub(crate) fn split_word(body: &[u8]) -> (&[u8], &[u8]) {
     let rest = from_word(body);
     rest.split_at(word_size(rest))
 }
 
-/// Returns the text after leading spaces and commas.
+/// Returns the text after leading spaces and commas, or an empty text.
 pub(crate) fn from_word(body: &[u8]) -> &[u8] {
     match body.iter().position(|byte| !parts_words(*byte)) {
         Some(start) => &body[start..],

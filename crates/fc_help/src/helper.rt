@@ -50,6 +50,8 @@ pub struct Signature {
 }
 
 /// Returns the helper with a number, 1 to 7 (RFC 9669, section 4.3.1).
+///
+/// Returns `None` if no helper has the number.
 pub fn helper_of(number: i32) -> Option<Helper>
     ensures helper { result ≡ helper_of number }
     ensures number { MatchOption result (helper_of number ≡ None) (λ helper. helper_number helper ≡ number) }

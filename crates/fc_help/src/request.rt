@@ -72,7 +72,9 @@ fn put_padded(region: &mut ArrayVec<u8, REGION>, bytes: &[u8], size: usize)
     let _fits = region.try_extend_from_slice(&ZEROS[..size - bytes.len()]);
 }
 
-/// Returns the first bytes of a region.
+/// Encodes the first 16 bytes of a request's region.
+///
+/// They have the method, the slot, the Content-Format, and the lengths of query and payload.
 fn head(
     method: Method,
     slot: u8,
@@ -95,7 +97,7 @@ fn head(
     ]
 }
 
-/// Appends the region of a request.
+/// Writes the region of a request in place of the bytes that `region` has.
 fn lay_out(
     region: &mut ArrayVec<u8, REGION>,
     method: Method,
@@ -123,7 +125,7 @@ fn write_padded(room: &mut [u8], bytes: &[u8])
     room[bytes.len()..].fill(0);
 }
 
-/// Overwrites `room` with a head and a query.
+/// Overwrites `room` with a head and a query, padded with zeros.
 fn write_start(room: &mut [u8], head: &[u8; HEAD], query: &[u8])
     requires room { length room.old ≡ 80 }
     requires query { length query.now ≤ 64 }
@@ -133,7 +135,9 @@ fn write_start(room: &mut [u8], head: &[u8; HEAD], query: &[u8])
     write_padded(&mut room[HEAD..], query);
 }
 
-/// Overwrites a payload of length `before`; all bytes after it are already zero.
+/// Overwrites a payload of length `before`, and the rest of it with zeros.
+///
+/// All bytes of `room` after the old payload are already zero.
 fn write_payload(room: &mut [u8], before: usize, payload: &[u8])
     requires room { length room.old ≡ 1024 }
     requires before { before ≤ 1024 }
@@ -171,7 +175,7 @@ fn lay_over(
     write_payload(&mut bytes[BEFORE_PAYLOAD..], before, payload);
 }
 
-/// Returns a method's byte.
+/// Returns the byte of a method in the region: 1 for GET, 2 for POST.
 fn method_byte(method: Method) -> u8
     ensures { result ≡ method_number method }
 {
@@ -211,7 +215,8 @@ impl Request {
 
     /// Overwrites this request with a GET or POST of this slot's resource.
     ///
-    /// The result is that of [`Request::new`]. No request is moved.
+    /// The result is that of [`Request::new`], but written in place: the buffers of snapshots and
+    /// jobs are used again.
     pub fn write(
         &mut self,
         method: Method,
@@ -263,7 +268,7 @@ impl Request {
         self.slot
     }
 
-    /// Returns the payload's Content-Format, if the request states one.
+    /// Returns the payload's Content-Format, or `None` if the request states none.
     ///
     /// See RFC 7252, section 5.10.3.
     pub fn content_format(&self) -> Option<u16>
@@ -291,6 +296,8 @@ impl Request {
     }
 
     /// Returns whether the two requests are the same in all fields.
+    ///
+    /// A commit compares the outcome's request with the ticket's by it.
     pub fn is(&self, other: &Request) -> bool
         ensures { IsTrue result ↔ (self.now ≡ other.now) }
     {
@@ -301,7 +308,7 @@ impl Request {
             && self.payload() == other.payload()
     }
 
-    /// Returns a copy.
+    /// Returns a copy. An observation and the record of a commit keep one.
     pub fn copy(&self) -> Request
         ensures { result ≡ self.now }
     {
@@ -317,7 +324,7 @@ impl Request {
         }
     }
 
-    /// Overwrites this request with a copy of another. No request is moved.
+    /// Overwrites this request with a copy of another, in place.
     pub fn copy_from(&mut self, other: &Request)
         ensures { self.new ≡ other.now }
     {

@@ -54,20 +54,22 @@ impl Vars {
     }
 
     /// Returns whether the bytes are the same.
+    ///
+    /// A commit compares the outcome's and the slot's variables with the ticket's by it.
     pub fn is(&self, other: &Vars) -> bool
         ensures { IsTrue result ↔ (self.now ≡ other.now) }
     {
         self.bytes.as_slice() == other.bytes.as_slice()
     }
 
-    /// Returns a copy.
+    /// Returns a copy. The record of a commit keeps one of the variables before it.
     pub fn copy(&self) -> Vars
         ensures { result ≡ self.now }
     {
         Vars::of(self.bytes.as_slice())
     }
 
-    /// Overwrites these variables with a copy of others. None are moved.
+    /// Overwrites these variables with a copy of others, in place.
     pub fn copy_from(&mut self, other: &Vars)
         ensures { self.new ≡ other.now }
     {

@@ -53,9 +53,9 @@ const FLOW_RULES: [Rule; 7] = [
     Rule::Helper,
 ];
 
-/// Returns the first of these rules that a slot breaks.
+/// Returns the fault of the first of these rules that a slot breaks, or `None`.
 ///
-/// The fault has the first slot that breaks it.
+/// Its slot is the first that breaks the rule. `tables` are those of the program.
 fn first_broken(code: &[Insn], tables: &Tables, head: &Head, rules: &[Rule]) -> Option<Fault>
     requires tables { AreTables head.now.version code.now tables.now }
     requires count { length code.now ≤ 1024 }
@@ -69,7 +69,7 @@ fn first_broken(code: &[Insn], tables: &Tables, head: &Head, rules: &[Rule]) -> 
     None
 }
 
-/// Returns the first slot that breaks a rule.
+/// Returns the first slot that breaks a rule, or `None` if no slot does.
 fn least(code: &[Insn], tables: &Tables, head: &Head, rule: Rule) -> Option<usize>
     requires tables { AreTables head.now.version code.now tables.now }
     requires count { length code.now ≤ 1024 }
@@ -78,7 +78,10 @@ fn least(code: &[Insn], tables: &Tables, head: &Head, rule: Rule) -> Option<usiz
     (0..code.len()).find(|slot| breaks(code, tables, head, *slot, &code[*slot], rule))
 }
 
-/// Returns whether a slot breaks a rule.
+/// Returns whether a slot, with the instruction `insn`, breaks a rule.
+///
+/// The rules of the whole program, frame depth and cost, are broken at slot 0. A rule of another
+/// sort than those of the control flow isn't broken.
 #[tactic(auto, unfolding(crate::specs::ShapeRules::breaks_shape))]
 fn breaks(code: &[Insn], tables: &Tables, head: &Head, slot: usize, insn: &Insn, rule: Rule) -> bool
     requires tables { AreTables head.now.version code.now tables.now }
@@ -106,7 +109,9 @@ fn breaks(code: &[Insn], tables: &Tables, head: &Head, slot: usize, insn: &Insn,
     }
 }
 
-/// Returns whether an offset's target isn't an instruction of the program.
+/// Returns whether the offset of a slot's jump or call leads to no instruction.
+///
+/// Without an offset, returns `false`.
 fn is_astray(code: &[Insn], slot: usize, offset: Option<i32>) -> bool
     requires { slot < 1024 }
     ensures { result ≡ with_offset offset (λ o. not (is_place code.now (target slot o))) }
@@ -117,6 +122,9 @@ fn is_astray(code: &[Insn], slot: usize, offset: Option<i32>) -> bool
     }
 }
 
+/// Returns whether a target is a slot of the program, and no second half.
+///
+/// `None`, a target below slot 0, isn't one.
 fn is_place(code: &[Insn], place: Option<usize>) -> bool
     ensures { result ≡ is_place code.now place }
 {
@@ -128,7 +136,8 @@ fn is_place(code: &[Insn], place: Option<usize>) -> bool
 
 /// Returns whether a jump leads to no later slot, and isn't that of a counted loop.
 ///
-/// Loops count only if they are allowed.
+/// Unless loops are `allowed`, no jump is that of a counted loop. `spans` has the sources of the
+/// jumps to each slot.
 fn breaks_back(
     allowed: bool,
     code: &[Insn],
@@ -144,7 +153,9 @@ fn breaks_back(
     is_back(slot, jump_offset(insn)) && !(allowed && is_counted(code, spans, slot, insn))
 }
 
-/// Returns whether an offset's target isn't a later slot.
+/// Returns whether the offset of a slot's jump or call leads to no later slot.
+///
+/// Without an offset, returns `false`.
 fn is_back(slot: usize, offset: Option<i32>) -> bool
     requires { slot < 1024 }
     ensures { result ≡ with_offset offset (λ o. not (is_later slot (target slot o))) }
@@ -155,6 +166,7 @@ fn is_back(slot: usize, offset: Option<i32>) -> bool
     }
 }
 
+/// Returns whether a target is a later slot; `None`, one below slot 0, isn't.
 fn is_later(slot: usize, place: Option<usize>) -> bool
     ensures { result ≡ is_later slot place }
 {
@@ -165,6 +177,9 @@ fn is_later(slot: usize, place: Option<usize>) -> bool
 }
 
 /// Returns whether a jump with this offset leaves its function.
+///
+/// Returns `false` without an offset, or if the target isn't a slot of the program. `counts` has
+/// the number of functions that start up to each slot.
 fn leaves(code: &[Insn], counts: &[u16; MOST_SLOTS], slot: usize, offset: Option<i32>) -> bool
     requires counts { AreCounts code.now counts.now }
     requires count { length code.now ≤ 1024 }
@@ -177,6 +192,9 @@ fn leaves(code: &[Insn], counts: &[u16; MOST_SLOTS], slot: usize, offset: Option
     }
 }
 
+/// Returns whether a jump from a slot to this target leaves its function.
+///
+/// Returns `false` if the target isn't a slot of the program.
 fn crosses_to(code: &[Insn], counts: &[u16; MOST_SLOTS], slot: usize, place: Option<usize>) -> bool
     requires counts { AreCounts code.now counts.now }
     requires count { length code.now ≤ 1024 }

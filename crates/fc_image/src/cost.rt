@@ -37,7 +37,8 @@ pub(crate) fn longest_cost(code: &[Insn], heads: &[Option<Loop>; MOST_SLOTS], al
 
 /// Returns the steps from an instruction to the end of its body or function.
 ///
-/// `costs` has those of the later slots.
+/// `costs` has those from the later slots. If the instruction is the back jump of the loop
+/// `ending`, it is one step: the loop's head counts the iterations.
 fn own_steps(costs: &[u32; MOST_SLOTS], slot: usize, ending: &Option<Loop>, insn: &Insn) -> u32
     requires slot { slot < 1024 }
     requires capped { (k : ℕ) → slice_index costs.now k ≤ 65537 }
@@ -50,6 +51,9 @@ fn own_steps(costs: &[u32; MOST_SLOTS], slot: usize, ending: &Option<Loop>, insn
     }
 }
 
+/// Returns the steps from an instruction on, along the longer branch of a jump.
+///
+/// The steps of a called function count too. `costs` has the steps from the later slots.
 fn steps_along(costs: &[u32; MOST_SLOTS], slot: usize, insn: &Insn) -> u32
     requires slot { slot < 1024 }
     requires capped { (k : ℕ) → slice_index costs.now k ≤ 65537 }
@@ -73,7 +77,8 @@ fn steps_along(costs: &[u32; MOST_SLOTS], slot: usize, insn: &Insn) -> u32
 
 /// Returns the steps from a slot on, once a path reaches it.
 ///
-/// At a loop's head they are those of all iterations, and of the rest after the loop.
+/// `own` are those up to the end of its body or function. At the head of the loop `beginning` they
+/// count for each iteration, and the steps after the loop are added.
 fn steps(costs: &[u32; MOST_SLOTS], slot: usize, beginning: &Option<Loop>, own: u32) -> u32
     requires slot { slot < 1024 }
     requires capped { (k : ℕ) → slice_index costs.now k ≤ 65537 }
@@ -87,7 +92,9 @@ fn steps(costs: &[u32; MOST_SLOTS], slot: usize, beginning: &Option<Loop>, own: 
     }
 }
 
-/// Returns how many times a path runs through a body.
+/// Returns the number of iterations of a loop whose counter begins at 0.
+///
+/// The cost counts as many, whatever the counter is at the start.
 fn turns(counted: &Loop) -> u32
     requires { IsLow 1024 counted.now }
     ensures turns { result ≡ turns counted.now }
@@ -96,7 +103,7 @@ fn turns(counted: &Loop) -> u32
     1 + (counted.bound - 1) / counted.step
 }
 
-/// Returns the slot to which an offset leads.
+/// Returns the slot to which an offset leads, or `slot` if that is below 0.
 fn landing(slot: usize, offset: i32) -> usize
     requires { slot < 1024 }
     ensures { result ≡ landing slot offset }
@@ -104,7 +111,7 @@ fn landing(slot: usize, offset: i32) -> usize
     target(slot, offset).unwrap_or(slot)
 }
 
-/// Returns the cost at a later slot, or 0.
+/// Returns the cost at `place`, or 0 if it isn't later than `slot` or has no entry.
 fn at(costs: &[u32; MOST_SLOTS], slot: usize, place: usize) -> u32
     requires { (k : ℕ) → slice_index costs.now k ≤ 65537 }
     ensures cost { result ≡ cost_at (drop (slot + 1) costs.now) slot place }

@@ -4,7 +4,9 @@ ghost use Rattle.fc_isa.specs.Flow.{call_offset, jump_offset, target};
 
 use fc_isa::Insn;
 
-/// Returns the offset of a jump, in slots after the next.
+/// Returns the offset of a jump, or `None` for any other instruction.
+///
+/// It counts slots from the one after the jump.
 pub(crate) fn jump_offset(insn: &Insn) -> Option<i32>
     ensures { result ≡ jump_offset insn.now }
 {
@@ -16,7 +18,9 @@ pub(crate) fn jump_offset(insn: &Insn) -> Option<i32>
     }
 }
 
-/// Returns the offset of a local call.
+/// Returns the offset of a local call, or `None` for any other instruction.
+///
+/// It counts slots from the one after the call.
 pub(crate) fn call_offset(insn: &Insn) -> Option<i32>
     ensures { result ≡ call_offset insn.now }
 {

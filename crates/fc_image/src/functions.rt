@@ -10,7 +10,9 @@ use fc_isa::Insn;
 /// One frame more than any program may have: depths are capped at it.
 const TOO_DEEP: u8 = 9;
 
-/// Returns which slots start a function.
+/// Returns for each slot whether a function starts there.
+///
+/// Functions start at slot 0 and at the targets of local calls.
 pub(crate) fn starts(code: &[Insn]) -> [bool; MOST_SLOTS]
     requires { length code.now ≤ 1024 }
     ensures { AreStarts code.now result }
@@ -40,7 +42,7 @@ fn mark(starts: &mut [bool; MOST_SLOTS], slot: usize, insn: &Insn)
     }
 }
 
-/// Returns how many functions start up to each slot.
+/// Returns for each slot how many functions start up to it, including there.
 pub(crate) fn starts_counted(code: &[Insn], starts: &[bool; MOST_SLOTS]) -> [u16; MOST_SLOTS]
     requires { AreStarts code.now starts.now }
     ensures { AreCounts code.now result }
@@ -56,7 +58,9 @@ pub(crate) fn starts_counted(code: &[Insn], starts: &[bool; MOST_SLOTS]) -> [u16
     counts
 }
 
-/// Returns whether a function starts after a slot, up to another.
+/// Returns whether a function starts after `slot`, up to `place`.
+///
+/// If so, the two slots are in different functions, and no jump may lead from one to the other.
 pub(crate) fn crosses(code: &[Insn], counts: &[u16; MOST_SLOTS], slot: usize, place: usize) -> bool
     requires counts { AreCounts code.now counts.now }
     requires later { slot ≤ place }
@@ -82,6 +86,7 @@ pub(crate) fn is_open_end(
     !may_end(insn) && (next >= code.len() || starts[next])
 }
 
+/// Returns the number of slots of an instruction: 2 for a wide load, else 1.
 fn slots_taken(insn: &Insn) -> usize
     ensures slots { result ≡ slots_taken insn.now }
     ensures few { result ≤ 2 }
@@ -92,6 +97,9 @@ fn slots_taken(insn: &Insn) -> usize
     }
 }
 
+/// Returns whether an instruction may be the last of its function: an exit.
+///
+/// A second half may too, since its wide load is checked instead.
 fn may_end(insn: &Insn) -> bool
     ensures { result ≡ may_end insn.now }
 {
@@ -131,19 +139,21 @@ fn depth(depths: &[u8; MOST_SLOTS], starts: &[bool; MOST_SLOTS], slot: usize, in
     called(depths, slot, insn).max(rest).min(TOO_DEEP)
 }
 
+/// Returns whether a function starts at a slot; `false` after the table's end.
 fn at_start(starts: &[bool; MOST_SLOTS], slot: usize) -> bool
     ensures { result ≡ slice_index_or starts.now slot false }
 {
     starts.get(slot).copied().unwrap_or(false)
 }
 
+/// Returns the depth at a place, or 0 after the table's end.
 fn at(depths: &[u8; MOST_SLOTS], place: usize) -> u8
     ensures { result ≡ slice_index depths.now place }
 {
     depths.get(place).copied().unwrap_or(0)
 }
 
-/// Returns the frames of the function that an instruction calls.
+/// Returns the frames that an instruction's local call needs, or 0 without a call.
 fn called(depths: &[u8; MOST_SLOTS], slot: usize, insn: &Insn) -> u8
     requires slot { slot < 1024 }
     requires capped { (k : ℕ) → slice_index depths.now k ≤ 9 }
@@ -157,7 +167,7 @@ fn called(depths: &[u8; MOST_SLOTS], slot: usize, insn: &Insn) -> u8
 
 /// Returns the depth at an offset from the next slot.
 ///
-/// It is 0 if the offset is negative.
+/// It is 0 if the offset is negative or leads past the table's end.
 fn at_offset(depths: &[u8; MOST_SLOTS], slot: usize, offset: i32) -> u8
     requires slot { slot < 1024 }
     requires capped { (k : ℕ) → slice_index depths.now k ≤ 9 }

@@ -1,4 +1,6 @@
 //! The loops of a program, by the slots at which they begin.
+//!
+//! The longest path and the verifier's pass look them up by slot.
 ghost use Rattle.std.specs.Prelude.{length, ◌<◌, ◌≡◌, ◌≤◌};
 ghost use Rattle.fc_image.specs.Loops.{loop_if, loops_in};
 ghost use Rattle.fc_image.specs.Tables.{AreHeads, AreLow, headed};
@@ -8,7 +10,10 @@ use crate::loops::{Loop, loop_at};
 use crate::table::MOST_SLOTS;
 use fc_isa::{ImageVersion, Insn};
 
-/// Returns the loop that begins at each slot of a program of this version.
+/// Returns for each slot the loop that begins there, or `None`.
+///
+/// A loop is one by its back jump and the addition before it, whether or not other instructions
+/// disturb it. Of several loops with one head, the entry is that with the first back jump.
 pub fn loops_by_head(version: ImageVersion, code: &[Insn]) -> [Option<Loop>; MOST_SLOTS]
     requires { length code.now ≤ 1024 }
     ensures { AreHeads (loops_in version code.now) result }
@@ -24,7 +29,9 @@ pub fn loops_by_head(version: ImageVersion, code: &[Insn]) -> [Option<Loop>; MOS
     heads
 }
 
-/// Returns the loop of which an instruction is the back jump, if loops are allowed.
+/// Returns the loop of which an instruction is the back jump, or `None`.
+///
+/// See [`loop_at`]. Unless loops are `allowed`, the result is `None`.
 pub(crate) fn loop_if(allowed: bool, code: &[Insn], slot: usize, insn: &Insn) -> Option<Loop>
     requires count { length code.now ≤ 1024 }
     requires slot { slot < length code.now }
@@ -38,7 +45,7 @@ pub(crate) fn loop_if(allowed: bool, code: &[Insn], slot: usize, insn: &Insn) ->
     }
 }
 
-/// Stores a loop at its head.
+/// Stores a loop at its head; without a loop, nothing changes.
 fn put_head(heads: &mut [Option<Loop>; MOST_SLOTS], ending: &Option<Loop>)
     requires { AreLow 1024 ending.now }
     ensures { heads.new ≡ headed heads.old ending.now }

@@ -30,7 +30,7 @@ pub fn head(image: &[u8]) -> Result<Head, Fault>
     }
 }
 
-/// Returns the least rule of the header that the image breaks.
+/// Returns the least rule of the header that the image breaks, or `None`.
 fn fault(image: &[u8]) -> Option<Rule>
     ensures { result ≡ head_fault image.now }
 {
@@ -104,7 +104,7 @@ fn is_word(bytes: &[u8], word: [u8; 4]) -> bool
     (bytes[0] == word[0] && bytes[1] == word[1]) && (bytes[2] == word[2] && bytes[3] == word[3])
 }
 
-/// Returns the version that the magic names.
+/// Returns the version that the magic names, if the magic is a known one.
 fn version(image: &[u8]) -> ImageVersion
     requires { 4 ≤ length image.now }
     ensures { result ≡ (stated image.now).version }

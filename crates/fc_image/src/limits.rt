@@ -103,6 +103,8 @@ impl Head {
     }
 
     /// Returns the same header with another budget.
+    ///
+    /// A diagnosis uses it to compute a cost above the image's budget.
     pub fn with_budget(&self, budget: u32) -> Self
         requires some { 1 ≤ budget }
         requires limit { budget ≤ 65536 }
@@ -174,7 +176,7 @@ impl Head {
     }
 }
 
-/// Returns the least rule that these numbers break.
+/// Returns the least rule that these numbers break, or `None` if they break none.
 fn broken_limit(version: ImageVersion, vars_size: u16, count: usize, budget: u32) -> Option<Rule>
     ensures { result ≡ limit_fault (record { version = version; vars_size = vars_size; count = count; budget = budget }) }
 {

@@ -26,6 +26,8 @@ pub struct Loop {
 }
 
 /// Returns whether an instruction is the back jump of a counted loop.
+///
+/// The loop must be undisturbed. `spans` has the sources of the jumps to each slot.
 pub(crate) fn is_counted(
     code: &[Insn],
     spans: &[Option<Span>; MOST_SLOTS],
@@ -43,9 +45,9 @@ pub(crate) fn is_counted(
     }
 }
 
-/// Returns the loop of which an instruction would be the back jump.
+/// Returns the loop of which an instruction would be the back jump, or `None`.
 ///
-/// It depends on the instruction and the one before.
+/// It depends only on the instruction and the one before. Others may still disturb the loop.
 pub(crate) fn loop_at(code: &[Insn], slot: usize, insn: &Insn) -> Option<Loop>
     requires count { length code.now ≤ 1024 }
     requires slot { slot < length code.now }
@@ -62,6 +64,9 @@ pub(crate) fn loop_at(code: &[Insn], slot: usize, insn: &Insn) -> Option<Loop>
     }
 }
 
+/// Returns the loop that a jump ends with this bound and this step.
+///
+/// Returns `None` if one of them is missing, or if the jump doesn't lead to an earlier slot.
 fn loop_by(slot: usize, jump: &Jump, bound: Option<u32>, step: Option<u32>) -> Option<Loop>
     requires { slot < 1024 }
     ensures { result ≡ loop_by slot jump.now bound step }
@@ -79,9 +84,9 @@ fn loop_by(slot: usize, jump: &Jump, bound: Option<u32>, step: Option<u32>) -> O
     }
 }
 
-/// Returns the bound of a jump that compares with an immediate of 1 to 1,024.
+/// Returns the bound of a loop's back jump, or `None` if the jump can't be one.
 ///
-/// The jump is taken if its register is below the immediate.
+/// Such a jump is taken if a whole register is below an immediate of 1 to 1,024, the bound.
 pub(crate) fn bound_of(jump: &Jump) -> Option<u32>
     ensures { result ≡ bound_of jump.now.width jump.now.relation jump.now.right }
 {
@@ -93,7 +98,9 @@ pub(crate) fn bound_of(jump: &Jump) -> Option<u32>
     }
 }
 
-/// Returns the step by which an instruction counts a register up.
+/// Returns the step by which an instruction counts a register up, or `None`.
+///
+/// The instruction is an `add64` of an immediate of 1 or more to the register `counter`.
 pub(crate) fn step_of(insn: &Insn, counter: Reg) -> Option<u32>
     ensures { result ≡ step_of (Some insn.now) counter }
 {
@@ -110,7 +117,7 @@ pub(crate) fn step_of(insn: &Insn, counter: Reg) -> Option<u32>
 
 /// Returns whether no instruction of a program disturbs a loop.
 ///
-/// It checks the instructions of the body, and the sources of the jumps to them.
+/// It checks the instructions of the body, and the sources of the jumps to them, which `spans` has.
 fn is_undisturbed(code: &[Insn], spans: &[Option<Span>; MOST_SLOTS], counted: &Loop) -> bool
     requires count { length code.now ≤ 1024 }
     requires spans { AreSpans code.now (length code.now) spans.now }
@@ -127,6 +134,8 @@ fn is_undisturbed(code: &[Insn], spans: &[Option<Span>; MOST_SLOTS], counted: &L
 }
 
 /// Returns whether a slot's instruction, or a jump to the slot, disturbs its loop.
+///
+/// `span` has the sources of the jumps to the slot.
 fn is_disturbed(counted: &Loop, slot: usize, insn: &Insn, span: &Option<Span>) -> bool
     requires { slot < 1024 }
     ensures { result ≡ (disturbs counted.now slot insn.now || is_jumped_into counted.now slot span.now) }
@@ -136,7 +145,8 @@ fn is_disturbed(counted: &Loop, slot: usize, insn: &Insn, span: &Option<Span>) -
 
 /// Returns whether a jump leads to this slot from outside the body.
 ///
-/// A jump to the loop's back jump counts too.
+/// A jump to the loop's back jump counts too. `span` has the sources of the jumps to the slot;
+/// without any, returns `false`.
 fn is_jumped_into(counted: &Loop, slot: usize, span: &Option<Span>) -> bool
     ensures { result ≡ is_jumped_into counted.now slot span.now }
 {
@@ -148,6 +158,7 @@ fn is_jumped_into(counted: &Loop, slot: usize, span: &Option<Span>) -> bool
     }
 }
 
+/// Returns whether a slot is in a loop's body, both ends included.
 pub(crate) fn is_in(counted: &Loop, slot: usize) -> bool
     ensures { result ≡ is_in counted.now slot }
 {
@@ -167,6 +178,7 @@ pub fn writes(insn: &Insn, register: usize) -> bool
     is_that(computes(insn), register) || is_call(insn) && register <= 5
 }
 
+/// Returns whether the computed register, if any, has this number.
 fn is_that(dst: Option<Target>, register: usize) -> bool
     ensures { result ≡ is_that dst register }
 {
@@ -176,7 +188,9 @@ fn is_that(dst: Option<Target>, register: usize) -> bool
     }
 }
 
-/// Returns the register that an instruction computes.
+/// Returns the register that an instruction computes, or `None`.
+///
+/// Calls compute none, though they write R0 to R5.
 pub fn computes(insn: &Insn) -> Option<Target>
     ensures { result ≡ computes insn.now }
 {

@@ -1,4 +1,4 @@
-//! The sources of the jumps to each slot.
+//! The sources of the jumps to each slot, by which jumps into a loop's body are found.
 ghost use Rattle.std.specs.Prelude.{length, ◌<◌, ◌≡◌, ◌≤◌};
 ghost use Rattle.fc_image.specs.Spans.{AreSpans, jumps_to, widened, span_with};
 
@@ -13,7 +13,7 @@ pub(crate) struct Span {
     pub(crate) greatest: u16,
 }
 
-/// Returns the span of each slot that is a jump target.
+/// Returns for each slot the span of the jumps to it, or `None` without any.
 pub(crate) fn spans(code: &[Insn]) -> [Option<Span>; MOST_SLOTS]
     requires { length code.now ≤ 1024 }
     ensures { AreSpans code.now (length code.now) result }
@@ -25,7 +25,9 @@ pub(crate) fn spans(code: &[Insn]) -> [Option<Span>; MOST_SLOTS]
     spans
 }
 
-/// Returns the slot to which an instruction jumps.
+/// Returns the slot to which an instruction jumps, or `None`.
+///
+/// It is `None` if the instruction isn't a jump, or if the target is below slot 0.
 fn jumps_to(slot: usize, insn: &Insn) -> Option<usize>
     requires { slot < 1024 }
     ensures { result ≡ jumps_to slot insn.now }
@@ -36,9 +38,10 @@ fn jumps_to(slot: usize, insn: &Insn) -> Option<usize>
     }
 }
 
-/// Widens the span of a jump's target.
+/// Widens the span of `place`, the target of the jump at `slot`.
 ///
-/// The jump comes from a later slot than those before it.
+/// The jump comes from a later slot than those before it. Without a target in the table, nothing
+/// changes.
 fn widen(spans: &mut [Option<Span>; MOST_SLOTS], slot: usize, place: Option<usize>)
     requires { slot < 1024 }
     ensures { spans.new ≡ widened spans.old slot place }
@@ -49,6 +52,7 @@ fn widen(spans: &mut [Option<Span>; MOST_SLOTS], slot: usize, place: Option<usiz
     }
 }
 
+/// Returns a span extended to the later slot `slot`, or else that of `slot` alone.
 fn span_with(span: &Option<Span>, slot: usize) -> Span
     requires { slot < 1024 }
     ensures { result ≡ span_with span.now slot }

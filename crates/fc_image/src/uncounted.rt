@@ -1,4 +1,6 @@
-//! The reasons why a jump back isn't that of a counted loop.
+//! The reasons why a jump back isn't that of a counted loop, for explanations.
+//!
+//! The check of counted loops calls `how_disturbed` too.
 ghost use Rattle.std.specs.Prelude.{None, length, true, ◌<◌, ◌≡◌, ◌≤◌};
 ghost use Rattle.fc_image.specs.Head.{loops_allowed};
 ghost use Rattle.fc_image.specs.Loops.{loop_at};
@@ -48,7 +50,7 @@ pub enum Disturbance {
 
 /// Returns why a slot's instruction isn't a counted loop's back jump.
 ///
-/// Returns `None` if it is one.
+/// Returns `None` if it is one. The explanation of a refused jump has the reason.
 pub fn why_uncounted(
     version: ImageVersion,
     code: &[Insn],
@@ -70,7 +72,7 @@ pub fn why_uncounted(
 
 /// Returns the missing part of an instruction that can't be a loop's back jump.
 ///
-/// Of the other instructions, only the one before it matters.
+/// Apart from the instruction itself, only the one before it matters.
 fn unformed(code: &[Insn], slot: usize, insn: &Insn) -> Uncounted
     requires count { length code.now ≤ 1024 }
     requires slot { slot < length code.now }
@@ -83,6 +85,7 @@ fn unformed(code: &[Insn], slot: usize, insn: &Insn) -> Uncounted
     }
 }
 
+/// Returns the missing part of a conditional jump, like `unformed`.
 fn unformed_jump(code: &[Insn], slot: usize, jump: &Jump) -> Uncounted
     requires count { length code.now ≤ 1024 }
     requires slot { slot < length code.now }
@@ -111,7 +114,7 @@ fn is_below(jump: &Jump) -> bool
     )
 }
 
-/// Returns the first instruction of a program that disturbs a loop, and how.
+/// Returns an instruction of a program that disturbs a loop, and how, or `None`.
 fn disturbed(code: &[Insn], counted: &Loop) -> Option<Uncounted>
     requires { length code.now ≤ 1024 }
     ensures { IsDisturbed code.now counted.now result }
@@ -129,7 +132,9 @@ fn disturbed(code: &[Insn], counted: &Loop) -> Option<Uncounted>
     None
 }
 
-/// Returns how an instruction disturbs a loop, if it does.
+/// Returns how an instruction disturbs a loop, or `None` if it doesn't.
+///
+/// The check of loops and the explanation of a refused jump use it.
 pub(crate) fn how_disturbed(counted: &Loop, slot: usize, insn: &Insn) -> Option<Disturbance>
     requires { slot < 1024 }
     ensures { IsHow counted.now slot insn.now result }
@@ -146,7 +151,9 @@ pub(crate) fn how_disturbed(counted: &Loop, slot: usize, insn: &Insn) -> Option<
     }
 }
 
-/// Returns how a jump from a slot to a place crosses a loop, if it does.
+/// Returns how a jump from a slot to a place crosses a loop, or `None`.
+///
+/// Without a place, the jump leads below slot 0 and crosses no loop.
 fn crossing(counted: &Loop, slot: usize, place: Option<usize>) -> Option<Disturbance>
     ensures { IsCrossing counted.now slot place result }
 {

@@ -1,6 +1,7 @@
 //! The fields of a slot: read from its bytes, written to them, and checked.
 //!
-//! A check returns the first rule that they break.
+//! The decoder reads and checks them, and the encoder writes them. A check returns the first rule
+//! that they break.
 ghost use Rattle.std.specs.Prelude.{◌≡◌, ◌<◌, ◌+◌, ◌*◌, ◌/◌, ◌%◌, ◌^◌, None, true, length};
 ghost use Rattle.std.specs.Int.{w16, w32, cast_signed, cast_unsigned};
 ghost use Rattle.fc_isa.specs.Encoding.{bytes_of_fields, fields, fields_of, insn_of, insn_with, read_fields, second_half, slot_fault, unused_are_zero, values_allowed, is_second_half, alu_values_allowed, arithmetic, move_insn, operand_of, called, sign_offset, signed_by, extended_bits, extended_width, swap_width, swap_bits, source_of, src_of, imm_of};
@@ -60,9 +61,9 @@ impl Fields {
         }
     }
 
-    /// Returns the fields of an instruction's own slot.
+    /// Returns the fields of an instruction's slot; of a wide load, the first slot's.
     ///
-    /// A second half has none of its own.
+    /// For a second half all are zero; the encoder doesn't write it by itself.
     pub(crate) fn of(insn: &Insn) -> Self
         ensures { result ≡ fields_of insn.now }
     {
@@ -178,7 +179,7 @@ impl Fields {
             .imm(imm_of(&jump.right))
     }
 
-    /// Returns a form's opcode, with zeros in the other fields.
+    /// Returns fields with a form's opcode, and zeros in the others.
     fn form(shape: Shape) -> Self
         ensures { result ≡ fields shape 0 0 0 0 }
     {
@@ -188,7 +189,7 @@ impl Fields {
         }
     }
 
-    /// Returns the fields of a second half, all zero.
+    /// Returns fields that are all zero, from which those of a form are made.
     fn zeros() -> Self
         ensures { result ≡ fields_of Insn.WideSecond }
     {
@@ -201,7 +202,7 @@ impl Fields {
         }
     }
 
-    /// Sets the registers and the signed offset of an access.
+    /// Returns these fields with other registers and a signed offset, for an access.
     fn between(self, dst: u8, src: u8, offset: i16) -> Self
         requires dst { dst < 16 }
         requires src { src < 16 }
@@ -210,12 +211,14 @@ impl Fields {
         self.dst(dst).src(src).offset(offset.cast_unsigned())
     }
 
+    /// Returns these fields with the bits of a signed immediate.
     fn signed_imm(self, imm: i32) -> Self
         ensures { result ≡ record self { imm = cast_unsigned w32 imm } }
     {
         self.imm(imm.cast_unsigned())
     }
 
+    /// Returns these fields with another destination register.
     fn dst(self, dst: u8) -> Self
         requires { dst < 16 }
         ensures { result ≡ record self { dst = dst } }
@@ -223,6 +226,7 @@ impl Fields {
         Fields { dst, ..self }
     }
 
+    /// Returns these fields with another source register.
     fn src(self, src: u8) -> Self
         requires { src < 16 }
         ensures { result ≡ record self { src = src } }
@@ -230,19 +234,23 @@ impl Fields {
         Fields { src, ..self }
     }
 
+    /// Returns these fields with another offset, given by its bits.
     fn offset(self, offset: u16) -> Self
         ensures { result ≡ record self { offset = offset } }
     {
         Fields { offset, ..self }
     }
 
+    /// Returns these fields with another immediate, given by its bits.
     fn imm(self, imm: u32) -> Self
         ensures { result ≡ record self { imm = imm } }
     {
         Fields { imm, ..self }
     }
 
-    /// Returns the second slot of the wide load of this value.
+    /// Returns the fields of the second slot of the wide load of this value.
+    ///
+    /// The high half of the value is the immediate, and the other fields are zero.
     pub(crate) fn second_half_of(value: u64) -> Self
         ensures { result ≡ second_half (value / 2 ^ 32) }
     {
@@ -269,7 +277,7 @@ impl Fields {
 
     /// Builds the instruction from fields that passed all checks.
     ///
-    /// `next` has the fields of the following slot.
+    /// `next` has the fields of the following slot, which only a wide load uses.
     pub(crate) fn insn(self, next: &Option<Self>) -> Insn
         requires { slot_fault self next.now ≡ None }
         ensures { result ≡ insn_of self next.now }
@@ -283,7 +291,8 @@ impl Fields {
 
     /// Returns the instruction of a form with these fields.
     ///
-    /// `high` is the immediate of the slot after them.
+    /// `high` is the immediate of the slot after them, which only a wide load uses. `Unknown`,
+    /// which the checks refuse, gives an exit.
     fn with_shape(self, shape: Shape, high: u32) -> Insn
         requires dst { self.dst < 11 }
         requires src { self.src < 11 }
@@ -310,9 +319,9 @@ impl Fields {
         }
     }
 
-    /// Returns the operation on the destination.
+    /// Returns the arithmetic instruction with these fields.
     ///
-    /// A move of a register may be one with sign extension.
+    /// The offset selects a signed division or modulo, and a move with sign extension.
     fn arithmetic(self, op: AluOp, width: Width, source: SourceOperand) -> Insn
         requires target { self.dst < 10 }
         requires src { self.src < 11 }
@@ -329,7 +338,9 @@ impl Fields {
         }
     }
 
-    /// Returns a move of a register, which sign-extends the bits given by the offset.
+    /// Returns the move of a register.
+    ///
+    /// It sign-extends the low bits whose number is the offset, unless the offset is 0.
     fn move_of(self, width: Width) -> Insn
         requires target { self.dst < 10 }
         requires src { self.src < 11 }
@@ -354,6 +365,7 @@ impl Fields {
         }
     }
 
+    /// Returns the second operand: the immediate, or the source register.
     fn operand(self, source: SourceOperand) -> Operand
         requires { self.src < 11 }
         ensures { result ≡ operand_of source self }
@@ -484,7 +496,9 @@ impl Fields {
         }
     }
 
-    /// Returns the least rule that the fields break; `next` is the slot after them.
+    /// Returns the least rule that the fields break, or `None` if they break none.
+    ///
+    /// `next` has the fields of the following slot, or is `None` if there is no whole one.
     pub(crate) fn fault(self, next: &Option<Self>) -> Option<Rule>
         ensures { result ≡ slot_fault self next.now }
     {
@@ -527,7 +541,9 @@ impl Fields {
         }
     }
 
-    /// Returns whether the operation allows the offset, if it uses it.
+    /// Returns whether the operation allows the offset, if it uses the offset.
+    ///
+    /// For an operation that doesn't use it, returns `true`: `unused_are_zero` checks its offset.
     fn is_alu_offset(self, op: AluOp, width: Width, source: SourceOperand) -> bool
         ensures { result ≡ alu_values_allowed op width source self.offset }
     {
@@ -545,7 +561,9 @@ impl Fields {
     }
 }
 
-/// Returns the signed operation if a division's or modulo's offset isn't zero.
+/// Returns the operation that the opcode's operation and the offset select.
+///
+/// A division or modulo is signed if the offset isn't zero. Any other operation stays `op`.
 fn signed_by(offset: u16, op: AluOp) -> AluOp
     ensures { result ≡ signed_by offset op }
 {
@@ -556,7 +574,7 @@ fn signed_by(offset: u16, op: AluOp) -> AluOp
     }
 }
 
-/// Returns the offset of the operation: 1 for signed division and modulo.
+/// Returns the offset of the operation: 1 for signed division and modulo, else 0.
 fn sign_offset(op: AluOp) -> u16
     ensures { result ≡ sign_offset op }
 {
@@ -598,6 +616,9 @@ fn extended_bits(extension: SignExtension) -> u16
     }
 }
 
+/// Returns the width of a byte-order change with this immediate.
+///
+/// It is 64 bits for any immediate other than 16 and 32; of those, the checks allow only 64.
 fn swap_width(imm: u32) -> SwapWidth
     ensures { result ≡ swap_width imm }
 {
@@ -608,6 +629,7 @@ fn swap_width(imm: u32) -> SwapWidth
     }
 }
 
+/// Returns the immediate of a byte-order change of this width.
 fn swap_bits(width: SwapWidth) -> u32
     ensures { result ≡ swap_bits width }
 {
@@ -655,7 +677,9 @@ fn low_half(value: u64) -> u32
     (value % WORD) as u32
 }
 
-/// Returns whether the slot after a wide load has nothing but an immediate.
+/// Returns whether the slot after a wide load is its second half.
+///
+/// There must be a slot, with zeros in all fields but the immediate.
 fn is_second_half(next: &Option<Fields>) -> bool
     ensures { result ≡ is_second_half next.now }
 {

@@ -1,4 +1,4 @@
-//! The lists of slots that are programs.
+//! The condition that a list of slots is a program: wide loads have both halves.
 ghost use Rattle.std.specs.Prelude.{◌≡◌};
 ghost use Rattle.fc_isa.specs.Program as programs;
 
@@ -6,7 +6,8 @@ use crate::insn::Insn;
 
 /// Returns whether each wide load is followed by its second half.
 ///
-/// There must be no second half elsewhere. The empty list is a program.
+/// Returns `false` if a second half is elsewhere. The empty list is a program. `encode` requires
+/// this of its program, and `decode` returns only such lists.
 pub fn is_program(slots: &[Insn]) -> bool
     ensures { result ≡ programs.is_program slots.now }
 {
@@ -20,13 +21,14 @@ pub fn is_program(slots: &[Insn]) -> bool
     !second
 }
 
-/// Returns whether a second half must follow.
+/// Returns whether a slot is a wide load: its second half must follow.
 pub(crate) fn is_wide_load(insn: &Insn) -> bool
     ensures { result ≡ programs.is_wide_load insn.now }
 {
     matches!(insn, Insn::LoadWide { .. })
 }
 
+/// Returns whether a slot is the second half of a wide load.
 fn is_wide_second(insn: &Insn) -> bool
     ensures { result ≡ programs.is_wide_second insn.now }
 {

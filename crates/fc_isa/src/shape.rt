@@ -107,7 +107,7 @@ pub struct Uses {
 }
 
 impl Shape {
-    /// Returns the form of the instructions with this opcode.
+    /// Returns the form of an opcode, or `Unknown` if no instruction has the opcode.
     #[tactic(none)]
     pub fn of(opcode: u8) -> Self
         ensures { result ≡ shape_of opcode }
@@ -115,7 +115,7 @@ impl Shape {
         FORMS[opcode as usize]
     }
 
-    /// Returns the opcode of the form.
+    /// Returns the opcode of a form; that of `Unknown` is 255.
     pub(crate) fn opcode(self) -> u8
         ensures { result ≡ opcode_of self }
     {
@@ -140,21 +140,23 @@ impl Shape {
         }
     }
 
-    /// Returns whether it is an instruction's form.
+    /// Returns whether an instruction has this form: it isn't `Unknown`.
     pub(crate) fn is_known(self) -> bool
         ensures { result ≡ is_known self }
     {
         !matches!(self, Shape::Unknown)
     }
 
-    /// Returns whether it occupies two slots.
+    /// Returns whether an instruction of this form occupies two slots.
     pub(crate) fn is_wide(self) -> bool
         ensures { result ≡ is_wide self }
     {
         matches!(self, Shape::LoadWide)
     }
 
-    /// Returns whether it writes the destination register.
+    /// Returns whether an instruction of this form writes its destination register.
+    ///
+    /// The destination of such an instruction can't be R10.
     pub(crate) fn writes_dst(self) -> bool
         ensures { result ≡ writes_dst self }
     {
@@ -168,9 +170,9 @@ impl Shape {
         )
     }
 
-    /// Returns the fields that the form uses.
+    /// Returns the fields that the form uses; `Unknown` uses none.
     ///
-    /// It follows the instruction table row by row: an operand that isn't a register is an
+    /// The code follows the instruction table row by row: an operand that isn't a register is an
     /// immediate.
     pub fn uses(self) -> Uses
         ensures { result ≡ uses self }
@@ -201,7 +203,7 @@ impl Shape {
     }
 }
 
-/// Returns the uses of the fields dst, src, offset and imm.
+/// Returns a row of the table in `uses`: whether each of four fields is used.
 fn used(dst: bool, src: bool, offset: bool, imm: bool) -> Uses
     ensures { result ≡ used dst src offset imm }
 {
@@ -235,7 +237,9 @@ impl SourceOperand {
     }
 }
 
-/// Returns the opcode of an arithmetic instruction or a jump.
+/// Returns the opcode with a code, a source and a class (RFC 9669, section 4).
+///
+/// Arithmetic instructions and jumps have such an opcode.
 fn coded(code: u8, source: SourceOperand, class: u8) -> u8
     requires code { code < 16 }
     requires class { class < 8 }
@@ -247,7 +251,9 @@ fn coded(code: u8, source: SourceOperand, class: u8) -> u8
     }
 }
 
-/// Returns the opcode of a load or store.
+/// Returns the opcode with a mode, a size and a class (RFC 9669, section 5).
+///
+/// Loads and stores have such an opcode.
 fn sized(mode: u8, size: Size, class: u8) -> u8
     requires mode { mode < 8 }
     requires class { class < 8 }
@@ -256,6 +262,7 @@ fn sized(mode: u8, size: Size, class: u8) -> u8
     32 * mode + size_bits(size) + class
 }
 
+/// Returns the bits of an opcode that encode a size (RFC 9669, section 5).
 fn size_bits(size: Size) -> u8
     ensures bits { result ≡ size_bits size }
     ensures below { result ≤ 24 }

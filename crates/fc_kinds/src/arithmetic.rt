@@ -12,8 +12,10 @@ use fc_isa::{AluOp, ByteOrder, Operand, Rule, SwapWidth, Width};
 
 /// Returns the abstract value after an operation on two numbers.
 ///
+/// The first is in the interval `a`, and `b` is the abstract value of the second.
+///
 /// # Errors
-/// Returns the broken rule if one of them isn't a number.
+/// Returns the broken rule if `b` isn't a number.
 fn numbers(op: AluOp, width: Width, a: Interval, b: Kind) -> Result<Kind, Rule>
     requires left { a.lo ≤ a.hi }
     requires right { IsKind b }
@@ -29,6 +31,12 @@ fn numbers(op: AluOp, width: Width, a: Interval, b: Kind) -> Result<Kind, Rule>
 }
 
 /// Returns the sum of numbers, or a pointer moved forwards.
+///
+/// `a` is the destination's abstract value, and `b` that of `operand`.
+///
+/// # Errors
+/// Returns the broken rule if `a` is unset, if `b` isn't a number, or if a pointer is moved too
+/// far.
 fn added(operand: Operand, a: Kind, b: Kind) -> Result<Kind, Rule>
     requires left { IsKind a }
     requires right { IsKind b }
@@ -79,6 +87,12 @@ fn added(operand: Operand, a: Kind, b: Kind) -> Result<Kind, Rule>
 }
 
 /// Returns the difference of numbers, or a pointer moved backwards.
+///
+/// `a` is the destination's abstract value, and `b` that of `operand`.
+///
+/// # Errors
+/// Returns the broken rule if `a` is unset, if `b` isn't a number, or if a pointer is moved too
+/// far.
 fn subtracted(operand: Operand, a: Kind, b: Kind) -> Result<Kind, Rule>
     requires left { IsKind a }
     requires right { IsKind b }
@@ -128,9 +142,12 @@ fn subtracted(operand: Operand, a: Kind, b: Kind) -> Result<Kind, Rule>
     }
 }
 
-/// Returns the abstract value after a move.
+/// Returns the abstract value after a move of a value `b`.
 ///
 /// A 64-bit move keeps it. A 32-bit move gives the range of a number's low half.
+///
+/// # Errors
+/// Returns the broken rule if `b` is unset, or if it is a pointer and the move has 32 bits.
 fn moved(width: Width, b: Kind) -> Result<Kind, Rule>
     requires { IsKind b }
     ensures kind { IfOk result (λ k. moved width b ≡ Some k) }
@@ -153,6 +170,8 @@ fn moved(width: Width, b: Kind) -> Result<Kind, Rule>
 }
 
 /// Returns the destination's abstract value after an operation.
+///
+/// It was `a` before, and `b` is the abstract value of `operand`.
 ///
 /// # Errors
 /// Returns the broken rule if an operand is unset or of the wrong kind, or if a pointer is moved
@@ -197,7 +216,7 @@ pub(crate) fn alu_after(
     alu_kind(op, width, *operand, a, operand_kind(width, *operand, regs))
 }
 
-/// Returns the range of numbers after a byte-order change.
+/// Returns the range of numbers in `s` after a byte-order change.
 pub(crate) fn ordered_interval(order: ByteOrder, width: SwapWidth, s: Interval) -> Interval
     ensures { result ≡ ordered_interval order width s }
 {

@@ -14,8 +14,8 @@ use fc_isa::{Insn, Rule, Width};
 
 /// Returns the abstract state at the start of a function after a local call.
 ///
-/// R1 to R5 are passed, with stack frames one level further above. R10 is at the end of a fresh
-/// frame. Levels must be below 1,024.
+/// `regs` is the caller's state. R1 to R5 are passed, with stack frames one level further above.
+/// R10 is at the end of a fresh frame. Levels must be below 1,024.
 pub fn enter(regs: &Regs) -> Regs
     requires { AreShallow 1023 regs.now }
     ensures { result ≡ enter regs.now }
@@ -41,6 +41,9 @@ pub fn enter(regs: &Regs) -> Regs
     ]
 }
 
+/// Returns an abstract value as a callee has it.
+///
+/// The level of a pointer into a stack frame is one greater, and any other value doesn't change.
 fn raised(kind: Kind) -> Kind
     requires { IsShallow 1023 kind }
     ensures { result ≡ raised kind }
@@ -55,16 +58,18 @@ fn raised(kind: Kind) -> Kind
     }
 }
 
-/// Updates the abstract state to that after a local call: R0 is a number.
+/// Updates the abstract state to that after a local call.
+///
+/// R0 is any number, R1 to R5 are unset, and the others don't change.
 pub(crate) fn returned(regs: &mut Regs)
     ensures { regs.new ≡ returned regs.old }
 {
     after_call(num(all(Width::W64)), regs);
 }
 
-/// Updates the abstract state to that after a call.
+/// Updates the abstract state to that after a call with this result.
 ///
-/// R0 is the result, R1 to R5 are unset, and the others don't change.
+/// R0 is `answer`, R1 to R5 are unset, and the others don't change.
 fn after_call(answer: Kind, regs: &mut Regs)
     ensures { regs.new ≡ after_call answer regs.old }
 {
@@ -115,7 +120,7 @@ fn helped_kinds(helper: Helper, regs: &mut Regs, vars_size: u16) -> Result<(), R
     }
 }
 
-/// Returns whether R1, or R1 and R2, are the arguments that a helper requires.
+/// Returns whether R1, or R1 and R2, are `arguments` as a helper requires them.
 fn are_arguments(vars_size: u16, arguments: Arguments, regs: &Regs) -> bool
     requires { AreKinds regs.now }
     ensures { result ≡ are_arguments vars_size arguments regs.now }
@@ -129,6 +134,9 @@ fn are_arguments(vars_size: u16, arguments: Arguments, regs: &Regs) -> bool
 }
 
 /// Returns whether the `count` bytes from `pointer` on are in its region.
+///
+/// The greatest value of `count` decides. Returns `false` if `count` isn't a number of at most
+/// 65,535.
 fn are_bytes(vars_size: u16, pointer: Kind, count: Kind) -> bool
     requires { IsKind pointer }
     ensures { result ≡ are_bytes vars_size pointer count }
@@ -139,7 +147,9 @@ fn are_bytes(vars_size: u16, pointer: Kind, count: Kind) -> bool
     }
 }
 
-/// Returns the rule that a helper's arguments break: an unset register first.
+/// Returns the rule that refused arguments break: an unset register first.
+///
+/// The contract says only that the rule is one from 20 to 27.
 fn argument_fault(arguments: Arguments, regs: &Regs) -> Rule
     ensures { (20 ≤ number_of result) × (number_of result ≤ 27) }
 {

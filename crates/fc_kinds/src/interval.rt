@@ -1,4 +1,4 @@
-//! Intervals of numbers.
+//! Intervals of numbers, and their operations and refinements for the transfer function.
 ghost use Rattle.std.specs.Prelude.{◌≡◌, ◌≤◌, ◌-◌, ◌^◌, ◌%◌};
 ghost use Rattle.fc_kinds.specs.Intervals.{above, above_equal, added, all, alu_interval, clipped, divided, equal, exchanged, masked, merged, moded, multiplied, refined, shifted_left, shifted_right, shifted_signed, extended_values, interval_of, subtracted, unequal, without};
 ghost use Rattle.fc_kinds.specs.Containing.{IsInterval};
@@ -33,6 +33,9 @@ pub fn all(width: Width) -> Interval
     }
 }
 
+/// Returns an interval that contains the low bits of the numbers in `s`.
+///
+/// It is `s` itself if its numbers have this width, and otherwise all numbers of the width.
 fn clipped(width: Width, s: Interval) -> Interval
     requires { s.lo ≤ s.hi }
     ensures is { result ≡ clipped (bits_of width) s }
@@ -41,6 +44,7 @@ fn clipped(width: Width, s: Interval) -> Interval
     if s.hi <= limit(width) { s } else { all(width) }
 }
 
+/// Returns an interval of sums; all numbers if a sum may overflow the width.
 fn added(width: Width, a: Interval, b: Interval) -> Interval
     requires left { IsInterval (bits_of width) a }
     requires right { IsInterval (bits_of width) b }
@@ -55,6 +59,7 @@ fn added(width: Width, a: Interval, b: Interval) -> Interval
     }
 }
 
+/// Returns an interval of differences; all numbers if one may be below 0.
 fn subtracted(width: Width, a: Interval, b: Interval) -> Interval
     requires left { IsInterval (bits_of width) a }
     requires right { IsInterval (bits_of width) b }
@@ -70,6 +75,7 @@ fn subtracted(width: Width, a: Interval, b: Interval) -> Interval
     }
 }
 
+/// Returns an interval of products; all numbers if one may overflow the width.
 fn multiplied(width: Width, a: Interval, b: Interval) -> Interval
     requires left { IsInterval (bits_of width) a }
     requires right { IsInterval (bits_of width) b }
@@ -84,6 +90,7 @@ fn multiplied(width: Width, a: Interval, b: Interval) -> Interval
     }
 }
 
+/// Returns an interval of quotients; division by 0 gives 0.
 fn divided(a: Interval, b: Interval) -> Interval
     requires { b.lo ≤ b.hi }
     ensures { result ≡ divided a b }
@@ -98,6 +105,7 @@ fn divided(a: Interval, b: Interval) -> Interval
     }
 }
 
+/// Returns an interval of remainders; that of a division by 0 is the dividend.
 fn moded(a: Interval, b: Interval) -> Interval
     requires { b.lo ≤ b.hi }
     ensures { result ≡ moded a b }
@@ -112,9 +120,9 @@ fn moded(a: Interval, b: Interval) -> Interval
     }
 }
 
-/// Returns the interval from 0 to `2 ^ k - 1`.
+/// Returns an interval of the results of `or` and `xor`.
 ///
-/// This is the least number of that form that is at least both upper ends.
+/// It is from 0 to the least number of the form `2 ^ k - 1` that is at least both upper ends.
 fn merged(width: Width, a: Interval, b: Interval) -> Interval
     requires left { IsInterval (bits_of width) a }
     requires right { IsInterval (bits_of width) b }
@@ -127,6 +135,7 @@ fn merged(width: Width, a: Interval, b: Interval) -> Interval
     }
 }
 
+/// Returns an interval of the results of `and`: up to the lesser upper end.
 fn masked(a: Interval, b: Interval) -> Interval
     ensures { result ≡ masked a b }
 {
@@ -136,7 +145,7 @@ fn masked(a: Interval, b: Interval) -> Interval
     }
 }
 
-/// Returns a shift's count at a width.
+/// Returns the number of bits by which a shift of this width by `n` shifts.
 fn count(width: Width, n: u64) -> u32
     ensures { result ≡ n % bits_of width }
 {
@@ -146,6 +155,9 @@ fn count(width: Width, n: u64) -> u32
     }
 }
 
+/// Returns an interval of numbers shifted left.
+///
+/// It has all numbers if the count isn't known, or if a number may overflow the width.
 fn shifted_left(width: Width, a: Interval, b: Interval) -> Interval
     requires left { IsInterval (bits_of width) a }
     requires right { IsInterval (bits_of width) b }
@@ -162,6 +174,7 @@ fn shifted_left(width: Width, a: Interval, b: Interval) -> Interval
     }
 }
 
+/// Returns an interval of numbers shifted right; from 0 if the count isn't known.
 fn shifted_right(width: Width, a: Interval, b: Interval) -> Interval
     ensures { result ≡ shifted_right (bits_of width) a b }
 {
@@ -176,6 +189,9 @@ fn shifted_right(width: Width, a: Interval, b: Interval) -> Interval
     }
 }
 
+/// Returns an interval of numbers shifted right, with their sign.
+///
+/// It has all numbers if the count isn't known, or if a number may be negative.
 fn shifted_signed(width: Width, a: Interval, b: Interval) -> Interval
     ensures { result ≡ shifted_signed (bits_of width) a b }
 {
@@ -190,7 +206,9 @@ fn shifted_signed(width: Width, a: Interval, b: Interval) -> Interval
     }
 }
 
-/// Returns an interval with the results of an operation on these intervals.
+/// Returns an interval that contains the results of an operation on intervals.
+///
+/// Both have numbers of the operation's width.
 #[tactic(auto, unfolding(crate::specs::Intervals::interval_of))]
 fn interval_of(op: AluOp, width: Width, a: Interval, b: Interval) -> Interval
     requires left { IsInterval (bits_of width) a }
@@ -243,7 +261,8 @@ pub fn extended_values(extension: SignExtension, b: Interval) -> Interval
 
 /// Refines two intervals by a relation of all 64 bits.
 ///
-/// Returns `None` if it holds for no two numbers in them.
+/// Returns `None` if the relation holds for no two numbers in them. A signed comparison or a test
+/// of bits doesn't refine them.
 #[tactic(auto, unfolding(crate::specs::Intervals::refined))]
 pub fn refined(relation: Relation, a: Interval, b: Interval) -> Option<(Interval, Interval)>
     requires left { a.lo ≤ a.hi }
@@ -263,6 +282,9 @@ pub fn refined(relation: Relation, a: Interval, b: Interval) -> Option<(Interval
     }
 }
 
+/// Returns a refinement with its intervals exchanged, or `None` without one.
+///
+/// By it `a < b` is refined as `b > a`.
 fn exchanged(pair: Option<(Interval, Interval)>) -> Option<(Interval, Interval)>
     ensures { result ≡ exchanged pair }
 {
@@ -272,6 +294,7 @@ fn exchanged(pair: Option<(Interval, Interval)>) -> Option<(Interval, Interval)>
     }
 }
 
+/// Refines two intervals by `a > b`; `None` if it holds for no two numbers.
 fn above(a: Interval, b: Interval) -> Option<(Interval, Interval)>
     ensures { result ≡ above a b }
 {
@@ -290,6 +313,7 @@ fn above(a: Interval, b: Interval) -> Option<(Interval, Interval)>
     }
 }
 
+/// Refines two intervals by `a >= b`; `None` if it holds for no two numbers.
 fn above_equal(a: Interval, b: Interval) -> Option<(Interval, Interval)>
     ensures { result ≡ above_equal a b }
 {
@@ -308,6 +332,9 @@ fn above_equal(a: Interval, b: Interval) -> Option<(Interval, Interval)>
     }
 }
 
+/// Refines two intervals by `a == b`; `None` if it holds for no two numbers.
+///
+/// Both results are the numbers that the two have in common.
 fn equal(a: Interval, b: Interval) -> Option<(Interval, Interval)>
     ensures { result ≡ equal a b }
 {
@@ -322,6 +349,9 @@ fn equal(a: Interval, b: Interval) -> Option<(Interval, Interval)>
     }
 }
 
+/// Refines two intervals by `a != b`; `None` if it holds for no two numbers.
+///
+/// Only `a` changes, and only if `b` is a single number at one of its ends.
 fn unequal(a: Interval, b: Interval) -> Option<(Interval, Interval)>
     requires left { a.lo ≤ a.hi }
     requires right { b.lo ≤ b.hi }
@@ -337,6 +367,8 @@ fn unequal(a: Interval, b: Interval) -> Option<(Interval, Interval)>
 }
 
 /// Returns the interval without a number at one of its ends.
+///
+/// If the number is at neither end, the interval doesn't change.
 fn without(a: Interval, n: u64) -> Interval
     requires some { a.lo ≤ a.hi }
     requires other { (a.lo ≡ a.hi) → (a.lo ≡ n) → ⊥ }

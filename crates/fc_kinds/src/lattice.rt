@@ -5,6 +5,8 @@ ghost use Rattle.fc_kinds.specs.Lattice.{join_kind, joined};
 use crate::kind::{Kind, Regs};
 
 /// Returns the least abstract value that contains both.
+///
+/// It is `Unset` unless both are numbers, or pointers into the same region and the same frame.
 fn join_kind(a: Kind, b: Kind) -> Kind
     ensures { result ≡ join_kind a b }
 {
@@ -51,7 +53,8 @@ fn join_kind(a: Kind, b: Kind) -> Kind
 
 /// Joins another abstract state to `state`, register by register.
 ///
-/// The result has the least abstract values that contain both.
+/// The result has the least abstract values that contain both. The verifier joins the states of the
+/// paths that meet at a slot.
 pub fn join(state: &mut Regs, other: &Regs)
     ensures { state.new ≡ joined state.old other.now }
 {

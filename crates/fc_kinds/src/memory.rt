@@ -12,10 +12,11 @@ use fc_isa::{Insn, LoadType, Reg, Rule, Size, Target, Width};
 
 /// Updates the abstract state to that after a load.
 ///
-/// The address is a base register plus an offset.
+/// The address is a base register plus an offset. The variables have `vars_size` bytes.
 ///
 /// # Errors
-/// Returns the broken rule if the base isn't a pointer, or the bytes aren't in its region.
+/// Returns the broken rule if the base isn't a pointer, or the bytes aren't in its region. The
+/// state then doesn't change.
 #[tactic(auto, unfolding(crate::specs::Transfer::transfer))]
 pub(crate) fn load(
     loaded: LoadType,
@@ -58,6 +59,8 @@ fn loaded_interval(loaded: LoadType) -> Interval
 
 /// Checks a store of an immediate at a base register plus an offset.
 ///
+/// The state doesn't change. The variables have `vars_size` bytes.
+///
 /// # Errors
 /// Returns the broken rule if the base isn't a pointer, the bytes aren't in its region, or the
 /// region is the request or the readings.
@@ -85,6 +88,8 @@ pub(crate) fn store_imm(
 }
 
 /// Checks a store of a register at a base register plus an offset.
+///
+/// The state doesn't change. The variables have `vars_size` bytes.
 ///
 /// # Errors
 /// Returns the broken rule as for an immediate, or if the register isn't a number.
@@ -114,7 +119,10 @@ pub(crate) fn store(
     }
 }
 
-/// Returns the rule that a store breaks: an unset register before any other fault.
+/// Returns the rule that a refused store breaks: `other`, or an unset register.
+///
+/// An unset register, by its abstract value `stored`, comes before any other fault. The contract
+/// says only that the rule is one from 20 to 27.
 fn store_fault(other: Rule, stored: Kind) -> Rule
     requires { (20 ≤ number_of other) × (number_of other ≤ 27) }
     ensures { (20 ≤ number_of result) × (number_of result ≤ 27) }

@@ -8,7 +8,7 @@ use crate::interval::Interval;
 use crate::kind::{Kind, Regs};
 use fc_isa::{Operand, Rule, Target, Width};
 
-/// Returns the interval of a number.
+/// Returns the interval of an abstract value that is a number.
 ///
 /// # Errors
 /// Returns the broken rule if the register is unset or a pointer.
@@ -38,7 +38,10 @@ pub(crate) fn num(s: Interval) -> Kind
     Kind::Num { lo: s.lo, hi: s.hi }
 }
 
-/// Returns the rule that two operands break: an unset register first.
+/// Returns the rule that two operands break if they aren't both numbers.
+///
+/// An unset register comes before a pointer. The contract says only that the rule is one from 20 to
+/// 27.
 pub(crate) fn operand_fault(a: Kind, b: Kind) -> Rule
     ensures { (20 ≤ number_of result) × (number_of result ≤ 27) }
 {
@@ -51,7 +54,7 @@ pub(crate) fn operand_fault(a: Kind, b: Kind) -> Rule
 
 /// Returns the abstract value of the second operand.
 ///
-/// An immediate is a single value.
+/// An immediate is a single number, at this width.
 pub(crate) fn operand_kind(width: Width, operand: Operand, regs: &Regs) -> Kind
     requires { AreKinds regs.now }
     ensures kind { result ≡ operand_kind width operand regs.now }

@@ -18,6 +18,8 @@ const READINGS: u16 = 64;
 
 /// Returns the least and the greatest distance by which an operand moves a pointer.
 ///
+/// `b` is the operand's abstract value.
+///
 /// # Errors
 /// Returns the broken rule if the operand isn't a number, or is in a register and may be above
 /// 65,536.
@@ -41,13 +43,15 @@ pub(crate) fn distance(operand: Operand, b: Kind) -> Result<(i64, i64), Rule>
 }
 
 /// Returns whether both ends are within 65,536 of the start of the region.
+///
+/// The ends are those of a moved pointer's offsets: it may not move further.
 pub(crate) fn is_near(lo: i64, hi: i64) -> bool
     ensures { result ≡ (int_le (negsuc 65535) lo && int_le hi (pos 65536)) }
 {
     -65_536 <= lo && hi <= 65_536
 }
 
-/// Returns the sum of an offset and a distance.
+/// Returns the sum of an offset and a distance; its requirements exclude overflow.
 pub(crate) fn plus(a: i64, b: i64) -> i64
     requires left { (negsuc 1099511627775 ≤ℤ a) × (a ≤ℤ pos 1099511627776) }
     requires right { (negsuc 2147483647 ≤ℤ b) × (b ≤ℤ pos 2147483647) }
@@ -56,7 +60,7 @@ pub(crate) fn plus(a: i64, b: i64) -> i64
     a + b
 }
 
-/// Returns the difference of an offset and a distance.
+/// Returns the difference of an offset and a distance, like `plus`.
 pub(crate) fn minus(a: i64, b: i64) -> i64
     requires left { (negsuc 1099511627775 ≤ℤ a) × (a ≤ℤ pos 1099511627776) }
     requires right { (negsuc 2147483647 ≤ℤ b) × (b ≤ℤ pos 2147483647) }
@@ -65,7 +69,7 @@ pub(crate) fn minus(a: i64, b: i64) -> i64
     a - b
 }
 
-/// Returns the number of bytes that a store writes.
+/// Returns the number of bytes of an access of this size.
 pub(crate) fn size_of(size: Size) -> u16
     ensures is { result ≡ size_of size }
     ensures few { result ≤ 8 }
@@ -91,21 +95,23 @@ pub(crate) fn bytes_loaded(loaded: LoadType) -> u16
     }
 }
 
+/// Returns a number of bytes as an offset.
 fn whole(n: u16) -> i64
     ensures { result ≡ pos n }
 {
     n as i64
 }
 
+/// Returns an access's offset in 64 bits.
 fn widened(offset: i16) -> i64
     ensures { result ≡ offset }
 {
     offset as i64
 }
 
-/// Returns whether an access is within its region.
+/// Returns whether an access is within a region of `region` bytes.
 ///
-/// It has `bytes` bytes, at an offset from a pointer between `lo` and `hi`.
+/// The access has `bytes` bytes, at `offset` from a pointer whose own offset is from `lo` to `hi`.
 fn inside(region: u16, bytes: u16, offset: i16, lo: i64, hi: i64) -> bool
     requires lo { (negsuc 65535 ≤ℤ lo) × (lo ≤ℤ pos 65536) }
     requires hi { (negsuc 65535 ≤ℤ hi) × (hi ≤ℤ pos 65536) }
@@ -117,7 +123,9 @@ fn inside(region: u16, bytes: u16, offset: i16, lo: i64, hi: i64) -> bool
     first >= 0 && end <= whole(region)
 }
 
-/// Returns whether this number of bytes may be read through a pointer.
+/// Returns whether `bytes` bytes may be read at `offset` from a pointer.
+///
+/// They must be in the pointer's region. Returns `false` if `kind` isn't a pointer.
 pub(crate) fn may_read(vars_size: u16, bytes: u16, offset: i16, kind: Kind) -> bool
     requires { IsKind kind }
     ensures { result ≡ may_read vars_size bytes offset kind }
@@ -131,7 +139,9 @@ pub(crate) fn may_read(vars_size: u16, bytes: u16, offset: i16, kind: Kind) -> b
     }
 }
 
-/// Returns whether this number of bytes may be written through a pointer.
+/// Returns whether `bytes` bytes may be written at `offset` from a pointer.
+///
+/// They must be in a stack frame or in the variables. Returns `false` if `kind` isn't a pointer.
 pub(crate) fn may_write(vars_size: u16, bytes: u16, offset: i16, kind: Kind) -> bool
     requires { IsKind kind }
     ensures { result ≡ may_write vars_size bytes offset kind }
@@ -143,10 +153,10 @@ pub(crate) fn may_write(vars_size: u16, bytes: u16, offset: i16, kind: Kind) -> 
     }
 }
 
-/// Returns the rule that an access breaks.
+/// Returns the rule that a refused access breaks.
 ///
 /// The abstract value isn't a pointer, the bytes may be outside its region, or the access would
-/// write the request or the readings.
+/// write the request or the readings. The contract says only that the rule is one from 20 to 27.
 pub(crate) fn access_fault(vars_size: u16, bytes: u16, offset: i16, kind: Kind) -> Rule
     requires { IsKind kind }
     ensures { (20 ≤ number_of result) × (number_of result ≤ 27) }

@@ -9,7 +9,10 @@ use crate::kind::{Kind, Regs};
 use crate::operands::{num, operand_kind};
 use fc_isa::{Jump, Operand, Relation, Width};
 
-/// Returns the relation that holds on a jump's branch.
+/// Returns the relation that holds on a jump's branch, if it can refine.
+///
+/// A signed comparison and a test of bits keep their relation on both branches: they refine
+/// nothing.
 fn relation_of(jump: &Jump, taken: bool) -> Relation
     ensures { result ≡ relation_of taken jump.now }
 {
@@ -28,6 +31,8 @@ fn relation_of(jump: &Jump, taken: bool) -> Relation
 }
 
 /// Returns whether a jump's operands can be refined.
+///
+/// They can if it compares two different whole registers, or a whole register and an immediate.
 fn refines(jump: &Jump) -> bool
     ensures { result ≡ refines jump.now }
 {
@@ -39,6 +44,8 @@ fn refines(jump: &Jump) -> bool
 }
 
 /// Sets the intervals of a jump's operands in the registers.
+///
+/// An immediate is in no register, so nothing is set for it.
 fn put_both(jump: &Jump, regs: &mut Regs, left: Interval, right: Interval)
     ensures { regs.new ≡ put_both jump.now regs.old (left, right) }
 {
@@ -52,8 +59,8 @@ fn put_both(jump: &Jump, regs: &mut Regs, left: Interval, right: Interval)
 ///
 /// A jump refines only if it compares numbers, unsigned or for equality, in two different whole
 /// registers, or in a whole register and an immediate. Then the result is `false` exactly if no
-/// numbers in the state take the branch, and the contract doesn't say what the state is. Any other
-/// jump doesn't change the state, and the result is `true`.
+/// numbers in the state take the branch. After `false` the contract doesn't say what `regs` has.
+/// Any other jump doesn't change the state, and the result is `true`.
 #[tactic(auto, unfolding(crate::specs::Refinement::when))]
 pub fn refine(jump: &Jump, taken: bool, regs: &mut Regs) -> bool
     requires { AreKinds regs.old }

@@ -90,6 +90,9 @@ fn one_number(value: u64) -> Kind
 }
 
 /// Updates the abstract state to that after a load or a store.
+///
+/// # Errors
+/// Returns the errors of `load`, `store_imm` and `store`. The state then doesn't change.
 #[tactic(auto, unfolding(crate::specs::Transfer::transfer))]
 fn after_access(insn: Insn, regs: &mut Regs, vars_size: u16) -> Result<(), Rule>
     requires kinds { AreKinds regs.old }
@@ -123,6 +126,8 @@ fn after_access(insn: Insn, regs: &mut Regs, vars_size: u16) -> Result<(), Rule>
 }
 
 /// Checks that a conditional jump compares two numbers.
+///
+/// Such a jump has no effect on the state.
 ///
 /// # Errors
 /// Returns the broken rule if one of them is unset or a pointer.

@@ -32,7 +32,7 @@ fn success(method: Method) -> u8
     }
 }
 
-/// Returns whether a program may return this code.
+/// Returns whether a program may return the code `answer`.
 ///
 /// It may return its method's success, 4.00, 4.03 and 4.04.
 fn may_answer(method: Method, answer: u64) -> bool
@@ -44,7 +44,7 @@ fn may_answer(method: Method, answer: u64) -> bool
         || answer == NOT_FOUND as u64
 }
 
-/// Returns the reply's code for R0 at the exit.
+/// Returns the reply's code for the number `answer` in R0 at the exit.
 ///
 /// 0 gives the method's success, and a code that the program may return is kept. Any other number
 /// is the program's fault, and gives 5.00.

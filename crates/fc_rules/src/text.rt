@@ -1,4 +1,4 @@
-//! The text of each rule, and the rule with each number.
+//! The text of each rule, and the rule with each number, for `fcasm` and the C library.
 ghost use Rattle.std.specs.Prelude.{◌≡◌, MatchOption};
 ghost use Rattle.fc_isa.specs.Rules.{number_of};
 ghost use Rattle.fc_rules.specs.Numbers.{IsNoRule};

@@ -20,6 +20,7 @@ pub struct BudgetError;
 impl FromStr for Budget {
     type Err = BudgetError;
 
+    /// Parses `auto` or a number of steps; the header's rules limit the number later.
     fn from_str(text: &str) -> Result<Self, BudgetError> {
         if text == "auto" {
             return Ok(Budget::Auto);

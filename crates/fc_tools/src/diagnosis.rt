@@ -121,6 +121,8 @@ impl From<AllocError> for Rejection {
 
 /// Verifies an image, like `verify`, with the evidence for a broken rule.
 ///
+/// The commands use it if `verify` refuses an image, to explain why.
+///
 /// # Errors
 /// Returns `Broken` with the first broken rule and its evidence. If only the typing is missing, the
 /// rule is one from 20 to 28. Returns `NoMemory` if memory can't be allocated.
@@ -189,6 +191,8 @@ fn slot_bytes(image: &[u8], slot: usize) -> [u8; 8]
 
 /// Computes the cost of a program: the most steps on any path to its exit.
 ///
+/// A diagnosis uses it, and so does the budget `auto`.
+///
 /// # Errors
 /// Returns the least rule of the control flow, 11 to 17, that a slot breaks, with the evidence.
 pub fn shape_cost(head: &Head, code: &[Insn]) -> Result<u32, Diagnosis>
@@ -229,9 +233,9 @@ fn shape_cause(head: &Head, code: &[Insn], fault: Fault) -> Cause
     }
 }
 
-/// Returns why the jump at a slot isn't the jump of a counted loop.
+/// Returns the evidence that the jump at a slot goes back without a counted loop.
 ///
-/// The jump leads to no later slot.
+/// The jump leads to no later slot. The evidence has the reason why it isn't a counted loop's.
 #[tactic(auto, unfolding(fc_image::specs::ShapeRules::breaks_shape))]
 fn back(head: &Head, code: &[Insn], slot: usize) -> Cause
     requires count { length code.now ≡ head.now.count }
@@ -250,7 +254,7 @@ fn back(head: &Head, code: &[Insn], slot: usize) -> Cause
 
 /// Returns the cost of a program, if it is at most the greatest budget.
 ///
-/// `None` also if another rule of the control flow is broken.
+/// Returns `None` if it is more, or if another rule of the control flow is broken.
 fn cost_of(head: &Head, code: &[Insn]) -> Option<u32>
     requires count { length code.now ≡ head.now.count }
     requires whole { is_program code.now ≡ true }

@@ -87,6 +87,8 @@ pub fn digest<R: Read, W: Write, E: Write>(
 }
 
 // Reads an image and writes its digest in a line.
+//
+// Unless writing fails, nothing is written before an error.
 fn write_digest<R: Read, W: Write>(
     alloc: Global,
     input: &mut R,
@@ -109,7 +111,7 @@ fn write_digest<R: Read, W: Write>(
     }
 }
 
-// Writes a text as a line.
+// Writes a text as a line, and flushes the output.
 fn write_line<W: Write>(out: &mut W, text: &str) -> io::Result<()>
     ensures { OnOk result (Appends (W.contents out.old) (W.contents out.new) (text.now ++ 10 ∷ [])) }
 {

@@ -65,6 +65,7 @@ pub fn explain_form<W: Write>(out: &mut W, text: &[u8], bad: BadForm) -> io::Res
     writeln!(out, "change: {}", bad.form.correction())
 }
 
+// Writes the line with this number; nothing if there is none, or no UTF-8.
 fn write_line<W: Write>(out: &mut W, text: &[u8], line: usize) -> io::Result<()> {
     match line_of(text, line) {
         Some(code) => writeln!(out, "line {line}: {code}"),
@@ -73,19 +74,24 @@ fn write_line<W: Write>(out: &mut W, text: &[u8], line: usize) -> io::Result<()>
 }
 
 // Returns the line of a source with this number, counted from 1.
+//
+// Returns `None` if there is none, or if the source isn't UTF-8.
 fn line_of(text: &[u8], line: usize) -> Option<&str> {
     let text = str::from_utf8(text).ok()?;
     text.split('\n').nth(line.checked_sub(1)?)
 }
 
-// Returns the first word of a line after its label.
+// Returns the first word of a line after its label, or `None` without such a line.
 fn name_of(text: &[u8], line: usize) -> Option<&str> {
     let code = line_of(text, line)?;
     let (_, body) = split_label(code.as_bytes());
     str::from_utf8(first_word(body)).ok()
 }
 
-// Returns the first word of a line, if that with 64 and that with 32 appended are instructions.
+// Returns the first word of a line, if it is a mnemonic without its width.
+//
+// Both the word with 64 and the word with 32 appended must be instructions. Otherwise returns
+// `None`.
 fn width_missing(alloc: Global, text: &[u8], line: usize) -> Result<Option<&str>, AllocError> {
     let Some(name) = name_of(text, line) else {
         return Ok(None);
@@ -96,7 +102,7 @@ fn width_missing(alloc: Global, text: &[u8], line: usize) -> Result<Option<&str>
     Ok(both.then_some(name))
 }
 
-// Writes the form of the instruction that a line names.
+// Writes the form of the instruction that a line names, if there is one.
 fn write_form<W: Write>(alloc: Global, out: &mut W, text: &[u8], line: usize) -> io::Result<()> {
     let Some(name) = name_of(text, line) else {
         return Ok(());
@@ -108,6 +114,9 @@ fn write_form<W: Write>(alloc: Global, out: &mut W, text: &[u8], line: usize) ->
     }
 }
 
+// Writes the evidence that a rule is broken.
+//
+// Nothing is written for a header, or for the depth of frames.
 fn write_cause<W: Write>(alloc: Global, out: &mut W, slot: usize, cause: &Cause) -> io::Result<()> {
     match cause {
         Cause::Header | Cause::Frames => Ok(()),
@@ -130,6 +139,8 @@ fn write_cause<W: Write>(alloc: Global, out: &mut W, slot: usize, cause: &Cause)
 }
 
 // Writes the abstract values of the registers that a precondition is about.
+//
+// For a loop's counter, the loop is written too.
 fn write_demand<W: Write>(
     out: &mut W,
     insn: Insn,
@@ -146,6 +157,7 @@ fn write_demand<W: Write>(
     }
 }
 
+// Writes the bytes of a slot that encodes no instruction.
 fn write_bytes<W: Write>(out: &mut W, slot: usize, bytes: &[u8; 8]) -> io::Result<()> {
     write!(out, "slot {slot}: bytes")?;
     for byte in bytes {
@@ -154,6 +166,7 @@ fn write_bytes<W: Write>(out: &mut W, slot: usize, bytes: &[u8; 8]) -> io::Resul
     writeln!(out)
 }
 
+// Writes a program's cost and its budget; `None` is a cost that isn't known.
 fn write_cost<W: Write>(out: &mut W, cost: Option<u32>, budget: u32) -> io::Result<()> {
     match cost {
         Some(cost) => writeln!(out, "cost: {cost} steps, with a budget of {budget}"),

@@ -1,4 +1,4 @@
-//! Abstract values of registers, in words.
+//! Abstract values of registers in words, for explanations.
 use fc_kinds::Kind;
 use std::fmt;
 
@@ -40,6 +40,7 @@ impl fmt::Display for Known {
     }
 }
 
+/// Writes the numbers from `lo` to `hi` in words.
 fn write_number<W: fmt::Write>(f: &mut fmt::Formatter<W>, lo: u64, hi: u64) -> fmt::Result {
     match (lo, hi) {
         (0, u64::MAX) => write!(f, "any number"),
@@ -48,6 +49,7 @@ fn write_number<W: fmt::Write>(f: &mut fmt::Formatter<W>, lo: u64, hi: u64) -> f
     }
 }
 
+/// Writes the stack frame `level` calls above the current one in words.
 fn write_frame<W: fmt::Write>(f: &mut fmt::Formatter<W>, level: u32) -> fmt::Result {
     match level {
         0 => write!(f, "a pointer into the stack frame"),
@@ -56,6 +58,7 @@ fn write_frame<W: fmt::Write>(f: &mut fmt::Formatter<W>, level: u32) -> fmt::Res
     }
 }
 
+/// Writes both ends of an interval, or its only number.
 fn write_ends<W: fmt::Write>(f: &mut fmt::Formatter<W>, lo: i64, hi: i64) -> fmt::Result {
     if lo == hi {
         write!(f, "{lo}")

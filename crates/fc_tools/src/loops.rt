@@ -1,4 +1,4 @@
-//! Descriptions of loops.
+//! Descriptions of loops, for the explanation of a refused image.
 use crate::facts::Known;
 use crate::numbered_listing::listed;
 use fc_image::loops::Loop;
@@ -29,7 +29,7 @@ impl fmt::Display for CountedLoop {
 
 /// Writes why a backward jump isn't the jump of a counted loop.
 ///
-/// Then the instruction that prevents it, on a line of its own.
+/// If another instruction prevents it, writes that too, on a line of its own.
 pub(crate) fn write_reason<W: Write>(
     alloc: Global,
     out: &mut W,
@@ -64,7 +64,7 @@ pub(crate) fn write_reason<W: Write>(
     }
 }
 
-/// Returns the way in which an instruction disturbs a loop.
+/// Returns the way in which an instruction disturbs a loop, in words.
 fn harm(by: Disturbance) -> &'static str {
     match by {
         Disturbance::Write => "writes the counter",
@@ -77,7 +77,7 @@ fn harm(by: Disturbance) -> &'static str {
 
 /// Writes a loop whose counter isn't below its bound at the entry.
 ///
-/// Then the counter's abstract value at the entry.
+/// Writes the counter's abstract value at the entry on the next line.
 pub(crate) fn write_entry<W: Write>(
     out: &mut W,
     counted: &Loop,
@@ -113,6 +113,7 @@ pub(crate) fn loop_remedy(reason: &Uncounted) -> &'static str {
     }
 }
 
+/// Returns the change to make if an instruction disturbs a loop in this way.
 fn loop_correction(by: Disturbance) -> &'static str {
     match by {
         Disturbance::Write =>

@@ -10,6 +10,7 @@ use std::alloc::{AllocError, Global};
 /// Disassembles a program with the slot number before each line.
 ///
 /// A line is printed as `3: exit`, with the number of its first slot. A wide load has two slots.
+/// `fcasm list --slots` prints this text.
 ///
 /// # Errors
 /// Returns `AllocError` if memory can't be allocated.
@@ -41,7 +42,7 @@ fn push_numbered(
 
 /// Returns the line of an instruction in a disassembly, with its line feed.
 ///
-/// The second slot of a wide load has none.
+/// The second slot of a wide load has an empty text.
 ///
 /// # Errors
 /// Returns `AllocError` if memory can't be allocated.

@@ -40,7 +40,7 @@ pub fn registers_read(insn: Insn) -> Reads
     }
 }
 
-/// Returns the registers of an operation; a move reads only its operand.
+/// Returns the registers that an operation reads; a move reads only its operand.
 fn arithmetic_reads(op: AluOp, dst: Target, operand: Operand) -> Reads
     ensures { registers_in result ≡ arithmetic_reads op dst operand }
 {
@@ -50,14 +50,14 @@ fn arithmetic_reads(op: AluOp, dst: Target, operand: Operand) -> Reads
     }
 }
 
-/// Returns a writable register as one to read.
+/// Returns a writable register as a register.
 fn register(target: Target) -> Reg
     ensures { result ≡ target }
 {
     Reg::new(target.number())
 }
 
-/// Returns the register of a second operand.
+/// Returns the register of a second operand, or `Nothing` for an immediate.
 fn operand_read(operand: Operand) -> Reads
     ensures { registers_in result ≡ operand_read operand }
 {
@@ -67,7 +67,7 @@ fn operand_read(operand: Operand) -> Reads
     }
 }
 
-/// Returns a register, and that of a second operand.
+/// Returns a register, and that of a second operand unless it is an immediate.
 fn read_with(first: Reg, operand: Operand) -> Reads
     ensures { registers_in result ≡ read_with first operand }
 {
@@ -78,6 +78,8 @@ fn read_with(first: Reg, operand: Operand) -> Reads
 }
 
 /// Returns the registers of a helper's arguments.
+///
+/// Returns `Nothing` if no helper has the number.
 fn arguments_read(number: i32) -> Reads
     ensures { registers_in result ≡ arguments_read number }
 {
@@ -87,7 +89,7 @@ fn arguments_read(number: i32) -> Reads
     }
 }
 
-/// Returns R1, or R1 and R2, for a helper's arguments.
+/// Returns the registers that have these arguments: none, R1, or R1 and R2.
 fn argument_registers(arguments: Arguments) -> Reads
     ensures { registers_in result ≡ argument_list arguments }
 {

@@ -1,4 +1,4 @@
-//! The rules in words, and the change to make if one is broken.
+//! The rules in words, and the change to make if one is broken, for explanations.
 use crate::diagnosis::{Cause, Diagnosis, GREATEST_BUDGET};
 use crate::loops::loop_remedy;
 use fc_asm::Mistake;
@@ -6,7 +6,9 @@ use fc_isa::Rule;
 use fc_rules::rule_text;
 use fc_verify::Demand;
 
-/// Returns the fault of an image that breaks a rule.
+/// Returns the fault of an image that breaks a rule, in words.
+///
+/// A missing typing in a loop has its own texts, by the demand that isn't met.
 pub fn broken_text(diagnosis: &Diagnosis) -> &'static str {
     match diagnosis.cause {
         Cause::Typing {
@@ -42,6 +44,9 @@ pub fn remedy(diagnosis: &Diagnosis) -> &'static str {
     }
 }
 
+/// Returns the change to make in an image that breaks this rule.
+///
+/// For some causes `remedy` has a more exact one.
 fn rule_remedy(rule: Rule) -> &'static str {
     match rule {
         Rule::Format => "write the image by `fcasm image`, and hand it on whole",
@@ -83,7 +88,7 @@ fn rule_remedy(rule: Rule) -> &'static str {
     }
 }
 
-/// Returns the fault of a line with this mistake.
+/// Returns the fault of a line with this mistake, in words.
 pub fn mistake_text(mistake: Mistake) -> &'static str {
     match mistake {
         Mistake::UnknownWord => "the first word names no instruction, or the text isn't UTF-8",

@@ -133,7 +133,7 @@ fn padded(bytes: &[u8]) -> Readings
     readings
 }
 
-/// Parses the variables if they are given.
+/// Parses the variables, or returns `None` if they aren't given.
 fn variables(alloc: Global, digits: Option<&str>) -> Result<Option<Vars>, AskedError>
     ensures { IfOk result (AreHex (option_copied digits.entry)) }
 {
@@ -146,7 +146,7 @@ fn variables(alloc: Global, digits: Option<&str>) -> Result<Option<Vars>, AskedE
     }
 }
 
-/// Parses hex digits into at most `most` bytes.
+/// Parses hex digits into at most `most` bytes; an error names `part`.
 fn bytes(alloc: Global, part: RunPart, digits: &str, most: usize) -> Result<Vec<u8>, AskedError>
     ensures bytes { IfOk result (λ v. decode_of digits.now ≡ Ok v.items) }
     ensures limit { IfOk result (λ v. length v.items ≤ most) }

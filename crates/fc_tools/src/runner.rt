@@ -1,4 +1,4 @@
-//! A single run of a program, as the server runs it.
+//! A single run of a program, as the server runs it, for `fcasm run`.
 ghost use Rattle.std.specs.Prelude.{IfOk, length, string_bytes, ◌≡◌};
 ghost use Rattle.fc_machine.specs.Ran.{meaning_of};
 ghost use Rattle.fc_tools.specs.Runs.{found_by, hex_or_dash, report_of, report_text};
@@ -29,7 +29,10 @@ pub fn report(alloc: Global, program: &Verified, asked: &Asked) -> Result<String
     Ok(outcome_text(alloc, &outcome)?)
 }
 
-/// Returns the variables for the program.
+/// Returns the given variables, or zeros of the program's size if none are given.
+///
+/// # Errors
+/// Returns an error if the given variables have another size than the program's.
 fn variables(program: &Verified, given: &Option<Vars>) -> Result<Vars, ToolError>
     ensures found { IfOk result (λ v. v ≡ found_by program.now.vars_size given.now) }
     ensures size { IfOk result (λ v. length v ≡ program.now.vars_size) }
@@ -41,7 +44,10 @@ fn variables(program: &Verified, given: &Option<Vars>) -> Result<Vars, ToolError
     }
 }
 
-/// Returns the given variables if they have the program's size.
+/// Returns a copy of the given variables if they have the program's size.
+///
+/// # Errors
+/// Returns an error if they have another size.
 fn sized(vars: &Vars, size: u16) -> Result<Vars, ToolError>
     ensures found { IfOk result (λ v. v ≡ vars.now) }
     ensures size { IfOk result (λ v. length v ≡ size) }
@@ -57,7 +63,7 @@ fn sized(vars: &Vars, size: u16) -> Result<Vars, ToolError>
     }
 }
 
-/// Returns the result of a run in lines.
+/// Returns the result of a run in lines, as `report` does.
 fn outcome_text(alloc: Global, outcome: &Outcome<'_>) -> Result<String, AllocError>
     ensures { IfOk result (λ s. string_bytes s ≡ report_text (meaning_of outcome.now)) }
 {

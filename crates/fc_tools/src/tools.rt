@@ -207,7 +207,7 @@ pub fn check<R: Read, W: Write, E: Write>(
     }
 }
 
-/// Reads an image from standard input, and runs it like `run_image`.
+/// Reads an image from `input`, and runs it like `run_image`.
 ///
 /// Returns the status of `run_image`, or `Failed` if reading fails.
 pub fn run<R: Read, W: Write, E: Write>(
@@ -247,7 +247,9 @@ pub fn run_image<W: Write, E: Write>(
     }
 }
 
-// Writes why there is no result, and the change to make if a source or an image is refused.
+// Writes why there is no result, and for a refusal the change to make.
+//
+// `text` is the source, for the line with a mistake. Returns the command's status.
 fn tell_whole<E: Write>(alloc: Global, err: &mut E, error: &ToolError, text: &[u8]) -> Status {
     let told = tell(err, error, error.status());
     match error {
@@ -261,6 +263,8 @@ fn tell_whole<E: Write>(alloc: Global, err: &mut E, error: &ToolError, text: &[u
 }
 
 // Writes why an image is refused.
+//
+// Returns `Refused`, or `Failed` if writing fails.
 fn tell_cause<E: Write>(alloc: Global, err: &mut E, diagnosis: &Diagnosis) -> Status {
     match explain(alloc, err, diagnosis) {
         Ok(()) => Status::Refused,
@@ -269,6 +273,8 @@ fn tell_cause<E: Write>(alloc: Global, err: &mut E, diagnosis: &Diagnosis) -> St
 }
 
 // Writes the mistake in a line of a source.
+//
+// Returns `Refused`, or `Failed` if writing fails.
 fn tell_line<E: Write>(
     alloc: Global,
     err: &mut E,
@@ -283,6 +289,8 @@ fn tell_line<E: Write>(
 }
 
 // Writes why a source isn't expanded.
+//
+// Returns `Refused`, or `Failed` if writing fails.
 fn tell_form<E: Write>(err: &mut E, text: &[u8], bad: BadForm) -> Status {
     match explain_form(err, text, bad) {
         Ok(()) => Status::Refused,
@@ -290,6 +298,7 @@ fn tell_form<E: Write>(err: &mut E, text: &[u8], bad: BadForm) -> Status {
     }
 }
 
+// Reads an image; see `image_bytes`.
 fn read_image<R: Read>(alloc: Global, input: &mut R) -> Result<Vec<u8>, ToolError> {
     image_bytes(alloc, input).map_err(ToolError::Input)
 }
@@ -310,6 +319,8 @@ pub fn image_bytes<R: Read>(alloc: Global, input: &mut R) -> io::Result<Vec<u8>>
 }
 
 // Reads a source; of one that is too long, one byte more than the maximum.
+//
+// Returns the error `LongText` for such a source.
 fn read_text<R: Read>(alloc: Global, input: &mut R) -> Result<Vec<u8>, ToolError> {
     let mut text = Vec::new(alloc);
     let mut input = input.take(LONGEST_TEXT + 1);
@@ -326,6 +337,7 @@ fn write_whole<W: Write>(out: &mut W, bytes: &[u8]) -> Result<(), ToolError> {
     out.flush().map_err(ToolError::Output)
 }
 
+// Expands and assembles a source, and writes its image.
 fn write_image<W: Write>(
     alloc: Global,
     text: &[u8],
@@ -342,11 +354,13 @@ fn write_image<W: Write>(
     write_whole(out, &image)
 }
 
+// Expands a source, and writes the result.
 fn write_expanded<W: Write>(alloc: Global, text: &[u8], out: &mut W) -> Result<(), ToolError> {
     let text = expand_text(alloc, text)?;
     write_whole(out, &text)
 }
 
+// Reads an image, and writes its disassembly.
 fn write_listing<R: Read, W: Write>(
     alloc: Global,
     input: &mut R,
@@ -362,7 +376,9 @@ fn write_listing<R: Read, W: Write>(
     write_whole(out, listing.as_bytes())
 }
 
-// Writes the verdict on an image, and returns the diagnosis if it is refused.
+// Writes the verdict on an image.
+//
+// Returns the diagnosis if the image is refused, or `None` if it is accepted.
 fn write_verdict<R: Read, W: Write>(
     alloc: Global,
     input: &mut R,
@@ -382,6 +398,8 @@ fn write_verdict<R: Read, W: Write>(
 }
 
 // Writes the report of a run, or the verdict on an image that is refused.
+//
+// Returns the diagnosis if the image is refused, or `None` after a report.
 fn write_report<W: Write>(
     alloc: Global,
     image: &[u8],
@@ -399,7 +417,7 @@ fn write_report<W: Write>(
     }
 }
 
-// Writes the verdict on an image that is refused.
+// Writes the verdict on an image that is refused, and returns the diagnosis.
 fn write_refusal<W: Write>(
     alloc: Global,
     image: &[u8],
@@ -472,6 +490,10 @@ pub fn priced_image_of(
 }
 
 /// Builds the header of a program, with its cost as the budget.
+///
+/// # Errors
+/// Returns the first rule of the header that a number breaks. If there is none, returns the first
+/// rule of the control flow that the program breaks with the greatest budget.
 fn priced_head(vars_size: u16, program: &[Insn], version: ImageVersion) -> Result<Head, ToolError>
     requires { is_program program.now ≡ true }
     ensures head { IfOk result (λ h. (h ≡ program_head vars_size h.budget version program.now) × (limit_fault h ≡ None)) }
@@ -487,6 +509,8 @@ fn priced_head(vars_size: u16, program: &[Insn], version: ImageVersion) -> Resul
 }
 
 /// Assembles the program of a source.
+///
+/// A source that isn't UTF-8 has an unknown word in its first line.
 fn program_of(alloc: Global, text: &[u8]) -> Result<Vec<Insn>, ToolError>
     ensures program { IfOk result (λ v. IsAssembled (lines_of text.now) v.items) }
     ensures slots { IfOk result (λ v. IsTrue (is_program v.items)) }

@@ -33,11 +33,12 @@ use fc_kinds::{Regs, after, enter, entry, join, refine};
 /// Finds a typing of a program that passes the control-flow checks.
 ///
 /// The program's image has this version, and its variables have `vars_size` bytes. `room` must have
-/// space for a state for each slot.
+/// space for a state for each slot. The result has `None` for slots that the pass doesn't reach.
 ///
 /// # Errors
-/// Returns the first slot with a precondition that doesn't hold, a rule from 20 to 28 that it
-/// breaks, and the registers' abstract values before it. The program then has no typing.
+/// Returns the first slot with a precondition that doesn't hold, and a rule from 20 to 28 that it
+/// breaks. The registers' abstract values before it are the evidence. The program then has no
+/// typing.
 pub fn typed(
     version: ImageVersion,
     vars_size: u16,
@@ -60,7 +61,9 @@ pub fn typed(
     Ok(states)
 }
 
-/// Returns the first states: only the entry has one.
+/// Returns the first states, in `room`: only the entry has one.
+///
+/// Any other slot has `None` until the pass leads to it.
 fn first_states(version: ImageVersion, code: &[Insn], room: Vec<Option<Regs>>) -> Vec<Option<Regs>>
     requires empty { room.items ≡ [] }
     requires room { length code.now ≤ vec_capacity room }
@@ -73,7 +76,7 @@ fn first_states(version: ImageVersion, code: &[Insn], room: Vec<Option<Regs>>) -
     states
 }
 
-/// Returns the first state of a slot: the entry state for slot 0, else none.
+/// Returns the first state of a slot: the entry state for slot 0, else `None`.
 fn first_state(version: ImageVersion, slot: usize) -> Option<Regs>
     ensures first { slot ≡ 0 → result ≡ Some (entry version) }
     ensures later { 1 ≤ slot → result ≡ None }
@@ -87,8 +90,11 @@ fn first_state(version: ImageVersion, slot: usize) -> Option<Regs>
 
 /// Passes over all slots in order.
 ///
+/// `states` must be the first states, and becomes the typing.
+///
 /// # Errors
-/// Returns the first slot with a precondition that doesn't hold.
+/// Returns the first slot with a precondition that doesn't hold. The contract then doesn't say what
+/// `states` has.
 fn pass_slots(
     version: ImageVersion,
     vars_size: u16,
@@ -129,7 +135,8 @@ fn pass_slots(
 
 /// Returns the slot after the last body among those that begin so far.
 ///
-/// The loop that begins here counts too. A slot is in a body if it is before the result.
+/// `reach` is that of the slots before, and `beginning` the loop that begins here. A slot is in a
+/// body if it is before the result.
 fn reached(reach: usize, beginning: &Option<Loop>) -> usize
     requires { AreLow 1024 beginning.now }
     ensures { result ≡ reached reach beginning.now }
@@ -142,10 +149,11 @@ fn reached(reach: usize, beginning: &Option<Loop>) -> usize
 
 /// Passes over a slot that is found with the state `regs`.
 ///
-/// At the head of a loop the loop invariant is formed. If the preconditions hold, the states on the
-/// slot's branches are joined to those of the later slots to which they lead. Returns whether the
-/// loop's counter starts below its bound and the preconditions hold; if not, the states don't
-/// change. `regs` is scratch space after the call.
+/// `beginning` is the loop that begins at the slot, and `inside` says whether it is in a loop's
+/// body. At the head of a loop the loop invariant is formed. If the preconditions hold, the states
+/// on the slot's branches are joined to those of the later slots to which they lead. Returns
+/// whether the loop's counter starts below its bound and the preconditions hold; if not, the states
+/// don't change. `regs` is scratch space after the call.
 fn pass(
     vars_size: u16,
     code: &[Insn],
@@ -175,7 +183,8 @@ fn pass(
 
 /// Passes over a slot that is the head of this loop.
 ///
-/// Returns whether the loop's counter starts below its bound and the preconditions hold.
+/// Returns whether the loop's counter starts below its bound and the preconditions hold; if not,
+/// the states don't change.
 fn pass_head(
     vars_size: u16,
     code: &[Insn],
@@ -213,7 +222,7 @@ fn pass_head(
 
 /// Passes over a slot at which no loop begins.
 ///
-/// Returns whether its preconditions hold.
+/// Returns whether its preconditions hold; if not, the states don't change.
 fn pass_on(
     vars_size: u16,
     slot: usize,
@@ -239,10 +248,10 @@ fn pass_on(
     true
 }
 
-/// Updates the state before a slot to that after it, if its preconditions hold.
+/// Applies an instruction to the registers before it, if its demands are met.
 ///
-/// Returns whether they do, and whether in a loop's body the register that the instruction computes
-/// is a number.
+/// The demands are its preconditions and, in a counted loop's body (`inside`), a number in the
+/// register that it computes. Returns whether they are met. If not, nothing is promised of `regs`.
 fn meet_demands(vars_size: u16, insn: &Insn, inside: bool, regs: &mut Regs) -> bool
     requires kinds { AreKinds regs.old }
     requires insn { IsInsn insn.now }
@@ -258,7 +267,9 @@ fn meet_demands(vars_size: u16, insn: &Insn, inside: bool, regs: &mut Regs) -> b
     }
 }
 
-/// Returns why a slot with this state isn't passed.
+/// Returns why a slot with the state `regs` isn't passed, for the refusal.
+///
+/// It is called for a slot for which `pass` returned `false`.
 fn untyped(
     vars_size: u16,
     code: &[Insn],
@@ -285,7 +296,9 @@ fn untyped(
     }
 }
 
-/// Returns why an instruction isn't passed with this state of its slot.
+/// Returns why an instruction isn't passed with the state `kinds` of its slot.
+///
+/// The state is the loop invariant if a loop begins at the slot.
 fn at_insn(vars_size: u16, slot: usize, insn: &Insn, inside: bool, kinds: &Regs) -> Untyped
     requires kinds { AreKinds kinds.now }
     requires insn { IsInsn insn.now }
@@ -305,7 +318,7 @@ fn at_insn(vars_size: u16, slot: usize, insn: &Insn, inside: bool, kinds: &Regs)
     }
 }
 
-/// Returns why a loop's head isn't passed.
+/// Returns why a loop's head isn't passed with the state `regs` on entry.
 ///
 /// A precondition of the loop's first instruction doesn't hold in its iterations, or else its
 /// counter doesn't start below the bound.
@@ -332,7 +345,9 @@ fn at_head(
     }
 }
 
-/// Returns that a slot breaks the rule of loops, with this demand.
+/// Builds the refusal of a slot that breaks the rule of loops by this demand.
+///
+/// `known` is the state that explains it.
 fn against_loop(slot: usize, known: &Regs, demand: Demand) -> Untyped
     ensures rule { result.fault.rule ≡ LoopState }
     ensures slot { result.fault.slot ≡ slot }
@@ -352,7 +367,8 @@ fn against_loop(slot: usize, known: &Regs, demand: Demand) -> Untyped
 /// Updates the state before a slot to that after it.
 ///
 /// # Errors
-/// Returns the precondition that doesn't hold.
+/// Returns the rule that the instruction breaks, with the state before it as evidence. The contract
+/// then doesn't say what `regs` has.
 fn checked(vars_size: u16, slot: usize, insn: Insn, regs: &mut Regs) -> Result<(), Untyped>
     requires kinds { AreKinds regs.old }
     requires insn { IsInsn insn }
@@ -377,8 +393,8 @@ fn checked(vars_size: u16, slot: usize, insn: Insn, regs: &mut Regs) -> Result<(
 
 /// Joins the states on an instruction's branches to those of later slots.
 ///
-/// `after` is the state after the instruction; the state before it is that of its slot. `after` is
-/// scratch space after the call.
+/// `after` is the state after the instruction; `states` has the one before it. `after` is scratch
+/// space after the call.
 fn spread(slot: usize, insn: Insn, after: &mut Regs, states: &mut [Option<Regs>])
     requires kinds { AreKinds after.old }
     requires levels { (ks : List What) → state_at states.old slot ≡ Some ks → AreShallow 1023 ks }
@@ -412,7 +428,8 @@ fn spread(slot: usize, insn: Insn, after: &mut Regs, states: &mut [Option<Regs>]
 
 /// Joins the states on a conditional jump's branches to those of later slots.
 ///
-/// A branch that no values take has none.
+/// A branch that no values take has none. `regs` is the state at the jump, and scratch space after
+/// the call.
 fn branch(slot: usize, jump: &Jump, regs: &mut Regs, states: &mut [Option<Regs>])
     requires kinds { AreKinds regs.old }
     requires slot { slot < 1024 }
@@ -428,7 +445,7 @@ fn branch(slot: usize, jump: &Jump, regs: &mut Regs, states: &mut [Option<Regs>]
     }
 }
 
-/// Returns the slot to which a jump's offset leads.
+/// Returns the slot to which a jump's offset leads, or `slot` if that is below 0.
 fn landing(slot: usize, offset: i32) -> usize
     requires { slot < 1024 }
     ensures { result ≡ landing slot offset }
@@ -437,7 +454,9 @@ fn landing(slot: usize, offset: i32) -> usize
     if at >= 0 { at as usize } else { slot }
 }
 
-/// Joins a state to that of a slot, if the slot is later.
+/// Joins a state to that of `slot`, if this slot is later than `from`.
+///
+/// A back jump leads to a loop's head, whose state is the loop invariant already.
 fn lead(from: usize, states: &mut [Option<Regs>], slot: usize, regs: &Regs)
     requires { slot < length states.old }
     ensures { states.new ≡ met_later from states.old slot regs.now }

@@ -27,7 +27,7 @@ pub(crate) fn settled(code: &[Insn], counted: &Loop, regs: &Regs) -> Option<Regs
     }
 }
 
-/// Returns whether an abstract value is a number below the bound.
+/// Returns whether a counter's abstract value is a number below the loop's bound.
 fn enters(counted: &Loop, kind: &Kind) -> bool
     ensures { result ≡ enters counted.now kind.now }
 {
@@ -37,6 +37,10 @@ fn enters(counted: &Loop, kind: &Kind) -> bool
     }
 }
 
+/// Returns the loop invariant for a head, whether or not the counter starts right.
+///
+/// It is that of `settled` if the counter starts below the bound. If not, its state explains a
+/// refusal.
 pub(crate) fn formed(code: &[Insn], counted: &Loop, regs: &Regs) -> Regs
     requires { IsLoopOf code.now (Some counted.now) }
     ensures { result ≡ formed code.now counted.now regs.now }
@@ -56,6 +60,10 @@ pub(crate) fn formed(code: &[Insn], counted: &Loop, regs: &Regs) -> Regs
     ]
 }
 
+/// Returns the abstract value of a register in the loop invariant.
+///
+/// The counter is below the bound. If the body has a call, R1 to R5 are unset. Any other register
+/// that the body writes is any number if it is a number in `regs`, and otherwise unset.
 fn formed_kind(code: &[Insn], counted: &Loop, register: usize, regs: &Regs) -> Kind
     requires body { IsLoopOf code.now (Some counted.now) }
     requires register { register < 11 }
@@ -77,6 +85,7 @@ fn formed_kind(code: &[Insn], counted: &Loop, register: usize, regs: &Regs) -> K
     }
 }
 
+/// Returns the interval of all numbers for a number, and `Unset` otherwise.
 fn any_number(kind: &Kind) -> Kind
     ensures { result ≡ any_number kind.now }
 {
@@ -110,6 +119,8 @@ fn has_call(code: &[Insn], counted: &Loop) -> bool
 }
 
 /// Returns whether the register that an instruction computes, if any, is a number.
+///
+/// `after` is the state after the instruction. An instruction that computes none gives `true`.
 pub(crate) fn gives_number(insn: &Insn, after: &Regs) -> bool
     ensures { result ≡ gives_number (computes insn.now) after.now }
 {
@@ -119,9 +130,10 @@ pub(crate) fn gives_number(insn: &Insn, after: &Regs) -> bool
     }
 }
 
-/// Returns the demand that an instruction breaks in a loop's body, if any.
+/// Returns the demand of a loop's body that an instruction breaks, or `None`.
 ///
-/// There the register that it computes must be a number.
+/// In a body (`inside`), the register that the instruction computes must be a number in the state
+/// `after` it. Elsewhere nothing is demanded.
 pub(crate) fn unnumbered(inside: bool, insn: &Insn, after: &Regs) -> Option<Demand>
     ensures { IsUnnumbered inside insn.now after.now result }
 {

@@ -43,6 +43,9 @@ pub fn verify(alloc: Global, image: &[u8]) -> Result<Verified, Refusal>
 }
 
 /// Returns the image's header.
+///
+/// # Errors
+/// Returns the first rule of the header that the image breaks.
 fn read_head(image: &[u8]) -> Result<Head, Refusal>
     ensures head { IfOk result (IsHeadOf image.now) }
     ensures refused { IfErr result (IsRefusal image.now) }
@@ -54,6 +57,11 @@ fn read_head(image: &[u8]) -> Result<Head, Refusal>
 }
 
 /// Returns the program that the slots encode.
+///
+/// `head` is the image's header, which keeps its rules.
+///
+/// # Errors
+/// Returns the first slot that breaks a rule, 6 to 10, or `NoMemory` if memory can't be allocated.
 fn read_code(alloc: Global, image: &[u8], head: &Head) -> Result<Vec<Insn>, Refusal>
     requires { IsHeadOf image.now head.now }
     ensures code { IfOk result (λ code. IsCodeOf image.now code.items) }

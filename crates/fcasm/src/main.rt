@@ -147,6 +147,9 @@ fn command<'a>(alloc: Global) -> Result<Command<'a>, AllocError> {
         .subcommand(run_command(alloc)?)
 }
 
+// Reads the command line's words and runs its command.
+//
+// Returns `Bad` if a word isn't UTF-8.
 fn start<R: Runtime + AllocGlobal, E: Write>(rt: &R, err: &mut E) -> anyhow::Result<Status> {
     match words(rt, err)? {
         Some(words) => obey(rt, err, words),
@@ -154,7 +157,9 @@ fn start<R: Runtime + AllocGlobal, E: Write>(rt: &R, err: &mut E) -> anyhow::Res
     }
 }
 
-// Runs the command line's command.
+// Parses the words of a command line, and runs its command.
+//
+// If they name no command, or ask for help, returns the parser's status.
 fn obey<R: Runtime + AllocGlobal, E: Write>(
     rt: &R,
     err: &mut E,
@@ -170,7 +175,9 @@ fn obey<R: Runtime + AllocGlobal, E: Write>(
     carry_out(rt, &mut input, &mut out, err, &matches)
 }
 
-// Runs the command that the command line names.
+// Runs the command that the parsed command line names.
+//
+// The commands on images read the named file, or `input` if there is none.
 fn carry_out<R: Runtime + AllocGlobal, I: Read, W: Write, E: Write>(
     rt: &R,
     input: &mut I,
@@ -198,7 +205,9 @@ fn carry_out<R: Runtime + AllocGlobal, I: Read, W: Write, E: Write>(
     }
 }
 
-// Runs a command on an image.
+// Runs a command on the image that `input` has.
+//
+// Returns `Bad` if no command on images has this name.
 fn use_image<I: Read, W: Write, E: Write>(
     alloc: Global,
     input: &mut I,
@@ -220,6 +229,8 @@ fn use_image<I: Read, W: Write, E: Write>(
 }
 
 // Writes the image with the numbers of the command line.
+//
+// Returns `Bad` if one of them is missing or malformed.
 fn write_image<R: Read, W: Write, E: Write>(
     alloc: Global,
     input: &mut R,
@@ -241,7 +252,7 @@ fn write_image<R: Read, W: Write, E: Write>(
     }
 }
 
-// Returns the request that the command line sends to a program.
+// Returns the request, variables and readings that the command line gives.
 fn asked_by(alloc: Global, words: &ArgMatches<'_>) -> Result<Asked, AskedError> {
     let method = match words.get_str("method") {
         Some("post") => Method::Post,
@@ -253,7 +264,7 @@ fn asked_by(alloc: Global, words: &ArgMatches<'_>) -> Result<Asked, AskedError> 
     Asked::new(alloc, method, payload, query, words.get_str("vars"))?.with_readings(alloc, readings)
 }
 
-// Reads the bytes of an image's file.
+// Reads the bytes of an image's file; see `image_bytes`.
 fn file_bytes<R: Runtime + AllocGlobal>(rt: &R, path: &str) -> io::Result<Vec<u8>> {
     let mut file = fs::open(rt, path)?;
     image_bytes(rt.alloc(), &mut file)
