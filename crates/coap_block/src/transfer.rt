@@ -23,7 +23,7 @@ pub struct Transfer {
     pub body: Body,
 }
 
-// Returns whether the latest block arrived less than EXCHANGE_LIFETIME ago.
+// Returns whether the latest block arrived less than EXCHANGE_LIFETIME before `now`.
 pub(crate) fn is_under_way(now: u64, transfer: &Transfer) -> bool
     ensures { result ≡ is_under_way now transfer.now }
 {

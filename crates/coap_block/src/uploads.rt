@@ -1,4 +1,4 @@
-//! The transfers in progress.
+//! The transfers in progress, to which the server's front adds the blocks of PUTs.
 ghost use Rattle.std.specs.Prelude.{◌≡◌, ◌≤◌, ◌<◌, [], ◌∷◌, ◌++◌, find, length, IfOk, vec_capacity};
 ghost use Rattle.std.specs.Option.{option_copied, option_map};
 ghost use Rattle.coap_block.specs.Uploads.{add_of, after_add, after_block, before_of, block_added, body_behind, body_with, is_full, is_transfer_of, live, others};
@@ -94,7 +94,7 @@ impl Uploads {
         }
     }
 
-    // Joins a block to its transfer.
+    // Joins a block to its transfer for `add`, or removes the transfer and returns the refusal.
     fn add_block(
         &mut self,
         now: u64,
@@ -146,7 +146,7 @@ fn remove(held: &mut Vec<Transfer>, endpoint: Endpoint, slot: u8)
     held.retain(|transfer| !is_transfer_of(endpoint, slot, transfer));
 }
 
-// Appends a transfer.
+// Appends a transfer; the caller guarantees that fewer than 16 are stored.
 fn keep(held: &mut Vec<Transfer>, transfer: Transfer)
     requires few { length held.old.items < 16 }
     requires room { 16 ≤ vec_capacity held.old }
@@ -166,7 +166,7 @@ fn is_full(number: u32, others: usize) -> bool
 }
 
 // Returns the payloads before a block with this number, joined: empty before number 0, else those
-// of the transfer in progress.
+// of the transfer in progress. Returns `None` if that is missing.
 fn before(held: &[Transfer], endpoint: Endpoint, slot: u8, number: u32) -> Option<Body>
     ensures { option_map (λ b. b.items) result ≡ before_of number (find (is_transfer_of endpoint slot) held.now) }
 {
@@ -176,7 +176,7 @@ fn before(held: &[Transfer], endpoint: Endpoint, slot: u8, number: u32) -> Optio
     find(held, endpoint, slot).map(|transfer| copy(&transfer.body))
 }
 
-// Returns the transfer of this endpoint and slot.
+// Returns the transfer of this endpoint and slot, or `None` if there is none.
 fn find(held: &[Transfer], endpoint: Endpoint, slot: u8) -> Option<&Transfer>
     ensures { option_copied result ≡ find (is_transfer_of endpoint slot) held.now }
 {
@@ -193,8 +193,8 @@ fn copy(body: &Body) -> Body
     copy
 }
 
-// Appends a block to the payloads before it. A fitting block gives `Whole`, also if more blocks
-// follow.
+// Appends a block to `before`, the payloads before it, or returns the refusal. A fitting block
+// gives `Whole`, also if more blocks follow.
 fn body_behind(before: Option<Body>, block: Block, payload: &[u8]) -> Added
     ensures { add_seen result ≡ body_behind (option_map (λ b. b.items) before) block payload.now }
 {
@@ -211,7 +211,7 @@ fn body_behind(before: Option<Body>, block: Block, payload: &[u8]) -> Added
     body_with(body, payload)
 }
 
-// Appends bytes to a body, if they fit.
+// Appends a payload to a body, and returns `Whole`, or `TooLarge` if it doesn't fit.
 fn body_with(body: Body, payload: &[u8]) -> Added
     ensures { add_seen result ≡ body_with body.items payload.now }
 {

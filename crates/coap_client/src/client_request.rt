@@ -1,4 +1,6 @@
 //! Client requests: the request that a client is to make, and its messages.
+//!
+//! [`fetch`](crate::fetch) and an [`Observer`](crate::Observer) send these messages.
 ghost use Rattle.std.specs.Prelude.{◌≡◌, ◌+◌, ◌*◌, ◌<◌, ◌≤◌, ◌++◌, ◌↔◌, IfOk, IfSome, IsNone, None, OnOk, Some, length, min, sum_by};
 ghost use Rattle.coap_msg.specs.Wire.{message_bytes};
 ghost use Rattle.coap_msg.specs.Writing.{options_in};
@@ -61,7 +63,7 @@ impl<'a> ClientRequest<'a> {
     ghost use Rattle.coap_client.specs.Parts.{first_part, has_more, part_options, part_payload};
     ghost use Rattle.coap_client.specs.Requests.{IsBlock, IsPartOf, block_request, part_request};
 
-    /// Builds the client request, or returns `None` if its requests don't fit a datagram.
+    /// Builds the client request; `None` if its requests don't fit a datagram.
     ///
     /// They fit if these have at most 1,262 bytes together: the segments of the path and the
     /// arguments of the query, each with five bytes more, and the part of the body in one request.
@@ -119,7 +121,7 @@ impl<'a> ClientRequest<'a> {
         }
     }
 
-    /// Returns the first part of the fetch.
+    /// Returns the part of a fetch's first request.
     ///
     /// It is the first block, of 1,024 bytes, if the method is PUT and the body is longer than
     /// that. Otherwise it is the whole body.
@@ -137,7 +139,9 @@ impl<'a> ClientRequest<'a> {
         }
     }
 
-    /// Returns whether more of the body follows the block of this number and size.
+    /// Returns whether more of the body follows the block of this number.
+    ///
+    /// `szx` is the exponent of its size, less 4.
     pub fn has_more(&self, number: u32, szx: u8) -> bool
         requires { IsBlock number szx }
         ensures { result ≡ has_more (length self.now.payload.now) number szx }
@@ -146,7 +150,7 @@ impl<'a> ClientRequest<'a> {
         self.payload.len() > block.size() * (block.number() as usize + 1)
     }
 
-    /// Writes the request of a part with this message ID.
+    /// Writes the request of a part, with the message ID `id`, for a fetch.
     ///
     /// The request replaces the contents of `datagram`.
     ///
@@ -177,9 +181,10 @@ impl<'a> ClientRequest<'a> {
         Ok(())
     }
 
-    /// Writes the GET of a block of the resource, with this message ID, which is its token too.
+    /// Writes the GET of a further block of a state, for an observer.
     ///
-    /// It has no body. The request replaces the contents of `datagram`.
+    /// See [`Observer::ask_block`](crate::Observer::ask_block). Its message ID and its token are
+    /// `id`. It has no body and no Observe. The request replaces the contents of `datagram`.
     ///
     /// # Errors
     /// Returns `AllocError` if memory can't be allocated for the list of options.
@@ -210,8 +215,8 @@ impl<'a> ClientRequest<'a> {
         Ok(())
     }
 
-    // Returns the Content-Format option of a part's request: there is one only together with the
-    // body.
+    // Returns the Content-Format option of a part's request, or `None` if the client request has no
+    // format or this request has no body.
     fn format_of(&self, part: Part) -> Option<(u16, UintBytes)>
         ensures format { option_in result ≡ format_options self.now.method part self.now.content_format }
         ensures short { IfSome result (λ o. (o.0 ≡ CONTENT_FORMAT) × (length o.1.items ≤ 2)) }
@@ -224,7 +229,7 @@ impl<'a> ClientRequest<'a> {
         }
     }
 
-    // Returns the block option of a part's request.
+    // Returns the block option of a part's request, or `None` if the part is the whole body.
     fn block_of(&self, part: Part) -> Option<(u16, UintBytes)>
         requires { IsPartOf self.now part }
         ensures { option_in result ≡ part_options part (length self.now.payload.now) }
@@ -241,7 +246,8 @@ impl<'a> ClientRequest<'a> {
         }
     }
 
-    // Returns the payload of a part's request.
+    // Returns the payload of a part's request: the body or a block of it. A request for a further
+    // block of the response has the body if it is a GET, and else no payload.
     fn payload_of(&self, part: Part) -> &'a [u8]
         requires { IsPartOf self.now part }
         ensures { result.now ≡ part_payload self.now.method self.now.payload.now part }
@@ -269,7 +275,8 @@ fn encode_format(format: u16) -> UintBytes
     encode_uint(u64::from(format))
 }
 
-// Returns whether a part's request has the body, or a block of it.
+// Returns whether a part's request has the body, or a block of it. Of the requests for a further
+// block of the response, only a GET has it.
 fn brings_body(method: Method, part: Part) -> bool
     ensures { result ≡ spec.brings_body method part }
 {
@@ -300,7 +307,7 @@ fn method_code(method: Method) -> Code
     }
 }
 
-// Returns the number of bytes of a body that are sent in one request.
+// Returns the maximum number of bytes of a body of `count` bytes in one request.
 fn most_at_once(method: Method, count: usize) -> usize
     ensures { result ≡ spec.most_at_once method count }
 {
@@ -310,7 +317,8 @@ fn most_at_once(method: Method, count: usize) -> usize
     }
 }
 
-// Returns the room of the options with these values, and at most 2^64 - 1.
+// Returns the room reserved for options with these values, at most 2^64 - 1: for each the value's
+// length and five bytes.
 fn room_of(values: &[&[u8]]) -> usize
     ensures { result ≡ min (sum_by option_room (slices_in values.entry.now)) 18446744073709551615 }
 {

@@ -94,7 +94,9 @@ pub enum FetchOutcome {
     Malformed,
 }
 
-/// Fetches the response to the client request; message IDs count up from `first_id`.
+/// Fetches the response to the client request.
+///
+/// The message IDs count up from `first_id`.
 ///
 /// A body that is too large for one request is sent in blocks. A larger response is requested in
 /// blocks, of 1,024 bytes or of the smaller size that the server names (RFC 7959).
@@ -134,7 +136,8 @@ pub fn fetch<P: Peer>(
     }
 }
 
-// Makes one attempt, from the first part on.
+// Makes one attempt at a fetch, from the first part on, for `fetch`. `earlier` are the message IDs
+// of the separate responses of an attempt before.
 fn fetch_once<P: Peer>(
     alloc: Global,
     peer: &mut P,
@@ -206,7 +209,7 @@ struct FetchState {
 }
 
 impl FetchState {
-    // Returns the outstanding request.
+    // Returns the outstanding request, which `datagram` encodes.
     fn request<'a>(&'a self, confirmable: bool, datagram: &'a Datagram) -> SentRequest<'a>
         ensures { (result.datagram.now ≡ datagram.entry.now) × (result.id ≡ self.entry.now.id) × (result.confirmable ≡ confirmable)
             × (result.earlier.now ≡ self.entry.now.earlier.items) }
@@ -219,8 +222,8 @@ impl FetchState {
         }
     }
 
-    // Receives the response to the outstanding request and returns its effect. Sets the next
-    // request, unless the fetch ends.
+    // Handles `message`, the response to the outstanding request, and returns its effect. Sets the
+    // next request, unless the fetch ends.
     fn handle(
         &mut self,
         client_request: &ClientRequest<'_>,
@@ -263,8 +266,8 @@ impl FetchState {
         Ok(())
     }
 
-    // Sets the next request. Adds the payload of this response if a further block of it is
-    // requested.
+    // Sets the next request, that of `part`. Adds the payload of `message`, the response before it,
+    // if `part` is a further block of the response.
     fn go_on(&mut self, part: Part, message: &Message<'_>) -> Result<(), AllocError>
         ensures after { OnOk result (going_on part self.old.body.items self.old.etag.items message.now
             ≡ Out self.new.part self.new.body.items self.new.etag.items) }

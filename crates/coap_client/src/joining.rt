@@ -1,4 +1,6 @@
-//! The joining of a state's blocks: its notification has the first of them (RFC 7959, section 2.6).
+//! The joining of a state's blocks: its notification has the first of them.
+//!
+//! See RFC 7959, section 2.6. It is for observers. `fcreq observe` doesn't call it yet.
 ghost use Rattle.std.specs.Prelude.{◌≡◌, ◌≤◌, IfErr, IfOk, OnOk, length, max, take};
 ghost use Rattle.coap_client.specs.Notices.{notice_after};
 ghost use Rattle.coap_client.specs.Fetching.{after_reply, going_on};
@@ -81,9 +83,9 @@ pub enum BlockHandled {
 }
 
 impl Joining {
-    /// Begins with a message that is the first of several blocks.
+    /// Begins the joining of a state whose first block is `message`.
     ///
-    /// Returns `None` if it isn't.
+    /// Returns `None` if `message` isn't the first of several blocks.
     ///
     /// # Errors
     /// Returns `AllocError` if memory can't be allocated for the block.
@@ -108,7 +110,8 @@ impl Joining {
         }))
     }
 
-    // Receives the response to the request for the next block, and returns its effect.
+    // Handles `message`, the response to the request for the next block, and returns its effect.
+    // Sets the next block, unless the joining ends.
     fn handle(&mut self, message: &Message<'_>) -> Result<Step, AllocError>
         requires { IsBlock self.old.number self.old.szx }
         ensures own { OnOk result (IsBlock self.new.number self.new.szx) }
@@ -133,7 +136,8 @@ impl Joining {
         }
     }
 
-    // Sets the next block, and adds the payload of this response.
+    // Sets the next block, that of `part`, and adds the payload and the ETag of `message`, the
+    // response before it.
     fn go_on(&mut self, part: Part, message: &Message<'_>) -> Result<(), AllocError>
         requires { IsFurther part }
         ensures own { OnOk result (IsBlock self.new.number self.new.szx) }
@@ -154,9 +158,9 @@ impl Joining {
 impl Observation {
     /// Requests the further blocks of a state, one after the other, and joins them.
     ///
-    /// The requests have message IDs from `ids` on. Confirmable notifications that arrive meanwhile
-    /// are acknowledged. A newer one ends the joining; it is at the start of `buffer`, and is
-    /// recorded as shown.
+    /// The message IDs count up from `ids`, which is the next one afterwards; no clause says so.
+    /// Confirmable notifications that arrive meanwhile are acknowledged. One that is to be shown
+    /// ends the joining, and is at the start of `buffer`. It is recorded as shown if it is a state.
     ///
     /// # Errors
     /// Returns an error if a notification can't be shown, or if sending, receiving or allocating
@@ -199,8 +203,8 @@ impl Observation {
         Ok(Completion::Unfetched(Unfetched::Malformed))
     }
 
-    // Takes in what arrived while a block was requested with this message ID: the block, or a
-    // notification, of `count` bytes.
+    // Handles the message that ended the wait for a block: the block, or a notification. Returns
+    // its effect. It is the first `count` bytes of `buffer`; `id` is the request's message ID.
     fn handle_block<P: Peer>(
         &mut self,
         peer: &mut P,
@@ -238,7 +242,9 @@ impl Observation {
         }
     }
 
-    // Records a notification as shown if it is newer; otherwise returns `None`.
+    // Returns a notification if it is to be shown, and records it as shown if it is a state.
+    // Returns `None` if it isn't newer or is a duplicate, and `FetchFault::Part` if it can't be
+    // shown.
     fn note(
         &mut self,
         came: DatedMessage,

@@ -47,13 +47,13 @@
 //!
 //! *A state of several blocks that an observer is notified of:*
 //!
-//! - Each further block is requested by a GET without Observe, whose token is its message ID, by the
-//!   schedule of a confirmable request. Its response, or a notification, ends the wait.
+//! - Each further block is requested by a GET without Observe, whose token is its message ID, by
+//!   the schedule of a confirmable request. Its response, or a notification, ends the wait.
 //! - The body consists of the payloads of the notification and of the responses to these requests,
-//!   joined. All have one ETag, or none, each begins at the end of those before it, and none follows
-//!   the last (RFC 7959, sections 2.4 and 2.6).
-//! - A newer notification ends the joining, and is recorded as shown. An older one, and a duplicate,
-//!   change nothing.
+//!   joined. All have one ETag, or none, each begins at the end of those before it, and none
+//!   follows the last (RFC 7959, sections 2.4 and 2.6).
+//! - A newer state ends the joining, and is recorded as shown. The last response ends it too. An
+//!   older state, and a duplicate, change nothing.
 //! - `fcreq observe` doesn't call it yet: a notification that isn't whole ends its observation.
 //!
 //! *A fetch that fails, in terms of its calls:*

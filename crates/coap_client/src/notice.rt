@@ -1,4 +1,6 @@
-//! The requests of an observer, and its classification of responses (RFC 7641).
+//! The Observe option of an observer's requests, and the classes of responses.
+//!
+//! See RFC 7641.
 ghost use Rattle.std.specs.Prelude.{◌≡◌, ◌↔◌, ◌≤◌, IsTrue, length};
 ghost use Rattle.coap_opts.specs.Values.{uint_value};
 ghost use Rattle.coap_client.specs.Notices.{IsOwnResponse, IsReplyWith};
@@ -58,7 +60,7 @@ pub enum NotificationClass {
 
 /// Returns whether `message` is the piggybacked response to a request.
 ///
-/// The request has this token and this message ID.
+/// The request has the token `token` and the message ID `id`.
 pub fn is_reply_with(token: &[u8], id: u16, message: &Message<'_>) -> bool
     ensures { IsTrue result ↔ IsReplyWith token.now id message.now }
 {
@@ -68,7 +70,7 @@ pub fn is_reply_with(token: &[u8], id: u16, message: &Message<'_>) -> bool
         && is_response(message.code())
 }
 
-/// Returns whether `message` is a separate response with this token.
+/// Returns whether `message` is a separate response with the token `token`.
 ///
 /// It is confirmable or non-confirmable (RFC 7641, section 3.2).
 pub fn is_notification(token: &[u8], message: &Message<'_>) -> bool
@@ -77,6 +79,7 @@ pub fn is_notification(token: &[u8], message: &Message<'_>) -> bool
     begins_exchange(message.kind()) && message.token() == token && is_response(message.code())
 }
 
+// Returns whether a code is that of a response: of class 2, 4 or 5.
 fn is_response(code: Code) -> bool
     ensures { result ≡ replies.is_response code.byte }
 {
@@ -95,6 +98,9 @@ pub fn is_newer(first: u32, first_at: u64, second: u32, second_at: u64) -> bool
 }
 
 /// Classifies a response to an observer, regardless of earlier ones.
+///
+/// It is never `Older`: [`Observation::notice_of`](crate::Observation::notice_of) compares it with
+/// earlier ones.
 pub fn notice_of(message: &Message<'_>) -> NotificationClass
     ensures { result ≡ spec.notice_of message.now }
 {
@@ -110,10 +116,10 @@ pub fn notice_of(message: &Message<'_>) -> NotificationClass
     }
 }
 
-/// Returns whether a response is a success of several blocks, without a sequence number.
+/// Returns whether a response is a success of several blocks without Observe.
 ///
-/// Its server doesn't notify of changes, or has no place for another observer (RFC 7641, section
-/// 4.1).
+/// An Observe of more than three bytes counts as none. The server that sent it doesn't notify of
+/// changes, or has no place for another observer (RFC 7641, section 4.1).
 pub fn is_unobserved(message: &Message<'_>) -> bool
     ensures { result ≡ spec.is_unobserved message.now }
 {
@@ -123,7 +129,7 @@ pub fn is_unobserved(message: &Message<'_>) -> bool
         && sequence_of(message).is_none()
 }
 
-// Returns the sequence number of a state.
+// Returns the sequence number of a state, or `None` if Observe is absent or has more than 3 bytes.
 fn sequence_of(message: &Message<'_>) -> Option<u32>
     ensures { result ≡ spec.sequence_of message.now }
 {
@@ -133,6 +139,7 @@ fn sequence_of(message: &Message<'_>) -> Option<u32>
     }
 }
 
+// Decodes the value of Observe, of at most 3 bytes.
 fn decode(value: &[u8]) -> u32
     requires { length value.now ≤ VALUE }
     ensures { result ≡ uint_value value.now }

@@ -105,8 +105,14 @@ impl<'a> Observer<'a> {
         Ok(count)
     }
 
-    // Sends a request with this own token and message ID until it has a response, or a notification
-    // arrives.
+    // Sends a request, and waits for its response or a notification. Retransmits the request until
+    // one of them arrives, the request is acknowledged, or the last wait ends.
+    //
+    // It is for `register` and `ask_block`, which acknowledge the message that arrived. The request
+    // has the token `own` and the message ID `id`; notifications have the observer's token. In a
+    // registration the two tokens are the same. Returns the length of the message, which is at the
+    // start of `buffer`, or `None` if neither arrived. After a Reset message for the request,
+    // returns `FetchFault::Rejected`.
     fn ask<P: Peer>(
         &self,
         own: &[u8],
@@ -136,7 +142,8 @@ impl<'a> Observer<'a> {
         Ok(None)
     }
 
-    // Waits for the response to an acknowledged request.
+    // Waits for the response to an acknowledged request, or for a notification. Returns `None` if
+    // neither arrives.
     fn await_answer<P: Peer>(
         &self,
         own: &[u8],
@@ -157,7 +164,9 @@ impl<'a> Observer<'a> {
         }
     }
 
-    // Receives datagrams until one ends the wait or the wait is over; skips the others.
+    // Receives datagrams until one ends the wait or the wait is over; skips the others. `awaited`
+    // says whether the request was acknowledged: then another acknowledgement is skipped. Returns
+    // `FetchFault::Rejected` if the request is rejected.
     fn listen<P: Peer>(
         &self,
         own: &[u8],
@@ -187,11 +196,11 @@ impl<'a> Observer<'a> {
         Ok(WaitOutcome::Nothing)
     }
 
-    /// Requests a block of the observed resource, and returns the length of what arrived, in bytes.
+    /// Requests a block of the observed resource, for [`Observation::complete`].
     ///
-    /// Sends a confirmable GET without Observe, and retransmits it as a fetch does. The response, or
-    /// a notification that arrives before it, is at the start of `buffer`. It is acknowledged if it
-    /// is confirmable. Returns `None` if neither arrives.
+    /// Sends a confirmable GET without Observe, and retransmits it as a fetch does. The response,
+    /// or a notification that arrives before it, is at the start of `buffer`. It is acknowledged if
+    /// it is confirmable. Returns its length in bytes, or `None` if neither arrives.
     ///
     /// # Errors
     /// Returns an error if the request is rejected, or if sending, receiving or allocating memory
@@ -245,7 +254,7 @@ impl<'a> Observer<'a> {
         self.deregister_by(peer, &datagram, buffer)
     }
 
-    /// Builds the deregistration request.
+    /// Builds the deregistration request, for [`Observer::deregister_by`].
     ///
     /// # Errors
     /// Returns `AllocError` if memory can't be allocated for the options.
@@ -297,8 +306,9 @@ impl<'a> Observer<'a> {
 impl Observation {
     /// Waits for the next notification to show, and records a state as shown.
     ///
-    /// Skips older notifications and duplicates. A confirmable notification is acknowledged, shown
-    /// or not. Returns `None` if the wait is over.
+    /// Notifications have the token `token`. The one to show is at the start of `buffer`. Skips
+    /// older ones and duplicates. A confirmable one is acknowledged, shown or not. Returns `None`
+    /// if the wait is over.
     ///
     /// # Errors
     /// Returns an error if a notification can't be shown, or if sending, receiving or allocating
@@ -347,8 +357,8 @@ impl Observation {
     }
 }
 
-// Receives the next notification during a wait, acknowledges it if it is confirmable, and then
-// reads the clock.
+// Receives the next notification during a wait, for `Observation::next`. Acknowledges it if it is
+// confirmable, and then reads the clock. Returns `None` if the wait is over.
 fn handle<P: Peer>(
     peer: &mut P,
     token: &[u8],
@@ -374,7 +384,7 @@ fn handle<P: Peer>(
     Ok(None)
 }
 
-// Returns whether a datagram is a notification.
+// Returns whether a datagram is a notification with this token.
 fn tells_notification(token: &[u8], bytes: &[u8]) -> bool
     ensures { IsTrue result ↔ IsReadAs bytes.now (IsOwnResponse token.now) }
 {
@@ -384,7 +394,8 @@ fn tells_notification(token: &[u8], bytes: &[u8]) -> bool
     }
 }
 
-// Classifies a datagram for an observer whose request has this own token and message ID.
+// Classifies a datagram during the wait of `Observer::ask`. Notifications have the token `token`,
+// and the request has the token `own` and the message ID `id`.
 fn handle_datagram(token: &[u8], own: &[u8], id: u16, bytes: &[u8]) -> ReplyClass
     ensures { TellsRequest token.now own.now id bytes.now result }
 {
@@ -394,6 +405,7 @@ fn handle_datagram(token: &[u8], own: &[u8], id: u16, bytes: &[u8]) -> ReplyClas
     }
 }
 
+// Classifies a message, as `handle_datagram` does. A notification counts as `Reply`.
 fn handle_message(token: &[u8], own: &[u8], id: u16, message: &Message<'_>) -> ReplyClass
     ensures { IsToldAs token.now own.now id message.now result }
 {
@@ -411,7 +423,8 @@ fn handle_message(token: &[u8], own: &[u8], id: u16, message: &Message<'_>) -> R
     }
 }
 
-// Waits for the acknowledgement of the request with this message ID, with or without a response.
+// Waits for the acknowledgement of the deregistration with this message ID, with or without a
+// response. Returns `false` if the wait is over, and `FetchFault::Rejected` after a Reset message.
 // Confirmable notifications with the token are acknowledged: otherwise the server would retransmit
 // them (RFC 7641, section 3.5).
 fn is_acknowledged<P: Peer>(
@@ -441,7 +454,7 @@ fn is_acknowledged<P: Peer>(
     Ok(false)
 }
 
-// Acknowledges a confirmable notification.
+// Acknowledges a confirmable notification with this token, and ignores any other datagram.
 fn acknowledge_notification<P: Peer>(
     peer: &mut P,
     token: &[u8],
@@ -478,7 +491,8 @@ pub(crate) fn tells_reset(id: u16, bytes: &[u8]) -> bool
     }
 }
 
-// Writes the GET with Observe for a client request's resource. It replaces the contents of `datagram`.
+// Writes the registration or the deregistration: a GET of the client request's resource with
+// Observe. It replaces the contents of `datagram`.
 fn write_request(
     alloc: Global,
     client_request: &ClientRequest<'_>,
@@ -514,7 +528,7 @@ fn value_of(interest: ObserveOption) -> UintBytes
     })
 }
 
-// Builds the options: Observe, and those that name a client request's resource.
+// Builds the options: Observe with this value, and those that name a client request's resource.
 fn options_of<'a>(
     alloc: Global,
     client_request: &'a ClientRequest<'a>,

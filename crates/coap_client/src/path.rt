@@ -1,4 +1,4 @@
-//! Paths of resources.
+//! Paths of resources, parsed from the text of a client's target.
 ghost use Rattle.std.specs.Prelude.{◌≡◌, ◌∷◌, ◌<◌, ◌≤◌, IfErr, IfOk, MatchOption, length};
 ghost use Rattle.std.specs.List.{All};
 ghost use Rattle.coap_client.specs.Paths.{HasNoSlash, IsFirstSegment, IsSlashed, IsSegment, slices_in, slash};
@@ -82,7 +82,7 @@ fn fault_of(segment: &[u8], number: usize) -> Option<PathError>
     }
 }
 
-// Returns the text after its first byte if that is a slash.
+// Returns the text after its first byte if that is a slash, or `None` if it isn't.
 fn after_slash(text: &[u8]) -> Option<&[u8]>
     ensures { MatchOption result (HasNoSlash text.now) (λ after. text.now ≡ slash ∷ after.now) }
 {

@@ -36,7 +36,7 @@ pub fn ping<P: Peer>(peer: &mut P, id: u16) -> Result<(), FetchFault>
     Err(FetchFault::Silence)
 }
 
-// Waits for the Reset message with this message ID.
+// Waits for the Reset message with this message ID; returns `false` if the wait is over.
 fn is_rejected<P: Peer>(peer: &mut P, id: u16, buffer: &mut Buffer) -> Result<bool, FetchFault>
     ensures pong { IfOk result (λ is. OnTrue is (CamePong P.came id)) }
     ensures called { IfOk result (λ is. MakesCalls (P.called peer.old) (P.called peer.new) (IsOverUnlessPong id is)) }
@@ -53,6 +53,7 @@ fn is_rejected<P: Peer>(peer: &mut P, id: u16, buffer: &mut Buffer) -> Result<bo
     Ok(false)
 }
 
+// Writes the empty confirmable message with the message ID `id`.
 fn write_ping(id: u16) -> Datagram
     ensures { result.items ≡ ping_bytes id }
 {

@@ -108,9 +108,10 @@ pub fn is_reset(id: u16, message: &Message<'_>) -> bool
     message.kind() == MessageType::Reset && message.id() == id && message.code() == Code::EMPTY
 }
 
-/// Returns the next step after the response to a part.
+/// Returns the next step of a fetch after the response to a part.
 ///
-/// `etag` is the ETag of the response's blocks so far.
+/// `message` is the response to the request of `part`, and `etag` the ETag of the response's blocks
+/// so far.
 pub fn next_of(
     client_request: &ClientRequest<'_>,
     part: Part,
@@ -139,7 +140,8 @@ pub fn next_of(
     }
 }
 
-// Returns the next step after the response to a request for a further block.
+// Returns the next step of a joining after the response to a request for a further block. `etag` is
+// the ETag of the blocks before it.
 pub(crate) fn next_of_block(number: u32, szx: u8, etag: &[u8], message: &Message<'_>) -> Next
     requires { IsBlock number szx }
     ensures next { result ≡ spec.next_of 0 (Answer number szx) etag.now message.now }
@@ -166,13 +168,14 @@ pub fn etag_of<'a>(message: &Message<'a>) -> &'a [u8]
     }
 }
 
-// Returns whether no critical option is unknown or repeated.
+// Returns whether no critical option is unknown, and neither Block1 nor Block2 is repeated.
 pub(crate) fn is_understood(message: &Message<'_>) -> bool
     ensures { result ≡ spec.is_understood message.now }
 {
     are_known(message) && is_single(BLOCK1, message) && is_single(BLOCK2, message)
 }
 
+// Returns whether the client knows each critical option of a message.
 fn are_known(message: &Message<'_>) -> bool
     ensures { result ≡ list_all (λ o. spec.is_known_option o.0) message.now.options }
 {
@@ -184,13 +187,14 @@ fn are_known(message: &Message<'_>) -> bool
     true
 }
 
-// Returns whether an option may be ignored if unknown, or is a critical one that a client knows.
+// Returns whether an option is elective, or a critical one that the client knows.
 fn is_known_option(number: u16) -> bool
     ensures { result ≡ spec.is_known_option number }
 {
     number % 2 == 0 || number == BLOCK1 || number == BLOCK2
 }
 
+// Returns whether a message has at most one option with this number.
 fn is_single(number: u16, message: &Message<'_>) -> bool
     ensures { result ≡ spec.is_single number message.now }
 {
@@ -198,15 +202,15 @@ fn is_single(number: u16, message: &Message<'_>) -> bool
     values.next().is_none() || values.next().is_none()
 }
 
-// Returns whether the server took the body so far and expects more of it.
+// Returns whether a response is 2.31 (Continue): the server took the body so far and expects more.
 fn is_continue(message: &Message<'_>) -> bool
     ensures { result ≡ spec.is_continue message.now }
 {
     message.code() == Code::CONTINUE
 }
 
-// Returns the block size for the rest of the body. `None` if the response, a success, doesn't say
-// that the server took this block, which isn't the last.
+// Returns the size exponent for the rest of the body, after a success that answers a block of it
+// that isn't the last. `None` if the response doesn't say that the server took this block.
 fn next_size(number: u32, szx: u8, message: &Message<'_>) -> Option<u8>
     ensures size { result ≡ spec.next_size number szx (spec.is_continue message.now) (spec.block1_of message.now) }
     ensures smaller { IfSome result (λ smaller. smaller ≤ szx) }
@@ -220,13 +224,16 @@ fn next_size(number: u32, szx: u8, message: &Message<'_>) -> Option<u8>
     }
 }
 
+// Returns the size exponent of a response's Block1. `None` if it has another number than the block
+// that was sent, or a greater size.
 fn size_by_block(number: u32, szx: u8, block: Block) -> Option<u8>
     ensures { result ≡ spec.size_by_block number szx block }
 {
     (block.number() == number && block.szx() <= szx).then_some(block.szx())
 }
 
-// Returns the next block of the body, in a size that is no greater.
+// Returns the next block of the body, in a size that is no greater. Returns `Next::Malformed` if no
+// block can have its number.
 fn next_of_body(number: u32, szx: u8, smaller: u8) -> Next
     requires block { IsBlock number szx }
     requires smaller { smaller ≤ szx }
@@ -243,8 +250,8 @@ fn next_of_body(number: u32, szx: u8, smaller: u8) -> Next
     }
 }
 
-// Returns the next step after a success that answers the whole request. `number` is the last block
-// of the body.
+// Returns the next step after a success that answers the whole body or its last block, of this
+// number.
 fn next_of_whole(number: u32, message: &Message<'_>) -> Next
     ensures { result ≡ spec.next_of_whole number message.now }
 {
@@ -266,6 +273,7 @@ fn says_last(number: u32, message: &Message<'_>) -> bool
     }
 }
 
+// Returns whether a Block1 has this number, and says that no more blocks follow.
 fn names_last(number: u32, block: Block) -> bool
     ensures { result ≡ spec.names_last number block }
 {
@@ -273,6 +281,7 @@ fn names_last(number: u32, block: Block) -> bool
 }
 
 // Returns the next step after a success that answers a request for a further block of the response.
+// Returns `Next::Stale` if the block has another ETag than `etag`, that of the blocks before it.
 fn next_of_further(number: u32, szx: u8, etag: &[u8], message: &Message<'_>) -> Next
     requires { IsBlock number szx }
     ensures { result ≡ spec.next_of_further number szx etag.now message.now }
@@ -286,7 +295,8 @@ fn next_of_further(number: u32, szx: u8, etag: &[u8], message: &Message<'_>) -> 
     next_of_answer(number, szx, message)
 }
 
-// Returns the next step after a success that answers a request for this block.
+// Returns the next step after a success that answers a request for this block. A success without
+// Block2 answers the first block alone, and is the last.
 pub(crate) fn next_of_answer(number: u32, szx: u8, message: &Message<'_>) -> Next
     requires { IsBlock number szx }
     ensures next { result ≡ spec.next_of_answer number szx message.now }
@@ -316,7 +326,7 @@ fn fits_place(number: u32, szx: u8, block: Block) -> bool
         && block.size() * block.number() as usize == asked.size() * asked.number() as usize
 }
 
-// Returns the next step after this block of `count` bytes.
+// Returns the next step after this block of the response, whose payload has `count` bytes.
 fn after_block(count: usize, block: Block) -> Next
     ensures { result ≡ spec.by_more block count }
 {

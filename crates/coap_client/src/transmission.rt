@@ -1,4 +1,6 @@
 //! Transmission: sends a request until it has a response or an acknowledgement.
+//!
+//! [`ask`] does so for a fetch. Observers and pings use its steps.
 ghost use Rattle.std.specs.Prelude.{◌≡◌, ◌<◌, ◌≤◌, [], ◌∷◌, IfErr, IfOk, IfSome, OnOk, false, length, take, true};
 ghost use Rattle.coap_msg.specs.Wire.{message_bytes};
 ghost use Rattle.coap_msg.specs.Reading.{reading_of};
@@ -84,11 +86,11 @@ pub(crate) fn ack_timeout(sendings: u32) -> u64
     ACK_TIMEOUT << sendings
 }
 
-/// Sends a request, and returns the length of its response in bytes.
+/// Sends a request of a fetch, and returns the length of its response in bytes.
 ///
-/// Retransmits the request if it has no response or acknowledgement in time. The response is at the
-/// start of `buffer`. Returns `None` if there is no response, not even to the last transmission. A
-/// confirmable response is acknowledged.
+/// Retransmits a confirmable request if it has no response or acknowledgement in time. The response
+/// is at the start of `buffer`. Returns `None` if there is no response, not even to the last
+/// transmission. A confirmable response is acknowledged.
 ///
 /// # Errors
 /// Returns an error if the request is rejected, or if sending or receiving fails.
@@ -111,7 +113,8 @@ pub fn ask<P: Peer>(
     Ok(Some(count))
 }
 
-// Sends a confirmable or a non-confirmable request, and waits for its response.
+// Sends a confirmable or a non-confirmable request, and waits for its response, as `ask` does, but
+// doesn't acknowledge it.
 fn transmit<P: Peer>(
     peer: &mut P,
     request: &SentRequest<'_>,
@@ -131,7 +134,7 @@ fn transmit<P: Peer>(
     }
 }
 
-// Sends a confirmable request, and waits for its response.
+// Sends a confirmable request, up to five times, and waits for its response.
 fn ask_again<P: Peer>(
     peer: &mut P,
     request: &SentRequest<'_>,
@@ -158,7 +161,7 @@ fn ask_again<P: Peer>(
     Ok(None)
 }
 
-// Sends a non-confirmable request, and waits for its response.
+// Sends a non-confirmable request, once, and waits for its response.
 fn ask_once<P: Peer>(
     peer: &mut P,
     request: &SentRequest<'_>,
@@ -192,7 +195,8 @@ pub(crate) fn send<P: Peer>(
     Ok(())
 }
 
-// Waits for a separate response: the request was acknowledged or is non-confirmable.
+// Waits for a separate response: the request was acknowledged or is non-confirmable. Returns `None`
+// if there is none.
 fn await_separate<P: Peer>(
     peer: &mut P,
     request: &SentRequest<'_>,
@@ -211,7 +215,8 @@ fn await_separate<P: Peer>(
     }
 }
 
-// Receives datagrams until one ends the wait or the wait is over; skips the others.
+// Receives datagrams until one ends the wait or the wait is over; skips the others. `awaited` says
+// whether a separate response is awaited. Returns `FetchFault::Rejected` after a Reset message.
 fn listen<P: Peer>(
     peer: &mut P,
     request: &SentRequest<'_>,
@@ -239,8 +244,8 @@ fn listen<P: Peer>(
     Ok(WaitOutcome::Nothing)
 }
 
-// Returns whether a datagram is skipped, so that the wait goes on. A separate response ends the
-// wait only if one is awaited, and an acknowledgement only if none is.
+// Returns whether a datagram of this class is skipped, so that the wait goes on. A separate
+// response ends the wait only if one is awaited, and an acknowledgement only if none is.
 pub(crate) fn is_passed_over(awaited: bool, handled: ReplyClass) -> bool
     ensures { result ≡ is_passed_over awaited handled }
 {
@@ -281,6 +286,8 @@ fn handle_datagram(request: &SentRequest<'_>, bytes: &[u8]) -> ReplyClass
     }
 }
 
+// Classifies a message with respect to a request. A non-confirmable request has no piggybacked
+// response.
 fn handle_message(request: &SentRequest<'_>, message: &Message<'_>) -> ReplyClass
     ensures { IsHandledAs request.now.confirmable request.now.id request.now.earlier.now message.now result }
 {
@@ -299,7 +306,7 @@ fn handle_message(request: &SentRequest<'_>, message: &Message<'_>) -> ReplyClas
     }
 }
 
-// Acknowledges a confirmable message (RFC 7252, section 4.2).
+// Acknowledges a confirmable message (RFC 7252, section 4.2). Sends nothing for another datagram.
 pub(crate) fn acknowledge<P: Peer>(peer: &mut P, bytes: &[u8]) -> Result<(), FetchFault>
     ensures went { OnOk result ((m : wire.Message) → reading_of bytes.now ≡ Ok m → m.kind ≡ Confirmable
         → P.went (message_bytes (acknowledgement m.id))) }
@@ -317,6 +324,7 @@ pub(crate) fn acknowledge<P: Peer>(peer: &mut P, bytes: &[u8]) -> Result<(), Fet
     }
 }
 
+// Replaces `datagram` with the acknowledgement of the message with the ID `id`.
 fn write_acknowledgement(id: u16, datagram: &mut Datagram)
     ensures { datagram.new.items ≡ message_bytes (acknowledgement id) }
 {

@@ -1,4 +1,4 @@
-//! A server at an address and a port.
+//! A server at an address and a port: the [`Peer`] of the `fcreq` program.
 ghost use Rattle.std.specs.Prelude.{◌≡◌, ◌⊎◌, ◌↔◌, ◌+◌, ◌*◌, ◌/◌, ◌<◌, ◌≤◌, ⊤, [], ◌∷◌, IfErr, IfNone, IfOk, IfSome, IsTrue, OnOk, false, length, min};
 ghost use Rattle.std.specs.Duration.{as_nanos};
 ghost use Rattle.std.specs.IoError.{error_kind};
@@ -68,7 +68,7 @@ impl<'a, T: Ticks> UdpPeer<'a, T> {
         })
     }
 
-    // Returns the rest of the wait from now on.
+    // Returns the rest of the wait from now on, or zero if the wait is over.
     fn left(&self) -> io::Result<Duration>
         ensures left { IfOk result (IsLeftOf T.is_read self.now.until) }
         ensures error { IfErr result T.is_error }
@@ -152,7 +152,7 @@ impl<'a, T: Ticks> Peer for UdpPeer<'a, T> {
 }
 
 // Returns whether a receive error means that nothing arrived in time, or that a signal interrupted
-// it.
+// the receive.
 fn is_over(error: &io::Error) -> bool
     ensures { result ≡ is_transient (error_kind error.now) }
 {

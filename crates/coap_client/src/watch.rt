@@ -1,6 +1,6 @@
-//! Watches: the notifications that an observer has shown.
+//! Observations: an observer's record of the notifications that it has shown.
 //!
-//! They decide whether a later one is newer.
+//! The record decides whether a later one is newer.
 ghost use Rattle.std.specs.Prelude.{◌≡◌, IfOk, OnOk};
 ghost use Rattle.coap_client.specs.Notices.{first_marks, is_shown_again, marked, notice_after};
 ghost use Rattle.coap_msg.specs.Windows.{within_window};
@@ -32,9 +32,10 @@ pub struct Observation {
 }
 
 impl Observation {
-    /// Begins a watch after the first message shown.
+    /// Begins an observation after the first message shown.
     ///
-    /// The message is a state with this sequence number, shown at `at` in milliseconds.
+    /// `message` is the response to a registration: a state with this sequence number, shown at
+    /// `at` in milliseconds.
     ///
     /// # Errors
     /// Returns `AllocError` if memory can't be allocated for its mark.
@@ -62,6 +63,9 @@ impl Observation {
     }
 
     /// Classifies a separate response received at `at`, in milliseconds.
+    ///
+    /// A state is `Older` if it isn't newer than the one shown last, and so is a duplicate of a
+    /// message shown.
     pub fn notice_of(&self, at: u64, message: &Message<'_>) -> NotificationClass
         ensures { result ≡ notice_after self.now at message.now }
     {
@@ -75,7 +79,7 @@ impl Observation {
         }
     }
 
-    // Returns whether a message with this message ID was shown less than 247 seconds before.
+    // Returns whether a message with this message ID was shown less than 247 seconds before `at`.
     fn repeats(&self, id: u16, at: u64) -> bool
         ensures { result ≡ is_shown_again self.now.marks.items id at }
     {
@@ -90,8 +94,8 @@ impl Observation {
     /// with this message ID.
     ///
     /// # Errors
-    /// Returns `AllocError` if memory can't be allocated for its mark. Then the watch is unchanged,
-    /// except that older marks are gone.
+    /// Returns `AllocError` if memory can't be allocated for its mark. Then the observation is
+    /// unchanged, except that older marks are gone; no clause says so.
     pub fn keep(&mut self, sequence: u32, at: u64, id: u16) -> Result<(), AllocError>
         ensures shown { OnOk result ((self.new.sequence ≡ sequence) × (self.new.at ≡ at)) }
         ensures marks { OnOk result (self.new.marks.items ≡ marked self.old.marks.items id at) }

@@ -44,7 +44,7 @@ impl Answers {
         })
     }
 
-    // Returns the response at the place of this number, if there is one.
+    // Returns the response of the stored exchange with this number, or `None` if it has none yet.
     pub(crate) fn get(&self, number: u64) -> Option<&Datagram>
         ensures { let kept = kept_at self.now number in
             option_map (λ bytes. bytes.now) result ≡ answer_if kept.answered kept.bytes }
@@ -55,7 +55,7 @@ impl Answers {
         }
     }
 
-    // Clears the place of this number.
+    // Clears the place of this number, for an exchange that is opened.
     pub(crate) fn forget(&mut self, number: u64)
         ensures { self.new ≡ forgotten self.old number }
     {
@@ -65,7 +65,7 @@ impl Answers {
         }
     }
 
-    // Stores a response at the place of this number.
+    // Stores the response of the exchange with this number.
     pub(crate) fn keep(&mut self, number: u64, bytes: &Datagram)
         ensures { self.new ≡ answered_at self.old number bytes.now }
     {

@@ -56,7 +56,7 @@ pub(crate) struct StoredResponse {
     pub(crate) bytes: Datagram,
 }
 
-// Returns whether the request was opened less than EXCHANGE_LIFETIME ago.
+// Returns whether the request was opened less than EXCHANGE_LIFETIME before `now`.
 pub(crate) fn is_live(now: u64, opened: &Opened) -> bool
     ensures { result ≡ within_window now opened.now.at }
 {

@@ -1,4 +1,4 @@
-//! The exchange table.
+//! The exchange table of a server's front.
 ghost use Rattle.std.specs.Prelude.{◌≡◌, ◌+◌, ◌<◌, ◌≤◌, [], length, map, option_map, IfOk, MatchOption};
 ghost use Rattle.std.specs.List.{list_any};
 ghost use Rattle.coap_dedup.specs.Exchanges.{look_at, places_of, has_place, has_share, repeated_by, room_at, IsNew};
@@ -130,7 +130,7 @@ impl Exchanges {
     }
 
     // Returns whether fewer exchanges of this address are stored than its share. They are counted
-    // only if as many are stored in all.
+    // only if at least as many as a share are stored in all.
     fn has_share(&self, ip: [u8; 4]) -> bool
         ensures { result ≡ has_share self.entry.now ip }
     {
@@ -142,6 +142,9 @@ impl Exchanges {
     }
 
     /// Opens an exchange for a new request, and returns its number.
+    ///
+    /// The caller guarantees that [`Exchanges::look`] finds the request new, and that there is room
+    /// for it.
     pub fn open(&mut self, now: u64, endpoint: Endpoint, id: u16, confirmable: bool) -> u64
         requires time { self.old.now ≤ now }
         requires new { look_at self.old endpoint id ≡ IsNew }
@@ -161,7 +164,10 @@ impl Exchanges {
         number
     }
 
-    /// Stores the response of the exchange with this number.
+    /// Stores the response `bytes` of the exchange with the number `opening`.
+    ///
+    /// Returns [`Closed::Late`] and changes nothing if that exchange isn't stored, or is past its
+    /// lifetime at `now`.
     pub fn close(&mut self, now: u64, opening: u64, bytes: &Datagram) -> Closed
         ensures closed { result ≡ closing (list_any (is_open now opening) self.old.held) }
         ensures after { self.new ≡ record self.old { held = map (answered now opening bytes.now) self.old.held } }
@@ -195,7 +201,8 @@ impl Exchanges {
     }
 }
 
-// Returns the class of a duplicate, from its request and the response.
+// Returns the class of a duplicate, for `look`. `confirmable` and `answer` are those of the first
+// request; `answer` is `None` if it is in progress.
 fn repeat(confirmable: bool, answer: Option<&Datagram>) -> Looked
     ensures { (room : Room) → look_of result room ≡ repeated_by confirmable (option_map (λ bytes. bytes.now) answer.entry) }
 {
@@ -206,7 +213,8 @@ fn repeat(confirmable: bool, answer: Option<&Datagram>) -> Looked
     }
 }
 
-// Returns the stored request with this number; `opened` is how many were opened.
+// Returns the request with this number, or `None` if it isn't stored. `opened` is the number of
+// exchanges opened so far.
 fn numbered(requests: &Requests, opened: u64, number: u64) -> Option<Opened>
     ensures { MatchOption result (IsGone requests.now.items opened number) (IsNumbered requests.now.items opened number) }
 {

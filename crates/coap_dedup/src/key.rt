@@ -45,6 +45,7 @@ pub(crate) struct Key {
 }
 
 impl Key {
+    // Makes the key of the request from this endpoint with this message ID.
     pub(crate) fn new(endpoint: Endpoint, id: u16) -> Key
         ensures key { result ≡ key_of endpoint id }
         ensures peer { IsPeer endpoint id }
@@ -67,7 +68,7 @@ impl Key {
         }
     }
 
-    // Compares two keys, and counts the comparison. Only `is_of` also reads a key.
+    // Compares two keys, and counts the comparison. Only `is_of` also reads a key, uncounted.
     pub(crate) fn order(&self, other: &Key, comparisons: &mut Comparisons) -> Ordering
         requires { comparisons.old < 4294967295 }
         ensures order { result ≡ key_cmp self.now other.now }
@@ -77,7 +78,7 @@ impl Key {
         self.number.cmp(&other.number)
     }
 
-    // Returns whether the key is of this address.
+    // Returns whether the key is that of a request from this address.
     pub(crate) fn is_of(&self, ip: [u8; 4]) -> bool
         ensures { result ≡ is_key_at ip self.now }
     {

@@ -47,8 +47,9 @@
 //!   address, and fewer than the limit in all (`room`).
 //! - A new exchange is opened if there is room (`open`), and each response is stored for its own
 //!   exchange (`close`).
-//! - `comparisons` returns at most 17 for every table, and at most 11 for a table of 1,024 places. The
-//!   contract of `look` doesn't say that this is the number of keys that the last look compared.
+//! - `comparisons` returns at most 17 for every table, and at most 11 for a table of 1,024 places.
+//!   The contract of `look` doesn't say that this is the number of keys that the last look
+//!   compared.
 //!
 //! By the contracts of `Exchanges::look`, `room`, `open`, `close`, `expire`, `comparisons`.
 #![tactic(auto)]

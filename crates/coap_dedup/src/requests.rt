@@ -64,7 +64,7 @@ impl Requests {
         self.ring.len()
     }
 
-    // Returns the request that arrived after `after` of the stored ones.
+    // Returns the stored request that arrived after `after` others, or `None` if there is none.
     pub(crate) fn get(&self, after: usize) -> Option<Opened>
         ensures { result ≡ slice_get self.now.items after }
     {
@@ -72,7 +72,7 @@ impl Requests {
     }
 
     // Returns the request with this key, after at most 17 comparisons of keys, or 11 for at most
-    // 1,024 requests.
+    // 1,024 requests. If there is none, returns `None` and caches the key's insertion point.
     pub(crate) fn find(&mut self, key: &Key, comparisons: &mut Comparisons) -> Option<Opened>
         requires { comparisons.old ≡ 0 }
         ensures found { result ≡ find (has_key key.now) self.old.items }
@@ -89,7 +89,7 @@ impl Requests {
         }
     }
 
-    // Appends a request, which arrived last.
+    // Appends a new request, which arrived last; the caller guarantees room for it.
     pub(crate) fn push(&mut self, request: Opened)
         requires room { length self.old.items < self.old.capacity }
         requires new { find (has_key request.key) self.old.items ≡ None }
@@ -115,7 +115,7 @@ impl Requests {
         }
     }
 
-    // Returns the cached insertion point, if it is that of this key.
+    // Returns the cached insertion point, or `None` if there is none for this key.
     fn known_gap(&self, key: &Key) -> Option<usize>
         ensures { IfSome result (IsGap (keys (by_key self.now.items)) key.now) }
     {
@@ -153,7 +153,7 @@ impl Requests {
         self.ring.pop_front();
     }
 
-    // Returns the index of the request with this key, or the insertion point of the key.
+    // Returns the index of the request with this key, or, as an error, the key's insertion point.
     fn search(&self, key: &Key, comparisons: &mut Comparisons) -> Result<usize, usize>
         requires { comparisons.old ≡ 0 }
         ensures found { IfOk result (λ i. slice_get (keys (by_key self.now.items)) i ≡ Some key.now) }

@@ -35,7 +35,9 @@ impl<'a> Model for Message<'a> {
 }
 
 impl<'a> Message<'a> {
-    /// Returns the message with these parts; `options` is the encoding of its options.
+    /// Makes a message from its parts, for the parser.
+    ///
+    /// `options` is the encoding of the message's options.
     pub(crate) fn new(
         kind: MessageType,
         code: Code,
@@ -96,7 +98,7 @@ impl<'a> Message<'a> {
         Options::new(self.options)
     }
 
-    /// Iterates in order over the values of the options with this number.
+    /// Iterates in order over the values of the options with the number `number`.
     ///
     /// There are none if the message has no such option.
     pub fn values(&self, number: u16) -> Values<'a>

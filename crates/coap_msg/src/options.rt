@@ -1,4 +1,7 @@
 //! The options of a message, decoded from the datagram's bytes.
+//!
+//! [`Options`] iterates over them, for readers of a message. `split_options` checks their encoding
+//! and finds their end, for the parser.
 ghost use Rattle.std.specs.Prelude.{◌≡◌, ◌<◌, ◌+◌, length, nat_lt, IfSome, MatchOption};
 ghost use Rattle.std.specs.Iterator.{YieldsFirstBy, item_count};
 ghost use Rattle.coap_msg.specs.Reading.{guard, number_at, option_at, options_at};
@@ -29,7 +32,7 @@ impl<'a> Model for Options<'a> {
 }
 
 impl<'a> Options<'a> {
-    /// Iterates over the options that these bytes encode.
+    /// Iterates over the options that `bytes` encode, which the parser has checked.
     pub(crate) fn new(bytes: &'a [u8]) -> Self
         requires { HasOptions 0 bytes.now }
         ensures { result ≡ options_of 0 bytes.entry.now }
@@ -61,7 +64,10 @@ struct RawOption<'a> {
     after: &'a [u8],
 }
 
-/// Decodes the first option; the option before it has the number `before`.
+/// Decodes the first option of `bytes`.
+///
+/// `before` is the number of the option before it, or 0 if it is the message's first. Returns
+/// `None` if `bytes` don't begin with an option.
 #[tactic(auto, unfolding(crate::specs::Reading::option_at))]
 fn split_option(before: u16, bytes: &[u8]) -> Option<RawOption<'_>>
     ensures option { MatchOption result (option_at before bytes.now ≡ None) (IsFirstOf before bytes.now) }
@@ -83,7 +89,8 @@ fn split_option(before: u16, bytes: &[u8]) -> Option<RawOption<'_>>
 
 /// Decodes a delta or length from its nibble and the bytes after it.
 ///
-/// Returns it with the bytes that follow.
+/// Returns its value and the bytes after it. Returns `None` if the nibble is 15, which encodes
+/// neither, or if the bytes of its extended value are missing.
 fn read_extended(nibble: u8, bytes: &[u8]) -> Option<(u32, &[u8])>
     ensures number { MatchOption result (number_at nibble bytes.now ≡ None)
         (λ n. number_at nibble bytes.now ≡ Some (n.0, n.1.now)) }
@@ -117,6 +124,8 @@ fn number_above(before: u16, delta: u32) -> Option<u16>
 }
 
 /// Splits bytes into the options at their start and the bytes after the options.
+///
+/// Returns `None` if an option is malformed. The parser reads the payload from the bytes after.
 pub(crate) fn split_options(bytes: &[u8]) -> Option<(&[u8], &[u8])>
     ensures { MatchOption result (options_at (length bytes.now) 0 bytes.now ≡ None)
         (λ parts. AreSplit bytes.now parts.0.now parts.1.now) }
@@ -127,6 +136,8 @@ pub(crate) fn split_options(bytes: &[u8]) -> Option<(&[u8], &[u8])>
 }
 
 /// Returns the bytes after the options at the start.
+///
+/// Returns `None` if an option is malformed.
 fn after_options(bytes: &[u8]) -> Option<&[u8]>
     ensures { MatchOption result (options_at (length bytes.now) 0 bytes.now ≡ None)
         (λ after. EndsIn bytes.now after.now) }

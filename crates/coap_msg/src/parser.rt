@@ -31,7 +31,7 @@ pub fn read(bytes: &[u8]) -> Result<Message<'_>, Bad>
     }
 }
 
-/// Returns the way to reject a datagram that encodes no message.
+/// Returns the required reaction to a datagram that encodes no message.
 #[tactic(auto, unfolding(crate::specs::Reading::bad_of))]
 fn refusal(bytes: &[u8]) -> Bad
     ensures { result ≡ bad_of bytes.now }
@@ -44,12 +44,14 @@ fn refusal(bytes: &[u8]) -> Bad
     }
 }
 
+/// Returns whether a message with this first byte is confirmable, of version 1.
 fn is_confirmable(first: u8) -> bool
     ensures { result ≡ (first / 16 == 4) }
 {
     first / 16 == CONFIRMABLE
 }
 
+/// Parses the message that a datagram encodes; `None` if it encodes none.
 #[tactic(auto, unfolding(crate::specs::Reading::message_of))]
 fn parse(bytes: &[u8]) -> Option<Message<'_>>
     ensures { result ≡ message_of bytes.now }
@@ -64,9 +66,10 @@ fn parse(bytes: &[u8]) -> Option<Message<'_>>
     }
 }
 
-/// Returns whether the size is allowed.
+/// Returns whether a message with this code has a legal length.
 ///
-/// An empty message ends after its message ID, and a datagram has at most 1,280 bytes.
+/// `rest` are the bytes after its message ID: none in an empty message. A datagram has at most
+/// 1,280 bytes.
 fn is_whole(code: u8, rest: &[u8]) -> bool
     ensures { result ≡ is_sized code rest.now }
 {
@@ -77,6 +80,10 @@ fn is_whole(code: u8, rest: &[u8]) -> bool
     }
 }
 
+/// Parses the message from its first byte, code, ID, and the bytes after it.
+///
+/// Returns `None` if its version isn't 1, or if `rest`, the bytes after the ID, have a format
+/// error.
 fn parse_parts(first: u8, code: u8, id: u16, rest: &[u8]) -> Option<Message<'_>>
     ensures { result ≡ message_by first code id rest.now }
 {
@@ -87,7 +94,7 @@ fn parse_parts(first: u8, code: u8, id: u16, rest: &[u8]) -> Option<Message<'_>>
     Some(Message::new(kind, Code { byte: code }, id, token, options, payload))
 }
 
-/// Returns the type from the first byte of a message of version 1.
+/// Returns the type from a message's first byte; `None` if its version isn't 1.
 fn type_of(first: u8) -> Option<MessageType>
     ensures { result ≡ spec.type_of first }
 {
@@ -100,7 +107,7 @@ fn type_of(first: u8) -> Option<MessageType>
     }
 }
 
-/// Returns the token's length from the first byte.
+/// Returns the token's length from the first byte, or `None` if it is above 8.
 fn token_length(first: u8) -> Option<usize>
     ensures { result ≡ spec.token_length first }
 {
@@ -110,7 +117,7 @@ fn token_length(first: u8) -> Option<usize>
 
 /// Returns the payload from the bytes after the options.
 ///
-/// These are empty, or the marker and a payload that isn't empty.
+/// These are empty, or the marker and a payload that isn't empty. Otherwise returns `None`.
 fn payload_of(bytes: &[u8]) -> Option<&[u8]>
     ensures { MatchOption result (payload_at bytes.now ≡ None)
         (λ payload. payload_at bytes.now ≡ Some payload.now) }

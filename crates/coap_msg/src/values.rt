@@ -25,7 +25,7 @@ impl<'a> Model for Values<'a> {
 }
 
 impl<'a> Values<'a> {
-    /// Iterates over the values of the options with this number.
+    /// Iterates over the values of those of `options` with the number `number`.
     pub(crate) fn new(number: u16, options: Options<'a>) -> Self
         ensures { result ≡ values_in number options.entry }
     {

@@ -1,6 +1,7 @@
 //! Writing: from a message to a datagram.
 //!
-//! [`write`] writes a message; the other functions write its parts one after another.
+//! [`write`] writes a message; the other functions write its parts one after another. The public
+//! ones of these are for `coap_opts`, whose responses have options of another type.
 ghost use Rattle.std.specs.Prelude.{◌≡◌, ◌+◌, ◌<◌, ◌≤◌, ◌++◌, length};
 ghost use Rattle.arrayvec.specs.ArrayVec.{array_vec_len};
 ghost use Rattle.coap_msg.specs.Wire.{IsMessage, AreOptions, message_bytes, extension, nibble, header, option_bytes, options_bytes, payload_bytes, type_number};
@@ -86,7 +87,7 @@ fn write_options(options: &[(u16, &[u8])], datagram: &mut Datagram)
     }
 }
 
-/// Appends an option with the delta of its number.
+/// Appends an option; `delta` is its number less that of the option before it.
 fn write_option<const N: usize>(delta: u16, value: &[u8], datagram: &mut ArrayVec<u8, N>)
     requires value { length value.now < 65805 }
     requires room { array_vec_len datagram.old + length (option_bytes delta value.now) ≤ N }
@@ -100,9 +101,10 @@ fn write_option<const N: usize>(delta: u16, value: &[u8], datagram: &mut ArrayVe
     append(value, datagram);
 }
 
-/// Appends the option `number` if it has a value, after an option `before`.
+/// Appends the option `number`, or nothing if `value` is `None`.
 ///
-/// Returns the number from which the next option's delta counts.
+/// `before` is the number of the option before it, or 0. Returns the number of the last option so
+/// far, from which the next option's delta counts.
 #[tactic(auto, using(crate::proofs::Sizes::option_size))]
 pub fn write_optional(
     before: u16,
@@ -154,7 +156,7 @@ fn write_extension<const N: usize>(number: u32, datagram: &mut ArrayVec<u8, N>)
     }
 }
 
-/// Appends a marker and the payload, or nothing if the payload is empty.
+/// Appends the payload marker and the payload, or nothing if the payload is empty.
 pub fn write_payload(payload: &[u8], datagram: &mut Datagram)
     requires { array_vec_len datagram.old + length (payload_bytes payload.now) ≤ DATAGRAM }
     ensures { datagram.new.items ≡ datagram.old.items ++ payload_bytes payload.now }
@@ -165,6 +167,7 @@ pub fn write_payload(payload: &[u8], datagram: &mut Datagram)
     }
 }
 
+/// Appends `bytes`; the caller guarantees that there is room for them.
 fn append<const N: usize>(bytes: &[u8], datagram: &mut ArrayVec<u8, N>)
     requires { array_vec_len datagram.old + length bytes.now ≤ N }
     ensures { datagram.new.items ≡ datagram.old.items ++ bytes.now }

@@ -43,7 +43,9 @@ impl Block {
         Block { number, more, szx }
     }
 
-    /// Decodes a value of at most 3 bytes, which may have leading zeros.
+    /// Decodes the value of a Block1 or Block2 option.
+    ///
+    /// `bytes` are at most 3, and may have leading zeros.
     pub fn read(bytes: &[u8]) -> Block
         requires { length bytes.now ≤ 3 }
         ensures block { result ≡ place_in bytes.now }
@@ -57,7 +59,9 @@ impl Block {
         }
     }
 
-    /// Encodes the block without leading zeros.
+    /// Encodes the block as the value of a Block1 or Block2 option.
+    ///
+    /// The value has no leading zeros.
     pub fn value(self) -> UintBytes
         ensures { result.items ≡ uint_bytes (block_value self) }
     {

@@ -1,6 +1,8 @@
-//! Request classification: message type, options, method, path.
+//! Classification of the messages that a server receives.
 //!
-//! The checks are in this order.
+//! First come the type and the code. The checks of a request follow: proxy options, then
+//! unrecognised critical options, the method, the path, and the method on the path's resource. Then
+//! come the block sizes and the query's length, and last the payload's length.
 ghost use Rattle.std.specs.Prelude.{◌≡◌, ◌||◌, None, Some};
 ghost use Rattle.coap_opts.specs.Verdict.{refusal_verdict, request_verdict, verdict};
 ghost use Rattle.coap_opts.specs.Classified.{IsRequestOf, asked_by, asking_verdict, verdict_of, written_over};
@@ -16,8 +18,8 @@ use coap_msg::{Code, Message, MessageType};
 
 /// Classifies a message in one pass over its options.
 ///
-/// Returns the request with its fields, or the code of the first check that fails. For a message
-/// that is no request, it returns the required reaction.
+/// Returns the request with its fields, or its refusal by the first check that fails. For a message
+/// that is no request, it returns the required reaction. See [`classify_over`].
 pub fn classify<'a>(message: &Message<'a>) -> Classified<Request<'a>>
     ensures { verdict_of asked_by result ≡ verdict message.now }
 {
@@ -30,7 +32,9 @@ pub fn classify<'a>(message: &Message<'a>) -> Classified<Request<'a>>
     }
 }
 
-/// Adds `request`, which was written, to the action for it.
+/// Returns `asking` with `request` if it is to be served, for [`classify`].
+///
+/// A refusal and silence stay as they are.
 fn served<'a>(asking: Asking<()>, request: Request<'a>) -> Asking<Request<'a>>
     ensures { asking_verdict asked_by result ≡ asking_verdict (written_over request.entry) asking }
 {
@@ -43,7 +47,8 @@ fn served<'a>(asking: Asking<()>, request: Request<'a>) -> Asking<Request<'a>>
 
 /// Classifies a message, and writes an accepted request to `request`.
 ///
-/// The result is that of [`classify`]. No request is moved.
+/// The result is that of [`classify`], for the server's front, which passes its own `request`: no
+/// request is moved. If none is accepted, the contract says nothing of `request`.
 #[tactic(auto, unfolding(crate::specs::Verdict::verdict))]
 pub fn classify_over<'a>(message: &Message<'a>, request: &mut Request<'a>) -> Classified<()>
     ensures { verdict_of (written_over request.new) result ≡ verdict message.now }
@@ -70,6 +75,9 @@ fn is_request(code: Code) -> bool
     code != Code::EMPTY && code.class() == 0
 }
 
+/// Classifies a message with the code of a request.
+///
+/// Writes an accepted request to `request`.
 fn judge<'a>(message: &Message<'a>, request: &mut Request<'a>) -> Asking<()>
     ensures { asking_verdict (written_over request.new) result ≡ request_verdict message.now }
 {
@@ -79,7 +87,7 @@ fn judge<'a>(message: &Message<'a>, request: &mut Request<'a>) -> Asking<()>
     }
 }
 
-/// Returns the action for a request that is refused with `code`.
+/// Returns the action for a request of the type `kind` that is refused with `code`.
 ///
 /// A non-confirmable request with an unrecognised critical option gets no response.
 fn refused(kind: MessageType, code: Code) -> Asking<()>
@@ -92,7 +100,9 @@ fn refused(kind: MessageType, code: Code) -> Asking<()>
     }
 }
 
-/// Writes the request, or returns the code of the first check that fails.
+/// Writes the fields of `message` to `request` if no check of a request fails.
+///
+/// Otherwise returns the code of the first check that fails.
 fn write_request<'a>(message: &Message<'a>, request: &mut Request<'a>) -> Result<(), Code>
     ensures { IsRequestOf message.now result request.new }
 {
@@ -135,6 +145,8 @@ fn write_request<'a>(message: &Message<'a>, request: &mut Request<'a>) -> Result
 }
 
 /// Returns whether a block has the reserved size, or the query is too long.
+///
+/// The response is then 4.00 (Bad Request).
 fn is_bad(block1: Option<Block>, block2: Option<Block>, query: &JoinedQuery) -> bool
     ensures { result ≡ spec.is_bad block1 block2 query.now.is_long }
 {
@@ -142,6 +154,8 @@ fn is_bad(block1: Option<Block>, block2: Option<Block>, query: &JoinedQuery) -> 
 }
 
 /// Returns the Observe value if the action runs a program.
+///
+/// Returns `None` for another action, which can't be observed.
 fn observe_at(action: Action, observe: Option<u32>) -> Option<u32>
     ensures { result ≡ spec.observe_at action observe }
 {
@@ -151,7 +165,7 @@ fn observe_at(action: Action, observe: Option<u32>) -> Option<u32>
     }
 }
 
-/// Returns whether a block has the reserved size.
+/// Returns whether there is a block and it has the reserved size, 7.
 fn is_reserved(block: Option<Block>) -> bool
     ensures { result ≡ spec.is_reserved block }
 {

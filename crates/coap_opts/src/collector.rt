@@ -1,4 +1,4 @@
-//! A message's recognised options, collected in one pass.
+//! A message's recognised options, collected in one pass, for the classifier.
 ghost use Rattle.std.specs.Prelude.{◌≡◌, ◌||◌, None, Some, List, ℕ, ◌∷◌, false};
 ghost use Rattle.coap_msg.specs.Wire.{Message as Stated};
 ghost use Rattle.coap_opts.specs.Recognition as spec;
@@ -27,7 +27,7 @@ pub(crate) enum Segments<'a> {
 }
 
 impl<'a> Segments<'a> {
-    /// Appends a segment.
+    /// Appends a segment; with a third one, the path is `More`.
     fn push(&mut self, segment: &'a [u8])
         ensures { (left : List (List ℕ)) →
             resource_with self.old (segment.now ∷ left) ≡ resource_with self.new left }
@@ -53,6 +53,8 @@ pub(crate) struct JoinedQuery {
 
 impl JoinedQuery {
     /// Appends a value, with a `&` before it if it isn't the first.
+    ///
+    /// Sets `is_long` if there is no room for them. Later values are then ignored.
     fn push(&mut self, value: &[u8])
         ensures { (left : List (List ℕ)) (all : List ℕ) →
             IsJoined self.old (value.now ∷ left) all → IsJoined self.new left all }
@@ -111,7 +113,7 @@ impl<'a> Collected<'a> {
         }
     }
 
-    /// Stores a recognised option.
+    /// Stores the value of a recognised option; Uri-Host and Uri-Port are ignored.
     fn take(&mut self, number: u16, value: &'a [u8])
         ensures taken { IsTaken self.old self.new number value.now }
         ensures unknown { self.new.has_unknown ≡ self.old.has_unknown }
@@ -132,7 +134,7 @@ impl<'a> Collected<'a> {
 }
 
 impl Collected<'_> {
-    /// Returns whether the request names a proxy.
+    /// Returns whether Proxy-Uri or Proxy-Scheme is present: the server is no proxy.
     pub(crate) fn names_proxy(&self) -> bool
         ensures { result ≡ (has (lent self.now.proxy_uri) || has (lent self.now.proxy_scheme)) }
     {
@@ -140,7 +142,7 @@ impl Collected<'_> {
     }
 }
 
-/// Stores the first value, and ignores later ones.
+/// Stores `value` in `kept`, unless an earlier value is stored there.
 fn keep_first<'a>(kept: &mut Option<&'a [u8]>, value: &'a [u8])
     ensures { (left : List (List ℕ)) →
         first_with (lent kept.old) (value.now ∷ left) ≡ first_with (lent kept.new) left }
@@ -150,7 +152,9 @@ fn keep_first<'a>(kept: &mut Option<&'a [u8]>, value: &'a [u8])
     }
 }
 
-/// Stores the first four ETags of 8 bytes.
+/// Stores an ETag of 8 bytes, unless four are stored already.
+///
+/// The server sends no ETags of other lengths.
 fn take_tag(tags: &mut ArrayVec<u64, ETAGS>, value: &[u8])
     ensures { (left : List (List ℕ)) →
         tags_with tags.old.items (value.now ∷ left) ≡ tags_with tags.new.items left }

@@ -1,4 +1,7 @@
 //! The fields of a request, each decoded from the value of its option.
+//!
+//! The classifier writes them. A value is `None` if the request has no such option, and so is its
+//! field then.
 ghost use Rattle.std.specs.Prelude.{◌≡◌, ◌≤◌, [], length};
 ghost use Rattle.std.specs.Option.{option_map};
 ghost use Rattle.coap_opts.specs.Values.{place_in, uint_value};
@@ -18,6 +21,7 @@ pub(crate) fn format_of(value: Option<&[u8]>) -> Option<u16>
     Some(decode_u16(value?))
 }
 
+/// Decodes an integer of at most 2 bytes.
 fn decode_u16(bytes: &[u8]) -> u16
     requires { length bytes.now ≤ 2 }
     ensures { result ≡ uint_value bytes.now }
@@ -33,6 +37,7 @@ pub(crate) fn observe_of(value: Option<&[u8]>) -> Option<u32>
     Some(decode_u24(value?))
 }
 
+/// Decodes an integer of at most 3 bytes.
 fn decode_u24(bytes: &[u8]) -> u32
     requires { length bytes.now ≤ 3 }
     ensures { result ≡ uint_value bytes.now }
@@ -48,7 +53,7 @@ pub(crate) fn block_of(value: Option<&[u8]>) -> Option<Block>
     Some(Block::read(value?))
 }
 
-/// Returns the resource that a path names.
+/// Returns the resource that a path names, or `None` if there is no such resource.
 pub(crate) fn resource_of(path: Segments<'_>) -> Option<Resource>
     ensures { result ≡ resource_with path.entry [] }
 {

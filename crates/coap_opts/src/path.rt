@@ -9,7 +9,7 @@ use coap_msg::Code;
 /// Number of slots.
 const SLOTS: u8 = 64;
 
-/// Returns the method with this code.
+/// Returns the method with this code, or `None` if the server knows no such method.
 pub(crate) fn method_of(code: Code) -> Option<Method>
     ensures { result ≡ spec.method_of code.byte }
 {
@@ -23,6 +23,8 @@ pub(crate) fn method_of(code: Code) -> Option<Method>
 }
 
 /// Returns the resource that a path of two segments names.
+///
+/// Returns `None` if there is no such resource.
 pub(crate) fn resource_named(first: &[u8], second: &[u8]) -> Option<Resource>
     ensures { result ≡ spec.resource_named first.now second.now }
 {
@@ -39,7 +41,8 @@ pub(crate) fn resource_named(first: &[u8], second: &[u8]) -> Option<Resource>
 
 /// Returns the slot that a segment names.
 ///
-/// The segment is one digit, or two with the first not 0, and the slot is below 64.
+/// The segment is one digit, or two with the first not 0, and the slot is below 64. Otherwise
+/// returns `None`.
 fn slot_named(segment: &[u8]) -> Option<u8>
     ensures { result ≡ spec.slot_named segment.now }
 {
@@ -50,6 +53,9 @@ fn slot_named(segment: &[u8]) -> Option<u8>
     }
 }
 
+/// Returns the slot that two digits name.
+///
+/// Returns `None` if the first is 0, or if the slot isn't below 64.
 fn two_digits(tens: u8, ones: u8) -> Option<u8>
     requires tens { tens < 10 }
     requires ones { ones < 10 }
@@ -63,6 +69,7 @@ fn two_digits(tens: u8, ones: u8) -> Option<u8>
     }
 }
 
+/// Returns the value of an ASCII digit, or `None` if `byte` isn't one.
 fn digit(byte: u8) -> Option<u8>
     ensures value { result ≡ spec.digit byte }
     ensures below { IfSome result (λ d. d < 10) }

@@ -1,11 +1,11 @@
-//! Recognition of a message's options (RFC 7252, section 5.4).
+//! Recognition of a message's options (RFC 7252, section 5.4), for the collector.
 ghost use Rattle.std.specs.Prelude.{◌≡◌};
 ghost use Rattle.coap_opts.specs.Recognition as spec;
 
 use crate::served::{OPTIONS, Row};
 use coap_msg::Code;
 
-/// Returns the table's row for this option number.
+/// Returns the table's row for this option number; `None` if there is none.
 #[tactic(auto, unfolding(crate::specs::Recognition::row_of, crate::specs::Served::rows))]
 fn row_of(number: u16) -> Option<Row>
     ensures { result ≡ spec.row_of number }
@@ -28,6 +28,7 @@ pub(crate) fn is_recognised(code: Code, before: Option<u16>, number: u16, length
     }
 }
 
+/// Returns whether an option of `row` with a value of this length is recognised.
 fn fits(row: Row, code: Code, before: Option<u16>, length: usize) -> bool
     ensures { result ≡ spec.fits row code.byte before length }
 {

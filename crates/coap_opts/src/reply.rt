@@ -38,7 +38,7 @@ pub const REPLY_OPTIONS: usize = 5 * SHORT_OPTION;
 impl ReplyOptions {
     ghost use Rattle.coap_opts.specs.Replies.{reply_options};
 
-    /// Appends the options after a header and a token.
+    /// Appends the options that have a value, after a header and a token.
     fn write(&self, datagram: &mut Datagram)
         requires { array_vec_len datagram.old + REPLY_OPTIONS ≤ DATAGRAM }
         ensures bytes { datagram.new.items ≡ datagram.old.items ++ options_bytes 0 (reply_options self.now) }
@@ -90,7 +90,7 @@ impl Reply<'_> {
     }
 }
 
-// The limits of a code and of a message ID that follow from their types.
+// Does nothing: its contract states the limits of a code and of a message ID, for the prover.
 fn fit_head(code: Code, id: u16)
     ensures code { code.byte < 256 }
     ensures id { id < 65536 }
@@ -99,6 +99,7 @@ fn fit_head(code: Code, id: u16)
     let _ = id;
 }
 
+// Encodes an ETag in 8 bytes; `None` if there is none.
 fn etag_bytes(version: Option<u64>) -> Option<UintBytes>
     ensures { option_map (λ v. v.items) result ≡ option_map (to_be_bytes w64) version }
 {
@@ -108,18 +109,21 @@ fn etag_bytes(version: Option<u64>) -> Option<UintBytes>
     Some(bytes)
 }
 
+// Encodes the value of Observe; `None` if there is none.
 fn observe_bytes(sequence: Option<u32>) -> Option<UintBytes>
     ensures { option_map (λ v. v.items) result ≡ option_map uint_bytes sequence }
 {
     Some(encode_uint(u64::from(sequence?)))
 }
 
+// Encodes the value of Content-Format; `None` if there is none.
 fn format_bytes(format: Option<u16>) -> Option<UintBytes>
     ensures { option_map (λ v. v.items) result ≡ option_map uint_bytes format }
 {
     Some(encode_uint(u64::from(format?)))
 }
 
+// Encodes the value of Block1 or Block2; `None` if there is none.
 fn block_bytes(block: Option<Block>) -> Option<UintBytes>
     ensures { option_map (λ v. v.items) result ≡ option_map spec.block_bytes block }
 {

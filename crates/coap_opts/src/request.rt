@@ -73,7 +73,7 @@ pub struct Request<'a> {
 }
 
 impl<'a> Request<'a> {
-    /// Makes an empty request, to be overwritten.
+    /// Makes an empty request, for [`classify_over`](crate::classify_over).
     pub fn blank() -> Request<'a> {
         Request {
             action: Action::Discover,

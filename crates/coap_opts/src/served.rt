@@ -107,7 +107,7 @@ pub const OPTIONS: [Row; 11] = [
     },
 ];
 
-/// Returns the action for a method on a resource.
+/// Returns the action for a method on a resource, for the classifier.
 ///
 /// Returns `None` if the resource doesn't serve the method.
 pub(crate) fn action_of(resource: Resource, method: Method) -> Option<Action>

@@ -7,7 +7,9 @@ use coap_msg::ShortValue;
 /// The encoding of an unsigned integer: 0 to 8 bytes in network order.
 pub type UintBytes = ShortValue;
 
-/// Decodes at most 8 bytes in network order, with or without leading zeros.
+/// Decodes an integer of at most 8 bytes in network order.
+///
+/// It may have leading zeros.
 pub fn decode_uint(bytes: &[u8]) -> u64
     requires { length bytes.now ≤ 8 }
     ensures number { result ≡ uint_value bytes.now }
@@ -20,7 +22,7 @@ pub fn decode_uint(bytes: &[u8]) -> u64
     number
 }
 
-/// Encodes a number without leading zeros; 0 has no bytes.
+/// Encodes a number in network order without leading zeros; 0 has no bytes.
 #[tactic(auto, unfolding(crate::specs::Values::uint_bytes))]
 pub fn encode_uint(number: u64) -> UintBytes
     ensures { result.items ≡ uint_bytes number }
@@ -31,6 +33,7 @@ pub fn encode_uint(number: u64) -> UintBytes
     encoded
 }
 
+/// Returns the bytes from the first that isn't 0 on; none if all are 0.
 fn without_leading_zeros(bytes: &[u8]) -> &[u8]
     ensures stripped { result.now ≡ without_zeros bytes.now }
     ensures short { length result.now ≤ length bytes.now }

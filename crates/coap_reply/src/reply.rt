@@ -1,4 +1,4 @@
-//! Writing: from responses to datagrams.
+//! Writing: from responses to datagrams, for the server's front and for observers.
 ghost use Rattle.std.specs.Prelude.{◌≡◌, ◌≤◌, ◌++◌, length};
 ghost use Rattle.coap_opts.specs.Replies.{reply_options};
 ghost use Rattle.coap_block.specs.Cuts.{part_bytes};
@@ -38,7 +38,7 @@ impl<'a> Model for Envelope<'a> {
     ghost invariant = { λ e. length e.token.now ≤ 8 };
 }
 
-/// Returns the type of a response's message.
+/// Returns the type of the message with the response to a request.
 ///
 /// The response to a confirmable request is piggybacked in its acknowledgement (RFC 7252, section
 /// 5.2.1). Any other goes in a non-confirmable message (RFC 7252, section 5.2.3).
@@ -117,8 +117,9 @@ pub fn content(
 ///
 /// `code` is the run's code, `block` the requested block of its response, and `serial` the revision
 /// counter that it found. A 2.05 (Content) has the counter as its ETag (RFC 7252, section 5.10.6).
-/// If the client observes the slot, it has the counter's lowest 24 bits as the sequence number (RFC
-/// 7641, section 4.4). A 2.04 (Changed) carries the bytes alone, and an error carries nothing.
+/// If `observed`, it has the counter's lowest 24 bits as the sequence number (RFC 7641, section
+/// 4.4). A 2.04 (Changed) carries the bytes alone, and an error carries nothing. If `block` is
+/// `None`, a 4.00 stands for a 2.05.
 pub fn ran(
     envelope: &Envelope<'_>,
     code: Code,
@@ -160,7 +161,8 @@ pub fn reset(to: Endpoint, id: u16, emission: &mut Emission)
 // Number of sequence numbers (RFC 7641, section 4.4).
 const SEQUENCE_NUMBERS: u64 = 0x0100_0000;
 
-// Returns the ETag of a revision counter, and its sequence number if the client observes the slot.
+// Returns the options of a 2.05: the ETag of a revision counter, and its sequence number if the
+// client observes the slot.
 fn version(serial: u64, observed: bool) -> ReplyOptions
     ensures options { reply_options result ≡ etag serial ++ observe_option observed serial }
     ensures blocks { HasNoBlock result }

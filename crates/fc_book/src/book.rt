@@ -139,7 +139,9 @@ impl NewBook {
 }
 
 impl<J: BookName> Tracks<J> {
-    /// Begins the next track, for a part, and returns it.
+    /// Begins the next track, which is that of a part, and returns it.
+    ///
+    /// The caller guarantees that the part's key is the next one.
     pub fn begin_part<P: Part>(&mut self, book: &Book<J>) -> PartTrack<P>
         requires same { P.table ≡ J.table }
         requires key { P.key ≡ self.old.next }
@@ -153,7 +155,9 @@ impl<J: BookName> Tracks<J> {
         }
     }
 
-    /// Begins the next track, for a new owner, and returns that.
+    /// Begins the next track, and returns it in a new owner.
+    ///
+    /// The owner is that of a thread or a message, and may begin no track.
     pub fn begin_tracks(&mut self, book: &Book<J>) -> Tracks<J>
         requires may_begin { self.old.may_begin ≡ true }
         ensures new { result ≡ own_view self.old.next [] }
@@ -165,7 +169,7 @@ impl<J: BookName> Tracks<J> {
         }
     }
 
-    /// Begins the next track, and puts it first among its own.
+    /// Begins the next track, and puts it first among the owner's tracks.
     pub fn begin(&mut self, book: &Book<J>)
         requires may_begin { self.old.may_begin ≡ true }
         ensures kept { self.new ≡ with_begun self.old }
@@ -173,7 +177,9 @@ impl<J: BookName> Tracks<J> {
         steps::begin(&book.words, &mut self.seat);
     }
 
-    /// Splits off the first of its own tracks, and returns it in a new owner.
+    /// Splits off the first of the owner's tracks, and returns it in a new owner.
+    ///
+    /// The new owner may begin no track, and has none if the owner had none.
     pub fn split_first(&mut self, book: &Book<J>) -> Tracks<J>
         ensures first { result ≡ first_own self.old }
         ensures kept { self.new ≡ without_first self.old }
@@ -184,7 +190,7 @@ impl<J: BookName> Tracks<J> {
         }
     }
 
-    /// Merges the tracks of another owner into its own.
+    /// Merges the tracks of `other`, which may begin none, into the owner's tracks.
     pub fn merge(&mut self, book: &Book<J>, other: Tracks<J>)
         requires { other.may_begin ≡ false }
         ensures merged { self.new ≡ merged_with self.old other }
@@ -193,7 +199,7 @@ impl<J: BookName> Tracks<J> {
         steps::merge(&book.words, &mut self.seat, seat);
     }
 
-    /// Closes a part: its track becomes one of its own.
+    /// Closes a part: its track becomes one of the owner's.
     pub fn close<P: Part>(&mut self, book: &Book<J>, part: PartTrack<P>)
         requires { P.table ≡ J.table }
         ensures closed { self.new ≡ with_part self.old (part_view P.key part) }
@@ -202,7 +208,10 @@ impl<J: BookName> Tracks<J> {
         steps::close(&book.words, &mut self.seat, seat);
     }
 
-    /// Attests one history, whose entries with their keys are exactly its tracks.
+    /// Shows that the owner's tracks are those of one history.
+    ///
+    /// Each track has exactly the entries of the history with its key. The owner stays as it is:
+    /// only the contract is of use.
     pub fn attest(&mut self, book: &Book<J>)
         ensures one { HasHistory keys_of self.old }
         ensures kept { self.new ≡ self.old }
@@ -225,7 +234,10 @@ impl<J: BookName> Tracks<J> {
     }
 }
 
-/// Files a call, as [`Tracks::file`], with the entry named by `X`.
+/// Files a call for [`Tracks::file`].
+///
+/// `X` is a type that names `entry` in contracts. The owner has the part's track while the call is
+/// filed.
 fn file_as<X: EntryName, J: BookName, P: Part>(
     book: &Book<J>,
     tracks: &mut Tracks<J>,

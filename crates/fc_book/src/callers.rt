@@ -1,4 +1,6 @@
 //! Two threads that call two counters: their calls have one history.
+//!
+//! It is an example of the book's use: no server calls it.
 ghost use Rattle.std.specs.Prelude.{◌≡◌, ◌≤◌, [], IfSome};
 ghost use Rattle.fc_book.specs.Counters.{HasOneHistory, IsCaller};
 ghost use Rattle.fc_book.specs.Tracks.{own_view};
@@ -19,8 +21,9 @@ pub struct CallerResults {
     pub right: u64,
 }
 
-/// Calls two counters alternately, and returns the results.
+/// Calls two counters alternately as thread `who`, and returns the results.
 ///
+/// Makes `calls` calls, and returns the thread's tracks, on which they are filed, with the results.
 /// Returns `None` if memory can't be allocated, or if a counter is at its maximum.
 fn call_in_turn<J: BookName, R: Wait>(
     rt: &R,
@@ -51,7 +54,7 @@ fn call_in_turn<J: BookName, R: Wait>(
 
 /// Runs two threads that call two counters in a book that `J` names.
 ///
-/// See [`run_callers`].
+/// See [`run_callers`], which makes the book.
 fn run_callers_in<J: BookName + Send + Sync, R: Threads + Wait + Sync>(
     rt: &R,
     alloc: Global,

@@ -1,4 +1,4 @@
-//! A counter behind a lock, as the simplest part: it numbers its calls.
+//! A counter under a lock, as the simplest part: it numbers its calls.
 ghost use Rattle.std.specs.Prelude.{◌≡◌, ◌<◌, ◌≤◌, ◌^◌, ◌++◌, ◌∷◌, [], length, map, vec_len, IfOk, IfSome};
 ghost use Rattle.fc_book.specs.Counters.{AreCounted, IsThread, call_of, with_call};
 ghost use Rattle.fc_book.specs.Tracks.{part_view, with_part};
@@ -41,7 +41,7 @@ impl<J: BookName, const KEY: u64> CallCounter<J, KEY> {
 
     /// Counts and files a call by thread `who`, and returns its number.
     ///
-    /// Returns `None` if the count is at its maximum.
+    /// Returns `None` and files nothing if the count is at its maximum; no clause says so.
     pub fn count(&mut self, book: &Book<J>, tracks: &mut Tracks<J>, who: u64) -> Option<u64>
         requires thread { IsThread who tracks.old }
         requires key { 2 ≤ who }

@@ -1,6 +1,8 @@
-//! The steps of handles at the book.
+//! The steps of the book's rule, for the methods of [`Tracks`](crate::Tracks).
 //!
-//! Each is a load of its first word, which no thread writes.
+//! A seat is an owner's handle at the book's table, `words`. In a clause `me.0` is its view: its
+//! tracks, and whether it may begin others. `me.1` is the table's slots that are out with it: none.
+//! Each step loads the table's first word, which no thread writes.
 ghost use Rattle.std.specs.Prelude.{◌≡◌, ◌<◌, ◌+◌, [], ◌∷◌, ◌++◌, true, false};
 ghost use Rattle.fc_book.specs.Calls.{keys_of};
 ghost use Rattle.fc_book.specs.Tracks.{AreSingle, HasHistory, HasKey, with_begun, filed_with, first_own, locked_of, merged_with, no_tracks, own_view, part_view, with_next, with_part, without_first, without_locked};
@@ -17,7 +19,7 @@ pub(crate) type CallSeat = Seat<u8, BookView<CallEntry>>;
 
 pub(crate) type Words = Table<u8, BookView<CallEntry>, (), BookRule, Global>;
 
-/// Makes a handle with no track.
+/// Makes a handle with no track, to replace a part's handle while a call is filed.
 pub(crate) fn empty_seat(words: &Words, seat: &mut CallSeat) -> CallSeat
     requires size { 0 < words.now.shared.table_id.words }
     requires table { seat.old.table_id ≡ words.now.shared.table_id }
@@ -27,7 +29,10 @@ pub(crate) fn empty_seat(words: &Words, seat: &mut CallSeat) -> CallSeat
     words.shared.split_seat::<MakesEmpty>(seat)
 }
 
-/// Takes over a part's track, and files an entry.
+/// Moves the track of `part` to the owner, and files the entry that `X` names.
+///
+/// The entry becomes the last on the tracks of its part, its thread and its job. The owner has the
+/// part's track until `return_part`.
 pub(crate) fn file<X: EntryName>(words: &Words, seat: &mut CallSeat, part: CallSeat)
     requires size { 0 < words.now.shared.table_id.words }
     requires table { seat.old.table_id ≡ words.now.shared.table_id }
@@ -41,7 +46,9 @@ pub(crate) fn file<X: EntryName>(words: &Words, seat: &mut CallSeat, part: CallS
     words.shared.join_seat::<Files<X>>(seat, part);
 }
 
-/// Returns the part's track.
+/// Moves the part's track out of the owner, and returns it in a handle of its own.
+///
+/// The caller puts that back under the part's lock.
 pub(crate) fn return_part(words: &Words, seat: &mut CallSeat) -> CallSeat
     requires size { 0 < words.now.shared.table_id.words }
     requires table { seat.old.table_id ≡ words.now.shared.table_id }
@@ -51,7 +58,7 @@ pub(crate) fn return_part(words: &Words, seat: &mut CallSeat) -> CallSeat
     words.shared.split_seat::<ReturnsPart>(seat)
 }
 
-/// Begins the next track, for a part.
+/// Begins the next track, and returns it in a new handle: that of a part.
 pub(crate) fn begin_part(words: &Words, seat: &mut CallSeat) -> CallSeat
     requires size { 0 < words.now.shared.table_id.words }
     requires table { seat.old.table_id ≡ words.now.shared.table_id }
@@ -62,7 +69,9 @@ pub(crate) fn begin_part(words: &Words, seat: &mut CallSeat) -> CallSeat
     words.shared.split_seat::<BeginsPart>(seat)
 }
 
-/// Begins the next track, for a new owner.
+/// Begins the next track, and returns it in a new owner.
+///
+/// The owner is that of a thread or a message, and may begin no track.
 pub(crate) fn begin_tracks(words: &Words, seat: &mut CallSeat) -> CallSeat
     requires size { 0 < words.now.shared.table_id.words }
     requires table { seat.old.table_id ≡ words.now.shared.table_id }
@@ -73,7 +82,7 @@ pub(crate) fn begin_tracks(words: &Words, seat: &mut CallSeat) -> CallSeat
     words.shared.split_seat::<BeginsTracks>(seat)
 }
 
-/// Begins the next track, for the owner itself.
+/// Begins the next track, and puts it first among the owner's.
 pub(crate) fn begin(words: &Words, seat: &mut CallSeat)
     requires size { 0 < words.now.shared.table_id.words }
     requires table { seat.old.table_id ≡ words.now.shared.table_id }
@@ -84,7 +93,9 @@ pub(crate) fn begin(words: &Words, seat: &mut CallSeat)
     let _ = words.shared.load::<Begins>(seat, 0);
 }
 
-/// Splits the first of the owner's tracks off.
+/// Splits off the first of the owner's tracks, and returns it in a new owner.
+///
+/// The new owner may begin no track, and has none if the owner had none.
 pub(crate) fn split_first(words: &Words, seat: &mut CallSeat) -> CallSeat
     requires size { 0 < words.now.shared.table_id.words }
     requires table { seat.old.table_id ≡ words.now.shared.table_id }
@@ -94,7 +105,7 @@ pub(crate) fn split_first(words: &Words, seat: &mut CallSeat) -> CallSeat
     words.shared.split_seat::<SplitsFirst>(seat)
 }
 
-/// Merges another's tracks into the owner's.
+/// Puts the tracks of `other`, which may begin none, first among the owner's.
 pub(crate) fn merge(words: &Words, seat: &mut CallSeat, other: CallSeat)
     requires size { 0 < words.now.shared.table_id.words }
     requires table { seat.old.table_id ≡ words.now.shared.table_id }
@@ -106,7 +117,7 @@ pub(crate) fn merge(words: &Words, seat: &mut CallSeat, other: CallSeat)
     words.shared.join_seat::<Merges>(seat, other);
 }
 
-/// Makes a part's track one of the owner's.
+/// Puts the track of `part`, which is closed, first among the owner's.
 pub(crate) fn close(words: &Words, seat: &mut CallSeat, part: CallSeat)
     requires size { 0 < words.now.shared.table_id.words }
     requires table { seat.old.table_id ≡ words.now.shared.table_id }
@@ -118,7 +129,9 @@ pub(crate) fn close(words: &Words, seat: &mut CallSeat, part: CallSeat)
     words.shared.join_seat::<Closes>(seat, part);
 }
 
-/// Attests the history.
+/// Shows that the owner's tracks are those of one history.
+///
+/// Each track has exactly the entries of the history with its key. The owner stays as it is.
 pub(crate) fn attest(words: &Words, seat: &mut CallSeat)
     requires size { 0 < words.now.shared.table_id.words }
     requires table { seat.old.table_id ≡ words.now.shared.table_id }

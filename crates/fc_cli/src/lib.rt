@@ -1,5 +1,7 @@
 //! Shared parts of the programs: command lines, exit statuses, first message ID.
 //!
+//! The programs are `fcd`, `fcreq`, `fcasm`, `fcreplay`, `fcexamples` and `fcvectors`.
+//!
 //! # What is proved
 //!
 //! - Each outcome of a program has its exit status. Words that aren't a command give 2. Help

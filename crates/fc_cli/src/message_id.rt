@@ -1,4 +1,4 @@
-//! Random bytes of the system, for the first message ID.
+//! A first message ID from random bytes of the system, for a server.
 use std::io;
 use std::random::RandomSource;
 

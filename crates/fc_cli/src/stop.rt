@@ -27,7 +27,7 @@ pub enum Stop {
 }
 
 impl Stop {
-    /// Returns why reading the line with this number failed.
+    /// Makes the reason why reading the line with this number failed.
     ///
     /// It is `BadLine` if the reader reports `InvalidData`, for example for a line that is too
     /// long. Any other error is one of the input.
@@ -42,7 +42,7 @@ impl Stop {
         }
     }
 
-    /// Returns the program's status.
+    /// Returns the status of a program that stops for this reason.
     pub fn status(&self) -> Status
         ensures { result ≡ status_of self.now }
     {

@@ -95,7 +95,7 @@ fn is_uri(text: &str) -> bool
     text.contains("://") && !text.starts_with('/')
 }
 
-// Parses a path, with its query, at a port of this host.
+// Parses a path, with its query, at a port of this host. Escapes aren't decoded.
 fn at_port(alloc: Global, text: &str, port: u16) -> Result<Address, AddressError>
     ensures address { IfOk result (IsAtPort text.now port) }
     ensures memory { IfErr result (λ error. error ≡ NoMemory) }
@@ -133,7 +133,7 @@ fn arguments(alloc: Global, query: &str) -> Result<Vec<Vec<u8>>, AllocError>
     Ok(arguments)
 }
 
-// Parses a URI.
+// Parses a URI. Returns `AddressError::NoUri` if it isn't one of the scheme coap.
 fn read_uri(alloc: Global, text: &str) -> Result<Address, AddressError>
     ensures address { IfOk result (IsOfUri text.now) }
     ensures none { IfErr result (IsNoUri text.now) }
@@ -149,7 +149,7 @@ fn read_uri(alloc: Global, text: &str) -> Result<Address, AddressError>
     }
 }
 
-// Returns the address of a URI.
+// Returns the address of a URI of the scheme coap, or the first reason why it can't be an address.
 fn address_of(alloc: Global, uri: &Url) -> Result<Address, AddressError>
     ensures address { IfOk result (HasParts uri.now) }
     ensures none { IfErr result (IsUnfitBy uri.now) }
@@ -178,7 +178,8 @@ fn has_other_parts(uri: &Url) -> bool
     !uri.username().is_empty() || uri.password().is_some() || uri.fragment().is_some()
 }
 
-// Returns the IPv4 address that a host's name denotes.
+// Returns the IPv4 address that a host's name denotes: it is `localhost` or the address's text.
+// Returns `None` for any other name.
 fn host_of(name: &str) -> Option<Ipv4Addr>
     ensures { MatchOption result ((ip : Ipv4) → IsHostOf name.now ip → ⊥) (IsHostOf name.now) }
 {
@@ -188,7 +189,8 @@ fn host_of(name: &str) -> Option<Ipv4Addr>
     }
 }
 
-// Returns the segments of a URI's path, and refuses a segment that contains a slash.
+// Returns the segments of a URI's path, with their escapes decoded. Returns `AddressError::Escape`
+// if one then contains a slash.
 fn whole_segments_of(alloc: Global, path: &str) -> Result<Vec<Vec<u8>>, AddressError>
     ensures segments { IfOk result (λ v. texts_in v.items ≡ segments_in path.now) }
     ensures whole { IfOk result (λ v. list_any has_slash (segments_in path.now) ≡ false) }
@@ -201,7 +203,8 @@ fn whole_segments_of(alloc: Global, path: &str) -> Result<Vec<Vec<u8>>, AddressE
     Ok(segments)
 }
 
-// Returns the segments of a URI's path. The path `/` has none (RFC 7252, section 6.4).
+// Returns the segments of a URI's path, with their escapes decoded. The path `/` has none (RFC
+// 7252, section 6.4).
 fn segments_of(alloc: Global, path: &str) -> Result<Vec<Vec<u8>>, AllocError>
     ensures { IfOk result (λ v. texts_in v.items ≡ segments_in path.now) }
 {

@@ -1,6 +1,7 @@
-//! A request from the words of a command line.
+//! The request of a command line: sending it, and printing or storing its response.
 //!
-//! It has the source of its body and, if one is named, a file for its response.
+//! An [`Asking`] has the source of the request's body and, if one is named, a file for the
+//! response. `fcreq` calls [`ask_by`].
 
 ghost use Rattle.fc_fetch.specs.Asking.{IsAskedBy, IsAskedFor, IsUnread};
 
@@ -66,7 +67,8 @@ pub fn ask_by<C: Connector, R: Files, I: Read, W: Write, E: Write>(
     }
 }
 
-// Sends the request with the bytes of a reader. Prints the response, or writes it to a file.
+// Sends the request with the bytes of `input` as its body, to the end. Prints the response, or
+// writes it to the file that `asking` names. Returns the client's status.
 fn answer_to<C: Connector, R: Files, I: Read, W: Write, E: Write>(
     connector: &C,
     files: &R,

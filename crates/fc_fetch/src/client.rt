@@ -1,4 +1,7 @@
-//! A client's request: its options, and its printed response.
+//! A client's request: its options, and how its response is printed.
+//!
+//! [`fetch`] and [`fetch_to`] send it by the system's sockets. [`fetch_by`] and [`fetch_to_by`] do
+//! so by any [`Connector`], and have the contracts.
 ghost use Rattle.std.specs.Io.KnownBytes.{Appends};
 ghost use Rattle.std.specs.Prelude.{◌≡◌, ◌⊎◌, IfErr, IfNone, IfOk, IfSome, None, OnOk};
 ghost use Rattle.coap_msg.specs.Codes.{code_text};
@@ -76,7 +79,7 @@ pub(crate) enum FetchStop<'a> {
 }
 
 impl<'a> FetchStop<'a> {
-    // Returns the status that the program ends with.
+    // Returns the status of a program that stops for this reason.
     pub(crate) fn status(&self) -> Status
         ensures { result ≡ stop_status self.now }
     {
@@ -163,6 +166,8 @@ pub fn fetch_to<R: Net + Clock + RandomSource, I: Read, W: Write, F: Write, E: W
 }
 
 /// Sends a request as [`fetch_to`] does, to a server that `connector` connects to.
+///
+/// `name` is the file's name, for the reason of a failure.
 pub fn fetch_to_by<C: Connector, I: Read, W: Write, F: Write, E: Write>(
     connector: &C,
     alloc: Global,
@@ -183,7 +188,8 @@ pub fn fetch_to_by<C: Connector, I: Read, W: Write, F: Write, E: Write>(
     }
 }
 
-// Returns the server's response.
+// Sends the request, with `input` as its body, and returns the server's response, or the reason if
+// there is none.
 fn answer<'a, C: Connector, I: Read>(
     connector: &C,
     alloc: Global,
@@ -207,7 +213,7 @@ fn answer<'a, C: Connector, I: Read>(
     }
 }
 
-// Parses the address of a target.
+// Parses the address of a target, or returns `FetchStop::Address`.
 pub(crate) fn address_of<'a>(
     alloc: Global,
     target: &str,
@@ -222,7 +228,8 @@ pub(crate) fn address_of<'a>(
     }
 }
 
-// Returns the resource that an address names.
+// Returns the resource that an address names. Returns `FetchStop::Path` or `FetchStop::Argument` if
+// it names none.
 pub(crate) fn resource_at<'a, 'b>(
     alloc: Global,
     address: &'b Address,
@@ -238,7 +245,8 @@ pub(crate) fn resource_at<'a, 'b>(
     }
 }
 
-// Reads the request's body, to the end of the input.
+// Reads the request's body, to the end of the input. `source` is the input's name, for the reason
+// of a failure.
 fn body_of<'a, I: Read>(
     alloc: Global,
     input: &mut I,
@@ -296,7 +304,7 @@ fn with_format(client_request: ClientRequest<'_>, format: Option<u16>) -> Client
     }
 }
 
-// Connects to the server at this address.
+// Connects to the server at this address, or returns the failure as a `FetchFault::Socket`.
 pub(crate) fn connect<'a, C: Connector>(
     connector: &C,
     address: SocketAddrV4,
@@ -310,8 +318,8 @@ pub(crate) fn connect<'a, C: Connector>(
     }
 }
 
-// Draws the first message ID from two random bytes, so that earlier messages don't disclose it
-// (RFC 7252, section 4.4).
+// Draws the first message ID from two random bytes, so that earlier messages don't disclose it (RFC
+// 7252, section 4.4). Returns `FetchStop::Random` if the system has none.
 pub(crate) fn first_id<'a, C: Connector>(connector: &C) -> Result<u16, FetchStop<'a>>
     ensures id { IfOk result (IsDrawnId C.drawn) }
     ensures stop { IfErr result IsOfRandom }
@@ -333,7 +341,7 @@ enum KeepError<'a> {
 }
 
 // Writes the bytes of a success to a file and prints its code, or prints another response. Returns
-// the client's status.
+// the client's status, `Failed` if writing fails: the reason is then written to `err`.
 fn keep_answer<W: Write, F: Write, E: Write>(
     alloc: Global,
     out: &mut W,
@@ -375,7 +383,7 @@ fn keep<'a, W: Write, F: Write>(
     }
 }
 
-// Prints a response, and returns the client's status.
+// Prints a response, and returns the client's status: by its code, or `Failed` if printing fails.
 fn print_answer<W: Write, E: Write>(
     alloc: Global,
     out: &mut W,

@@ -1,4 +1,6 @@
-//! A file for a response's bytes, which doesn't change unless there is a response.
+//! A file for a response's bytes, which doesn't change before it is written to.
+//!
+//! It is for the option `-o` of `fcreq`: without a success the file stays as it is.
 use std::fs::File;
 use std::io;
 use std::io::Write;
@@ -24,7 +26,7 @@ impl<'a, R: Files> LateFile<'a, R> {
         }
     }
 
-    // Takes the open file out, or creates it.
+    // Takes the open file out, or creates it. The caller puts it back.
     fn take_open(&mut self) -> io::Result<R::File> {
         match self.file.take() {
             Some(file) => Ok(file),

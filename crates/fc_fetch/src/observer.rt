@@ -1,6 +1,7 @@
-//! An observer, which registers, prints each notification, and deregisters.
+//! An observer, which registers, prints newer notifications, and deregisters.
 //!
-//! It prints one line for each (RFC 7641).
+//! It prints one line for each (RFC 7641). `fcreq observe` calls [`observe`], which uses the
+//! system's sockets. [`observe_by`] uses any [`Connector`], and has the contract.
 ghost use Rattle.std.specs.Prelude.{◌≡◌, ◌≤◌, ◌⊎◌, [], ◌∷◌, IfErr, IfOk, OnErr, OnOk, is_none};
 ghost use Rattle.coap_client.specs.Faults.{IsLeavingFault, IsOfPeer, deregistration_of};
 ghost use Rattle.coap_client.specs.Notes.{Watches};
@@ -152,7 +153,8 @@ pub fn observe_by<C: Connector, W: Write, E: Write>(
     }
 }
 
-// Returns the program's status. Writes to `err` if a response has no sequence number.
+// Returns the status of a program whose observation ended. Writes to `err` if the last response is
+// a success without a sequence number; returns `Failed` if that fails.
 fn finish<E: Write>(err: &mut E, end: ObservationEnd) -> Status
     ensures { IsToldEnd end result }
 {
@@ -167,7 +169,7 @@ fn finish<E: Write>(err: &mut E, end: ObservationEnd) -> Status
     }
 }
 
-// Observes the target.
+// Observes the target, to the observation's end. Returns the reason if it fails.
 fn observe_to_end<'a, C: Connector, W: Write>(
     connector: &C,
     alloc: Global,
@@ -193,7 +195,8 @@ fn observe_to_end<'a, C: Connector, W: Write>(
     }
 }
 
-// Observes at the server of this address.
+// Observes the client request's resource at the server of this address, with a random token and
+// message ID.
 fn observe_client_request<'a, C: Connector, W: Write>(
     connector: &C,
     alloc: Global,
@@ -274,6 +277,7 @@ pub fn print_to_end<P: Peer, W: Write>(
 }
 
 // Deregisters, if the server may still notify.
+// The request is `leaving`. After a last response the server sends no notification.
 fn leave<P: Peer>(
     peer: &mut P,
     observer: &Observer<'_>,
@@ -351,7 +355,7 @@ pub fn print_notes<P: Peer, W: Write>(
     Ok(ObservationEnd::Counted)
 }
 
-// Returns the maximum number of lines: at least one.
+// Returns the maximum number of lines: at least one, and 2^64 - 1 without a limit.
 fn lines_wanted(count: Option<u32>) -> u64
     ensures wanted { result ≡ lines_wanted count }
     ensures some { 1 ≤ result }
@@ -362,7 +366,7 @@ fn lines_wanted(count: Option<u32>) -> u64
     }
 }
 
-// Returns the length of the first or only wait, in seconds.
+// Returns the length of the first or only wait, in seconds: a day without a limit.
 fn first_wait(seconds: Option<u32>) -> u64
     ensures { result ≡ first_wait seconds }
 {
@@ -380,7 +384,8 @@ enum First {
     Only(Code),
 }
 
-// Registers, and prints the response.
+// Registers, and prints the response. Returns the observation that it begins, or the code of a
+// response after which no notification comes.
 fn print_first<P: Peer, W: Write>(
     alloc: Global,
     peer: &mut P,
@@ -420,6 +425,7 @@ fn unfit(message: &Message<'_>) -> NotesError
     }
 }
 
+// Reads the peer's clock, and returns its time in milliseconds.
 fn time<P: Peer>(peer: &mut P) -> Result<u64, FetchFault>
     ensures time { IfOk result P.is_time }
     ensures called { IfOk result (λ time. Adds (P.called peer.old) (P.called peer.new) (Reads time ∷ [])) }
@@ -428,6 +434,7 @@ fn time<P: Peer>(peer: &mut P) -> Result<u64, FetchFault>
     Ok(peer.now()?)
 }
 
+// Begins a wait of the peer, of `seconds` seconds.
 fn begin_wait<P: Peer>(peer: &mut P, seconds: u64) -> Result<(), FetchFault>
     ensures called { OnOk result (Adds (P.called peer.old) (P.called peer.new) (Waits seconds ∷ [])) }
     ensures fault { IfErr result (IsOfPeer P.is_error ⊥) }
@@ -435,7 +442,8 @@ fn begin_wait<P: Peer>(peer: &mut P, seconds: u64) -> Result<(), FetchFault>
     Ok(peer.begin_wait(seconds)?)
 }
 
-// Waits for the next notification to show, until the time is over if it ends.
+// Waits for the next notification to show, and records a state in `watch`. If `ends`, returns
+// `None` once the wait that was begun is over. Otherwise begins another wait then, of a day.
 fn await_note<P: Peer>(
     peer: &mut P,
     observer: &Observer<'_>,

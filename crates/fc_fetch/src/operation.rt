@@ -1,4 +1,7 @@
 //! The operation of a client's command line: a request, an observation, or a ping.
+//!
+//! [`operation_of`] builds it from the words that clap found, for `fcreq`. Functions named `.._in`
+//! read one option or one group of options of them.
 ghost use Rattle.std.specs.Prelude.{◌≡◌, ◌≢◌, IfErr, IfOk, MatchBool, codes};
 ghost use Rattle.clap.specs.Matches.{first_value, found_of, one_text};
 ghost use Rattle.fc_fetch.specs.Operations.{HasNoFormat, HasTwoBodies, IsBodyIn, IsForNoRequest, IsForRequest, IsFormatIn, IsFormatOf, IsLimited, IsMethodOf, IsNumberOf, IsObservationIn, IsOperationError, IsOperationIn, IsPingIn, IsShownIn, IsUnlimited, body_at};
@@ -135,7 +138,8 @@ pub fn operation_of<'a>(matches: &ArgMatches<'a>) -> Result<Operation<'a>, Opera
     }
 }
 
-// Returns the ping of this target, or of a port.
+// Returns the ping of a target or a port, or `OperationError::Ping` if an option of another
+// operation is given.
 fn ping_of<'a>(matches: &ArgMatches<'a>) -> Result<Pinging<'a>, OperationError>
     requires word { first_value (found_of matches.now) (codes "method") ≡ Some (codes "ping") }
     ensures ping { IfOk result (IsPingIn (found_of matches.now)) }
@@ -150,7 +154,8 @@ fn ping_of<'a>(matches: &ArgMatches<'a>) -> Result<Pinging<'a>, OperationError>
     })
 }
 
-// Returns the observation of this target.
+// Returns the observation of this target, or `OperationError::Request` if an option of requests is
+// given.
 fn observation_of<'a>(
     matches: &ArgMatches<'a>,
     target: &'a str,
@@ -174,7 +179,8 @@ fn observation_of<'a>(
     })
 }
 
-// Returns the request of this method and target.
+// Returns the request of the method that `word` names, and of this target. Returns the reason if
+// the method, the body or the format is bad, or if a limit of observations is given.
 fn request_of<'a>(
     matches: &ArgMatches<'a>,
     word: &str,
@@ -210,7 +216,7 @@ fn request_of<'a>(
     }))
 }
 
-// Returns whether an option is given that only requests have.
+// Returns whether `-N`, `-f`, `-e`, `-t` or `-o` is given, which only a request takes.
 fn is_for_request(matches: &ArgMatches<'_>) -> bool
     ensures { MatchBool result (IsForRequest (found_of matches.now)) (IsForNoRequest (found_of matches.now)) }
 {
@@ -221,14 +227,15 @@ fn is_for_request(matches: &ArgMatches<'_>) -> bool
         || matches.get_str("output").is_some()
 }
 
-// Returns whether a number of lines or of seconds is given.
+// Returns whether `--count` or `--seconds` is given, which only an observation takes.
 fn is_limited(matches: &ArgMatches<'_>) -> bool
     ensures { MatchBool result (IsLimited (found_of matches.now)) (IsUnlimited (found_of matches.now)) }
 {
     limit_in(matches, "count").is_some() || limit_in(matches, "seconds").is_some()
 }
 
-// Returns the source of the body.
+// Returns the source of the body: by `-n`, `-e` or `-f`, and else standard input. Returns
+// `OperationError::Bodies` if more than one of them is given.
 fn body_in<'a>(matches: &ArgMatches<'a>) -> Result<BodySource<'a>, OperationError>
     ensures body { IfOk result (IsBodyIn (found_of matches.now)) }
     ensures none { IfErr result (λ error. (error ≡ operation_error.Bodies) × HasTwoBodies (found_of matches.now)) }
@@ -243,7 +250,8 @@ fn body_in<'a>(matches: &ArgMatches<'a>) -> Result<BodySource<'a>, OperationErro
     }
 }
 
-// Returns the number of the Content-Format, if one is given.
+// Returns the number of the Content-Format of `-t`, or `None` if it isn't given. Returns
+// `OperationError::Format` if it is neither a number of 16 bits nor a known name.
 fn format_in(matches: &ArgMatches<'_>) -> Result<Option<u16>, OperationError>
     ensures format { IfOk result (IsFormatIn (found_of matches.now)) }
     ensures none { IfErr result (λ error. (error ≡ operation_error.Format) × HasNoFormat (found_of matches.now)) }
@@ -257,7 +265,8 @@ fn format_in(matches: &ArgMatches<'_>) -> Result<Option<u16>, OperationError>
     }
 }
 
-// Returns a Content-Format's number for its name (RFC 7252, section 12.3) or its digits.
+// Returns a Content-Format's number for its name (RFC 7252, section 12.3) or its digits. `None` if
+// `text` is neither.
 fn format_of(text: &str) -> Option<u16>
     ensures { IsFormatOf text.now result }
 {
@@ -272,6 +281,7 @@ fn format_of(text: &str) -> Option<u16>
     }
 }
 
+// Returns the method with this name in small letters, or `None` if there is none.
 fn method_of(word: &str) -> Option<Method>
     ensures { IsMethodOf word.now result }
 {
@@ -284,19 +294,21 @@ fn method_of(word: &str) -> Option<Method>
     }
 }
 
+// Returns the number of `--port`, or `None` if it isn't given.
 fn port_in(matches: &ArgMatches<'_>) -> Option<u16>
     ensures { IsNumberOf 16 (one_text (found_of matches.now) (codes "port")) result }
 {
     matches.get_one::<u16>("port")
 }
 
-// Returns the number of lines or of seconds after which an observation ends.
+// Returns the number of the option `name`, `count` or `seconds`, or `None` if it isn't given.
 fn limit_in(matches: &ArgMatches<'_>, name: &str) -> Option<u32>
     ensures { IsNumberOf 32 (one_text (found_of matches.now) name.now) result }
 {
     matches.get_one::<u32>(name)
 }
 
+// Returns the printed form of bytes: text with `--text`, and else hex.
 fn shown_in(matches: &ArgMatches<'_>) -> Shown
     ensures { IsShownIn (found_of matches.now) result }
 {

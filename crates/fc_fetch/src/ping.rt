@@ -59,7 +59,7 @@ pub fn ping_by<C: Connector, E: Write>(
     }
 }
 
-// Pings the server once, with a message ID of random bytes.
+// Pings the server of a target, with a message ID of random bytes. Returns the reason if it fails.
 fn ping_once<'a, C: Connector>(
     connector: &C,
     alloc: Global,
@@ -77,7 +77,8 @@ fn ping_once<'a, C: Connector>(
     }
 }
 
-// Returns the endpoint to ping.
+// Returns the endpoint to ping, or the reason why the target has none: it is no address, or it
+// names a resource.
 fn endpoint_of<'a>(alloc: Global, pinging: &Pinging<'a>) -> Result<SocketAddrV4, FetchStop<'a>>
     ensures endpoint { IfOk result (IsPingEndpoint pinging.now) }
     ensures none { IfErr result (IsNoEndpoint pinging.now) }

@@ -1,4 +1,4 @@
-//! The printed form of a response.
+//! The printed form of a response, to a request or to an observer.
 ghost use Rattle.std.specs.Prelude.{◌≡◌, MatchOption, OnOk, false, true};
 ghost use Rattle.std.specs.List.{list_all};
 ghost use Rattle.std.specs.Str.{chars};
@@ -65,7 +65,7 @@ pub fn write_answer<W: Write>(
     Ok(())
 }
 
-/// Writes the code alone, on a line.
+/// Writes the code alone, on a line, for a success whose bytes go to a file.
 ///
 /// # Errors
 /// Returns an error if the output can't be written.
@@ -77,7 +77,7 @@ pub fn write_code<W: Write>(out: &mut W, code: Code) -> Result<(), PrintError>
     Ok(())
 }
 
-/// Writes the bytes unchanged.
+/// Writes the bytes of a success unchanged, to the file that is named for them.
 ///
 /// # Errors
 /// Returns an error if they can't be written.
@@ -121,7 +121,8 @@ pub fn write_note<W: Write>(
     Ok(())
 }
 
-// Returns the bytes as text on one line, if `shown` asks for text and they allow it.
+// Returns the bytes as text on one line, if `shown` asks for text and they allow it. Otherwise
+// returns `None`, for hex.
 fn line_of(shown: Shown, bytes: &[u8]) -> Option<&str>
     ensures { spec.IsShownLine shown bytes.now result }
 {
@@ -132,7 +133,8 @@ fn line_of(shown: Shown, bytes: &[u8]) -> Option<&str>
     }
 }
 
-// Returns the bytes as text, if `shown` asks for text and they allow it.
+// Returns the bytes as text, if `shown` asks for text and they allow it. Otherwise returns `None`,
+// for hex.
 fn text_of(shown: Shown, bytes: &[u8]) -> Option<&str>
     ensures { spec.IsShownText shown bytes.now result }
 {
@@ -142,7 +144,8 @@ fn text_of(shown: Shown, bytes: &[u8]) -> Option<&str>
     }
 }
 
-// Returns the bytes as text, if they have no control characters other than tabs and line feeds.
+// Returns the bytes as text, or `None` if they aren't UTF-8 or have a control character that is
+// neither a tab nor a line feed.
 fn plain_text(bytes: &[u8]) -> Option<&str>
     ensures { MatchOption result (spec.is_text bytes.now ≡ false) (λ text. (spec.is_text bytes.now ≡ true) × (text.now ≡ bytes.now)) }
 {
@@ -152,6 +155,7 @@ fn plain_text(bytes: &[u8]) -> Option<&str>
     if are_plain(text) { Some(text) } else { None }
 }
 
+// Returns whether each character of a text may be printed.
 fn are_plain(text: &str) -> bool
     ensures { result ≡ list_all spec.is_shown_char (chars text.now) }
 {

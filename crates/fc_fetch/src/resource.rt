@@ -51,7 +51,7 @@ pub fn resource_of(alloc: Global, address: &Address) -> Result<RequestTarget<'_>
     })
 }
 
-// Returns the arguments of a query, each of at most 255 bytes.
+// Returns the arguments of a query, or `ResourceError::Argument` if one has more than 255 bytes.
 fn arguments_of(alloc: Global, query: &[Vec<u8>]) -> Result<Vec<&[u8]>, ResourceError>
     ensures arguments { IfOk result (λ v. slices_in v.items ≡ texts_in query.entry.now) }
     ensures short { IfOk result (λ v. All (λ argument. length argument ≤ 255) (texts_in query.entry.now)) }

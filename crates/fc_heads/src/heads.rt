@@ -65,6 +65,8 @@ impl Heads {
 
     /// Makes another handle, which has seen and published nothing.
     ///
+    /// `from` stays as it is. A thread that has no handle calls [`Heads::new_seat`].
+    ///
     /// # Errors
     /// Returns no error at present: it allocates no memory.
     pub fn seat(&self, from: &mut HeadSeat) -> Result<HeadSeat, AllocError>

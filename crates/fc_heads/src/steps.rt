@@ -1,6 +1,8 @@
-//! The atomic steps on a word.
+//! The atomic steps on a word, for the methods of [`Heads`](crate::Heads).
 //!
-//! They are a load, and a step that sets it to the greater of two numbers.
+//! They are a load, and a step that sets the word to the greater of two numbers. A seat is the part
+//! of a handle that `atomic_table` defines. In a clause `me.0` is the handle's view. `me.1` is the
+//! table's slots that are out with it: none.
 ghost use Rattle.std.specs.Prelude.{◌≡◌, ◌<◌, ◌≤◌, []};
 ghost use Rattle.fc_heads.specs.Heads.{IsWhole, fresh, peeked, raised_to, met, word_of};
 
@@ -11,7 +13,7 @@ use std::alloc::Global;
 /// The table of the words.
 pub(crate) type Words = Table<u8, View, (), Greatest, Global>;
 
-/// Loads a word.
+/// Loads the word of a slot, which the handle has then seen.
 pub(crate) fn load(words: &Words, slot: usize, seat: &mut Seat<u8, View>) -> u64
     requires size { words.now.shared.table_id.words ≡ 64 }
     requires table { seat.old.table_id ≡ words.now.shared.table_id }
@@ -24,7 +26,9 @@ pub(crate) fn load(words: &Words, slot: usize, seat: &mut Seat<u8, View>) -> u64
     words.shared.load::<Peeks>(seat, slot)
 }
 
-/// Sets a word to the greater of it and `word`, and returns the previous value.
+/// Sets the word of a slot to the greater of it and `word`.
+///
+/// Returns the previous value.
 pub(crate) fn raise(words: &Words, slot: usize, word: u64, seat: &mut Seat<u8, View>) -> u64
     requires size { words.now.shared.table_id.words ≡ 64 }
     requires table { seat.old.table_id ≡ words.now.shared.table_id }
@@ -37,7 +41,9 @@ pub(crate) fn raise(words: &Words, slot: usize, word: u64, seat: &mut Seat<u8, V
     words.shared.fetch_max::<Raises>(seat, slot, word)
 }
 
-/// Makes a handle that has seen and published nothing.
+/// Makes a handle that has seen and published nothing, from another one.
+///
+/// The other one stays as it is.
 pub(crate) fn another(words: &Words, seat: &mut Seat<u8, View>) -> Seat<u8, View>
     requires size { words.now.shared.table_id.words ≡ 64 }
     requires table { seat.old.table_id ≡ words.now.shared.table_id }

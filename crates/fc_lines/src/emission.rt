@@ -1,4 +1,6 @@
 //! Peers identified by a number, and emissions printed as `peer hex`.
+//!
+//! They are for the programs that play lines: `fcd play` and `fcreplay`.
 ghost use Rattle.std.specs.Prelude.{◌≡◌, OnOk};
 ghost use Rattle.std.specs.Io.KnownBytes.{Appends};
 ghost use Rattle.fc_lines.specs.Emissions.{peer_endpoint, printed};
@@ -21,7 +23,9 @@ pub fn endpoint(peer: u8) -> Endpoint
     }
 }
 
-/// Prints an emission as `peer hex`, and flushes the output.
+/// Prints an emission as a line `peer hex`, and flushes the output.
+///
+/// `peer` is the last byte of the receiver's address. See [`endpoint`].
 ///
 /// # Errors
 /// Returns the writer's error.

@@ -49,8 +49,8 @@ pub fn write<W: Write>(out: &mut W, bytes: &[u8]) -> io::Result<()>
     }
 }
 
-// Most datagrams are short. They need no buffer for the digits of the longest, which would be
-// zeroed for each.
+// Writes a datagram of at most 64 bytes, as most are. It needs no buffer for the digits of the
+// longest, which would be zeroed for each.
 fn write_short<W: Write>(out: &mut W, bytes: &[u8]) -> io::Result<()>
     requires { length bytes.now ≤ 64 }
     ensures { OnOk result (Appends (W.contents out.old) (W.contents out.new) (encode_lower bytes.now)) }
@@ -59,6 +59,7 @@ fn write_short<W: Write>(out: &mut W, bytes: &[u8]) -> io::Result<()>
     write_by(out, bytes, &mut digits)
 }
 
+// Writes a datagram of up to 1,280 bytes.
 fn write_long<W: Write>(out: &mut W, bytes: &[u8]) -> io::Result<()>
     requires { length bytes.now ≤ 1280 }
     ensures { OnOk result (Appends (W.contents out.old) (W.contents out.new) (encode_lower bytes.now)) }

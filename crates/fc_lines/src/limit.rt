@@ -1,4 +1,4 @@
-//! A limit on the length of the lines that a reader returns.
+//! A limit on the length of the lines that a reader returns, for `fcd play`.
 ghost use Rattle.std.specs.Prelude.{◌≡◌, ◌==◌};
 
 use std::io;
@@ -26,8 +26,9 @@ impl<R: Read + Drop> LineLimit<R> {
         LineLimit { inner, length: 0 }
     }
 
-    // Advances past these bytes, at most one more than the line in which they begin may still have.
-    // Returns whether that line is short enough; the lines that end within them are.
+    // Advances past `bytes`, and returns whether the line in which they begin is short enough.
+    // `read` passes at most one byte more than that line may still have, so later lines in them are
+    // short.
     fn goes_on(&mut self, bytes: &[u8]) -> bool {
         let begun = match bytes.iter().position(is_line_feed) {
             Some(end) => self.length.saturating_add(end),
@@ -48,6 +49,8 @@ fn is_line_feed(byte: &u8) -> bool
 }
 
 /// Returns the error for a line that is too long.
+///
+/// `fc_cli::stop::Stop::at_line` makes a bad line of it.
 fn too_long() -> io::Error {
     io::Error::from(ErrorKind::InvalidData)
 }

@@ -58,6 +58,7 @@ pub fn networks(texts: &[&str]) -> Option<Managers>
     }
 }
 
+// Parses four networks, or returns `None` if a text isn't one.
 fn four(a: &str, b: &str, c: &str, d: &str) -> Option<Managers>
     ensures { let texts = a.now ∷ b.now ∷ c.now ∷ d.now ∷ [] in MatchOption result (AreNoNetworks texts) (AreNetworks texts) }
 {
@@ -67,7 +68,7 @@ fn four(a: &str, b: &str, c: &str, d: &str) -> Option<Managers>
 /// Parses a network, as `192.0.2.0/24`.
 ///
 /// It is an IPv4 address, and the number of its first bits, 0 to 32, that all addresses of the
-/// network share.
+/// network share. Returns `None` for any other text.
 pub fn network(text: &str) -> Option<Network>
     ensures { MatchOption result (IsNoNetwork text.now) (IsNetwork text.now) }
 {

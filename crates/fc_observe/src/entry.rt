@@ -1,4 +1,4 @@
-//! An entry in the list of observers.
+//! An entry in the list of observers, for the list's methods.
 ghost use Rattle.std.specs.Prelude.{◌≡◌, ℕ, ◌<◌, false, is_some};
 ghost use Rattle.fc_observe.specs.Entries.{acknowledged, backoff, changed_if, first_timeout, given_up, has_last_id, has_missed, has_turn, is_due, is_entry_of, is_free, is_overdue, is_overdue_in, missed, must_confirm, notified, retransmission, retransmitted, with_turn};
 ghost use Rattle.fc_observe.specs.Quiet.{IsIdleUntil};
@@ -107,7 +107,7 @@ pub struct Observer<'a> {
 }
 
 impl Entry {
-    // Returns the observer, at a time of the list.
+    // Borrows the data for the entry's notification, with the result of `must_confirm`.
     pub(crate) fn observer(&self, confirm_after: u64, now: u64) -> Observer<'_>
         ensures interest { interest result ≡ interest_of self.now }
         ensures confirmable { result.confirmable ≡ must_confirm confirm_after now self.now }
@@ -135,7 +135,8 @@ impl Entry {
         self.endpoint == endpoint && self.id == Some(id)
     }
 
-    // Returns whether the entry has this lease of the slot, and the lease is active.
+    // Returns whether the entry has the lease `turn`, and the lease is active; `slot` is the
+    // list's.
     pub(crate) fn has_turn(&self, slot: u8, now: u64, turn: Turn) -> bool
         ensures { result ≡ has_turn slot now turn self.now }
     {
@@ -164,8 +165,8 @@ impl Entry {
         self.serial < notify_serial && is_free(now, &self.phase)
     }
 
-    // Returns whether its next notification is confirmable, if one is every `confirm_after`
-    // milliseconds.
+    // Returns whether its next notification must be confirmable: `confirm_after` milliseconds have
+    // passed since its registration or last confirmable one.
     pub(crate) fn must_confirm(&self, confirm_after: u64, now: u64) -> bool
         ensures { result ≡ must_confirm confirm_after now self.now }
     {
@@ -187,8 +188,8 @@ impl Entry {
         }
     }
 
-    // Returns a time before which no retransmission and no notification about revision `notify_serial` is
-    // pending.
+    // Returns a time before which no retransmission and no notification about revision
+    // `notify_serial` is pending.
     pub(crate) fn idle_until(&self, notify_serial: u64) -> u64
         ensures { IsIdleUntil result notify_serial self.now }
     {
@@ -200,7 +201,7 @@ impl Entry {
         }
     }
 
-    // Grants a lease.
+    // Grants it the lease with this number.
     pub(crate) fn take_turn(&mut self, number: u64, now: u64)
         ensures { self.new ≡ with_turn number now self.old }
     {
@@ -227,7 +228,8 @@ impl Entry {
         self.phase = Phase::GivenUp(now);
     }
 
-    // Records that a notification was sent to it.
+    // Records that a notification with this message ID, revision and bytes was sent to it, which
+    // ends its lease. A confirmable one is then outstanding; `random` determines its timeout.
     pub(crate) fn notify(
         &mut self,
         confirm_after: u64,
@@ -266,8 +268,8 @@ impl Entry {
         }
     }
 
-    // Returns its outstanding notification for retransmission, unless it was retransmitted four
-    // times.
+    // Returns its outstanding notification for retransmission, or `None` if there is none or it was
+    // retransmitted four times.
     pub(crate) fn retransmit(&mut self, now: u64) -> Option<Emission>
         ensures sent { result ≡ retransmission self.old }
         ensures after { self.new
@@ -292,8 +294,8 @@ impl Entry {
     }
 }
 
-// Returns whether no lease is active, no notification is outstanding, and the last lease was
-// released earlier.
+// Returns whether a lease can be granted: none is active, no notification is outstanding, and the
+// last lease was released before `now`.
 fn is_free(now: u64, phase: &Phase) -> bool
     ensures { result ≡ is_free now phase.now }
 {
@@ -317,7 +319,7 @@ fn free_from(phase: &Phase) -> u64
     }
 }
 
-// Returns a time before which no retransmission is due.
+// Returns a time before which no retransmission is due, or 2^64 - 1 if none is outstanding.
 fn overdue_from(phase: &Phase) -> u64
     ensures { (now : ℕ) → now < result → is_overdue_in now phase.now ≡ false }
 {
@@ -339,7 +341,7 @@ fn backoff(timeout: u16, retransmissions: u8) -> u64
     (timeout as u64) << retransmissions.min(MAX_RETRANSMIT)
 }
 
-// Returns the timeout of the first transmission.
+// Returns the timeout of the first transmission, 2,000 to 3,000 ms, from a random number.
 fn first_timeout(random: u16) -> u16
     ensures { result ≡ first_timeout random }
 {

@@ -1,4 +1,4 @@
-//! The list of observers of a slot.
+//! The list of observers of a slot, which the slot's shard has (`fc_registry`).
 ghost use Rattle.std.specs.Prelude.{◌≡◌, ◌<◌, ◌≤◌, ◌↔◌, [], length, max, true, ◌&&◌, is_none, is_some, IfOk, IfSome, IsTrue, vec_capacity};
 ghost use Rattle.std.specs.List.{All, list_any, position};
 ghost use Rattle.std.specs.Option.{option_map};
@@ -108,7 +108,8 @@ impl Observers {
 
     /// Registers an observer as the last entry (RFC 7641, section 4.1).
     ///
-    /// `serial` is the revision that its request found.
+    /// `serial` is the revision that its request found. An entry of the same endpoint and token is
+    /// removed. Returns [`Registered::Full`] if there are 32 others.
     pub fn register(
         &mut self,
         now: u64,
@@ -148,7 +149,7 @@ impl Observers {
 
     /// Removes the entry of this endpoint and token (RFC 7641, section 3.6).
     ///
-    /// Its client is no longer interested.
+    /// Its client is no longer interested. Without such an entry, nothing changes.
     pub fn cancel(&mut self, endpoint: Endpoint, token: &Token)
         ensures { self.new ≡ cancelled endpoint token.now.items self.old }
     {
@@ -157,10 +158,14 @@ impl Observers {
 
     /// Grants a lease to the first observer with a pending notification.
     ///
-    /// `notify_serial` is the slot's noticed revision. An observer has a pending notification if these
-    /// conditions hold: the last revision sent to it is below `notify_serial`; none of its confirmable
-    /// notifications is outstanding; none of its leases is active, and none was released at this
-    /// time. Returns `None` if no observer has one, or if 2^64 - 1 leases were granted already.
+    /// `notify_serial` is the slot's noticed revision. An observer has a pending notification if
+    /// these conditions hold:
+    ///
+    /// - The last revision sent to it is below `notify_serial`.
+    /// - None of its confirmable notifications is outstanding.
+    /// - None of its leases is active, and none was released at this time.
+    ///
+    /// Returns `None` if no observer has one, or if 2^64 - 1 leases were granted already.
     pub fn next_due(&mut self, now: u64, notify_serial: u64) -> Option<Turn>
         ensures turn { result ≡ next_turn notify_serial (list_at_time now self.old) }
         ensures after { self.new ≡ turn_given notify_serial (list_at_time now self.old) }
@@ -201,7 +206,7 @@ impl Observers {
         self.observer_out(turn)
     }
 
-    // Borrows the observer from its place in the list.
+    // Borrows the observer from its place in the list, for `out`.
     fn observer_out(&self, turn: Turn) -> Option<Observer<'_>>
         ensures observer { option_map interest result ≡ option_map interest_of (entry_out turn self.now) }
         ensures confirmable { IfSome result (λ o. o.confirmable ≡ must_confirm_turn turn self.now) }
@@ -210,7 +215,7 @@ impl Observers {
         Some(self.held[place].observer(self.confirm_after, self.time))
     }
 
-    // Returns the place of the entry that has this lease, if the lease is active.
+    // Returns the place of the entry that has this lease, or `None` if the lease isn't active.
     fn at(&self, turn: Turn) -> Option<usize>
         ensures place { result ≡ position (is_out turn self.now) self.now.held }
         ensures within { IfSome result (λ i. i < length self.now.held) }
@@ -225,7 +230,9 @@ impl Observers {
         self.at(turn).is_some()
     }
 
-    /// Records that the snapshot of an active lease found the slot empty.
+    /// Records that the snapshot of a lease found the slot empty.
+    ///
+    /// If the lease isn't active, nothing changes.
     pub fn mark_missing(&mut self, turn: Turn)
         ensures { self.new ≡ turn_missed turn self.old }
     {
@@ -273,6 +280,7 @@ impl Observers {
     ///
     /// The notification has this message ID, revision and bytes. A confirmable one is outstanding
     /// from now on. `random` determines the timeout of its first transmission, 2,000 to 3,000 ms.
+    /// If the lease isn't active, only the clock advances.
     pub fn sent(
         &mut self,
         now: u64,
@@ -294,7 +302,8 @@ impl Observers {
 
     /// Removes the observer that has this active lease.
     ///
-    /// This is done after a notification that isn't a success (RFC 7641, section 4.2).
+    /// A notification that isn't a success requires it (RFC 7641, section 4.2). If the lease isn't
+    /// active, nothing changes.
     pub fn end(&mut self, turn: Turn)
         ensures { self.new ≡ turn_ended turn self.old }
     {
@@ -306,7 +315,8 @@ impl Observers {
 
     /// Releases an active lease.
     ///
-    /// Its observer has a pending notification again at a later time.
+    /// Its observer has a pending notification again at a later time. If the lease isn't active,
+    /// only the clock advances.
     pub fn give_up(&mut self, turn: Turn, now: u64)
         ensures { self.new ≡ turn_given_up turn (list_at_time now self.old) }
     {
@@ -420,7 +430,7 @@ impl Observers {
     }
 }
 
-// Returns the first observer with a pending notification.
+// Returns the place of the first entry with a pending notification, or `None` if there is none.
 fn first_due(held: &[Entry], now: u64, notify_serial: u64) -> Option<usize>
     ensures place { result ≡ position (is_due now notify_serial) held.now }
     ensures within { IfSome result (λ i. i < length held.now) }
@@ -429,7 +439,7 @@ fn first_due(held: &[Entry], now: u64, notify_serial: u64) -> Option<usize>
         .position(|entry| entry.is_due(now, notify_serial))
 }
 
-// Returns the first entry that has this lease, if the lease is active.
+// Returns the place of the first entry that has this lease, or `None` if the lease isn't active.
 fn first_out(held: &[Entry], slot: u8, now: u64, turn: Turn) -> Option<usize>
     ensures place { result ≡ position (has_turn slot now turn) held.now }
     ensures within { IfSome result (λ i. i < length held.now) }
@@ -438,7 +448,7 @@ fn first_out(held: &[Entry], slot: u8, now: u64, turn: Turn) -> Option<usize>
         .position(|entry| entry.has_turn(slot, now, turn))
 }
 
-// Returns the first entry whose notification timed out.
+// Returns the place of the first entry whose notification timed out, or `None` if there is none.
 fn first_overdue(held: &[Entry], now: u64) -> Option<usize>
     ensures place { result ≡ position (is_overdue now) held.now }
     ensures within { IfSome result (λ i. i < length held.now) }

@@ -1,4 +1,6 @@
-//! The columns of a slot's row.
+//! The columns of a slot's row, read as a store is opened.
+//!
+//! Clauses about a row suppose that it has four columns: serial, version, image and vars.
 ghost use Rattle.std.specs.Prelude.{◌≡◌, ◌⊎◌, ◌<◌, ◌≤◌, pos, length, IfOk, IfErr};
 ghost use Rattle.sqlite_value.specs.Order.{column};
 ghost use Rattle.sqlite.specs.Values.{or_null};
@@ -28,7 +30,8 @@ struct Columns {
 
 /// Returns the slot that a row stores.
 ///
-/// The row has the columns serial, version, image and vars.
+/// The row has the columns serial, version, image and vars. Returns [`Unread`] if it isn't the
+/// state of a slot, or if memory can't be allocated.
 pub(crate) fn stored_in(row: &Row) -> Result<StoredSlot, Unread>
     ensures ok { IfOk result (λ s. length row.now ≡ 4 → (row.now ≡ state_values s) × IsSlotState s) }
     ensures bad { IfErr result (λ e. length row.now ≡ 4 → AreUnreadColumns row.now e) }
@@ -39,6 +42,7 @@ pub(crate) fn stored_in(row: &Row) -> Result<StoredSlot, Unread>
     }
 }
 
+// Reads the four columns of a row.
 fn columns_in(row: &Row) -> Result<Columns, Unread>
     ensures ok { IfOk result (λ c. length row.now ≡ 4 → row.now ≡ column_values c) }
     ensures bad { IfErr result (λ e. length row.now ≡ 4 → AreUnreadColumns row.now e) }
@@ -55,6 +59,7 @@ fn columns_in(row: &Row) -> Result<Columns, Unread>
     })
 }
 
+// Reads the second column, a number or NULL.
 fn version_in(row: &Row) -> Result<Option<u64>, Unread>
     ensures ok { IfOk result (λ v. column row.now 1 ≡ or_null (λ n. Int (pos n)) v) }
     ensures bad { IfErr result (λ e. length row.now ≡ 4 → AreUnreadColumns row.now e) }
@@ -62,6 +67,7 @@ fn version_in(row: &Row) -> Result<Option<u64>, Unread>
     column(row, 1, BadRow::Version)
 }
 
+// Reads the fourth column, a blob or NULL.
 fn vars_in(row: &Row) -> Result<Option<Vec<u8>>, Unread>
     ensures ok { IfOk result (λ v. column row.now 3 ≡ or_null (λ b. Blob b.items) v) }
     ensures bad { IfErr result (λ e. length row.now ≡ 4 → AreUnreadColumns row.now e) }
@@ -69,7 +75,7 @@ fn vars_in(row: &Row) -> Result<Option<Vec<u8>>, Unread>
     column(row, 3, BadRow::Program)
 }
 
-// Reads a column. `bad` is the reason if it has no such value.
+// Reads the column at the index `at`. `bad` is the reason if its value isn't of the type `T`.
 fn column<T: FromSql>(row: &Row, at: usize, bad: BadRow) -> Result<T, Unread>
     ensures ok { IfOk result (λ x. T.FromSql.reads_as (column row.now at) x) }
     ensures bad { IfErr result (IsUnreadColumn T.FromSql.is_readable row.now at bad) }
@@ -81,7 +87,8 @@ fn column<T: FromSql>(row: &Row, at: usize, bad: BadRow) -> Result<T, Unread>
     }
 }
 
-// Returns the slot of these columns. A program has a version, an image and variables.
+// Returns the slot of these columns. A program has a version, an image and variables: if only some
+// of them are NULL, returns `BadRow::Program`.
 fn slot_in(columns: Columns) -> Result<StoredSlot, BadRow>
     ensures ok { IfOk result (λ s. (column_values columns ≡ state_values s) × IsSlotState s) }
     ensures bad { IfErr result (λ why. IsBadRow why (column_values columns)) }
@@ -102,7 +109,7 @@ fn slot_in(columns: Columns) -> Result<StoredSlot, BadRow>
     }
 }
 
-// Returns the slot of a program.
+// Returns the slot with this program, or `BadRow::Version` if the version is above the serial.
 fn slot_of(serial: u64, version: u64, image: Vec<u8>, vars: Vec<u8>) -> Result<StoredSlot, BadRow>
     ensures ok { IfOk result (λ s. (version ≤ serial) × (s ≡ slot_with serial version image.items vars.items)) }
     ensures bad { IfErr result (λ why. (why ≡ BadRow.Version) × (serial < version)) }

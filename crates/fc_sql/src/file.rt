@@ -1,4 +1,4 @@
-//! A store in a file.
+//! A store in a file. No program opens one yet.
 ghost use Rattle.std.specs.Prelude.{IfOk, IfErr, IsTrue};
 ghost use Rattle.sqlite.specs.State.{HasCleanDisk};
 ghost use Rattle.sqlite.specs.Files.{file_state, IsOpened};
@@ -23,9 +23,10 @@ pub fn open(rt: &HostRuntime, path: &str) -> Result<FileOfSlots, OpenError> {
     open_from(rt, path, Wary)
 }
 
-/// Opens the store, as [`open`] does.
+/// Opens the store, as [`open`] does, with a contract about its contents.
 ///
-/// `S` stands for the contents of the files and for the reading of a crash.
+/// `S` stands for the first contents of the files, which no program can read, and for the reading
+/// of a crash. `Wary` supposes that a torn write may leave any bytes.
 ///
 /// # Errors
 /// Returns why the file can't be opened, as [`open`] does.
@@ -44,6 +45,7 @@ pub fn open_from<S: Start>(
     }
 }
 
+// Opens the database in the file at `path`, and makes the file if there is none.
 fn connect<S: Start>(
     rt: &HostRuntime,
     path: &str,

@@ -1,4 +1,7 @@
-//! Reading the stored slots of a database.
+//! Reading the stored slots of a database, as a store is opened.
+//!
+//! Clauses about the database suppose that the medium is clean at the end: it returned the data
+//! that was written to it. `survives` doesn't: it says which changes a crash may leave.
 ghost use Rattle.std.specs.Prelude.{◌≡◌, ◌⊎◌, ℤ, pos, [], length, ◌∷◌, IsTrue, IfOk, IfErr, OnOk};
 ghost use Rattle.std.specs.List.{All};
 ghost use Rattle.std.specs.List.Sorted.{IsPermutation};
@@ -48,7 +51,7 @@ pub fn load<S: Alter + Drop>(
     }
 }
 
-// Reads the stored slots of the table, outside a transaction.
+// Reads the stored slots of the table, for `load`. Returns an error if a transaction is open.
 fn read_made<S: Alter + Drop>(
     alloc: Global,
     conn: &mut Connection<S>,
@@ -73,7 +76,7 @@ fn read_made<S: Alter + Drop>(
     }
 }
 
-// Creates the table in an empty database.
+// Creates the table in an empty database. Returns `Foreign` if the database has other tables.
 fn make_table<S: Alter + Drop>(conn: &mut Connection<S>) -> Result<(), OpenError>
     ensures made { HasCleanDisk (state S.Store conn.new) → OnOk result (IsTableMade (state S.Store conn.old) (state S.Store conn.new)) }
     ensures refused { HasCleanDisk (state S.Store conn.new) → IfErr result (OtherTables (state S.Store conn.old) (state S.Store conn.new)) }
@@ -88,6 +91,7 @@ fn make_table<S: Alter + Drop>(conn: &mut Connection<S>) -> Result<(), OpenError
     create(conn)
 }
 
+// Creates the table in a database that is empty, by one statement, which commits.
 fn create<S: Alter + Drop>(conn: &mut Connection<S>) -> Result<(), OpenError>
     requires empty { (state S.Store conn.old).now.schema ≡ no_schema }
     ensures made { HasCleanDisk (state S.Store conn.new) → OnOk result (HasNoRow (state S.Store conn.new)) }
@@ -100,7 +104,7 @@ fn create<S: Alter + Drop>(conn: &mut Connection<S>) -> Result<(), OpenError>
     }
 }
 
-// Reads the stored slots of the table.
+// Reads the stored slots of the table, and checks that it has no other rows.
 fn read_table<S: Alter + Drop>(
     alloc: Global,
     conn: &mut Connection<S>,
@@ -122,6 +126,7 @@ fn read_table<S: Alter + Drop>(
     }
 }
 
+// Reads the slots 0 to 63, without a look at other rows.
 fn read_slots<S: Alter + Drop>(
     alloc: Global,
     conn: &mut Connection<S>,
@@ -148,7 +153,7 @@ fn read_slots<S: Alter + Drop>(
     Ok(slots)
 }
 
-// Reads a slot: without a row it is blank.
+// Reads a slot, which is blank without a row. Returns `Row` if its rows aren't the state of a slot.
 fn read_slot<S: Alter + Drop>(conn: &mut Connection<S>, slot: u8) -> Result<StoredSlot, OpenError>
     requires table { HasTable (state S.Store conn.old) }
     ensures found { HasCleanDisk (state S.Store conn.new) → IfOk result (AreOfSlot (rows_of (slot_rows (state S.Store conn.old)) slot)) }
@@ -163,6 +168,7 @@ fn read_slot<S: Alter + Drop>(conn: &mut Connection<S>, slot: u8) -> Result<Stor
     }
 }
 
+// Returns the slot's number, as the rows have it.
 fn number_of(slot: u8) -> i64
     ensures { result ≡ pos slot }
 {
@@ -184,7 +190,7 @@ fn rows_of_slot<S: Alter + Drop>(conn: &mut Connection<S>, slot: u8) -> Result<V
     }
 }
 
-// Returns the slot that its rows store.
+// Returns the slot that its rows store, or `Row` if they are several or aren't the state of a slot.
 fn slot_of(rows: &[Row], slot: u8) -> Result<StoredSlot, OpenError>
     ensures ok { IfOk result (λ s. AreWide 4 rows.now → AreOfSlot rows.now s) }
     ensures bad { IfErr result (AreUnread slot rows.now) }
@@ -196,6 +202,7 @@ fn slot_of(rows: &[Row], slot: u8) -> Result<StoredSlot, OpenError>
     }
 }
 
+// Returns the slot that its only row stores, or `Row` if that isn't the state of a slot.
 fn read_row(row: &Row, slot: u8) -> Result<StoredSlot, OpenError>
     ensures ok { IfOk result (λ s. length row.now ≡ 4 → AreOfSlot (row.now ∷ []) s) }
     ensures bad { IfErr result (IsUnreadRow slot row.now) }
@@ -207,7 +214,7 @@ fn read_row(row: &Row, slot: u8) -> Result<StoredSlot, OpenError>
     }
 }
 
-// Checks that each row is that of a slot, 0 to 63.
+// Checks that each row is that of a slot, 0 to 63. Returns `Row` if there is another one.
 fn check_rows<S: Alter + Drop>(conn: &mut Connection<S>) -> Result<(), OpenError>
     requires table { HasTable (state S.Store conn.old) }
     ensures numbers { HasCleanDisk (state S.Store conn.new) → OnOk result (AreSlotNumbers (slot_rows (state S.Store conn.old))) }
@@ -237,6 +244,7 @@ fn numbers<S: Alter + Drop>(conn: &mut Connection<S>) -> Result<Vec<Row>, OpenEr
     }
 }
 
+// Checks that the first column of each row is the number of a slot. Returns `Row` if one isn't.
 fn check_numbers(rows: &[Row]) -> Result<(), OpenError>
     ensures ok { OnOk result (AreSlotNumbers rows.now) }
     ensures bad { IfErr result (λ e. ((z : ℤ) × (e ≡ OpenError.Row z BadRow.Number) × HasOther rows.now z) ⊎ IsFailure e) }
@@ -249,6 +257,7 @@ fn check_numbers(rows: &[Row]) -> Result<(), OpenError>
     Ok(())
 }
 
+// Checks that the first column of a row is the number of a slot. Returns `Row` if it isn't.
 fn check_number(row: &Row) -> Result<(), OpenError>
     ensures ok { OnOk result (IsSlotNumber (rowid row.now)) }
     ensures bad { IfErr result (IsOtherNumber row.now) }

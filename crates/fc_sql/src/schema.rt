@@ -1,4 +1,4 @@
-//! Whether a database is empty, or has just the table of slots.
+//! Recognition of the two schemas of a database that can be opened as a store.
 ghost use Rattle.std.specs.Prelude.{◌≡◌, true, []};
 ghost use Rattle.fc_sql.specs.Table.{no_schema, slot_schema, slot_table, strict_column, without_rules};
 
@@ -29,6 +29,7 @@ pub(crate) fn has_slots(schema: &Schema) -> bool
     }
 }
 
+// Returns whether a table is the one that `table::TABLE` creates.
 fn is_slot_table(table: &Table) -> bool
     ensures sound { result ≡ true → table.now ≡ slot_table }
     ensures complete { table.now ≡ slot_table → result ≡ true }
@@ -42,6 +43,7 @@ fn is_slot_table(table: &Table) -> bool
         && has_no_rules(table)
 }
 
+// Returns whether these are the columns of the table of slots.
 fn has_slot_columns(columns: &[Column]) -> bool
     ensures sound { result ≡ true → columns.now ≡ slot_table.columns }
     ensures complete { columns.now ≡ slot_table.columns → result ≡ true }
@@ -56,6 +58,8 @@ fn has_slot_columns(columns: &[Column]) -> bool
     }
 }
 
+// Returns whether a column has this name, type and NOT NULL, and is otherwise plain: it is strict,
+// has no default, and compares bytes.
 fn is_column(column: &Column, name: &[u8], kind: Kind, not_null: bool) -> bool
     ensures sound { result ≡ true → column.now ≡ strict_column name.now kind not_null }
     ensures complete { column.now ≡ strict_column name.now kind not_null → result ≡ true }

@@ -25,10 +25,14 @@ pub struct SqlStore<S: Alter + Drop> {
 }
 
 impl<S: Alter + Drop> SqlStore<S> {
-    /// Makes a store of a database: an empty one gets the table of slots.
+    /// Makes the store of an open database, for [`open_from`](crate::open_from).
+    ///
+    /// An empty database first gets the table, and its slots are blank. All clauses but `crash`
+    /// suppose a clean medium. `crash` says which changes a crash may leave.
     ///
     /// # Errors
-    /// Returns why the database isn't a store of slots, and its connection. See [`load`].
+    /// Returns an [`OpenError`] and the connection if there are other tables, a row isn't the state
+    /// of a slot, or a call of the database failed.
     pub fn over(
         alloc: Global,
         mut conn: Connection<S>,
@@ -49,7 +53,7 @@ impl<S: Alter + Drop> SqlStore<S> {
         }
     }
 
-    /// Returns the connection.
+    /// Returns the connection, and drops the copy of the slots.
     pub fn into_connection(self) -> Connection<S>
         ensures { result ≡ self.conn }
     {
@@ -81,6 +85,7 @@ impl<S: Alter + Drop> Store for SqlStore<S> {
         true
     }
 
+    // Writes the slot's row, and changes the copy in memory only if that is committed.
     fn save(&mut self, update: &SlotUpdate<'_>) -> bool {
         let slot = usize::from(update.slot);
         match self.slots[slot].after(self.alloc, update) {

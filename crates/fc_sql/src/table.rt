@@ -41,7 +41,8 @@ pub fn write<S: Alter>(conn: &mut Connection<S>, slot: u8, stored: &StoredSlot) 
     fits(stored) && put(conn, slot, stored)
 }
 
-// Writes the row of a slot whose numbers are integers of SQLite.
+// Writes the row of a slot whose numbers are integers of SQLite. Returns `false` if the statement
+// fails.
 fn put<S: Alter>(conn: &mut Connection<S>, slot: u8, stored: &StoredSlot) -> bool
     requires storable { AreStorable stored.now }
     ensures runs { HasCleanDisk (state S.Store conn.new) → Puts slot stored.now (state S.Store conn.old) (state S.Store conn.new) result }
@@ -54,6 +55,7 @@ fn put<S: Alter>(conn: &mut Connection<S>, slot: u8, stored: &StoredSlot) -> boo
     }
 }
 
+// Writes the row of a slot with a program, as `put` does.
 fn put_program<S: Alter>(
     conn: &mut Connection<S>,
     slot: u8,
@@ -74,6 +76,7 @@ fn put_program<S: Alter>(
     row.is_ok()
 }
 
+// Writes the row of a slot without a program, as `put` does.
 fn put_none<S: Alter>(conn: &mut Connection<S>, slot: u8, serial: u64) -> bool
     requires serial { serial < 2 ^ 63 }
     ensures runs { HasCleanDisk (state S.Store conn.new)
@@ -96,6 +99,7 @@ fn put_none<S: Alter>(conn: &mut Connection<S>, slot: u8, serial: u64) -> bool
     row.is_ok()
 }
 
+// Converts a number below 2^63 to an integer of SQLite.
 fn int(n: u64) -> i64
     requires { n < 2 ^ 63 }
     ensures { result ≡ pos n }
@@ -103,7 +107,7 @@ fn int(n: u64) -> i64
     n as i64
 }
 
-// Returns whether the serial and the version are integers of SQLite.
+// Returns `true` only if the serial and the version are integers of SQLite.
 fn fits(stored: &StoredSlot) -> bool
     ensures { result ≡ true → AreStorable stored.now }
 {

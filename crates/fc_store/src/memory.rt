@@ -45,7 +45,7 @@ impl MemoryStore {
     }
 }
 
-/// Makes a list of 64 blank slots.
+/// Makes a list of 64 blank slots, for [`MemoryStore::new`].
 ///
 /// # Errors
 /// Returns `AllocError` if memory can't be allocated.
@@ -70,6 +70,7 @@ impl Store for MemoryStore {
         true
     }
 
+    // Returns `false` while `refuses` is set, or if memory can't be allocated.
     fn save(&mut self, update: &SlotUpdate<'_>) -> bool {
         if self.refuses {
             return false;

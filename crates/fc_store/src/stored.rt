@@ -68,7 +68,7 @@ impl StoredSlot {
         })
     }
 
-    // Copies its program with other variables.
+    // Copies its program with other variables; `None` if it has no program.
     fn with_vars(&self, alloc: Global, vars: &[u8]) -> Result<Option<StoredProgram>, AllocError>
         ensures { IfOk result (λ p. p ≡ with_stored_vars vars.now self.now.program) }
     {
@@ -79,6 +79,7 @@ impl StoredSlot {
     }
 }
 
+// Copies an image and variables into a stored program of this version.
 fn copy(alloc: Global, version: u64, image: &[u8], vars: &[u8]) -> Result<StoredProgram, AllocError>
     ensures { IfOk result (λ p. p ≡ record { version = version; image = image.now; vars = vars.now }) }
 {

@@ -55,6 +55,7 @@ refused.";
 /// A file to open in place of a closed standard stream.
 const NULL: &str = "/dev/null";
 
+// Defines the command line. `operation_of` reads its options by the names given here.
 fn command<'a>(alloc: Global) -> Result<Command<'a>, Error> {
     let method = Arg::new(alloc, "method")
         .value_name("METHOD")
@@ -121,6 +122,7 @@ fn command<'a>(alloc: Global) -> Result<Command<'a>, Error> {
     )
 }
 
+// Defines the option `--port`.
 fn port<'a>(alloc: Global) -> Arg<'a> {
     Arg::new(alloc, "port")
         .long("port")
@@ -129,7 +131,7 @@ fn port<'a>(alloc: Global) -> Arg<'a> {
         .help("The port of the server at 127.0.0.1, 1 to 65535: with a path")
 }
 
-// Defines an option with a value.
+// Defines an option with a value, whose long form is `name`.
 fn value<'a>(
     alloc: Global,
     name: &'static str,
@@ -166,6 +168,7 @@ fn flag<'a>(alloc: Global, name: &'static str, help: &'static str) -> Arg<'a> {
         .help(help)
 }
 
+// Reads the words of the command line and obeys them. Returns `Bad` if one isn't UTF-8.
 fn run<R: Runtime + AllocGlobal + Net + RandomSource, E: Write>(
     rt: &R,
     err: &mut E,
@@ -177,7 +180,8 @@ fn run<R: Runtime + AllocGlobal + Net + RandomSource, E: Write>(
     }
 }
 
-// Runs the operation of the command line. `terminal` is whether standard input is a terminal.
+// Runs the operation of the command line, and returns the program's status. `terminal` says whether
+// standard input is a terminal. Words that aren't an operation are reported to `err`.
 fn obey<R: Runtime + AllocGlobal + Net + RandomSource, E: Write>(
     rt: &R,
     err: &mut E,
