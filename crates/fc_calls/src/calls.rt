@@ -1,6 +1,7 @@
 //! Calls of a shard.
 //!
-//! The contract of a call mentions only the shard that is passed to it.
+//! The contract of a call mentions only the shard that is passed to it. The workers (`fc_workers`)
+//! call a shard by one of these under its lock, and `fc_filed` files them.
 ghost use Rattle.std.specs.Prelude.{◌≡◌, ℕ, ◌+◌, ⊤, if◌then◌else◌};
 ghost use Rattle.fc_registry.specs.Notes.{noted_as};
 ghost use Rattle.fc_registry.specs.Slots.{IsOwned, Shard as Seen};
@@ -42,7 +43,7 @@ pub trait ShardCall {
     // The number of changes of a slot that a result reports.
     ghost changes: { Self.Answer → ℕ } = { λ answer. 0 };
 
-    /// Calls the shard.
+    /// Calls `shard`, and writes a large result over `room`.
     fn call(self, shard: &mut Shard, room: &mut Self::Room) -> Self::Answer
         requires eight { HasEightSlots shard.old }
         requires may { may_ask self shard.old }
@@ -56,7 +57,7 @@ pub trait ShardCall {
 
 /// A call of a shard that may change a slot.
 pub trait Change: ShardCall {
-    /// Returns whether a result reports a change.
+    /// Returns whether a result reports a change of a slot, which a tally counts.
     fn has_changed(answer: &Self::Answer) -> bool
         ensures { Self.changes answer.now ≡ (if result then 1 else 0) };
 }

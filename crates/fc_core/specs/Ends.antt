@@ -32,7 +32,7 @@ content_of (Told None) = Misses
 content_of (Told (Some receipt)) = Described receipt
 content_of (Core words) = Listed words.items
 
--- block of these bytes, if there is one.
+-- the requested block of the reply, with these bytes; none if the reply has no such block.
 abbrev pub part_in : Option (Option Place) → List ℕ → Option Part
 part_in None bytes = None
 part_in (Some place) bytes = Some (record { bytes = bytes; place = place })

@@ -130,7 +130,8 @@ impl Answer {
         self.said = AnswerBody::Other(end);
     }
 
-    // The body of the answer, and the bytes of its block.
+    // Returns the body of the answer and the stored bytes, of which `reply` makes a response. The
+    // bytes are those of the body's block; without a block they mean nothing.
     pub(crate) fn said(&self) -> (&AnswerBody, &[u8])
         ensures said { said_of result.0.now result.1.now ≡ self.now }
         ensures told { IsTold result.0.now }
@@ -140,7 +141,8 @@ impl Answer {
     }
 }
 
-// Writes the bytes of a block over `bytes`. Returns the block, if there is one.
+// Writes the bytes of a block over `bytes`. Returns the block's place, which it has unless it is a
+// whole body, or `None` if there is no block.
 fn write_block(
     block: Option<BodyBlock<'_>>,
     bytes: &mut ArrayVec<u8, BLOCK>,

@@ -151,7 +151,8 @@ impl Front {
 
     /// Handles a datagram, and writes its job or response over the caller's.
     ///
-    /// See [`Front::deliver`]. Neither the job nor the response is moved.
+    /// See [`Front::deliver`]. Neither the job nor the response is moved. The contract says nothing
+    /// of `job` or `reply` unless the result says that it was written.
     #[tactic(auto, unfolding(crate::specs::Receiving::received))]
     pub fn handle(
         &mut self,
@@ -182,7 +183,7 @@ impl Front {
         self.exchanges.expire(self.now);
     }
 
-    /// Draws a message ID for a message of the server (RFC 7252, section 4.4).
+    /// Draws a message ID for a lease's notification (RFC 7252, section 4.4).
     ///
     /// `now` is in milliseconds, and the clock is advanced to it. Returns `None` if the next
     /// message ID was last drawn less than EXCHANGE_LIFETIME before.
@@ -212,6 +213,8 @@ impl Front {
     }
 
     /// Answers a job, and writes the response over `reply`. See [`Front::answer`].
+    ///
+    /// If nothing is sent, the contract says nothing of `reply`.
     pub fn respond(
         &mut self,
         now: u64,
@@ -237,8 +240,8 @@ impl Front {
         Responded::Sent
     }
 
-    // Returns the message ID of a response: that of the request for an acknowledgement, otherwise
-    // the next one that the server draws.
+    // Returns the message ID of a response: the request's `id` for an acknowledgement, otherwise
+    // the next one that the server draws. It is `None` if that isn't available.
     fn reply_id(&mut self, confirmable: bool, id: u16) -> Option<u16>
         ensures id { result ≡ id_in self.old confirmable id }
         ensures after { self.new ≡ record self.old { ids = drawn_for confirmable self.old.ids self.old.now } }
@@ -250,14 +253,14 @@ impl Front {
         }
     }
 
-    // Advances the clock.
+    // Advances the clock to `now`, never backwards. No exchange is expired yet.
     fn hand(&mut self, now: u64)
         ensures { self.new ≡ handed self.old now }
     {
         self.now = self.now.max(now);
     }
 
-    // Ignores a datagram.
+    // Ignores a datagram. Only old exchanges are expired.
     fn ignore(&mut self) -> Handled
         ensures handled { result ≡ Handled.Nothing }
         ensures after { self.new ≡ front_expired self.old }
@@ -266,7 +269,7 @@ impl Front {
         Handled::Nothing
     }
 
-    // Rejects a message by its message ID.
+    // Rejects a message: writes a Reset message with its message ID over `reply`.
     fn reject(&mut self, endpoint: Endpoint, id: u16, reply: &mut Emission) -> Handled
         ensures handled { result ≡ Handled.Reply }
         ensures reply { reply.new ≡ reset_of endpoint id }
@@ -277,7 +280,8 @@ impl Front {
         Handled::Reply
     }
 
-    // Handles a message.
+    // Handles a message by its class, for `handle`: a request, an acknowledgement or reset for the
+    // observers, or a message that is rejected or ignored.
     fn receive(
         &mut self,
         endpoint: Endpoint,
@@ -308,7 +312,8 @@ impl Front {
         }
     }
 
-    // Handles a request.
+    // Handles a request. A new one without room is answered 5.03, or ignored if its address is over
+    // its share and it isn't confirmable. A duplicate gets the stored response, if there is one.
     fn request(
         &mut self,
         endpoint: Endpoint,
@@ -341,7 +346,8 @@ impl Front {
         }
     }
 
-    // Opens an exchange for a new request.
+    // Handles a new request for which there is room, by `asking`: serves it, answers it with the
+    // code of a refusal, or sends no response. Each opens an exchange.
     fn open(
         &mut self,
         endpoint: Endpoint,
@@ -368,7 +374,7 @@ impl Front {
         }
     }
 
-    // Opens an exchange for a request, and returns its opening.
+    // Opens an exchange for a request, and returns the exchange's number and start time.
     fn open_exchange(&mut self, endpoint: Endpoint, message: &Message<'_>) -> Opening
         requires { look_in self.old endpoint message.now ≡ IsNew }
         ensures opening { result ≡ next_opening self.old }
@@ -384,8 +390,9 @@ impl Front {
         }
     }
 
-    // Serves a new request that its endpoint is allowed to send. The payload of a block is added to
-    // its transfer; if that doesn't complete the body, the request is answered immediately.
+    // Serves a new request that its endpoint is allowed to send: opens its exchange and writes its
+    // job over `job`. The payload of a block is added to its transfer; if that doesn't complete the
+    // body, the request is answered immediately.
     fn serve(
         &mut self,
         endpoint: Endpoint,
@@ -412,8 +419,8 @@ impl Front {
         }
     }
 
-    // Replaces a request that would be served by a refusal if its endpoint isn't allowed to send
-    // it.
+    // Returns 4.03 (Forbidden) instead of `asking` if the request would be served and its endpoint
+    // isn't allowed its action; otherwise `asking`.
     fn authorize(&self, endpoint: Endpoint, asking: Asking<()>, action: Action) -> Asking<()>
         ensures { result ≡ authorized (is_allowed self.entry.now.managers endpoint action) asking }
     {
@@ -485,7 +492,7 @@ impl Front {
         }
     }
 
-    // Adds a request's payload to its transfer.
+    // Adds a request's payload to its transfer. Returns the whole body, or why there is none.
     fn add(&mut self, endpoint: Endpoint, request: &Request<'_>, block: Block) -> Added
         requires { request.now.block1 ≡ Some block }
         ensures added { add_seen result ≡ add_in self.old endpoint (asked_by request.now) }
@@ -498,8 +505,9 @@ impl Front {
             .add(self.now, endpoint, slot, Some(block), request.payload)
     }
 
-    // Answers a request with a code and the block that it sent. Returns whether a message ID was
-    // available.
+    // Writes the response to a request over `reply`: this code, and the block that the request
+    // sent. Returns whether a message ID was available; if not, there is no response. The exchange
+    // isn't closed.
     fn tell(
         &mut self,
         endpoint: Endpoint,
@@ -523,7 +531,8 @@ impl Front {
         true
     }
 
-    // Opens an exchange for a request, and answers it immediately.
+    // Opens an exchange for a request, and answers it immediately with this code. If no message ID
+    // is available, the result is `Nothing`, and the exchange stays without a response.
     fn settle(
         &mut self,
         endpoint: Endpoint,
@@ -556,6 +565,8 @@ pub fn is_live(now: u64, opening: &Opening) -> bool
     now < opening.at || now - opening.at < WINDOW
 }
 
+// Returns the result for a request that is answered immediately, if the response was written.
+// Otherwise no message ID was available, and the result is `Nothing`.
 fn replied(sent: bool) -> Handled
     ensures { result ≡ handled_if sent }
 {
@@ -590,7 +601,7 @@ pub fn blank_job() -> Job {
     }
 }
 
-// Writes the job of a request.
+// Writes the job of a request with this exchange over `job`. `body` is the request's whole body.
 fn write_job(
     job: &mut Job,
     opening: Opening,
@@ -618,7 +629,8 @@ fn write_job(
     write_ask(&mut job.ask, request, body);
 }
 
-// Returns the block that a request names: that of a PUT, or the one that a GET requests.
+// Returns the block that a request names: that of a PUT, or the one that a GET requests; `None` if
+// it names none.
 fn named_block(request: &Request<'_>) -> Option<Block>
     ensures { result ≡ receiving.named_block (asked_by request.now).block1 (asked_by request.now).block2 }
 {
@@ -628,6 +640,7 @@ fn named_block(request: &Request<'_>) -> Option<Block>
     }
 }
 
+// Writes a message's token over another.
 fn write_token(token: &mut Token, message: &Message<'_>)
     ensures { token.new.items ≡ message.now.token }
 {
@@ -646,6 +659,7 @@ fn write_etags(etags: &mut ArrayVec<u64, ETAGS>, request: &Request<'_>)
     }
 }
 
+// Returns whether an Observe option registers an observer or cancels its registration.
 fn observes(option: Option<u32>) -> bool
     ensures { result ≡ observes option }
 {
@@ -666,6 +680,8 @@ fn slot_asked(action: Action) -> u8
     }
 }
 
+// Writes the action of a request's job over `ask`. `body` is the request's whole body, the image of
+// an install.
 fn write_ask(ask: &mut Ask, request: &Request<'_>, body: &[u8])
     requires request { IsServable (asked_by request.now) }
     requires body { length body.now ≤ 8208 }
@@ -681,7 +697,8 @@ fn write_ask(ask: &mut Ask, request: &Request<'_>, body: &[u8])
     }
 }
 
-// Writes a request over `ask`. The memory of an image isn't touched unless `ask` had one.
+// Writes the action of answering a request over `ask`. The memory of an image isn't touched unless
+// `ask` had one.
 fn write_run(ask: &mut Ask, method: Method, slot: u8, request: &Request<'_>)
     requires { IsServable (asked_by request.now) }
     ensures { ask.new ≡ Ask.Run (request_asked method slot (asked_by request.now)) }
@@ -692,6 +709,7 @@ fn write_run(ask: &mut Ask, method: Method, slot: u8, request: &Request<'_>)
     }
 }
 
+// Writes the action of answering a request over one of another kind, for `write_run`.
 fn write_run_anew(ask: &mut Ask, method: Method, slot: u8, request: &Request<'_>)
     requires { IsServable (asked_by request.now) }
     ensures { ask.new ≡ Ask.Run (request_asked method slot (asked_by request.now)) }
@@ -701,6 +719,7 @@ fn write_run_anew(ask: &mut Ask, method: Method, slot: u8, request: &Request<'_>
     *ask = Ask::Run(run);
 }
 
+// Writes the action of installing the program of an image over `ask`.
 fn write_image(ask: &mut Ask, image: &[u8], initial: InitialVars)
     requires { length image.now ≤ 8208 }
     ensures { ask.new ≡ Ask.Install (record { items = image.now }) initial }
@@ -708,7 +727,7 @@ fn write_image(ask: &mut Ask, image: &[u8], initial: InitialVars)
     *ask = Ask::Install(image_of(image), initial);
 }
 
-// What an install does with the variables, by its request's query.
+// Returns `Kept` if the query of an install's request is `keep`, otherwise `Zeros`.
 fn initial_vars_by(query: &[u8]) -> InitialVars
     ensures { result ≡ initial_vars_by query.now }
 {
@@ -719,6 +738,7 @@ fn initial_vars_by(query: &[u8]) -> InitialVars
     }
 }
 
+// Returns a copy of an image.
 fn image_of(bytes: &[u8]) -> Body
     requires { length bytes.now ≤ 8208 }
     ensures { result.items ≡ bytes.now }
@@ -728,6 +748,8 @@ fn image_of(bytes: &[u8]) -> Body
     image
 }
 
+// Writes the request that the program of `slot` is to answer over `run`: the method, and the query,
+// Content-Format and payload of `request`.
 fn write_request(run: &mut fc_help::Request, method: Method, slot: u8, request: &Request<'_>)
     requires { IsServable (asked_by request.now) }
     ensures { run.new ≡ request_asked method slot (asked_by request.now) }

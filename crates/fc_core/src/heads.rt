@@ -1,4 +1,6 @@
 //! Head words: the published states of the slots.
+//!
+//! [`Heads`] has those of a server on one thread; the workers' are in `fc_heads`.
 ghost use Rattle.std.specs.Prelude.{◌≡◌, ◌≤◌, ◌<◌};
 ghost use Rattle.fc_registry.specs.Slots.{last_serial};
 ghost use Rattle.fc_core.specs.Heads as spec;

@@ -1,4 +1,6 @@
 //! The message IDs that the server draws.
+//!
+//! The front draws one for each response that isn't an acknowledgement, and for each notification.
 ghost use Rattle.std.specs.Prelude.{◌≡◌, ◌<◌, IfOk, length};
 ghost use Rattle.fc_core.specs.Ids.{first_ids, free_id, drawn, is_recent};
 
@@ -40,7 +42,8 @@ impl MessageIds {
         Ok(MessageIds { next: first, last })
     }
 
-    // Draws the next message ID, unless it was last drawn less than EXCHANGE_LIFETIME before.
+    // Draws the next message ID. If it was last drawn less than EXCHANGE_LIFETIME before `now`,
+    // returns `None`, and nothing changes.
     pub(crate) fn draw(&mut self, now: u64) -> Option<u16>
         ensures id { result ≡ free_id self.old now }
         ensures after { self.new ≡ drawn self.old now }

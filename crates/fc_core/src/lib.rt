@@ -32,8 +32,8 @@
 //! - A PUT in blocks is executed exactly if its last block fits, with the joined payloads since
 //!   block number 0.
 //!
-//! By the contracts of `Front::deliver`, `handle`, `answer`, `respond`, `tick`, `fresh_id`, `Heads`,
-//! `Task`, `Answer::ran`.
+//! By the contracts of `Front::deliver`, `handle`, `answer`, `respond`, `tick`, `fresh_id`,
+//! `Heads`, `Task`, `Answer::ran`.
 #![tactic(auto)]
 
 pub mod answer;

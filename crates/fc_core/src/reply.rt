@@ -1,4 +1,4 @@
-//! Responses: from answers to datagrams.
+//! Responses: from answers to datagrams, for the front.
 ghost use Rattle.std.specs.Prelude.{◌≡◌, ◌≤◌, [], Some, drop, length};
 ghost use Rattle.coap_msg.specs.Codes.{code};
 ghost use Rattle.coap_opts.specs.Replies.{reply_options};
@@ -19,7 +19,7 @@ use coap_reply::{BodyBlock, Envelope, content, ran, reply_kind, respond, text};
 use fc_registry::{Job, Receipt};
 use fc_verify::Refusal;
 
-// Writes the response to a job, with this message ID, over `bytes`. It has no Observe option yet.
+// Writes the response to a job over `bytes`, with this message ID and this answer.
 pub(crate) fn answer(job: &Job, id: u16, answer: &Answer, bytes: &mut Datagram)
     ensures { IsReplyTo job.now id answer.now (to_job job.now bytes.new) }
 {
@@ -43,7 +43,7 @@ pub(crate) fn answer(job: &Job, id: u16, answer: &Answer, bytes: &mut Datagram)
     }
 }
 
-// Returns the block of these bytes, if there is one.
+// Returns the block with this place and these bytes, or `None` if there is no block.
 fn block_in(block: Option<Option<Block>>, bytes: &[u8]) -> Option<BodyBlock<'_>>
     requires { length bytes.now ≤ 1024 }
     ensures { result ≡ part_in block bytes.now }
@@ -64,7 +64,7 @@ fn envelope_of(job: &Job, id: u16) -> Envelope<'_>
     }
 }
 
-// Writes the response to a job that ran no program.
+// Writes the response to a job whose last call wasn't a run over `bytes`.
 fn ended(job: &Job, id: u16, end: &End, bytes: &mut Datagram)
     ensures { IsReplyTo job.now id (content_of end.now) (to_job job.now bytes.new) }
 {
@@ -118,7 +118,8 @@ fn links(job: &Job, id: u16, words: &[u64], bytes: &mut Datagram)
     content(&envelope_of(job, id), link_options(), &block, bytes);
 }
 
-// That of an install: the receipt, and the last block of the image.
+// Writes the response to an install over `bytes`: this code, and the receipt as the payload. If the
+// job names a block, the last of the image, the response repeats it as Block1.
 fn made(job: &Job, id: u16, code: Code, receipt: &Receipt, bytes: &mut Datagram)
     requires { 64 ≤ code.byte }
     ensures { to_job job.now bytes.new ≡ sent_in (spec.envelope_of job.now id)
@@ -132,6 +133,7 @@ fn made(job: &Job, id: u16, code: Code, receipt: &Receipt, bytes: &mut Datagram)
     respond(&envelope_of(job, id), code, options, line.as_slice(), bytes);
 }
 
+// Returns the options of a list of links: its Content-Format alone.
 #[tactic(auto, unfolding(coap_opts::specs::Values::uint_bytes))]
 fn link_options() -> ReplyOptions
     ensures options { reply_options result ≡ link_format }
@@ -143,7 +145,7 @@ fn link_options() -> ReplyOptions
     }
 }
 
-// Returns all bytes but the first.
+// Returns all bytes but the first, the comma before the first link; no bytes if there are none.
 fn after_first(bytes: &[u8]) -> &[u8]
     ensures { result.now ≡ drop 1 bytes.now }
 {
@@ -153,8 +155,8 @@ fn after_first(bytes: &[u8]) -> &[u8]
     }
 }
 
-// Writes the response to a request that is answered immediately, with this message ID, a code, and
-// the block that the request sent.
+// Writes the response to a request that is answered immediately over `emission`, with this message
+// ID, a code, and the block that the request sent.
 pub(crate) fn settled(
     id: u16,
     to: Endpoint,

@@ -1,4 +1,7 @@
 //! The stages of jobs, and the stage after the result of each call.
+//!
+//! A [`Task`] and the workers (`fc_workers`) make a job's calls, and set its stage by these
+//! functions.
 ghost use Rattle.std.specs.Prelude.{◌≡◌, ◌<◌, option_copied};
 ghost use Rattle.fc_core.specs.Contents.{AreDone, Content, IsMadeBelow, IsRemovedBelow, Unavailable};
 ghost use Rattle.fc_core.specs.Ends.{refused};
@@ -96,6 +99,8 @@ pub struct Task {
 /// The stage after the result of each call, on any thread.
 impl Stage {
     /// Returns the stage of a job that never arrived.
+    ///
+    /// Its memory is for the jobs that [`Stage::begin`] starts.
     pub fn blank() -> Stage
         ensures { result ≡ Gone }
     {
@@ -121,6 +126,9 @@ impl Stage {
     }
 
     /// Sets the first stage of a request's job.
+    ///
+    /// [`Stage::begin`] calls it for a job without a lease; the workers (`fc_workers`) run no
+    /// other.
     pub fn ask(&mut self, job: &Job)
         ensures { self.new ≡ asked_stage job.now }
     {
@@ -139,8 +147,8 @@ impl Stage {
 
     /// Continues after reading the head word of a run's slot.
     ///
-    /// If the word belongs to a program at a serial of which the client has the response, this is
-    /// the answer, and there is no run.
+    /// If the word belongs to a program at a serial of which the client has the response, the
+    /// answer is 2.03 (Valid). Then there is no run. Otherwise the job needs a snapshot.
     pub fn matched(&mut self, job: &Job, word: u64)
         ensures { self.new ≡ rows.matched word job.now.etags.items }
     {
@@ -154,6 +162,8 @@ impl Stage {
     }
 
     /// Continues after a snapshot; `count` is the number of snapshots before it.
+    ///
+    /// See [`Step::took`].
     pub fn took(&mut self, count: u8, given: Took)
         requires { count < 8 }
         ensures { self.new ≡ rows.took count given }
@@ -164,6 +174,8 @@ impl Stage {
     }
 
     /// Continues after an install, whose receipt has no version yet.
+    ///
+    /// The slot's head word is raised next. If the slot is at its last serial, the answer is 5.03.
     pub fn made(&mut self, receipt: Receipt, made: Made)
         requires { IsMadeBelow made }
         ensures { self.new ≡ rows.made receipt made }
@@ -182,6 +194,9 @@ impl Stage {
     }
 
     /// Continues after a removal.
+    ///
+    /// The slot's head word is raised next, unless the slot was empty; both are answered 2.02. If
+    /// the slot is at its last serial, the answer is 5.03.
     pub fn removed(&mut self, removal: Removal)
         requires { IsRemovedBelow removal }
         ensures { self.new ≡ rows.removed removal }
@@ -200,6 +215,8 @@ impl Stage {
     }
 
     /// Continues after a receipt was read; `None` if the slot is empty.
+    ///
+    /// The answer is the receipt, or 4.04 for an empty slot.
     pub fn told(&mut self, receipt: Option<Receipt>)
         ensures { self.new ≡ ToAnswer (rows.told receipt) }
     {
@@ -207,7 +224,7 @@ impl Stage {
         self.step = Step::ToAnswer;
     }
 
-    /// Continues after an image was refused by a rule.
+    /// Continues after an image was refused by a rule: the answer is 4.00.
     pub fn rejected(&mut self, fault: Fault)
         ensures { self.new ≡ ToAnswer (refused (Refusal.Broken fault)) }
     {
@@ -216,7 +233,9 @@ impl Stage {
         self.step = Step::ToAnswer;
     }
 
-    /// Continues after a failed allocation, or if the slot is at its last serial.
+    /// Continues after a failed allocation: the answer is 5.03.
+    ///
+    /// It is the same if the slot is at its last serial.
     pub fn unavailable(&mut self)
         ensures { self.new ≡ ToAnswer Unavailable }
     {
@@ -225,6 +244,8 @@ impl Stage {
     }
 
     /// Continues after the head words of all slots were listed: they are the answer.
+    ///
+    /// Nothing changes if the job lists no head words.
     pub fn listed(&mut self)
         requires { HasListed self.old }
         ensures { self.new ≡ after_list self.old }
@@ -237,7 +258,9 @@ impl Stage {
         }
     }
 
-    /// Continues after its slot's head word was raised.
+    /// Continues after the head word of the job's slot was raised.
+    ///
+    /// Nothing changes if the job was to raise none.
     pub fn raised(&mut self)
         ensures { self.new ≡ rows.word_raised self.old }
     {
@@ -246,7 +269,7 @@ impl Stage {
         }
     }
 
-    /// Returns the job's answer if the job is to be answered next.
+    /// Returns the job's answer if the job is to be answered next, or `None`.
     pub fn content(&self) -> Option<&Answer>
         ensures { option_copied result ≡ rows.content_at self.now }
     {
@@ -256,7 +279,8 @@ impl Stage {
         }
     }
 
-    // Returns the lease that needs a snapshot, if there is one.
+    // Returns the job's lease if the job notifies an observer and takes its snapshot next, or
+    // `None`. `Task::take` and `refuse_take` use it to distinguish a lease from a request.
     pub(crate) fn turn_to_take(&self) -> Option<Turn>
         ensures { result ≡ rows.turn_to_take self.now }
     {
@@ -268,8 +292,13 @@ impl Stage {
 }
 
 /// The next actions, with the answer written separately.
+///
+/// They are for a caller that borrows the stage's snapshot and answer one by one.
 impl Step {
-    /// Continues after a snapshot; `count` is the number of snapshots before it.
+    /// Continues after a request's snapshot; `count` is the number of those before it.
+    ///
+    /// A program is run and committed next. Otherwise `answer` is written: 4.04 if the slot is
+    /// empty, 5.03 if memory can't be allocated.
     pub fn took(count: u8, taken: Taken, answer: &mut Answer) -> Step
         requires { count < 8 }
         ensures { LeadsTo taken (rows.took count) result answer.new }
@@ -286,6 +315,9 @@ impl Step {
     }
 
     /// Continues after the snapshot of a lease.
+    ///
+    /// The lease needs a message ID next, also if the slot is empty. A lease that isn't active is
+    /// over. If memory can't be allocated, the lease still needs its snapshot.
     pub fn turn_took(turn: Turn, taken: Taken) -> Step
         ensures { (content : Content) → LeadsTo taken (rows.turn_took turn) result content }
     {
@@ -329,7 +361,8 @@ impl Step {
         }
     }
 
-    // Continues after the slot changed since the snapshot; `count` is the number of snapshots.
+    // Continues after the slot changed since the snapshot; `count` is the number of snapshots. The
+    // job takes another one; after the eighth, `answer` is 5.03.
     fn overtaken(count: u8, answer: &mut Answer) -> Step
         ensures { StandsAt result answer.new (rows.retaken count) }
     {
@@ -340,7 +373,8 @@ impl Step {
         Step::ToAnswer
     }
 
-    // Continues after a failed allocation, or if the slot is at its last serial.
+    // Continues after a failed allocation, or if the slot is at its last serial: `answer` is 5.03,
+    // and is sent next.
     fn unavailable(answer: &mut Answer) -> Step
         ensures { StandsAt result answer.new (ToAnswer Unavailable) }
     {

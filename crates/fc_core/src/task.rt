@@ -1,4 +1,7 @@
 //! Tasks: the effect of each event on a job, its slot and its shard.
+//!
+//! `fc_server` applies an event by one of these calls. A call has no effect if the task's stage
+//! needs another one, except [`Task::begin`] and [`Task::lose`].
 ghost use Rattle.std.specs.Prelude.{◌≡◌, ℕ, ◌<◌, List, None, Option, Some, false, option_copied, max, OnOk, IsErr};
 ghost use Rattle.fc_verify.specs.Accepted.{Accepts};
 ghost use Rattle.fc_verify.specs.Judged.{judged};
@@ -60,7 +63,7 @@ impl Task {
         self.stage.begin(&self.job);
     }
 
-    /// Reads the head word of a slot.
+    /// Reads the head word of `slot`, if it is the one that the job needs next.
     pub fn peek(&mut self, slot: u8, heads: &Heads)
         requires { HasNext self.old.stage }
         ensures { (k : ℕ) (shard : Shard) (free : ℕ → Option ℕ) → let common : Common = record { words = heads.now; free = free } in
@@ -85,8 +88,8 @@ impl Task {
 
     /// Takes a snapshot of its slot in its shard, with these readings.
     ///
-    /// Returns whether memory could be allocated. If not, a request is answered 5.03, and a lease
-    /// still needs its snapshot.
+    /// Returns whether memory could be allocated; `true` if no snapshot is needed. If not, a
+    /// request is answered 5.03, and a lease still needs its snapshot.
     pub fn take(&mut self, shard: &mut Shard, readings: &Readings) -> bool
         requires owned { IsOwned shard.old self.old.job.origin.slot }
         requires fits { FitsStage self.old.job (slot_in shard.old self.old.job.origin.slot) self.old.stage }
@@ -106,7 +109,7 @@ impl Task {
         memory
     }
 
-    // Takes the snapshot of its lease.
+    // Takes the snapshot of its lease `turn`. Returns whether memory could be allocated.
     fn take_turn(&mut self, turn: Turn, shard: &mut Shard, readings: &Readings) -> bool
         requires owned { IsOwned shard.old self.old.job.origin.slot }
         requires fits { FitsStage self.old.job (slot_in shard.old self.old.job.origin.slot) self.old.stage }
@@ -121,9 +124,10 @@ impl Task {
         memory
     }
 
-    /// Takes a snapshot without memory.
+    /// Takes a snapshot as if memory couldn't be allocated.
     ///
-    /// Only an empty slot, and a lease that isn't out any more, need no memory.
+    /// It applies a `Take` whose `memory` is `false`. Only an empty slot, and a lease that isn't
+    /// active any more, need no memory.
     pub fn refuse_take(&mut self, shard: &mut Shard)
         requires owned { IsOwned shard.old self.old.job.origin.slot }
         requires fits { FitsStage self.old.job (slot_in shard.old self.old.job.origin.slot) self.old.stage }
@@ -140,7 +144,7 @@ impl Task {
         }
     }
 
-    // Takes the snapshot of its lease without memory.
+    // Takes the snapshot of its lease `turn` as if memory couldn't be allocated.
     fn refuse_turn(&mut self, turn: Turn, shard: &mut Shard)
         requires owned { IsOwned shard.old self.old.job.origin.slot }
         requires fits { FitsStage self.old.job (slot_in shard.old self.old.job.origin.slot) self.old.stage }
@@ -192,8 +196,8 @@ impl Task {
 
     /// Verifies its image, and installs the program in its slot in its shard.
     ///
-    /// Returns whether memory could be allocated. If not, no slot changes, and the job is answered
-    /// 5.03.
+    /// Returns whether memory could be allocated; `true` if no install is needed. If not, no slot
+    /// changes, and the job is answered 5.03. An image that breaks a rule is answered 4.00.
     pub fn install(&mut self, alloc: Global, shard: &mut Shard) -> bool
         requires { IsOwned shard.old self.old.job.origin.slot }
         ensures task { (k : ℕ) → TaskMoves (Event.Install k result) shard.old self.old self.new }
@@ -215,7 +219,9 @@ impl Task {
         }
     }
 
-    /// Installs without memory.
+    /// Installs as if memory couldn't be allocated: the job is answered 5.03.
+    ///
+    /// It applies an `Install` whose `memory` is `false`.
     pub fn refuse_install(&mut self)
         ensures { (k : ℕ) (shard : Shard) → TaskMoves (Event.Install k false) shard self.old self.new }
     {
@@ -238,7 +244,7 @@ impl Task {
         }
     }
 
-    /// Returns its answer if it is to be answered next.
+    /// Returns its answer if it is to be answered next, or `None`.
     pub fn content(&self) -> Option<&Answer>
         ensures { option_copied result ≡ content_at self.now.stage }
     {
@@ -263,7 +269,7 @@ impl Task {
         matches!(stage.step, Step::ToTell(_, TurnStep::ToDraw(_)))
     }
 
-    /// Takes the message ID for the notification of its lease.
+    /// Stores the message ID `free` for the notification of its lease.
     ///
     /// If `free` is `None`, it still needs one.
     pub fn draw(&mut self, free: Option<u16>)
@@ -281,7 +287,7 @@ impl Task {
     /// Runs the program in its lease's snapshot, and notifies the lease's observer.
     ///
     /// `now` is in milliseconds. No program runs if the slot was empty. The observer is notified if
-    /// the lease is still out. The datagram is written over `emission`. Returns whether there is
+    /// the lease is still active. The datagram is written over `emission`. Returns whether there is
     /// one to send. The task has then ended.
     pub fn note(
         &mut self,
@@ -322,7 +328,7 @@ impl Task {
         }
     }
 
-    /// Ends it, since its worker is lost.
+    /// Ends the task, since its worker is lost. It is never answered.
     pub fn lose(&mut self)
         ensures { self.new ≡ task_moved self.old (moves Gone) }
     {
@@ -331,14 +337,15 @@ impl Task {
     }
 }
 
-// Returns whether memory for a snapshot could be allocated.
+// Returns whether memory for a snapshot could be allocated, or wasn't needed.
 fn had_memory(taken: &Taken) -> bool
     ensures { (f : SlotSnapshot) → result ≡ had_memory (taken_with taken.now f) }
 {
     !matches!(taken, Taken::Refused)
 }
 
-// Returns the result of a snapshot if memory can't be allocated.
+// Returns the result that a snapshot has if memory can't be allocated: `Refused` instead of a
+// program, any other result as it is.
 fn without_memory(taken: Taken) -> Taken
     ensures { (f : SlotSnapshot) → (taken_with result f ≡ without_memory (taken_with taken f)) × HasSize result f }
 {
@@ -358,6 +365,8 @@ pub fn image(ask: &Ask) -> &[u8]
     }
 }
 
+// Runs the ticket's program and commits the run in the shard. Returns the next action, and writes
+// the answer over `answer` if there is one. `count` is the number of snapshots so far.
 fn run_and_commit(
     frame: &mut Frame,
     count: u8,
@@ -383,7 +392,7 @@ fn run_and_commit(
     Step::committed(count, &outcome, ticket, committed, answer)
 }
 
-// Returns the ticket of a program, if there is one, and of the written snapshot.
+// Returns the ticket of a program and its snapshot, or `None` if the slot was empty.
 fn ticket_if<'a>(program: &'a Option<Arc<Verified>>, found: &'a SlotSnapshot) -> Option<Ticket<'a>>
     requires { FitsTurnStep (ToDraw program.now) found.now }
     ensures { turn_stage_of (ToDraw program.now) found.now ≡ turns.ToDraw result }
@@ -394,8 +403,9 @@ fn ticket_if<'a>(program: &'a Option<Arc<Verified>>, found: &'a SlotSnapshot) ->
     }
 }
 
-// Notifies the observer of a lease, by its snapshot. The datagram is written over `emission`.
-// Returns whether there is one to send.
+// Notifies the observer of a lease: runs the program of its ticket, or reports that the slot was
+// found empty if `found` is `None`. The datagram is written over `emission`. Returns whether there
+// is one to send.
 fn note(
     frame: &mut Frame,
     shard: &mut Shard,
@@ -432,7 +442,8 @@ fn note(
     }
 }
 
-// Installs an accepted program, or records the rule that its image breaks.
+// Installs the program of an image, or records the rule that the image breaks, and sets the stage
+// after that. The error is that memory can't be allocated; then the shard is unchanged.
 fn verify_and_install(
     alloc: Global,
     image: &[u8],
@@ -458,7 +469,8 @@ fn verify_and_install(
     }
 }
 
-// Installs a verified program.
+// Installs a verified program, and sets the stage after that. The error is that memory can't be
+// allocated; then the shard is unchanged.
 fn install_program(
     alloc: Global,
     program: Verified,

@@ -1,4 +1,4 @@
-//! The texts of responses.
+//! The texts of responses: refusals, receipts and links.
 ghost use Rattle.std.specs.Prelude.{◌≡◌, ◌+◌, ◌<◌, ◌≤◌, ◌++◌, length};
 ghost use Rattle.std.specs.Fmt.{decimal};
 ghost use Rattle.fc_isa.specs.Rules.{number_of, fault_text};
@@ -36,7 +36,7 @@ fn push_decimal(text: &mut Text, number: u64)
     push_bytes(text, buffer.format(number).as_bytes());
 }
 
-// The text of a refusal, such as `V16 slot 0`.
+// Returns the text of a refusal, such as `V16 slot 0`.
 pub(crate) fn fault_line(fault: &Fault) -> Text
     ensures text { result.items ≡ fault_text (number_of fault.now.rule) fault.now.slot }
     ensures short { length result.items ≤ 128 }
@@ -51,7 +51,7 @@ pub(crate) fn fault_line(fault: &Fault) -> Text
     text
 }
 
-// The text of a receipt, such as `version=1 cost=2 budget=2 vars=0`.
+// Returns the text of a receipt, such as `version=1 cost=2 budget=2 vars=0`.
 pub(crate) fn receipt_line(receipt: &Receipt) -> Text
     ensures text { result.items ≡ receipt_text receipt.now }
     ensures short { length result.items ≤ 128 }
@@ -71,7 +71,7 @@ pub(crate) fn receipt_line(receipt: &Receipt) -> Text
 // Capacity for the links: 64 times a comma, `</r/`, two digits and `>;obs` are 768 bytes.
 pub(crate) const LINKS: usize = 1024;
 
-// The links to the slots that have a program, each after a comma.
+// Returns the links to the slots that have a program, by their head words, each after a comma.
 pub(crate) fn link_lines(words: &[u64]) -> ArrayVec<u8, LINKS>
     requires { length words.now ≤ 64 }
     ensures text { result.items ≡ links_from 0 words.now }
@@ -87,7 +87,7 @@ pub(crate) fn link_lines(words: &[u64]) -> ArrayVec<u8, LINKS>
     links
 }
 
-// The link to a slot's resource, after a comma.
+// Returns the link to a slot's resource, after a comma.
 fn link_line(slot: u64) -> Text
     requires { slot < 64 }
     ensures text { result.items ≡ link slot }

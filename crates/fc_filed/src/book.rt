@@ -205,7 +205,7 @@ impl<J: ServerName> ServerTracks<J> {
         }
     }
 
-    /// Begins the next track, and puts it first among its own.
+    /// Begins the next track, and puts it first among the owner's.
     pub fn begin(&mut self, book: &ServerBook<J>)
         requires may_begin { self.old.may_begin ≡ true }
         ensures kept { self.new ≡ with_begun self.old }
@@ -213,7 +213,7 @@ impl<J: ServerName> ServerTracks<J> {
         steps::begin(&book.words, &mut self.seat);
     }
 
-    /// Splits off the first of its own tracks, a job's, and returns it for a message.
+    /// Splits off the owner's first track, a job's, and returns it for a message.
     ///
     /// The track is right for its job. So if the message is lost, the history has the job as it was
     /// sent.
@@ -228,7 +228,7 @@ impl<J: ServerName> ServerTracks<J> {
         }
     }
 
-    /// Merges the tracks of another owner into its own.
+    /// Merges the tracks of another owner, which may begin none, into the owner's.
     pub fn merge(&mut self, book: &ServerBook<J>, other: ServerTracks<J>)
         requires { other.may_begin ≡ false }
         ensures merged { self.new ≡ merged_with self.old other }
@@ -237,7 +237,7 @@ impl<J: ServerName> ServerTracks<J> {
         steps::merge(&book.words, &mut self.seat, seat);
     }
 
-    /// Closes a part: its track becomes one of its own.
+    /// Closes a part: the part's track becomes one of the owner's.
     pub fn close<P: Part>(&mut self, book: &ServerBook<J>, part: FiledTrack<P>)
         requires { P.table ≡ J.table }
         ensures closed { self.new ≡ with_part self.old (part_view P.key part) }
@@ -246,7 +246,7 @@ impl<J: ServerName> ServerTracks<J> {
         steps::close(&book.words, &mut self.seat, seat);
     }
 
-    /// Attests that there is one history, of which its tracks are subhistories.
+    /// Attests that there is one history, of which the owner's tracks are subhistories.
     pub fn attest(&mut self, book: &ServerBook<J>)
         ensures one { HasServerHistory J.first_job self.old }
         ensures kept { self.new ≡ self.old }
@@ -353,7 +353,7 @@ fn lack_as<X: FiledName, J: ServerName>(
 /// Files the operation that `X` names, of a part whose lock the caller holds.
 ///
 /// It becomes the last entry on the tracks of its part, of thread `who` and of the job whose track
-/// is first.
+/// is first. [`crate::FiledFront`] and [`crate::FiledShard`] use it.
 pub fn file_as<X: FiledName, J: ServerName, P: Part>(
     book: &ServerBook<J>,
     tracks: &mut ServerTracks<J>,

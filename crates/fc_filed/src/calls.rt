@@ -1,4 +1,7 @@
 //! The calls of a shard that are filed with any answer.
+//!
+//! [`crate::FiledShard::ask`] makes them. The other calls are methods of `FiledShard`: a granted
+//! lease begins a track, and an advance is filed only if the shard is idle.
 ghost use Rattle.std.specs.Prelude.{true, false, ⊤, refl};
 ghost use Rattle.fc_registry.specs.Slots.{IsOwned};
 ghost use Rattle.fc_linear.specs.Operations.{Logged, ShardPart};

@@ -103,7 +103,8 @@ impl<J: ServerName> FiledFront<J> {
 
     /// Handles a datagram at `now` ms, as [`Front::handle`] does, and files that.
     ///
-    /// A job that the datagram produces begins no track: the entry is on the one that is first.
+    /// A job that the datagram produces begins no track: the entry is on the one that is first. The
+    /// threads of `fc_workers` use it: all jobs of a thread have one track.
     pub fn handle_for_first(
         &mut self,
         book: &ServerBook<J>,
@@ -148,7 +149,7 @@ impl<J: ServerName> FiledFront<J> {
         file_tick::<Brand, J>(book, tracks, &mut self.track, who, now);
     }
 
-    /// Allocates a message ID at `now` ms, as [`Front::fresh_id`] does, and files that.
+    /// Draws a message ID at `now` ms, as [`Front::fresh_id`] does, and files that.
     pub fn fresh_id(
         &mut self,
         book: &ServerBook<J>,
@@ -225,6 +226,9 @@ fn begin_if_job<J: ServerName>(
     }
 }
 
+/// Files that a datagram was handled, with the entry named by `X`.
+///
+/// See [`FiledFront::handle`]. Only the clauses use the datagram and its result.
 fn file_handled<X: FiledName, J: ServerName>(
     book: &ServerBook<J>,
     tracks: &mut ServerTracks<J>,
@@ -253,6 +257,9 @@ fn file_handled<X: FiledName, J: ServerName>(
     file_as::<X, J, FrontOf<J>>(book, tracks, track, who);
 }
 
+/// Files that the clock was advanced, with the entry named by `X`.
+///
+/// See [`FiledFront::tick`]. Only the clauses use the time.
 fn file_tick<X: FiledName, J: ServerName>(
     book: &ServerBook<J>,
     tracks: &mut ServerTracks<J>,
@@ -269,6 +276,9 @@ fn file_tick<X: FiledName, J: ServerName>(
     file_as::<X, J, FrontOf<J>>(book, tracks, track, who);
 }
 
+/// Files the result of a draw of a message ID, with the entry named by `X`.
+///
+/// See [`FiledFront::fresh_id`]. Only the clauses use the time and the message ID.
 fn file_draw<X: FiledName, J: ServerName>(
     book: &ServerBook<J>,
     tracks: &mut ServerTracks<J>,
@@ -287,6 +297,9 @@ fn file_draw<X: FiledName, J: ServerName>(
     file_as::<X, J, FrontOf<J>>(book, tracks, track, who);
 }
 
+/// Files that a job was answered, with the entry named by `X`.
+///
+/// See [`FiledFront::respond`]. Only the clauses use the answer and its result.
 fn file_answer<X: FiledName, J: ServerName>(
     book: &ServerBook<J>,
     tracks: &mut ServerTracks<J>,

@@ -108,6 +108,8 @@ impl<J: ServerName, P: Part> FiledShard<J, P> {
     }
 
     /// Makes a call of the shard, and files it.
+    ///
+    /// The entry has the result, and the contents of `room` after the call.
     pub fn ask<C: FiledCall>(
         &mut self,
         book: &ServerBook<J>,
@@ -128,8 +130,8 @@ impl<J: ServerName, P: Part> FiledShard<J, P> {
 
     /// Leases the first pending notification at `now` ms, and files that.
     ///
-    /// See [`Shard::write_due`]. The notification's job, if there is one, is written to `job`, and
-    /// begins a track.
+    /// See [`Shard::write_due`]. Returns whether a lease was granted. Its job is then written to
+    /// `job`, and begins a track.
     pub fn next_due(
         &mut self,
         book: &ServerBook<J>,
@@ -160,9 +162,10 @@ impl<J: ServerName, P: Part> FiledShard<J, P> {
         is_due
     }
 
-    /// Advances the shard to `now` ms if it is idle until then, and files that.
+    /// Advances the shard to `now` ms if it is idle then, and files that.
     ///
-    /// See [`Shard::advance_if_idle`]. Otherwise the shard stays as it is, and nothing is filed.
+    /// See [`Shard::advance_if_idle`]. Returns whether the shard was advanced. Otherwise it stays
+    /// as it is, and nothing is filed.
     pub fn advance_if_idle(
         &mut self,
         book: &ServerBook<J>,
@@ -186,8 +189,9 @@ impl<J: ServerName, P: Part> FiledShard<J, P> {
 
     /// Takes a snapshot of a request's slot unless its program is expensive.
     ///
-    /// See [`Shard::take_into`]. The slot is that of `job`. If the program takes `least` steps
-    /// or more, the snapshot is dropped and nothing is filed: a worker will take its own.
+    /// See [`Shard::take_into`]. The slot is that of `job`. If the program may take `least` steps
+    /// or more, the snapshot is dropped and nothing is filed. Then the result is `None`: a worker
+    /// is to take its own.
     pub fn take_unless_expensive(
         &mut self,
         book: &ServerBook<J>,
@@ -272,6 +276,9 @@ fn ask_as<C: FiledCall, J: ServerName, P: Part, X: OperationName<C::Answer, C::R
     answer
 }
 
+/// Files a call with its answer and its buffer, with the entry named by `Y`.
+///
+/// See [`FiledShard::ask`]. Only the clauses use the answer and the buffer.
 fn file_answer<Y: FiledName, J: ServerName, P: Part, A, B, X: OperationName<A, B>>(
     book: &ServerBook<J>,
     tracks: &mut ServerTracks<J>,
@@ -303,7 +310,7 @@ fn begin_if<J: ServerName>(book: &ServerBook<J>, tracks: &mut ServerTracks<J>, i
     }
 }
 
-/// Returns whether a snapshot has a program that takes `least` steps or more.
+/// Returns whether a snapshot has a program that may take `least` steps or more.
 fn is_expensive(taken: &Taken, least: u32) -> bool
     ensures { MatchBool result (CostsFrom least taken.now) (IsCheap least taken.now) }
 {
@@ -313,6 +320,9 @@ fn is_expensive(taken: &Taken, least: u32) -> bool
     }
 }
 
+/// Files the result of a request for a lease, with the entry named by `X`.
+///
+/// See [`FiledShard::next_due`]. Only the clauses use the shard, the time and the job.
 fn file_due<X: FiledName, J: ServerName, P: Part>(
     book: &ServerBook<J>,
     tracks: &mut ServerTracks<J>,
@@ -337,6 +347,9 @@ fn file_due<X: FiledName, J: ServerName, P: Part>(
     file_as::<X, J, P>(book, tracks, track, who);
 }
 
+/// Files that an idle shard was advanced, with the entry named by `X`.
+///
+/// See [`FiledShard::advance_if_idle`]. Only the clauses use the shard and the time.
 fn file_idle<X: FiledName, J: ServerName, P: Part>(
     book: &ServerBook<J>,
     tracks: &mut ServerTracks<J>,
@@ -357,6 +370,9 @@ fn file_idle<X: FiledName, J: ServerName, P: Part>(
     file_as::<X, J, P>(book, tracks, track, who);
 }
 
+/// Files the snapshot of a request's job, with the entry named by `X`.
+///
+/// See [`FiledShard::take_unless_expensive`]. Only the clauses use the job and the snapshot.
 fn file_taken<X: FiledName, J: ServerName, P: Part>(
     book: &ServerBook<J>,
     tracks: &mut ServerTracks<J>,

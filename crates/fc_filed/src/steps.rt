@@ -1,4 +1,7 @@
-//! The steps of seats at a server's book.
+//! The steps of a server's book: the moves of its rule, each made at a seat.
+//!
+//! A seat is an owner's handle at the book's table. A clause sees its owner's tracks: the owner's
+//! own, and a part's while that is taken over. The calls of `book.rt` are made of these steps.
 //!
 //! Each loads or raises one word of the table. A step that needs no head word loads the first word,
 //! which is padding.
@@ -29,6 +32,8 @@ pub(crate) type FiledWords = Table<u8, BookView<FiledEntry>, u64, ServerRule, Gl
 const PADDING: usize = 8;
 
 /// Makes a seat with no track.
+///
+/// `file_as` puts it in the place of a part's seat while that is taken over.
 pub(crate) fn empty_seat(words: &FiledWords, seat: &mut FiledSeat) -> FiledSeat
     requires size { words.now.shared.table_id.words ≡ 72 }
     requires table { seat.old.table_id ≡ words.now.shared.table_id }
@@ -38,7 +43,9 @@ pub(crate) fn empty_seat(words: &FiledWords, seat: &mut FiledSeat) -> FiledSeat
     words.shared.split_seat::<MakesEmpty>(seat)
 }
 
-/// Takes over a part's track, and files an entry.
+/// Takes over the track of a part's seat, and files the entry that `X` names.
+///
+/// The track stays at the owner's seat until [`return_part`].
 pub(crate) fn file<X: FiledName>(words: &FiledWords, seat: &mut FiledSeat, part: FiledSeat)
     requires size { words.now.shared.table_id.words ≡ 72 }
     requires table { seat.old.table_id ≡ words.now.shared.table_id }
@@ -55,7 +62,7 @@ pub(crate) fn file<X: FiledName>(words: &FiledWords, seat: &mut FiledSeat, part:
     words.shared.join_seat::<FilesEntry<X>>(seat, part);
 }
 
-/// Files an entry that belongs to no part.
+/// Files the entry that `X` names, which belongs to no part.
 pub(crate) fn file_alone<X: FiledName>(words: &FiledWords, seat: &mut FiledSeat)
     requires size { words.now.shared.table_id.words ≡ 72 }
     requires table { seat.old.table_id ≡ words.now.shared.table_id }
@@ -68,7 +75,7 @@ pub(crate) fn file_alone<X: FiledName>(words: &FiledWords, seat: &mut FiledSeat)
     let _ = words.shared.load::<FilesAlone<X>>(seat, 0);
 }
 
-/// Returns the part's track.
+/// Splits off the part's track that [`file`] took over, and returns it as a seat.
 pub(crate) fn return_part(words: &FiledWords, seat: &mut FiledSeat) -> FiledSeat
     requires size { words.now.shared.table_id.words ≡ 72 }
     requires table { seat.old.table_id ≡ words.now.shared.table_id }
@@ -78,7 +85,7 @@ pub(crate) fn return_part(words: &FiledWords, seat: &mut FiledSeat) -> FiledSeat
     words.shared.split_seat::<ReturnsPart>(seat)
 }
 
-/// Begins the next track, for a part.
+/// Begins the next track, for a part, and returns the part's seat.
 pub(crate) fn begin_part(words: &FiledWords, seat: &mut FiledSeat) -> FiledSeat
     requires size { words.now.shared.table_id.words ≡ 72 }
     requires table { seat.old.table_id ≡ words.now.shared.table_id }
@@ -89,7 +96,7 @@ pub(crate) fn begin_part(words: &FiledWords, seat: &mut FiledSeat) -> FiledSeat
     words.shared.split_seat::<BeginsPart>(seat)
 }
 
-/// Begins the next track, for a new owner.
+/// Begins the next track, for a new owner, and returns that owner's seat.
 pub(crate) fn begin_tracks(words: &FiledWords, seat: &mut FiledSeat) -> FiledSeat
     requires size { words.now.shared.table_id.words ≡ 72 }
     requires table { seat.old.table_id ≡ words.now.shared.table_id }
@@ -111,7 +118,7 @@ pub(crate) fn begin(words: &FiledWords, seat: &mut FiledSeat)
     let _ = words.shared.load::<Begins>(seat, 0);
 }
 
-/// Splits off the first of the owner's tracks, a job's, for a message.
+/// Splits off the first of the owner's tracks, a job's, as a seat for a message.
 pub(crate) fn split_first(words: &FiledWords, seat: &mut FiledSeat) -> FiledSeat
     requires size { words.now.shared.table_id.words ≡ 72 }
     requires table { seat.old.table_id ≡ words.now.shared.table_id }
@@ -146,7 +153,7 @@ pub(crate) fn close(words: &FiledWords, seat: &mut FiledSeat, part: FiledSeat)
     words.shared.join_seat::<Closes>(seat, part);
 }
 
-/// Attests the history.
+/// Attests that there is one history, of which the owner's tracks are subhistories.
 pub(crate) fn attest<J: ServerName>(words: &FiledWords, seat: &mut FiledSeat)
     requires size { words.now.shared.table_id.words ≡ 72 }
     requires table { seat.old.table_id ≡ words.now.shared.table_id }
@@ -158,6 +165,8 @@ pub(crate) fn attest<J: ServerName>(words: &FiledWords, seat: &mut FiledSeat)
 }
 
 /// Reads a head word, and files that.
+///
+/// The entry has the thread and the job of the one that `X` names.
 pub(crate) fn look<X: FiledName>(words: &FiledWords, seat: &mut FiledSeat, slot: usize) -> u64
     requires size { words.now.shared.table_id.words ≡ 72 }
     requires table { seat.old.table_id ≡ words.now.shared.table_id }
@@ -171,6 +180,8 @@ pub(crate) fn look<X: FiledName>(words: &FiledWords, seat: &mut FiledSeat, slot:
 }
 
 /// Raises a head word to the greater of it and `word`, and files that.
+///
+/// The entry has the thread and the job of the one that `X` names.
 pub(crate) fn raise<X: FiledName>(words: &FiledWords, seat: &mut FiledSeat, slot: usize, word: u64)
     requires size { words.now.shared.table_id.words ≡ 72 }
     requires table { seat.old.table_id ≡ words.now.shared.table_id }

@@ -53,8 +53,8 @@ pub record IsFirstDue (now : ℕ) (ts : List Timer) (k : ℕ) : Type 0 where
   pub due : (timer_at ts k).due ≤ now
   pub first : (j : ℕ) → j < k → now < (timer_at ts j).due
 
--- the first timer that is due at a time makes its request, and is set to its next beat; the next
--- message ID is one more.
+-- the first timer that is due at a time makes its request, and is set to its next beat. The next
+-- message ID is one greater, or 0 after 65,535.
 pub record Asks (now : ℕ) (old new : Timers) (bytes : List ℕ) : Type 0 where
   pub place : ℕ
   pub is_due : IsFirstDue now old.timers.items place
@@ -89,13 +89,13 @@ ComesByTimer now old new (Some came) = (came.from ≡ timers) × Asks now old ne
 abbrev pub ComesByPeer : Option Incoming → Incoming → Type 0
 ComesByPeer came given = ((given.from ≡ timers) × (came ≡ None)) ⊎ ((given.from ≡ timers → ⊥) × (came ≡ Some given))
 
--- the source gave a datagram, or nothing in time: then the clock is read once more, and a timer
--- that is due makes its request.
+-- the source gave a datagram, or nothing in time. In the second case the clock is read once more,
+-- and if a timer is due, it makes its request.
 abbrev pub ComesThen : (ℕ → CallLog → CallLog → Type 0) → Option Incoming → Timers → Timers → Option Incoming → CallLog → CallLog → Type 0
 ComesThen IsTime (Some given) old new came before after = ComesByPeer came given × (new ≡ old) × (after ≡ before)
 ComesThen IsTime None old new came before after = (now : ℕ) × IsTime now before after × ComesByTimer now old new came
 
--- no timer is due, and the source is called, for no longer than until one is.
+-- no timer is due, and the source is called. Its timeout ends when a timer is due, or earlier.
 pub record AsksSource (IsTime : ℕ → CallLog → CallLog → Type 0) (Received : Receive → CallLog → CallLog → Type 0) (now : ℕ) (old new : Timers) (receive : Receive) (before after : CallLog) : Type 0 where
   pub none : NoneDue now old.timers.items
   pub given : Option Incoming
@@ -103,7 +103,7 @@ pub record AsksSource (IsTime : ℕ → CallLog → CallLog → Type 0) (Receive
   pub received : Received (record { wait = until_due now old.timers.items receive.wait; came = given }) before log
   pub next : ComesThen IsTime given old new receive.came log after
 
--- the clock is read; a timer that is due makes its request, or the source is called.
+-- the clock is read. If a timer is due, it makes its request; otherwise the source is called.
 pub record IsTimed (IsTime : ℕ → CallLog → CallLog → Type 0) (Received : Receive → CallLog → CallLog → Type 0) (old new : Timers) (receive : Receive) (before after : CallLog) : Type 0 where
   pub now : ℕ
   pub log : CallLog

@@ -22,10 +22,10 @@ pub struct Elapsed<'a, R: Clock> {
 }
 
 impl<'a, R: Clock> Elapsed<'a, R> {
-    /// Starts now.
+    /// Starts now: the present time is 0.
     ///
     /// # Errors
-    /// The clock can't be read.
+    /// Returns the system's error if the clock can't be read.
     pub fn start(clock: &'a R) -> io::Result<Elapsed<'a, R>> {
         let start = Instant::now(clock)?;
         Ok(Elapsed { clock, start })
@@ -49,7 +49,7 @@ impl<'a, C: Clock> TimeSource for Elapsed<'a, C> {
         self.milliseconds()
     }
 
-    // Returns the low bits of the clock.
+    // Returns the low 16 bits of the time in milliseconds.
     fn random<R: Wait>(&self, rt: &R) -> u16 {
         let _ = rt;
         (self.milliseconds() % 0x1_0000) as u16
@@ -66,6 +66,7 @@ pub struct SensingDevice<'a, M: TimeSource, Z: Sensors> {
 impl<'a, M: TimeSource, Z: Sensors> Device for SensingDevice<'a, M, Z> {
     ghost are_readings = { AreReadAt M.is_time Z.are_sensed };
 
+    // Reads the clock, and then the sensors at that time.
     fn readings<R: Wait>(&self, rt: &R, log: &mut CallLog) -> Readings {
         let now = self.times.now(rt, log);
         device_readings(now, &self.sensors.sense(rt, now))
@@ -74,7 +75,8 @@ impl<'a, M: TimeSource, Z: Sensors> Device for SensingDevice<'a, M, Z> {
 
 /// Returns the readings at `now`, in milliseconds.
 ///
-/// They are the time in eight bytes, least significant first, and the sensor readings.
+/// They are the time in eight bytes, least significant first, and the sensor readings. Workers get
+/// them for each snapshot, and a server on one thread for each round.
 pub fn device_readings(now: u64, sensed: &Sensed) -> Readings
     ensures { result ≡ device_readings now sensed.now }
 {

@@ -1,4 +1,4 @@
-//! A scripted host: the clock, sensors and transmitter of a server that plays lines.
+//! A scripted host: clock, sensors and transmitter of a server that plays lines.
 //!
 //! The player waits at the scripted host for the worker that runs a line's job.
 use coap_msg::Emission;
@@ -17,9 +17,10 @@ struct Work {
     readings: Readings,
 }
 
-/// A place where the player waits for the worker that runs a line's job.
+/// The host of a server whose workers run the jobs of played lines.
 ///
-/// Its time is that of the line.
+/// The player waits here for the worker that runs a line's job. The host keeps what this worker
+/// sends. Its time is that of the line, and its readings are those of the last line that set some.
 #[derive(Drop)]
 pub struct ScriptedHost {
     work: Mutex<Work>,
@@ -42,13 +43,15 @@ impl ScriptedHost {
         }
     }
 
-    /// Sets the readings for snapshots from now on.
+    /// Sets the readings for snapshots from now on, as a played line gives them.
     pub fn set<R: Wait>(&self, rt: &R, readings: Readings) {
         let mut work = self.work.lock(rt);
         work.readings = readings;
     }
 
-    /// Announces a job at `now`, in milliseconds, and forgets earlier emissions.
+    /// Sets the time to `now`, in milliseconds, and announces a job.
+    ///
+    /// The player calls it before each call that may produce a job. Earlier emissions are dropped.
     pub fn begin<R: Wait>(&self, rt: &R, now: u64) {
         self.now.store(now, Ordering::SeqCst);
         let mut work = self.work.lock(rt);
@@ -57,6 +60,8 @@ impl ScriptedHost {
     }
 
     /// Waits until the job was run, and returns the last emission sent for it, if any.
+    ///
+    /// It waits for ever if the announced job was never produced.
     pub fn wait<R: Wait>(&self, rt: &R) -> Option<Emission> {
         let mut work = self
             .done
@@ -66,6 +71,7 @@ impl ScriptedHost {
 }
 
 impl Wire for ScriptedHost {
+    // Keeps a copy of the emission for the player, instead of an earlier one. It counts as sent.
     fn send<R: Wait>(&self, rt: &R, number: u64, emission: &Emission, log: &mut CallLog) -> bool {
         let _ = number;
         let _ = log;
@@ -74,6 +80,7 @@ impl Wire for ScriptedHost {
         true
     }
 
+    // Wakes the player.
     fn ended<R: Wait>(&self, rt: &R, number: u64, log: &mut CallLog) {
         let _ = number;
         let _ = log;
@@ -84,6 +91,7 @@ impl Wire for ScriptedHost {
 }
 
 impl TimeSource for ScriptedHost {
+    // Returns the time of the last `begin`.
     fn now<R: Wait>(&self, rt: &R, log: &mut CallLog) -> u64 {
         let _ = rt;
         let _ = log;
@@ -98,6 +106,7 @@ impl TimeSource for ScriptedHost {
 }
 
 impl Device for ScriptedHost {
+    // Returns the readings that were set last, or zeros.
     fn readings<R: Wait>(&self, rt: &R, log: &mut CallLog) -> Readings {
         let _ = log;
         let work = self.work.lock(rt);
@@ -105,6 +114,7 @@ impl Device for ScriptedHost {
     }
 }
 
+// Copies an emission for the player; the worker writes its next one over the original.
 fn copy(emission: &Emission) -> Emission {
     let mut copy = blank_emission();
     copy.to = emission.to;

@@ -56,6 +56,7 @@ enum Trouble {
 }
 
 impl Trouble {
+    // Returns the state of a file with this trouble.
     fn state(&self) -> FileState {
         match self {
             Trouble::Unread(_) => FileState::Unread,
@@ -110,7 +111,8 @@ impl<'a, F: Files + Eprint> FileSensors<'a, F> {
         }
     }
 
-    // Reads the first bytes of the file; zeros follow them.
+    // Reads the first bytes of the file over `sensed`; zeros follow them. Returns why they aren't
+    // 56; if none could be read, all are zeros.
     fn read(&self, sensed: &mut Sensed) -> Result<(), Trouble> {
         *sensed = NOTHING;
         if fs::metadata(self.files, self.path)?.file_type().is_fifo() {
@@ -123,7 +125,7 @@ impl<'a, F: Files + Eprint> FileSensors<'a, F> {
         }
     }
 
-    // Reports a change of the file's state.
+    // Reports a change of the file's state, by its last read, to standard error.
     fn tell(&self, read: &Result<(), Trouble>) {
         let path = self.path;
         let _told = match read {
@@ -136,6 +138,8 @@ impl<'a, F: Files + Eprint> FileSensors<'a, F> {
 }
 
 impl<'a, F: Files + Eprint> Sensors for FileSensors<'a, F> {
+    // Reads the file at the first call, and if `now` is later than at its last read. Returns the
+    // last readings.
     fn sense<R: Wait>(&self, rt: &R, now: u64) -> Sensed {
         let mut kept = self.kept.lock(rt);
         // an earlier time is that of a delayed run: the kept readings are newer
@@ -155,8 +159,8 @@ impl<'a, F: Files + Eprint> Sensors for FileSensors<'a, F> {
     }
 }
 
-// Reads the bytes of one call of a reader, at most 56; zeros follow them. Returns the number of
-// bytes read.
+// Reads the bytes of one call of a reader, at most 56, over `sensed`; zeros follow them. Returns
+// the number of bytes read. If the call fails, all are zeros.
 fn read_sensed<R: Read>(reader: &mut R, sensed: &mut Sensed) -> io::Result<usize>
     ensures given { IfOk result (λ count. AreSensed (R.remaining reader.old) (R.remaining reader.new) count sensed.new) }
     ensures none { OnErr result (sensed.new ≡ no_sensors) }

@@ -72,7 +72,7 @@ pub struct Receiving<'a> {
 }
 
 impl<'a> Receiving<'a> {
-    /// Receives from a socket whose receives wait 100 ms, as those of [`open`] do.
+    /// Makes the source of a socket whose receives wait 100 ms, as [`open`] sets it.
     pub fn new(socket: &'a UdpSocket) -> Receiving<'a> {
         Receiving {
             socket,
@@ -98,6 +98,7 @@ impl<'a> Receiving<'a> {
 impl<'a> Source for Receiving<'a> {
     ghost received = { λ receive before after. after ≡ before };
 
+    // A datagram of an IPv6 address is dropped.
     fn receive(
         &mut self,
         wait: Option<u64>,
@@ -126,8 +127,8 @@ impl Sink for UdpSocket {
 /// Port 0 requests a free port. A receive waits 100 ms.
 ///
 /// # Errors
-/// The address isn't one of this host, the port is used or not permitted, or the system gives no
-/// socket.
+/// Returns the system's error if the address isn't one of this host, if the port is used or not
+/// permitted, or if no socket can be made.
 pub fn open<R: Net>(rt: &R, address: SocketAddrV4) -> io::Result<UdpSocket> {
     let socket = UdpSocket::bind(rt, address)?;
     socket.set_read_timeout(Some(Duration::from_millis(SHORTEST_WAIT)))?;

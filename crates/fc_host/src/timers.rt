@@ -34,17 +34,18 @@ impl Timer {
         }
     }
 
-    /// Returns the most exchanges that its requests hold at a time.
+    /// Returns the most exchanges that its requests hold at a time if none is delayed.
     ///
-    /// Each request comes at its beat and holds an exchange for 247 s. A delayed request may be one
-    /// more.
+    /// A request holds an exchange for 247 s. A delayed request may hold one more. The sum of all
+    /// timers is limited for `fcd serve --every`.
     pub fn exchanges(&self) -> u64
         ensures { result ≡ 247000 / self.now.every + 1 }
     {
         WINDOW / self.every.milliseconds() + 1
     }
 
-    // Sets the timer to its first beat after `now`, a time at which it is due.
+    // Sets the timer to its first beat after `now`, a time at which it is due. Beats that it missed
+    // are skipped.
     fn put_off(&mut self, now: u64)
         requires { self.old.due ≤ now }
         ensures { self.new ≡ put_off now self.old }
@@ -73,7 +74,8 @@ impl Timers {
     }
 
     // Writes the request of the first timer that is due at `now`, and sets the timer to its next
-    // beat. Returns the number of bytes of the request.
+    // beat. Returns the number of bytes of the request. If no timer is due, returns `None`, and the
+    // timers are unchanged.
     fn ask(&mut self, now: u64, buffer: &mut Buffer) -> Option<usize>
         ensures fits { IfSome result (λ count. count ≤ length buffer.new) }
         ensures asked { MatchOption result (NoneDue now self.old.timers.items × (self.new ≡ self.old))
@@ -87,14 +89,15 @@ impl Timers {
         Some(write_request(id, slot, buffer))
     }
 
-    // Finds the first timer that is due at a time.
+    // Returns the place of the first timer that is due at `now`, or `None` if none is.
     fn first_due(&self, now: u64) -> Option<usize>
         ensures { MatchOption result (NoneDue now self.now.timers.items) (IsFirstDue now self.now.timers.items) }
     {
         self.timers.iter().position(|timer| timer.due <= now)
     }
 
-    // Returns how long a receive waits from a time: no longer than until the first timer is due.
+    // Shortens `wait`, for a receive at `now`, to end when a timer is due, and returns it. Both
+    // times are in milliseconds; a wait of `None` is unlimited.
     fn until_due(&self, now: u64, wait: Option<u64>) -> Option<u64>
         ensures { result ≡ until_due now self.now.timers.items wait }
     {
@@ -116,7 +119,7 @@ fn at_most(ms: u64, wait: Option<u64>) -> Option<u64>
 }
 
 // Writes a non-confirmable POST of a slot's resource, without a token and a payload (RFC 7252,
-// section 3). Returns the number of its bytes.
+// section 3). Returns the number of its bytes at the start of `buffer`.
 fn write_request(id: u16, slot: SlotNumber, buffer: &mut Buffer) -> usize
     ensures fits { result ≤ 9 }
     ensures bytes { take result buffer.new ≡ request_bytes id slot }
@@ -171,7 +174,8 @@ pub struct Timed<'a, S: Source + Drop, M: TimeSource, R: Wait> {
 }
 
 impl<'a, S: Source + Drop, M: TimeSource, R: Wait> Timed<'a, S, M, R> {
-    // Returns the request of a timer that is due, or the next datagram of the source.
+    // Returns the request of a timer that is due, or the next datagram of the source: the number of
+    // its bytes in `buffer`, and its sender. Returns `None` if neither comes within `wait`.
     fn next(
         &mut self,
         wait: Option<u64>,
@@ -188,7 +192,8 @@ impl<'a, S: Source + Drop, M: TimeSource, R: Wait> Timed<'a, S, M, R> {
         self.wait_for(now, wait, buffer, log)
     }
 
-    // Returns the request of a timer that is due at a time.
+    // Writes the request of a timer that is due at `now` to `buffer`, and returns the number of its
+    // bytes, and the endpoint of timers. Returns `None` if no timer is due.
     fn ask(&mut self, now: u64, buffer: &mut Buffer) -> Option<(usize, Endpoint)>
         ensures fits { IfSome result (λ r. r.0 ≤ length buffer.new) }
         ensures asked { ComesByTimer now self.old.timers self.new.timers (incoming_in buffer.new result) }
@@ -198,7 +203,8 @@ impl<'a, S: Source + Drop, M: TimeSource, R: Wait> Timed<'a, S, M, R> {
         Some((count, TIMERS))
     }
 
-    // Waits for a datagram of the source, and for the next timer.
+    // Waits for a datagram of the source, and for the next timer. No timer is due at `now`. Returns
+    // `None` if neither comes within `wait`, or if the datagram has the endpoint of timers.
     fn wait_for(
         &mut self,
         now: u64,

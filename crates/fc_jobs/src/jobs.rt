@@ -1,4 +1,4 @@
-//! The calls of the ends.
+//! The calls of the channel's ends: sending, receiving, and waiting for a worker.
 ghost use Rattle.std.specs.Prelude.{◌≡◌, ◌<◌, ◌≤◌, ◌^◌, ◌∷◌, ◌++◌, [], length, replicate, IfOk, IfSome, MatchOption, Some};
 ghost use Rattle.fc_jobs.specs.Once.{times};
 ghost use Rattle.fc_jobs.specs.Ends.{nothing_sent, nothing_got, with_sent, with_got};
@@ -41,8 +41,9 @@ impl Jobs {
 
     /// Sends a job under the next number, from 0 on, or returns it.
     ///
-    /// The numbers end at 2^61, from which on each job is returned. It waits while the channel is
-    /// full.
+    /// It waits while the channel is full. The numbers end at 2^61, from which on each job is
+    /// returned. If a job is returned, `sent` is unchanged; the dispatcher then runs the job
+    /// itself.
     pub fn send<R: Wait>(&self, rt: &R, job: Job, sent: &mut Sent) -> Option<Job>
         requires { sent.old.channel ≡ self.now }
         ensures sent { MatchOption result (sent.new ≡ with_sent sent.old job)
@@ -58,8 +59,8 @@ impl Jobs {
 
     /// Receives the next job with its number, which is new to the worker.
     ///
-    /// Returns `None` if the sender is gone and no job is left. It waits while the channel is
-    /// empty.
+    /// Returns `None` if the sender is gone and no job is left; then `got` is unchanged. It waits
+    /// while the channel is empty. It records that a worker has asked: see [`Jobs::is_served`].
     pub fn next<R: Wait>(&self, rt: &R, got: &mut Got) -> Option<(u64, Job)>
         requires { got.old.channel ≡ self.now }
         ensures got { MatchOption result (got.new ≡ got.old) (λ r. got.new ≡ with_got got.old r.0 r.1) }
@@ -100,7 +101,8 @@ impl Jobs {
 }
 
 impl Sent {
-    // Sends a job that has its number, or returns it.
+    // Sends a job that has its number, or returns it if the channel can't take it. Then the number
+    // is for the next job.
     fn send<R: Wait>(&mut self, rt: &R, numbered: Numbered) -> Option<Job>
         requires { (numbered.number ≡ length self.old.sent) × (numbered.number < 2 ^ 61) }
         ensures { MatchOption result (self.new ≡ with_sent self.old numbered.job)

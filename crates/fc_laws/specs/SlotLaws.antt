@@ -44,7 +44,8 @@ pub record IsToInstall (s : Seen) (k : ℕ) (p : Program) : Type 0 where
   pub accepted : judged (image_of (job s k).ask) ≡ Accepts p
   pub below : (slot_at s (slot_of s k)).serial < 9223372036854775807
 
--- a scene whose job requests the install of an image, and determines the variables that it leaves.
+-- inputs whose job requests the install of this image, and determines the variables that the
+-- install leaves.
 abbrev pub inputs_installing : ArrayVec ℕ → InitialVars → Inputs → Inputs
 inputs_installing image initial x = record x { job = record x.job { ask = Asks image initial } }
 

@@ -41,10 +41,10 @@
 //!   of its slots that has a notification that has timed out, and retransmits it, at most four
 //!   times.
 //! - A lease is for the first slot that has an observer with a pending notification, and there for
-//!   the first such observer. It makes one job, and isn't out any more after it is released.
+//!   the first such observer. It makes one job, and isn't active any more after it is released.
 //! - A lease draws the server's next message ID, unless that was drawn in the last 247,000 ms. Its
 //!   notification comes from the one ticket that it took, with the code, the reply and the serial
-//!   of the snapshot, or is a 4.04. It notifies exactly if it is still out, and once.
+//!   of the snapshot, or is a 4.04. It notifies exactly if it is still active, and once.
 //! - The serials that one observer is sent increase. Notifications are sent only to observers in
 //!   the list. An observer stays in it unless it cancels, resets, acknowledges nothing, or is sent
 //!   anything but a 2.05, which removes it.

@@ -29,7 +29,7 @@ impl<'a, C: Recorder> Model for RecordedAlone<'a, C> {
 }
 
 impl<'a, C: Recorder> RecordedAlone<'a, C> {
-    /// Wraps a server, whose changes are recorded from now on.
+    /// Wraps a server, whose changes `recorder` gets from now on.
     pub fn new(alone: SingleThread, recorder: &'a C) -> RecordedAlone<'a, C>
         ensures { result.alone ≡ alone }
     {
@@ -41,7 +41,7 @@ impl<'a, C: Recorder> RecordedAlone<'a, C> {
 
     /// Sets the readings and the random word for jobs that run from now on.
     ///
-    /// See [`SingleThread::set_handed`].
+    /// `fcd serve` on one thread calls it in each round. See [`SingleThread::set_handed`].
     pub fn set_handed(&mut self, readings: &Readings, random: u16)
         ensures engine { self.new.alone.engine ≡ self.old.alone.engine }
         ensures handed { self.new.alone.handed ≡ record { readings = readings.now; random = random } }
@@ -51,6 +51,9 @@ impl<'a, C: Recorder> RecordedAlone<'a, C> {
     }
 }
 
+/// Each call is passed to the server.
+///
+/// `handle` also records the change that the datagram's job asked for, if it asked for one.
 impl<'a, C: Recorder> Ingress for RecordedAlone<'a, C> {
     ghost calls = { recorded_calls C.recorded };
 

@@ -23,6 +23,9 @@ pub struct RecordedBench<'a, B: Bench, C: Recorder> {
     pub recorder: &'a C,
 }
 
+/// Each call is passed to the inner backend.
+///
+/// `respond` then records the change that the job asked for, if it asked for one.
 impl<'a, B: Bench, C: Recorder> Bench for RecordedBench<'a, B, C> {
     type Tallies = B::Tallies;
 

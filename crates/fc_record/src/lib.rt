@@ -1,4 +1,4 @@
-//! Records of a server's answered requests to change a program, and reports of its counts.
+//! Records of answered requests to change a program, and reports of counts.
 //!
 //! [`request::ProgramRequest`] is a request that installs or removes a program, with its response.
 //! It has a text. A [`Recorder`] gets each such request once: [`RecordedBench`] passes it those

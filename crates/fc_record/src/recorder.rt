@@ -1,4 +1,4 @@
-//! Recorders of changes.
+//! Recorders of changes: of answered requests to change a slot's program.
 ghost use Rattle.std.specs.Prelude.{◌≡◌, ⊤};
 ghost use Rattle.fc_core.specs.Receiving.{emission_if};
 ghost use Rattle.fc_record.specs.ProgramRequests.{Requested};
@@ -18,14 +18,15 @@ pub trait Recorder {
     // The changes that were recorded, each from one state of the caller's log to the next.
     ghost recorded: { Requested → Log → Log → Type 0 } = { λ change before after. ⊤ };
 
-    /// Records an answered change.
+    /// Records an answered request to change a program.
     fn record(&self, change: &ProgramRequest<'_>, log: &mut CallLog)
         ensures { recorded change.now log.old log.new };
 }
 
 /// Records the change that a job asked for, if it asked for one, with its response.
 ///
-/// The response is `reply` if `has_reply`.
+/// The response is `reply` if `has_reply`; otherwise there is none. Workers call this after each
+/// answer, and so does a server on one thread.
 pub fn record_answer<C: Recorder>(
     recorder: &C,
     job: &Job,
@@ -86,7 +87,7 @@ impl<'a, C: Recorder> Model for ChangeLog<'a, C> {
 }
 
 impl<'a, C: Recorder> ChangeLog<'a, C> {
-    /// Creates the log of a recorder that got no change yet.
+    /// Creates the log of changes that `recorder` will get; it is empty.
     pub fn new(recorder: &'a C) -> ChangeLog<'a, C> {
         ChangeLog {
             recorder,
@@ -98,6 +99,7 @@ impl<'a, C: Recorder> ChangeLog<'a, C> {
 impl<'a, C: Recorder> Witness for ChangeLog<'a, C> {
     ghost shown = { IsRecorded C.recorded };
 
+    // Records the change that an answered job asked for, if it asked for one.
     fn show(&mut self, job: &Job, has_reply: bool, reply: &Emission) {
         record_answer(self.recorder, job, has_reply, reply, &mut self.log);
     }

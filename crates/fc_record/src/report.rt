@@ -56,7 +56,7 @@ impl Report {
         }
     }
 
-    // Counts a response by its code.
+    // Counts a response whose code is 4.03 or 5.03. Other responses leave the counts unchanged.
     fn count_response(&mut self, reply: &Emission)
         ensures { self.new ≡ response_counted reply.now self.old }
     {
@@ -65,7 +65,7 @@ impl Report {
         self.unavailable = one_more_if(byte == Code::SERVICE_UNAVAILABLE.byte, self.unavailable);
     }
 
-    /// Counts the result of a shard's tick.
+    /// Counts the result of a shard's tick: a retransmission or a removed observer.
     pub fn count_tick(&mut self, ticked: &Ticked)
         ensures { self.new ≡ tick_counted ticked.now self.old }
     {
@@ -77,6 +77,8 @@ impl Report {
     }
 
     /// Counts the lease that a shard was asked for, if it granted one.
+    ///
+    /// `emission` is the notification of the lease, for the clause. It isn't counted itself.
     pub fn count_lease(&mut self, outcome: NotifyOutcome, emission: &Emission)
         ensures { self.new ≡ lease_counted (notified_as outcome emission.now) self.old }
     {
@@ -86,14 +88,14 @@ impl Report {
     }
 }
 
-// Returns a count, or the next one if `more`.
+// Returns `count`, or one more if `more`, up to 2^64 - 1.
 fn one_more_if(more: bool, count: u64) -> u64
     ensures { result ≡ one_more_if more count }
 {
     if more { count.saturating_add(1) } else { count }
 }
 
-// Returns the second byte of a message, its code (RFC 7252, section 3). Returns 0 without one.
+// Returns the second byte of a message, its code (RFC 7252, section 3), or 0 if it has none.
 fn second_byte(bytes: &[u8]) -> u8
     ensures { result ≡ second_byte bytes.now }
 {

@@ -17,7 +17,7 @@ pub trait Reporter {
     fn report(&self, report: &Report, log: &mut CallLog)
         ensures { reported report.now log.old log.new };
 
-    /// Counts a datagram that couldn't be sent.
+    /// Counts a datagram that couldn't be sent. The next report may name their number.
     fn count_failure(&self);
 }
 
@@ -46,7 +46,7 @@ pub struct LoggedReports<'a, L: Logger> {
 }
 
 impl<'a, L: Logger> LoggedReports<'a, L> {
-    /// Makes the reporter of a logger, to which no datagram has failed yet.
+    /// Makes a reporter that writes to `logger`, and has counted no failure.
     pub fn new(logger: &'a L) -> LoggedReports<'a, L> {
         LoggedReports {
             logger,

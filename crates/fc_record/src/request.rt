@@ -60,7 +60,7 @@ impl<'a> ProgramRequest<'a> {
         })
     }
 
-    // Returns the name of its method (RFC 7252, section 5.8).
+    // Returns the name of the request's method, for its text (RFC 7252, section 5.8).
     fn method(&self) -> &'static str
         ensures { result.now ≡ method_text self.now.image }
     {
@@ -83,7 +83,7 @@ fn image_in(ask: &Ask) -> Option<Option<&[u8]>>
     }
 }
 
-// Returns the code and the payload of a reply.
+// Returns the code and the payload of a reply, or `None` if there is none or it is no message.
 fn response_by(has_reply: bool, reply: &Emission) -> Option<Response<'_>>
     ensures { IsResponseBy (emission_if has_reply reply.now) (option_map (λ s. record { code = s.code.byte; note = s.note.now }) result) }
 {
@@ -93,7 +93,7 @@ fn response_by(has_reply: bool, reply: &Emission) -> Option<Response<'_>>
     response_in(reply.bytes.as_slice())
 }
 
-// Returns the code and the payload of a message.
+// Returns the code and the payload of a message, or `None` if the bytes are no message.
 fn response_in(bytes: &[u8]) -> Option<Response<'_>>
     ensures { IsResponseIn (reading_of bytes.now) (option_map (λ s. record { code = s.code.byte; note = s.note.now }) result) }
 {

@@ -1,4 +1,4 @@
-//! The parts of a change's text.
+//! The parts of a recorded change's text, in their order.
 ghost use Rattle.std.specs.Prelude.{◌≡◌};
 ghost use Rattle.hex.specs.Hex.{encode_lower};
 ghost use Rattle.sha2.specs.Sha256.{sha256};

@@ -13,7 +13,7 @@ use Rattle.fc_store.specs.declared.store.ProgramUpdate.{ProgramUpdate}
 use Rattle.fc_store.specs.declared.store.ProgramUpdate.TheVariants as saves
 use Rattle.fc_store.specs.declared.store.SlotUpdate.{SlotUpdate}
 
--- the update has the variables that the change leaves in a slot.
+-- the update's variables are those that the slot has after the change.
 abbrev pub IsUpdateOf : Slot → Change → ProgramUpdate → Type 0
 IsUpdateOf slot (Installed p initial) (saves.Install image vars) = vars.now ≡ (installed slot p initial).vars
 IsUpdateOf slot (Committed c) (saves.Commit vars) = vars.now ≡ c.after
@@ -58,7 +58,7 @@ IsStoredOf slot k = (k.serial ≡ slot.serial) × IsStoredProgram slot.present k
 abbrev pub IsProgramState : ℕ → StoredProgram → Program → Type 0
 IsProgramState serial k p = (0 < k.version) × (k.version ≤ serial) × (length k.vars ≡ p.vars_size)
 
--- a slot in the stored state: the noticed serial is its serial, and its ring is empty.
+-- a slot in the stored state: the notify serial is its serial, and its ring is empty.
 pub record IsRestored (k : StoredSlot) (slot : Slot) : Type 0 where
   pub state : IsStoredOf slot k
   pub notify_serial : slot.notify_serial ≡ slot.serial

@@ -24,7 +24,7 @@ abbrev pub vars_in : Option Present → List ℕ
 vars_in None = []
 vars_in (Some p) = p.vars
 
--- a slot: its serial counts its changes, and the noticed serial is that of the last change that
+-- a slot: its serial counts its changes, and the notify serial is that of the last change that
 -- observers are notified of. Its ring holds the last eight commits since its install, the oldest
 -- first.
 pub record Slot : Type 0 where
@@ -76,8 +76,9 @@ pub record Ticket : Type 0 where
   pub found : Present
   pub readings : List ℕ
 
--- the mark of a commit, which a response consumes: the serial found, the serial at the commit,
--- whether the slot changed, and whether the client of its request observes it from now on.
+-- the mark of a commit; a response consumes it. It has the serial that the snapshot found, the
+-- serial at the commit, and whether the commit changed the slot. It also has whether the client
+-- that sent the request observes the slot from now on.
 pub record Mark : Type 0 where
   pub origin : Origin
   pub found : ℕ

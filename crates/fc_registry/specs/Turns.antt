@@ -36,7 +36,7 @@ job_of_turn n None w = None
 job_of_turn n (Some turn) w = option_map (turn_job n turn.number) (option_map interest_of (entry_out turn w))
 
 -- the job of the lease that is granted at a time to one of these observers of slot n, about this
--- noticed serial.
+-- notify serial.
 abbrev pub turn_given_to : ℕ → ℕ → ℕ → ObserverList → Option Job
 turn_given_to n now notify_serial w = job_of_turn n (next_turn notify_serial (list_at_time now w)) (observers_after (NextDue now notify_serial) w)
 

@@ -23,7 +23,7 @@ at_time shard now = record shard { now = max shard.now now }
 abbrev pub watch_at : Shard → ℕ → ObserverList
 watch_at shard k = slice_index_or shard.watches k (no_observers 0 0)
 
--- the noticed serial of the slot at a place.
+-- the notify serial of the slot at a place.
 abbrev pub noticed_at : Shard → ℕ → ℕ
 noticed_at shard k = (slice_index_or shard.slots k (new_slot 0)).notify_serial
 
@@ -31,7 +31,8 @@ noticed_at shard k = (slice_index_or shard.slots k (new_slot 0)).notify_serial
 abbrev pub watch_called : ObserverCall → ℕ → Shard → Shard
 watch_called c k shard = record shard { watches = slice_set shard.watches k (observers_after c (watch_at shard k)) }
 
--- the observers at each place after these calls, the latest first, on those at one place.
+-- the observer lists of all places, after these calls (the latest first) on the list at place k;
+-- the other lists are unchanged.
 abbrev pub watches_called : List ObserverCall → ℕ → List ObserverList → List ObserverList
 watches_called [] k watches = watches
 watches_called (c ∷ cs) k watches = slice_set watches k (after_calls (c ∷ cs) (slice_index_or watches k (no_observers 0 0)))

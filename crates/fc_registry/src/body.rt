@@ -1,4 +1,4 @@
-//! The contents of a slot.
+//! The contents of a slot: a program, its version and its variables.
 ghost use Rattle.std.specs.Prelude.{◌≡◌, length};
 
 use fc_help::Vars;

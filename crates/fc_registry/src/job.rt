@@ -59,7 +59,7 @@ impl Ask {
 
     /// Returns the variables that an install is to leave.
     ///
-    /// The other requests name none, and have `Zeros`.
+    /// It is the argument of [`crate::Shard::install`]. For any other action it is `Zeros`.
     pub fn initial_vars(&self) -> InitialVars
         ensures { result ≡ initial_vars_of self.now }
     {

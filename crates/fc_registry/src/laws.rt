@@ -36,10 +36,10 @@ pub fn serials_count_changes()
     ensures { (serial : ℕ) (cs : List Change) → (after_changes (new_slot serial) cs).serial ≡ serial + length cs }
 {}
 
-/// The noticed serial is that of the newest change that observers are notified of.
+/// The notify serial is that of the newest change that observers are notified of.
 ///
 /// Such a change is an install, a removal, or a commit whose run set the notify flag. Without one,
-/// the noticed serial is the slot's first serial. It is never above the slot's serial.
+/// the notify serial is the slot's first serial. It is never above the slot's serial.
 pub fn noticed_serials_are_of_notices()
     ensures serial { (serial : ℕ) (cs : List Change) → (after_changes (new_slot serial) cs).notify_serial
         ≡ notify_serial serial cs }

@@ -35,7 +35,7 @@
 //!   variables, they don't change if they have the new program's size.
 //! - The removal of a program leaves none, and raises the serial too.
 //! - A receipt is that of the present program, with the serial of its install.
-//! - Serials count changes. A slot's noticed serial is that of its last install, removal, or commit
+//! - Serials count changes. A slot's notify serial is that of its last install, removal, or commit
 //!   whose run set the notify flag.
 //! - A slot's ring holds the last eight commits of its program since its install, or since the slot
 //!   was restored. Each begins with the variables that the one before it left. Each left the
@@ -46,9 +46,9 @@
 //!   signal goes to the observers of every slot.
 //! - A commit of a GET registers its client or removes it, if the request asks for that. Its mark
 //!   has whether the client was registered; there may be no room.
-//! - The notification of an active lease has the meaning of its ticket's run, or 4.04 if its snapshot
-//!   found the slot empty. It ends the lease. A response that isn't 2.05 (Content) has no sequence
-//!   number, and removes the observer.
+//! - The notification of an active lease has the meaning of its ticket's run, or 4.04 if its
+//!   snapshot found the slot empty. It ends the lease. A response that isn't 2.05 (Content) has no
+//!   sequence number, and removes the observer.
 //! - A lease that isn't active sends nothing. The ticket of another lease is refused.
 //! - No observer was sent a serial above its slot's. An idle shard has no retransmission to send,
 //!   and no observer with a pending notification. Unless it is called, it has none before the time

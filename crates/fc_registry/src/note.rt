@@ -1,4 +1,6 @@
 //! Notifications of observers (RFC 7641, section 4.2).
+//!
+//! [`note`] writes them, for `Shard::note` and `write_note`.
 ghost use Rattle.std.specs.Prelude.{◌≡◌, ◌↔◌, ℕ, IsTrue, None, Some};
 ghost use Rattle.fc_observe.specs.Calls.{after_calls, observers_after};
 ghost use Rattle.fc_observe.specs.Views.{interest};
@@ -46,8 +48,10 @@ pub enum NoteOutcome {
     Stranger,
 }
 
-// Notifies the observer that has this lease, at the shard's time and the slot's serial. Writes the
-// message over `emission`.
+// Notifies the observer that has the lease `turn` with the content `told`, for `Shard::write_note`.
+//
+// `serial` is the slot's. The message is written over `emission`, which is unchanged unless the
+// result is `Sent`. The list's clock advances to `now`, whatever the result.
 pub(crate) fn note(
     watch: &mut Observers,
     now: u64,
@@ -89,7 +93,8 @@ pub(crate) fn note(
     }
 }
 
-// Ends a lease whose run has been sent to its observer in these bytes.
+// Ends a lease whose notification was written as `bytes`. After a 2.05 (Content) the observer
+// stays, with what it was sent; after any other code it is removed.
 fn end_turn(
     watch: &mut Observers,
     now: u64,
@@ -111,7 +116,8 @@ fn end_turn(
     }
 }
 
-// Notifies the observer that its slot was found empty, and removes it.
+// Notifies the observer that its slot was found empty, and removes it. The result is `Stale`, and
+// nothing changes, if the lease isn't active or its snapshot didn't find the slot empty.
 fn note_gone(watch: &mut Observers, turn: Turn, id: u16, emission: &mut Emission) -> NoteOutcome
     ensures sent { sent_of (noted_as result emission.new) ≡ note_in turn id None watch.old }
     ensures noted { IsSentOrStale (noted_as result emission.new) }
@@ -130,7 +136,8 @@ fn note_gone(watch: &mut Observers, turn: Turn, id: u16, emission: &mut Emission
     NoteOutcome::Sent
 }
 
-// Writes the notification of a run.
+// Writes the notification of a run over `emission`: the run's code, and with 2.05 (Content) or 2.04
+// (Changed) the requested block of its reply.
 fn write_run(
     observer: &Observer<'_>,
     id: u16,
@@ -156,7 +163,7 @@ fn write_run(
     emission.to = observer.endpoint;
 }
 
-// Writes the notification of a slot that was found empty.
+// Writes the notification of a slot that was found empty, a 4.04 (Not Found), over `emission`.
 fn write_gone(observer: &Observer<'_>, id: u16, emission: &mut Emission)
     ensures { emission.new ≡ note_to id observer.now.confirmable None (interest observer.now) }
 {
@@ -192,7 +199,8 @@ fn note_kind(confirmable: bool) -> MessageType
     }
 }
 
-// Returns whether the ticket is of the lease, and the outcome of the ticket.
+// Returns whether `ticket` is of the lease, `outcome` is of the ticket, and the ticket's serial
+// isn't above `serial`. `note` refuses any other run as `Stranger`.
 fn is_run_of_turn(outcome: &Outcome<'_>, ticket: &Ticket<'_>, turn: Turn, serial: u64) -> bool
     ensures own { IsTrue result ↔ IsRunOfTurn turn outcome.now ticket.now serial }
     ensures run { IsTrue result → outcome.now ≡ run_of ticket.now }

@@ -16,7 +16,7 @@ pub const REGISTER: u32 = 0;
 /// Value of the Observe option that cancels (RFC 7641, section 2).
 pub const CANCEL: u32 = 1;
 
-/// Returns whether an Observe option has this value.
+/// Returns whether an Observe option has this value; `false` if there is none.
 pub fn has_observe(value: u32, observe: Option<u32>) -> bool
     ensures { result ≡ has_observe value observe }
 {
@@ -47,7 +47,8 @@ pub(crate) fn observe(
     false
 }
 
-// Returns whether the run registers its client as an observer.
+// Returns whether the run registers its client as an observer. It does if its request has Observe 0
+// and is for the first block, and its response is 2.05 (Content).
 fn is_registration(outcome: &Outcome<'_>, ticket: &Ticket<'_>) -> bool
     requires { outcome.now ≡ run_of ticket.now }
     ensures { result ≡ is_registration ticket.now }
@@ -57,7 +58,8 @@ fn is_registration(outcome: &Outcome<'_>, ticket: &Ticket<'_>) -> bool
         && outcome.code() == Code::CONTENT.byte
 }
 
-// Registers the client. Returns whether there was room.
+// Registers the client of the ticket's request. Returns whether there was room for it; if not, no
+// entry of `watch` changes.
 fn register(watch: &mut Observers, now: u64, ticket: &Ticket<'_>) -> bool
     ensures room { result ≡ is_entered (registration ticket.now.origin.endpoint ticket.now.token.items watch.old) }
     ensures watch { watch.new ≡ observers_after
@@ -75,6 +77,7 @@ fn register(watch: &mut Observers, now: u64, ticket: &Ticket<'_>) -> bool
     is_entered(registered)
 }
 
+// Returns whether a client is registered: the list wasn't full.
 fn is_entered(registered: Registered) -> bool
     ensures { result ≡ is_entered registered }
 {
@@ -84,6 +87,7 @@ fn is_entered(registered: Registered) -> bool
     }
 }
 
+// Returns whether a request is for the first block of a response: it names block 0, or no block.
 fn is_first_block(block: Option<Block>) -> bool
     ensures { result ≡ is_first_block block }
 {
@@ -93,6 +97,7 @@ fn is_first_block(block: Option<Block>) -> bool
     }
 }
 
+// Returns the size exponent (SZX) of the block that a request names, or `None` if it names none.
 fn szx_of(block: Option<Block>) -> Option<u8>
     ensures { result ≡ szx_of block }
 {

@@ -1,4 +1,6 @@
-//! Updates to save before slots are changed.
+//! Updates that a server with a store (`fc_store`) saves before it changes a slot.
+//!
+//! No function here changes a shard.
 ghost use Rattle.std.specs.Prelude.{◌≡◌, ◌+◌, ◌<◌, ◌≤◌, None, IfSome};
 ghost use Rattle.fc_registry.specs.Calls.{WouldWrite, commit_of, install_in, remove_from};
 ghost use Rattle.fc_registry.specs.Changes.{Committed};

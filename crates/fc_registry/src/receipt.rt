@@ -17,7 +17,7 @@ pub struct Receipt {
 }
 
 impl Receipt {
-    /// Makes the receipt of a program whose install has this serial.
+    /// Makes the receipt of a program whose install has the serial `version`.
     pub fn of(program: &Verified, version: u64) -> Receipt
         ensures { result ≡ receipt_of program.now version }
     {

@@ -1,4 +1,6 @@
 //! Restoring the stored state of a slot.
+//!
+//! `Shard::restore` verifies the stored image again by these functions.
 ghost use Rattle.std.specs.Prelude.{◌≡◌, ◌↔◌, [], IsTrue, IfErr, IfOk, Some};
 ghost use Rattle.fc_verify.specs.Accepted.{Accepts};
 ghost use Rattle.fc_verify.specs.Judged.{judged};
@@ -29,7 +31,8 @@ pub enum RestoreError {
     Memory,
 }
 
-// Returns the program of a stored slot, if it has one, with its version and variables.
+// Returns the program of a stored slot with its version and variables, or `None` if it has none.
+// The image is verified again. The error is the reason why the program isn't restored.
 pub(crate) fn restored(alloc: Global, stored: &StoredSlot) -> Result<Option<Body>, RestoreError>
     ensures program { IfOk result (λ b. IsStoredProgram (present_of b) stored.now.program) }
     ensures record { IfOk result (λ b. HasRecordIf stored.now.serial (present_of b) []) }
@@ -41,7 +44,8 @@ pub(crate) fn restored(alloc: Global, stored: &StoredSlot) -> Result<Option<Body
     }
 }
 
-// Verifies a stored program.
+// Verifies the image of a stored program, and returns the program with its version and variables.
+// `serial` is that of the stored slot. The error is the reason why the program isn't restored.
 fn restored_program(
     alloc: Global,
     serial: u64,
@@ -71,7 +75,8 @@ fn restored_program(
     }
 }
 
-// Returns whether changes may leave a slot at `serial` with this state of its program.
+// Returns whether a slot at `serial` may have this program: the stored version is 1 to `serial`,
+// and the stored variables have the program's size.
 fn is_state(serial: u64, stored: &StoredProgram, program: &Verified) -> bool
     ensures { IsTrue result ↔ IsProgramState serial stored.now program.now }
 {

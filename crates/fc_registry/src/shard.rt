@@ -1,4 +1,6 @@
-//! Shards of slots.
+//! Shards of slots, each with its observers and its clock.
+//!
+//! A single-threaded server calls a shard itself, a worker while it holds the shard's lock.
 ghost use Rattle.std.specs.Prelude.{◌≡◌, ◌↔◌, IsTrue, if◌then◌else◌, ℕ, ◌/◌, ◌<◌, ◌≤◌, false, length, map, IfErr, IfOk, IfSome, OnErr, OnOk};
 ghost use Rattle.fc_registry.specs.Shards.{empty_shard};
 ghost use Rattle.fc_registry.specs.Slots.{IsOwned, slot_in, with_slot, last_serial, version_in, vars_in};
@@ -35,7 +37,7 @@ use std::alloc::{AllocError, Global};
 use std::marker::Model;
 use std::sync::Arc;
 
-// Number of slots of a shard.
+// Number of slots of a shard. A slot's place is its index in the shard's list.
 const PLACES: usize = 8;
 
 /// The slots of one shard, each with its observers.
@@ -155,9 +157,10 @@ impl Shard {
         })
     }
 
-    /// Returns whether a commit of the run would write.
+    /// Returns whether a commit of the run would write, for [`crate::plan_commit`].
     ///
-    /// It changes nothing.
+    /// It wouldn't if the run has nothing to write or isn't the ticket's. Nor would it if the slot
+    /// has changed since the snapshot or is at its last serial. Nothing changes here.
     pub fn would_write(&self, outcome: &Outcome<'_>, ticket: &Ticket<'_>) -> bool
         ensures { IsTrue result ↔ WouldWrite outcome.now ticket.now (slot_in self.entry.now ticket.now.origin.slot) }
     {
@@ -182,7 +185,7 @@ impl Shard {
     /// Takes a snapshot as `take` does, and writes it over `found`.
     ///
     /// The data is written in place, and isn't moved. If the result is a program, this program and
-    /// `found` are the ticket.
+    /// `found` are the ticket. For any other result the contract says nothing of `found`.
     pub fn take_into(&mut self, job: &Job, readings: &Readings, found: &mut SlotSnapshot) -> Taken
         requires { IsOwned self.old job.now.origin.slot }
         ensures taken { TakesAt job.now readings.now self.old (taken_with result found.new) }
@@ -220,7 +223,7 @@ impl Shard {
     /// `Stranger`. The shard's clock advances to `now`, whatever the result.
     ///
     /// The variables that a GET's run wrote are dropped, and so is its notify flag. A commit that
-    /// writes makes the new serial the noticed one if its run set the flag.
+    /// writes makes the new serial the notify serial if its run set the flag.
     ///
     /// A GET with Observe 0 registers its client as an observer if its response is 2.05 (Content),
     /// it requests the first block, and there is room. Observe 1 removes the entry, whatever the
@@ -264,8 +267,9 @@ impl Shard {
 
     /// Installs a program.
     ///
-    /// Its variables are zeros. If the previous program's are kept and have its size, it has those
-    /// instead. At the last serial nothing changes, and the result is `AtEnd`.
+    /// Its variables are zeros. If `initial` is `Kept` and the previous program's variables have
+    /// its size, it has those instead. At the last serial nothing changes, and the result is
+    /// `AtEnd`.
     pub fn install(
         &mut self,
         slot: SlotNumber,
@@ -313,7 +317,7 @@ impl Shard {
         serial_of(state)
     }
 
-    /// Returns the noticed serial of a slot of this shard.
+    /// Returns the notify serial of a slot of this shard.
     ///
     /// It is the serial of the last change that observers are notified of: an install, a removal,
     /// or a commit whose run set the notify flag. Before any, it is the first serial.
@@ -332,9 +336,10 @@ impl Shard {
         version_of(state)
     }
 
-    /// Returns the variables of the program in a slot.
+    /// Returns the variables that an install of `program` would leave in a slot.
     ///
-    /// There are no bytes if the slot is empty.
+    /// They are zeros, or with `Kept` the present ones if these have the program's size. Nothing is
+    /// installed: [`crate::plan_install`] asks for the variables to save.
     pub fn vars_installed(
         &self,
         slot: SlotNumber,
@@ -347,7 +352,7 @@ impl Shard {
         vars_installed(state, program, initial)
     }
 
-    /// Returns the variables of the program in a slot; no bytes where it is empty.
+    /// Returns the variables of the program in a slot, or no bytes if it is empty.
     pub fn vars(&self, slot: SlotNumber) -> &[u8]
         ensures { result.now ≡ vars_in (slot_in self.entry.now slot).present }
     {
@@ -391,7 +396,7 @@ impl Shard {
         next_turn(watch, self.now, notify_serial, slot, job)
     }
 
-    /// Notifies the observer that has this lease.
+    /// Notifies the observer that has this lease, with the content `told`.
     ///
     /// The notification has the message ID `id`, and the time is in milliseconds. A 2.05 (Content)
     /// response has the snapshot's serial as its sequence number, and then the lease is over. Any
@@ -451,7 +456,8 @@ impl Shard {
 
     /// Releases a lease, at a time in milliseconds.
     ///
-    /// Its observer has a pending notification again at a later time.
+    /// Its observer has a pending notification again at a later time. If the lease isn't active,
+    /// only the clock advances.
     pub fn give_up(&mut self, turn: Turn, now: u64)
         requires { IsOwned self.old turn.slot }
         ensures { self.new ≡ after_given_up turn (at_time self.old now) }
@@ -461,6 +467,8 @@ impl Shard {
     }
 
     /// Passes an Acknowledgement or a Reset message to the observers of every slot.
+    ///
+    /// It is a Reset message if `reset`. It has the message ID `id`.
     pub fn signal(&mut self, endpoint: Endpoint, id: u16, reset: bool)
         ensures { self.new ≡ signalled (signal_call reset endpoint id) self.old }
     {
@@ -470,7 +478,7 @@ impl Shard {
     /// Retransmits the first notification that has timed out, or removes its observer.
     ///
     /// Notifications are in the order of their slots, and then of their observers' registrations.
-    /// The time is in milliseconds.
+    /// The time is in milliseconds. Returns which of the two, or `Quiet` if none has timed out.
     pub fn tick(&mut self, now: u64) -> Ticked
         ensures answer { result ≡ ticked_in (overdue_place (at_time self.old now)) (at_time self.old now) }
         ensures after { self.new ≡ shard_after_tick (overdue_place (at_time self.old now)) (at_time self.old now) }
@@ -482,7 +490,7 @@ impl Shard {
         }
     }
 
-    // Returns the noticed serial of the slot at a place.
+    // Returns the notify serial of the slot at a place.
     fn noticed_at(&self, place: usize) -> u64
         requires { place < 8 }
         ensures { result ≡ noticed_at self.entry.now place }
@@ -510,8 +518,8 @@ impl Shard {
 
     /// Returns a time before which the shard stays idle, unless it is called.
     ///
-    /// Before it no notification has timed out, and no observer has a pending one. It is the
-    /// earliest time known at which this may change, in milliseconds, or 2^64 - 1 if none is known.
+    /// Before it no notification has timed out, and no observer has a pending one. It needn't be
+    /// the latest such time. It is in milliseconds; 2^64 - 1 means that neither is expected.
     pub fn idle_until(&self) -> u64
         ensures { StaysIdleUntil result self.entry.now }
     {
@@ -534,7 +542,7 @@ impl Shard {
     }
 
     // Returns whether the shard is idle at a time. If it is, looks again whether there are
-    // observers.
+    // observers: with none, later calls need not look at each place.
     fn check_idle(&mut self, now: u64) -> bool
         ensures idle { result ≡ is_idle (record self.old { now = now }) }
         ensures after { self.new ≡ self.old }
@@ -579,7 +587,8 @@ impl Shard {
         self.watches[place].is_overdue(now)
     }
 
-    // Returns the first place with an observer that has a pending notification at a time.
+    // Returns the first place with an observer that has a pending notification at a time, or
+    // `None`.
     fn due_place(&self, now: u64) -> Option<usize>
         ensures place { result ≡ due_place (record self.entry.now { now = now }) }
         ensures within { IfSome result (λ k. k < 8) }
@@ -587,7 +596,7 @@ impl Shard {
         (0..PLACES).find(|place| self.is_due_at(now, *place))
     }
 
-    // Returns the first place with a notification that has timed out at a time.
+    // Returns the first place with a notification that has timed out at a time, or `None`.
     fn overdue_place(&self, now: u64) -> Option<usize>
         ensures place { result ≡ overdue_place (record self.entry.now { now = now }) }
         ensures within { IfSome result (λ k. k < 8) }
@@ -599,7 +608,7 @@ impl Shard {
     ///
     /// Its entries are the last commits of the present program since its install, or since the slot
     /// was restored. Each begins with the variables that the one before it left. The last left the
-    /// present variables.
+    /// present variables. The call does nothing: its contract states this of every shard.
     pub fn rings_are_chains(&self)
         ensures { (n : ℕ) → IsOwned self.entry.now n → IsRecord (slot_in self.entry.now n) }
     {
@@ -609,7 +618,8 @@ impl Shard {
     /// No observer of a slot was sent a serial above the slot's.
     ///
     /// This holds after any calls in any order. The serial that an observer was last sent, by the
-    /// response to its registration or by a notification, is of no state that is yet to come.
+    /// response to its registration or by a notification, is of no state that is yet to come. The
+    /// call does nothing: its contract states this of every shard.
     pub fn no_observer_is_ahead(&self)
         ensures { (n : ℕ) → IsOwned self.entry.now n → IsSentUpTo (slot_in self.entry.now n).serial (watch_at self.entry.now (n / 8)) }
     {
@@ -629,7 +639,8 @@ fn make_watches(alloc: Global, index: u8, confirm_after: u64) -> Result<Vec<Obse
     Ok(watches)
 }
 
-// Returns whether a slot has an observer.
+// Returns whether a slot has an observer. The clause says only that none has one if the result is
+// `false`.
 fn have_observers(watches: &[Observers]) -> bool
     ensures { AreWatched result watches.now }
 {
@@ -645,6 +656,7 @@ fn signal_all(watches: &mut [Observers], endpoint: Endpoint, id: u16, reset: boo
     }
 }
 
+// Passes a Reset message (`reset`) or an Acknowledgement to the observers of a slot.
 fn signal_one(watch: &mut Observers, endpoint: Endpoint, id: u16, reset: bool)
     ensures { watch.new ≡ observers_after (signal_call reset endpoint id) watch.old }
 {

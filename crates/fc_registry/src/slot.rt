@@ -1,4 +1,6 @@
 //! Slots: the snapshots of their jobs, and the changes that they make.
+//!
+//! A shard calls these functions on one of its slots, with the slot's observers (`watch`).
 ghost use Rattle.std.specs.Prelude.{◌≡◌, ◌+◌, ◌<◌, ◌≤◌, ◌↔◌, [], ◌∷◌, true, false, length, replicate, IfErr, IfOk, IsTrue, OnErr, OnOk};
 ghost use Rattle.fc_machine.specs.Ran.{meaning_of};
 ghost use Rattle.fc_registry.specs.Slots.{new_slot, last_serial, version_in, vars_in};
@@ -43,7 +45,7 @@ pub(crate) struct SlotState {
     pub(crate) ring: Ring,
 }
 
-// Makes a slot in which nothing was installed.
+// Makes a slot in which nothing was installed, at this serial.
 pub(crate) fn empty_slot(alloc: Global, serial: u64) -> Result<SlotState, AllocError>
     ensures { IfOk result (λ s. as_seen s ≡ new_slot serial) }
 {
@@ -62,14 +64,14 @@ pub(crate) fn serial_of(slot: &SlotState) -> u64
     slot.serial
 }
 
-// Returns the serial of its last change that observers are notified of.
+// Returns a slot's notify serial: that of its last change that observers are notified of.
 pub(crate) fn noticed_of(slot: &SlotState) -> u64
     ensures { result ≡ (as_seen slot.now).notify_serial }
 {
     slot.notify_serial
 }
 
-// Returns the version of its program, or `None` if it is empty.
+// Returns the version of a slot's program, or `None` if the slot is empty.
 pub(crate) fn version_of(slot: &SlotState) -> Option<u64>
     ensures { result ≡ version_in (as_seen slot.now).present }
 {
@@ -79,7 +81,7 @@ pub(crate) fn version_of(slot: &SlotState) -> Option<u64>
     }
 }
 
-// Returns the variables of its program, or no bytes if it is empty.
+// Returns the variables of a slot's program, or no bytes if the slot is empty.
 pub(crate) fn vars_of(slot: &SlotState) -> &[u8]
     ensures { result.now ≡ vars_in (as_seen slot.now).present }
 {
@@ -89,7 +91,9 @@ pub(crate) fn vars_of(slot: &SlotState) -> &[u8]
     }
 }
 
-// Takes the snapshot of a lease, at its shard's time.
+// Takes the snapshot of the lease `turn`, for `Shard::take_into`, at the shard's time. The result
+// is `Stale` if the lease isn't active; if it is and the slot is empty, the lease records that. See
+// `find` for the other results.
 pub(crate) fn take_turn(
     watch: &mut Observers,
     now: u64,
@@ -113,7 +117,9 @@ pub(crate) fn take_turn(
     find(job, readings, slot, found)
 }
 
-// Takes a job's snapshot of a slot, and writes it over an earlier one.
+// Takes a job's snapshot of a slot, and writes it over an earlier one, `found`. The result is
+// `Missing` if the slot is empty, and `Refused` if memory for a handle of its program can't be
+// allocated.
 pub(crate) fn find(
     job: &Job,
     readings: &Readings,
@@ -135,7 +141,8 @@ pub(crate) fn find(
     }
 }
 
-// Returns the variables that the install of a program leaves in a slot.
+// Returns the variables that the install of a program leaves in a slot. They are zeros, or with
+// `Kept` the present ones if these have the program's size.
 pub(crate) fn vars_installed<'a>(
     slot: &'a SlotState,
     program: &Verified,
@@ -162,7 +169,7 @@ fn zeros(program: &Verified) -> &'static [u8]
     &ZEROS[..usize::from(program.vars_size())]
 }
 
-// Installs a program in a slot.
+// Installs a program in a slot. At the last serial nothing changes, and the result is `AtEnd`.
 pub(crate) fn install(slot: &mut SlotState, program: Arc<Verified>, initial: InitialVars) -> Made
     ensures answer { result ≡ (install_in (as_seen slot.old) program.value initial).answer }
     ensures slot { let old = as_seen slot.old in
@@ -194,7 +201,8 @@ fn put(slot: &mut SlotState, serial: u64, body: Option<Body>)
     slot.body = body;
 }
 
-// Puts the stored state of a slot in its place. That never lowers its serial.
+// Sets a slot to its stored state, with an empty ring. The error is the reason why it isn't; then
+// the slot is unchanged. The slot's serial never falls.
 pub(crate) fn restore(
     slot: &mut SlotState,
     alloc: Global,
@@ -214,7 +222,8 @@ pub(crate) fn restore(
     Ok(())
 }
 
-// Removes the program of a slot.
+// Removes the program of a slot. Nothing changes if the slot is empty (`Absent`) or at its last
+// serial (`AtEnd`).
 pub(crate) fn clear(slot: &mut SlotState) -> Removal
     ensures answer { result ≡ (remove_from (as_seen slot.old)).answer }
     ensures slot { as_seen slot.new ≡ after_changes (as_seen slot.old) (remove_from (as_seen slot.old)).changes }
@@ -230,7 +239,7 @@ pub(crate) fn clear(slot: &mut SlotState) -> Removal
     Removal::Removed { serial }
 }
 
-// Returns the receipt of the program in a slot.
+// Returns the receipt of the program in a slot, or `None` if the slot is empty.
 pub(crate) fn receipt_in(slot: &SlotState) -> Option<Receipt>
     ensures { result ≡ receipt_at (as_seen slot.now).present }
 {
@@ -241,7 +250,7 @@ pub(crate) fn receipt_in(slot: &SlotState) -> Option<Receipt>
 }
 
 // Returns whether the ticket is of no lease, the outcome is of its program, request, variables and
-// readings, and its serial isn't above the slot's.
+// readings, and its serial isn't above the slot's. A commit of any other is `Stranger`.
 fn is_own(outcome: &Outcome<'_>, ticket: &Ticket<'_>, slot: &SlotState) -> bool
     ensures own { IsTrue result ↔ IsOwn outcome.now ticket.now (as_seen slot.now) }
     ensures run { IsTrue result → outcome.now ≡ run_of ticket.now }
@@ -249,7 +258,7 @@ fn is_own(outcome: &Outcome<'_>, ticket: &Ticket<'_>, slot: &SlotState) -> bool
     ticket.turn().is_none() && is_run_of(outcome, ticket, slot.serial)
 }
 
-// Returns whether the run answered a POST with a code of class 2.
+// Returns whether the run has variables to write: it answered a POST with a code of class 2.
 fn wants(outcome: &Outcome<'_>) -> bool
     ensures { result ≡ wants_by outcome.now }
 {
@@ -263,7 +272,8 @@ fn is_post(method: Method) -> bool
     method == Method::Post
 }
 
-// Returns whether nothing has changed since the ticket's snapshot.
+// Returns whether the slot still has the serial, the program, its version and the variables that
+// the ticket's snapshot found.
 fn is_current(ticket: &Ticket<'_>, slot: &SlotState) -> bool
     ensures { IsTrue result ↔ IsCurrent ticket.now (as_seen slot.now) }
 {
@@ -295,7 +305,8 @@ fn outcome_of(outcome: &Outcome<'_>, ticket: &Ticket<'_>, slot: &SlotState) -> C
     }
 }
 
-// Commits to a slot and its observers, at the shard's time.
+// Commits a run to its slot, for `Shard::commit`. A run that has nothing to write may register or
+// remove its client as an observer, at the shard's time. Only `Done` changes anything.
 pub(crate) fn committed(
     slot: &mut SlotState,
     watch: &mut Observers,
@@ -327,7 +338,8 @@ pub(crate) fn would_write(outcome: &Outcome<'_>, ticket: &Ticket<'_>, slot: &Slo
         && matches!(outcome_of(outcome, ticket, slot), CommitOutcome::Writes)
 }
 
-// Leaves a slot unchanged, and registers or removes the client of its run.
+// Commits a run that has nothing to write: registers or removes its client as an observer if the
+// request asks for that. Returns the mark.
 fn keep(
     slot: &SlotState,
     watch: &mut Observers,
@@ -343,7 +355,8 @@ fn keep(
     mark(ticket, slot.serial, false, observed)
 }
 
-// Writes the variables that a run left to its slot, and adds the commit to the ring.
+// Writes the variables that a run left to its slot, at the next serial, and adds the commit to the
+// ring. If the run set the notify flag, the new serial is the notify serial. Returns the mark.
 fn write(slot: &mut SlotState, outcome: &Outcome<'_>, ticket: &Ticket<'_>) -> Mark
     requires own { IsOwn outcome.now ticket.now (as_seen slot.old) }
     requires current { IsCurrent ticket.now (as_seen slot.old) }

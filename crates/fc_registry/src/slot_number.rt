@@ -54,7 +54,7 @@ impl SlotNumber {
         usize::from(self.number % SHARDS)
     }
 
-    /// Returns its place among the slots of that shard.
+    /// Returns the slot's place among the slots of its shard.
     pub fn place(self) -> usize
         ensures place { result ≡ self / 8 }
         ensures limit { result < 8 }

@@ -101,7 +101,8 @@ fn copy_token(token: &Token) -> Token
     copy
 }
 
-// Writes the request that a job asks a program to answer over another.
+// Writes the request that a job asks a program to answer over `request`. For a job that runs no
+// program it is an empty GET of slot 0.
 fn write_request(ask: &Ask, request: &mut Request)
     ensures { request.new ≡ request_of ask.now }
 {
@@ -167,7 +168,7 @@ impl<'a> Ticket<'a> {
         &found.request
     }
 
-    /// Returns the block of the response that the job's request asks for.
+    /// Returns the block of the response that the request asks for, or `None`.
     pub fn block(&self) -> Option<Block>
         ensures { result ≡ self.now.block }
     {
@@ -183,7 +184,7 @@ impl<'a> Ticket<'a> {
         &found.token
     }
 
-    /// Returns the value of its Observe option, if it had one.
+    /// Returns the value of the request's Observe option, or `None` if it had none.
     pub fn observe(&self) -> Option<u32>
         ensures { result ≡ self.now.observe }
     {
@@ -206,7 +207,7 @@ impl<'a> Ticket<'a> {
         self.program
     }
 
-    // Returns its version.
+    // Returns the version of the program that was found.
     pub(crate) fn version(&self) -> u64
         ensures { result ≡ self.now.found.version }
     {
@@ -233,7 +234,8 @@ impl<'a> Ticket<'a> {
 }
 
 // Returns whether an outcome is of a ticket's program, request, variables and readings, and the
-// ticket's serial isn't above `serial`.
+// ticket's serial isn't above `serial`, the slot's. A commit or a notification of any other is
+// `Stranger`.
 pub(crate) fn is_run_of(outcome: &Outcome<'_>, ticket: &Ticket<'_>, serial: u64) -> bool
     ensures of { IsTrue result ↔ IsRunOf outcome.now ticket.now serial }
     ensures run { IsTrue result → outcome.now ≡ run_of ticket.now }

@@ -1,4 +1,4 @@
-//! Notification leases of observers, as jobs.
+//! Notification leases of observers, as jobs, for `Shard::write_due`.
 ghost use Rattle.std.specs.Prelude.{◌≡◌, false};
 ghost use Rattle.fc_observe.specs.Calls.{NextDue, observers_after};
 ghost use Rattle.fc_observe.specs.Views.{interest};
@@ -13,8 +13,9 @@ use coap_opts::Block;
 use fc_help::Request;
 use fc_observe::{Observer, Observers};
 
-// Grants a lease to the first observer of a slot that has a pending notification about this noticed
-// serial. Writes its job over `job`. Returns whether a lease was granted.
+// Grants a lease to the first observer of a slot that has a pending notification about this notify
+// serial. Writes its job over `job`. Returns whether a lease was granted; if not, `job` is
+// unchanged.
 pub(crate) fn next_turn(
     watch: &mut Observers,
     now: u64,
@@ -78,7 +79,7 @@ fn write_token(token: &Token, over: &mut Token)
     let _fits = over.try_extend_from_slice(token.as_slice());
 }
 
-// Sets the job's action to answering this request.
+// Sets a job's action to answering this request, which is written over an earlier one if there is.
 fn ask_anew(request: &Request, ask: &mut Ask)
     ensures { ask.new ≡ Run request.now }
 {
@@ -94,7 +95,8 @@ fn ask_anew(request: &Request, ask: &mut Ask)
     }
 }
 
-// Returns the first block of the size with this exponent, of which three bits count.
+// Returns the first block of the size with this exponent (SZX), of which three bits count. There is
+// no block without an exponent.
 fn first_block(szx: Option<u8>) -> Option<Block>
     ensures { result ≡ first_block szx }
 {

@@ -1,4 +1,7 @@
-//! Events as lines of text: a name, and its parts as `name=value`, in any order.
+//! Events as lines of text: a name, and its parts as `key=value`, in any order.
+//!
+//! [`crate::replay::replay`] reads lists of them. The clauses say what a line that is read means.
+//! They don't say which lines give `None`.
 ghost use Rattle.std.specs.List.{slice_split};
 ghost use Rattle.std.specs.Prelude.{◌≡◌, ◌==◌, ◌≤◌, ◌++◌, ◌∷◌, ◌^◌, length, codes, IfOk, IfSome};
 ghost use Rattle.fc_registry.specs.Slots.{last_serial};
@@ -40,8 +43,8 @@ impl<'a> ListedEvent<'a> {
     /// Reads a line, whose words are separated by single spaces.
     ///
     /// # Errors
-    /// Returns that the line is no event, that its data aren't hex digits, or that memory couldn't
-    /// be allocated.
+    /// Returns `Bad` if the line is no event or its data aren't hex digits, and `NoMemory` if
+    /// memory can't be allocated.
     pub fn read(alloc: Global, line: &'a [u8]) -> Result<ListedEvent<'a>, LineError>
         ensures { IfOk result (λ l. l.words ≡ line_words line.now) }
     {
@@ -54,7 +57,7 @@ impl<'a> ListedEvent<'a> {
         Ok(listed)
     }
 
-    /// Parses the event of the line, if it is one.
+    /// Returns the event of the line, or `None` if the line is none.
     pub fn event(&self) -> Option<Event<'_>>
         ensures { IfSome result (AreOfEvent self.now.words) }
     {
@@ -90,6 +93,7 @@ pub fn begin_in(alloc: Global, line: &[u8]) -> Result<Option<Begin>, AllocError>
     }
 }
 
+// Returns the initial state of a line's words, or `None` if they are none. See `begin_in`.
 fn begin_of(alloc: Global, words: &[&str]) -> Result<Option<Begin>, AllocError>
     ensures { IfOk result (λ found. IfSome found (SaysBegin (texts words.now))) }
 {
@@ -102,7 +106,8 @@ fn begin_of(alloc: Global, words: &[&str]) -> Result<Option<Begin>, AllocError>
     }
 }
 
-// Returns the initial state from two of the parts, with this policy.
+// Returns the initial state from two of the parts, with this policy. It is `None` if the name isn't
+// `Begin` or one of the two is missing or malformed.
 fn begin_with(name: &str, parts: &[&str], policy: Policy) -> Option<Begin>
     requires { HasPolicy (texts parts.now) policy }
     ensures { IfSome result (IsBeginOf name.now (texts parts.now)) }
@@ -118,7 +123,7 @@ fn begin_with(name: &str, parts: &[&str], policy: Policy) -> Option<Begin>
 }
 
 // Returns the policy: the default if there are two parts, and that of the other three or four if
-// there are five or six.
+// there are five or six. It is `None` for any other parts.
 fn policy_of(alloc: Global, parts: &[&str]) -> Result<Option<Policy>, AllocError>
     ensures { IfOk result (λ found. IfSome found (HasPolicy (texts parts.now))) }
 {
@@ -132,7 +137,7 @@ fn policy_of(alloc: Global, parts: &[&str]) -> Result<Option<Policy>, AllocError
 }
 
 // Returns the seconds after which a notification is confirmable: the default if there are five
-// parts, and the sixth part's if there are six.
+// parts, and the sixth part's if there are six. They are `None` for any other parts.
 fn seconds(parts: &[&str]) -> Option<u64>
     ensures { IfSome result (HasSeconds (texts parts.now)) }
 {
@@ -143,7 +148,8 @@ fn seconds(parts: &[&str]) -> Option<u64>
     }
 }
 
-// Returns the policy of three of five parts, or of four of six.
+// Returns the policy of three of five parts, or of four of six, with these seconds, or `None` if
+// the parts give none.
 fn policy_said(alloc: Global, parts: &[&str], seconds: u64) -> Result<Option<Policy>, AllocError>
     requires { HasSeconds (texts parts.now) seconds }
     ensures { IfOk result (λ found. IfSome found (SaysPolicy (texts parts.now))) }
@@ -155,7 +161,7 @@ fn policy_said(alloc: Global, parts: &[&str], seconds: u64) -> Result<Option<Pol
     Ok(policy_with(parts, list, &networks, seconds))
 }
 
-// Returns the parts of a list, which are separated by single commas.
+// Returns the networks in `list`, the value of `managers=`, which are separated by single commas.
 fn between_commas(alloc: Global, list: &str) -> Result<Vec<&str>, AllocError>
     ensures { IfOk result (λ v. texts v.items ≡ slice_split (λ b. b == comma) list.now) }
 {
@@ -165,7 +171,8 @@ fn between_commas(alloc: Global, list: &str) -> Result<Vec<&str>, AllocError>
     }
 }
 
-// Returns the policy with the networks of a list and the limits of two of the parts.
+// Returns the policy with these networks and seconds and the limits of two of the parts. It is
+// `None` if the parts are missing or a policy can't have these values.
 fn policy_with(parts: &[&str], list: &str, networks: &[&str], seconds: u64) -> Option<Policy>
     requires networks { texts networks.now ≡ slice_split (λ b. b == comma) list.now }
     requires seconds { HasSeconds (texts parts.now) seconds }
@@ -176,7 +183,7 @@ fn policy_with(parts: &[&str], list: &str, networks: &[&str], seconds: u64) -> O
     policy(networks, exchanges, share, seconds)
 }
 
-// Returns a serial that slots may begin with.
+// Returns the number of the part `serial=N` if slots may begin with that serial, or `None`.
 fn serial(parts: &[&str]) -> Option<u64>
     ensures { IfSome result (λ n. HasNumber (texts parts.now) (codes "serial") (2 ^ 64) n × (n ≤ last_serial)) }
 {
@@ -188,7 +195,8 @@ fn serial(parts: &[&str]) -> Option<u64>
     }
 }
 
-// Returns the words of a line, which are separated by single spaces.
+// Returns the words of a line, which are separated by single spaces. The error is `Bad` if the line
+// isn't UTF-8.
 fn words(alloc: Global, line: &[u8]) -> Result<Vec<&str>, LineError>
     ensures { IfOk result (λ v. texts v.items ≡ line_words line.now) }
 {
@@ -201,7 +209,8 @@ fn words(alloc: Global, line: &[u8]) -> Result<Vec<&str>, LineError>
     }
 }
 
-// Returns the datagram of a line's words; `None` if none of them is `data=hex`.
+// Returns the datagram of a line's words, or `None` if none of them is `data=..`. The error is
+// `Bad` if that part isn't hex digits.
 fn datagram(alloc: Global, words: &[&str]) -> Result<Option<Vec<u8>>, LineError>
     ensures { IfOk result (λ found. IfSome found (λ v. HasData (texts words.now) v.items)) }
 {
@@ -211,44 +220,49 @@ fn datagram(alloc: Global, words: &[&str]) -> Result<Option<Vec<u8>>, LineError>
     }
 }
 
-// Returns the value of the part with this name.
+// Returns the value of the first part `key=value`, or `None` if there is none.
 fn value<'a>(parts: &[&'a str], key: &str) -> Option<&'a str>
     ensures { IfSome result (λ value. HasPart (texts parts.now) key.now value.now) }
 {
     parts.iter().copied().find_map(|part| value_of(part, key))
 }
 
-// Returns the text after `key=`.
+// Returns the text after `key=` if the part begins so, or `None`.
 fn value_of<'a>(part: &'a str, key: &str) -> Option<&'a str>
     ensures { IfSome result (λ value. part.now ≡ key.now ++ (equals ∷ value.now)) }
 {
     part.strip_prefix(key)?.strip_prefix("=")
 }
 
+// Returns the number of the part `key=N`, below 2^64, or `None`.
 fn long(parts: &[&str], key: &str) -> Option<u64>
     ensures { IfSome result (HasNumber (texts parts.now) key.now (2 ^ 64)) }
 {
     number(value(parts, key)?.as_bytes())
 }
 
+// Returns the number of the part `key=N`, such as a job's, or `None`.
 fn index(parts: &[&str], key: &str) -> Option<usize>
     ensures { IfSome result (HasNumber (texts parts.now) key.now (2 ^ 64)) }
 {
     usize::try_from(long(parts, key)?).ok()
 }
 
+// Returns the number of the part `key=N`, below 65,536, or `None`.
 fn short(parts: &[&str], key: &str) -> Option<u16>
     ensures { IfSome result (HasNumber (texts parts.now) key.now 65536) }
 {
     u16::try_from(long(parts, key)?).ok()
 }
 
+// Returns the number of the part `key=N`, below 256, or `None`.
 fn octet(parts: &[&str], key: &str) -> Option<u8>
     ensures { IfSome result (HasNumber (texts parts.now) key.now 256) }
 {
     byte(value(parts, key)?.as_bytes())
 }
 
+// Returns the flag of the part `key=0` or `key=1`, or `None`.
 fn flag(parts: &[&str], key: &str) -> Option<bool>
     ensures { IfSome result (HasFlag (texts parts.now) key.now) }
 {
@@ -259,13 +273,14 @@ fn flag(parts: &[&str], key: &str) -> Option<bool>
     }
 }
 
+// Returns the endpoint of the peer in the part `ep=N`, or `None`.
 fn peer(parts: &[&str]) -> Option<Endpoint>
     ensures { IfSome result (HasEndpoint (texts parts.now)) }
 {
     Some(endpoint(octet(parts, "ep")?))
 }
 
-// Returns an event with one part.
+// Returns the event with this name and one part, or `None`.
 fn with_one<'a>(name: &str, parts: &[&str]) -> Option<Event<'a>>
     requires { length parts.now ≡ 1 }
     ensures { IfSome result (IsEventOf name.now (texts parts.now)) }
@@ -290,7 +305,7 @@ fn with_one<'a>(name: &str, parts: &[&str]) -> Option<Event<'a>>
     }
 }
 
-// Returns an event with two parts.
+// Returns the event with this name and two parts, or `None`.
 fn with_two<'a>(name: &str, parts: &[&str]) -> Option<Event<'a>>
     requires { length parts.now ≡ 2 }
     ensures { IfSome result (IsEventOf name.now (texts parts.now)) }
@@ -308,7 +323,7 @@ fn with_two<'a>(name: &str, parts: &[&str]) -> Option<Event<'a>>
     }
 }
 
-// Returns an event with a job and one more part.
+// Returns the event with this name, a job and one more part, or `None`.
 fn of_job<'a>(name: &str, parts: &[&str], job: usize) -> Option<Event<'a>>
     requires count { length parts.now ≡ 2 }
     requires job { HasNumber (texts parts.now) (codes "job") (2 ^ 64) job }
@@ -348,7 +363,7 @@ fn of_job<'a>(name: &str, parts: &[&str], job: usize) -> Option<Event<'a>>
     }
 }
 
-// Returns an event with three parts.
+// Returns the event with this name and three parts, one of which may be `datagram`, or `None`.
 fn with_three<'a>(name: &str, parts: &[&str], datagram: &'a Option<Vec<u8>>) -> Option<Event<'a>>
     requires count { length parts.now ≡ 3 }
     requires datagram { IfSome datagram.now (λ v. HasData (name.now ∷ texts parts.now) v.items) }
@@ -377,7 +392,7 @@ fn with_three<'a>(name: &str, parts: &[&str], datagram: &'a Option<Vec<u8>>) -> 
     }
 }
 
-// Returns an event with four parts.
+// Returns the event with this name and four parts, or `None`.
 fn with_four<'a>(name: &str, parts: &[&str]) -> Option<Event<'a>>
     requires { length parts.now ≡ 4 }
     ensures { IfSome result (IsEventOf name.now (texts parts.now)) }

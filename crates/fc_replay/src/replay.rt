@@ -44,6 +44,8 @@ pub fn replay<R: Read, W: Write, E: Write>(
     }
 }
 
+// Replays the list in `input`, and prints the results to `out`. The error is the reason why that
+// stopped.
 fn replay_list<R: Read, W: Write>(alloc: Global, input: &mut R, out: &mut W) -> Result<(), Stop>
     ensures { OnOk result (IsReplayed (R.remaining input.old) (W.contents out.old) (W.contents out.new)) }
 {
@@ -58,7 +60,8 @@ fn replay_list<R: Read, W: Write>(alloc: Global, input: &mut R, out: &mut W) -> 
     Ok(())
 }
 
-// Returns the initial state of a text's server, and the text of its events.
+// Returns the initial state of a text's server, and the text of its events. Without a first line
+// `Begin` the state is the default one.
 fn begun(alloc: Global, text: &[u8]) -> Result<(Begin, &[u8]), AllocError>
     ensures begun { IfOk result (λ r. HasBeginning text.now r.0 r.1.now) }
     ensures can_begin { IfOk result (λ r. CanBegin r.0) }
@@ -80,7 +83,7 @@ fn first_line(text: &[u8]) -> (&[u8], &[u8])
     }
 }
 
-// Returns all bytes of a reader.
+// Returns all bytes of a reader. The error is that of the reader.
 fn read_text<R: Read>(alloc: Global, input: &mut R) -> Result<Vec<u8>, Stop>
     ensures { IfOk result (λ text. IfSome (R.remaining input.old) (λ bytes. text.items ≡ bytes)) }
 {
@@ -91,7 +94,7 @@ fn read_text<R: Read>(alloc: Global, input: &mut R) -> Result<Vec<u8>, Stop>
     }
 }
 
-// Returns the list of a text, whose last line may end with a line feed or not.
+// Returns the list of a text: the text without the line feed of its last line, if it has one.
 fn list_of(text: &[u8]) -> &[u8]
     ensures { IsText text.now result.now }
 {
@@ -101,7 +104,8 @@ fn list_of(text: &[u8]) -> &[u8]
     }
 }
 
-// Replays a list that follows `before` lines.
+// Replays a list that follows `before` lines, and prints the results. If a line is bad, the error
+// has its number, and nothing is executed.
 fn replay_lines<W: Write>(
     alloc: Global,
     begin: &Begin,
@@ -130,7 +134,8 @@ fn print_emissions<W: Write>(out: &mut W, emissions: &[Option<Emission>]) -> Res
     Ok(())
 }
 
-// Returns the lines of a list, each of which is an event. They follow `before` lines.
+// Returns the lines of a list, each of which is an event. They follow `before` lines. The error is
+// the number of the first line that is none, or that memory can't be allocated.
 fn lines(alloc: Global, list: &[u8], before: u64) -> Result<Vec<ListedEvent<'_>>, Stop>
     ensures { IfOk result (λ v. map (λ l. l.words) v.items ≡ map line_words (listed_lines list.now)) }
 {
@@ -147,7 +152,7 @@ fn lines(alloc: Global, list: &[u8], before: u64) -> Result<Vec<ListedEvent<'_>>
     Ok(lines)
 }
 
-// Returns the event of each line. The lines follow `before` others.
+// Returns the event of each line. The lines follow `before` others. See `lines` for the error.
 fn events<'a>(
     alloc: Global,
     lines: &'a [ListedEvent<'_>],

@@ -76,7 +76,8 @@ impl SingleThread {
     /// Handles a datagram as [`Ingress::handle`] does, and shows its job to a witness.
     ///
     /// The job is shown once, after its answer, with the response to send, if there is one. If the
-    /// datagram produces no job, the witness doesn't change.
+    /// datagram produces no job, the witness doesn't change. `fc_record` passes a witness that
+    /// records changes.
     pub fn handle_with<W: Witness>(
         &mut self,
         now: u64,

@@ -1,4 +1,6 @@
 //! A server on one thread, which runs the job of each datagram to its response.
+//!
+//! [`crate::SingleThread`] calls it for the drivers of a server.
 ghost use Rattle.std.specs.Prelude.{◌≡◌, ℕ, ◌<◌, ◌≤◌, List, [], false, true, None, is_some, max, IfOk, MatchBool};
 ghost use Rattle.arrayvec.specs.ArrayVec.{ArrayVec};
 ghost use Rattle.coap_msg.specs.declared.types.Emission.{Emission as Emitted};
@@ -65,7 +67,8 @@ impl Engine {
     /// Handles a datagram from `endpoint` and runs the job that it produces.
     ///
     /// `now` is in milliseconds. The job's snapshot gets `readings`. The result is `true` if there
-    /// is a datagram to send, which is written over `reply`.
+    /// is a datagram to send, which is written over `reply`. Otherwise the contract says nothing of
+    /// `reply`.
     ///
     /// The effect of a call is a list of events. Each history that leaves the server in its state
     /// before the call is continued legally by these events, and then leaves it in its state after
@@ -213,7 +216,7 @@ pub enum NotifyOutcome {
     Nobody,
 }
 
-// Passes a signal to each shard.
+// Passes an acknowledgement or a reset (`reset`) to each shard, for the shard's observers.
 fn signal(server: &mut Server, endpoint: Endpoint, id: u16, reset: bool)
     requires { IsReachable server.old }
     ensures { IsSignalled endpoint id reset server.old server.new }
@@ -223,7 +226,8 @@ fn signal(server: &mut Server, endpoint: Endpoint, id: u16, reset: bool)
     }
 }
 
-// Runs a lease that a shard has just granted. The datagram to send is written over `emission`.
+// Runs a lease that a shard has just granted, and releases it unless its notification has ended it.
+// The datagram to send, if there is one, is written over `emission`.
 fn tell(
     server: &mut Server,
     now: u64,
@@ -266,7 +270,8 @@ fn told(sent: bool, starved: bool) -> NotifyOutcome
 }
 
 // Runs the job that the front has just produced, by its first stage. Returns whether there is a
-// datagram to send.
+// datagram to send, which is written over `reply`. So does each of the functions below, one for
+// each first stage.
 fn work_off(
     server: &mut Server,
     alloc: Global,
@@ -291,6 +296,8 @@ fn work_off(
     }
 }
 
+// Runs a job that has ETags: answers it by its slot's head word if that matches one of them, and
+// otherwise runs the program.
 fn look_and_run(
     server: &mut Server,
     now: u64,
@@ -307,6 +314,8 @@ fn look_and_run(
     run(server, now, task, readings, reply)
 }
 
+// Runs the program of a job's slot, and answers the job. An event that the job's stage doesn't need
+// has no effect.
 fn run(
     server: &mut Server,
     now: u64,
@@ -324,6 +333,7 @@ fn run(
     server.respond(now, task, reply)
 }
 
+// Installs the program of a job's image, and answers the job.
 fn install(
     server: &mut Server,
     alloc: Global,
@@ -340,6 +350,7 @@ fn install(
     server.respond(now, task, reply)
 }
 
+// Removes the program of a job's slot, and answers the job.
 fn remove(server: &mut Server, now: u64, task: &mut Task, reply: &mut Emission) -> bool
     requires { IsBegun server.old task.old }
     ensures works { WorksOffUnread Stage.ToRemove now server.old task.old server.new (emission_if result reply.new) }
@@ -350,6 +361,7 @@ fn remove(server: &mut Server, now: u64, task: &mut Task, reply: &mut Emission) 
     server.respond(now, task, reply)
 }
 
+// Answers a job with the receipt of the program in its slot.
 fn describe(server: &mut Server, now: u64, task: &mut Task, reply: &mut Emission) -> bool
     requires { IsBegun server.old task.old }
     ensures works { WorksOffUnread Stage.ToDescribe now server.old task.old server.new (emission_if result reply.new) }
@@ -359,6 +371,7 @@ fn describe(server: &mut Server, now: u64, task: &mut Task, reply: &mut Emission
     server.respond(now, task, reply)
 }
 
+// Answers a job with the links to the slots that have a program, by their head words.
 fn discover(server: &mut Server, now: u64, task: &mut Task, reply: &mut Emission) -> bool
     requires { IsBegun server.old task.old }
     ensures works { (seen : ArrayVec ℕ) → WorksOffUnread (Stage.ToList seen) now server.old task.old server.new (emission_if result reply.new) }

@@ -1,4 +1,7 @@
 //! The work after a datagram or a tick: retransmissions and notifications.
+//!
+//! A driver of an [`Ingress`] (`fc_service`, or the C library) takes its steps until the end, and
+//! sends what they write.
 ghost use Rattle.std.specs.Prelude.{◌≡◌, ◌+◌, ◌<◌, ◌≤◌, ◌↔◌, [], false, true, IsTrue, List};
 ghost use Rattle.coap_msg.specs.declared.types.Emission.{Emission as Emitted};
 ghost use Rattle.fc_core.specs.Legal.{resent};
@@ -75,7 +78,8 @@ impl Flushing {
     }
 
     // Retransmits the first notification of the shard that has timed out, or goes on to its
-    // observers. Retransmissions are rare, so no memory is set aside for one unless it is needed.
+    // observers. Returns whether a datagram was written over `emission`. Retransmissions are rare,
+    // so no memory is set aside for one unless it is needed.
     #[inline(never)]
     fn resend<N: Ingress>(&mut self, ingress: &mut N, now: u64, emission: &mut Emission) -> bool
         requires shard { self.old.shard < 8 }
@@ -88,7 +92,8 @@ impl Flushing {
     }
 
     // Notifies the first observer of the shard that has a pending notification, or goes on to the
-    // next shard. If no message ID is available, goes to the end.
+    // next shard. If no message ID is available, goes to the end. Returns whether a datagram was
+    // written over `emission`.
     fn notify<N: Ingress>(&mut self, ingress: &mut N, now: u64, emission: &mut Emission) -> bool
         requires shard { self.old.shard < 8 }
         requires due { self.old.notifies ≡ true }
@@ -152,6 +157,7 @@ impl Flushing {
         }
     }
 
+    // Goes to the end: nothing is left at this time.
     fn end(&mut self)
         ensures shard { self.new.shard ≡ 8 }
         ensures overdue { self.new.notifies ≡ false }
@@ -163,7 +169,8 @@ impl Flushing {
 
 /// Returns the earliest of the times until which the eight shards are idle.
 ///
-/// The result is in milliseconds; it is `u64::MAX` if the shards return no earlier time.
+/// A driver may wait for a datagram until then. The result is in milliseconds; it is `u64::MAX` if
+/// the shards return no earlier time.
 pub fn idle_until<N: Ingress>(ingress: &N) -> u64
     ensures { AreIdleUntil (λ shard until. N.calls.stays_idle shard ingress.now until) result }
 {

@@ -32,7 +32,8 @@ pub trait Ingress {
 
     /// Advances a shard, 0 to 7, to `now`, and returns its retransmission.
     ///
-    /// `now` is in milliseconds.
+    /// `now` is in milliseconds. If there is none, the result is that an observer was removed, or
+    /// that no notification has timed out.
     fn resend(&mut self, shard: u8, now: u64) -> Ticked
         ensures { calls.resends shard now self.old self.new result };
 
@@ -60,7 +61,7 @@ pub trait Ingress {
         ensures { calls.notifies shard now self.old self.new (notified_as result emission.new) };
 }
 
-/// Returns whether the written datagram is to be sent.
+/// Returns whether the datagram that [`Ingress::handle`] wrote is to be sent.
 pub fn is_reply(handled: Handled) -> bool
     ensures { result ≡ is_reply handled }
 {

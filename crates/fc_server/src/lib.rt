@@ -3,8 +3,8 @@
 //! - [`Server`] consists of them. Each of its calls applies one event to a task, as the stages of
 //!   jobs define.
 //! - [`Engine`] runs the job of each datagram to its response.
-//! - [`SingleThread`] is an engine with the input for its jobs. It implements [`Ingress`], the trait of
-//!   servers that handle datagrams.
+//! - [`SingleThread`] is an engine with the input for its jobs. It implements [`Ingress`], the
+//!   trait of servers that handle datagrams.
 //! - [`flush::Flushing`] takes the remaining steps at one time, for any ingress.
 //!
 //! ```rust

@@ -1,4 +1,7 @@
 //! The front, the shards and the machine, with one call for each event.
+//!
+//! The engine and `fc_world` make the calls. A call for a task has no effect if the task's stage
+//! doesn't need its event; `Lose` ends any task.
 ghost use Rattle.std.specs.Prelude.{◌≡◌, ℕ, List, ◌<◌, ◌≤◌, if◌then◌else◌, [], false, length, slice_set, IfOk, OnOk};
 ghost use Rattle.fc_registry.specs.Shards.{first_shards, shard_at};
 ghost use Rattle.fc_registry.specs.Turns.{written_if};
@@ -173,7 +176,7 @@ impl Server {
 
     /// Applies an event to the task of its job, and returns the datagram to send.
     ///
-    /// An event that names no job has no effect on the task.
+    /// Returns `None` if there is nothing to send. An event that names no job has no effect.
     ///
     /// # Errors
     /// Returns `AllocError` if the event assumes that memory can be allocated, and it can't be.
@@ -267,7 +270,7 @@ impl Server {
 
     /// Applies `Take`: takes a snapshot of a task's slot with these readings.
     ///
-    /// Returns whether memory could be allocated.
+    /// Returns whether memory could be allocated. See [`Task::take`].
     pub fn take(&mut self, readings: &Readings, task: &mut Task) -> bool
         requires { AtWork self.old task.old }
         ensures { (k : ℕ) → Does (Event.Take k result readings.now) self.old task.old self.new task.new None }
@@ -276,7 +279,7 @@ impl Server {
     }
 
     // Takes a snapshot of a task's slot with these readings. If `memory` is false, records that
-    // memory couldn't be allocated.
+    // memory couldn't be allocated. The error is that it couldn't be although `memory` is true.
     fn take_if(
         &mut self,
         memory: bool,
@@ -310,7 +313,7 @@ impl Server {
 
     /// Applies `Install`: verifies a task's image and installs the program.
     ///
-    /// Returns whether memory could be allocated.
+    /// Returns whether memory could be allocated. See [`Task::install`].
     pub fn install(&mut self, alloc: Global, task: &mut Task) -> bool
         requires { AtWork self.old task.old }
         ensures { (k : ℕ) → Does (Event.Install k result) self.old task.old self.new task.new None }
@@ -320,7 +323,7 @@ impl Server {
     }
 
     // Verifies a task's image and installs the program. If `memory` is false, records that memory
-    // couldn't be allocated.
+    // couldn't be allocated. The error is that it couldn't be although `memory` is true.
     fn install_if(&mut self, alloc: Global, memory: bool, task: &mut Task) -> Result<(), AllocError>
         requires { AtWork self.old task.old }
         ensures { OnOk result ((k : ℕ) → Does (Event.Install k memory) self.old task.old self.new task.new None) }
@@ -357,8 +360,8 @@ impl Server {
         }
     }
 
-    // Notifies the observer of a task's lease at `now`, in milliseconds. Returns the datagram to
-    // send.
+    // Notifies the observer of a task's lease at `now`, in milliseconds, for `work`. Returns the
+    // datagram to send, if there is one.
     fn tell(&mut self, now: u64, random: u16, task: &mut Task) -> Option<Emission>
         requires { AtWork self.old task.old }
         ensures { (k : ℕ) → Does (Event.Note k now random) self.old task.old self.new task.new result }
@@ -374,7 +377,7 @@ impl Server {
     /// Applies `Note`: runs the snapshot's program and notifies the lease's observer.
     ///
     /// `now` is in milliseconds. No program runs if the slot was empty. The observer is notified if
-    /// the lease is still out. The datagram is written over `emission`. Returns whether there is
+    /// the lease is still active. The datagram is written over `emission`. Returns whether there is
     /// one to send.
     pub fn note(&mut self, now: u64, random: u16, task: &mut Task, emission: &mut Emission) -> bool
         requires { AtWork self.old task.old }
@@ -393,8 +396,8 @@ impl Server {
         task.give_up(&mut self.shards[task.job.origin.slot.shard()], now);
     }
 
-    // Answers a task at `now`, in milliseconds, if its stage has an answer. Returns the datagram to
-    // send.
+    // Answers a task at `now`, in milliseconds, if its stage has an answer, for `work`. Returns the
+    // datagram to send, if there is one.
     fn answer(&mut self, now: u64, task: &mut Task) -> Option<Emission>
         requires { AtWork self.old task.old }
         ensures { Responds now self.old task.old self.new task.new result }
@@ -410,7 +413,7 @@ impl Server {
     /// Applies `Answer`: answers a task if its stage has an answer.
     ///
     /// `now` is in milliseconds. The datagram is written over `reply`. Returns whether there is one
-    /// to send.
+    /// to send. A task with an answer has then ended, even if nothing is sent.
     pub fn respond(&mut self, now: u64, task: &mut Task, reply: &mut Emission) -> bool
         requires { AtWork self.old task.old }
         ensures { Responds now self.old task.old self.new task.new (emission_if result reply.new) }

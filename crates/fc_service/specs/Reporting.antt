@@ -1,4 +1,4 @@
--- Reports of a server's counts, each so many milliseconds.
+-- Reports of a server's counts, with a period in milliseconds.
 use Rattle.std.specs.Prelude.{◌≡◌, ◌+◌, ℕ, nat_lt, min, MatchBool}
 use Rattle.fc_server.specs.Ingresses.{IngressCalls}
 use Rattle.fc_workers.specs.Answers.{saturated}

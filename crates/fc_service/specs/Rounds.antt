@@ -149,8 +149,8 @@ module _ {S : Type 0} (Readies : ℕ → S → S → Type 0) (calls : IngressCal
 
 -- ---- with reports, or without
 
--- a server has run in this way from a state, and its counts were reported each so many
--- milliseconds. How it was left isn't said.
+-- a server has run in this way from a state, and its counts were reported with this period, in
+-- milliseconds. The state that it was left in isn't stated.
 pub record HasRunReported {S : Type 0} (every : ℕ) (Reported : Report → CallLog → CallLog → Type 0) (Readies : ℕ → S → S → Type 0) (calls : IngressCalls S) (e : RoundCalls) (limit : ℕ) (before after : Option (List Receive)) (first : S) (replies : Replies) : Type 0 where
   pub log : CallLog
   pub last : Reporting S
@@ -172,7 +172,7 @@ pub record HasServed (sensors : List ℕ → Type 0) (e : RoundCalls) (Recorded 
   pub begins : Serves (begin_of begin) first.alone.engine []
   pub run : HasRun (ReadiesRecorded sensors) (recorded_calls Recorded) e limit before after first last replies
 
--- the same, and its counts were reported each so many milliseconds.
+-- the same, and its counts were reported with this period, in milliseconds.
 pub record HasServedReported (every : ℕ) (Reported : Report → CallLog → CallLog → Type 0) (sensors : List ℕ → Type 0) (e : RoundCalls) (Recorded : Requested → CallLog → CallLog → Type 0) (limit : ℕ) (begin : Begin) (before after : Option (List Receive)) (replies : Replies) : Type 0 where
   pub first : Recording
   pub begins : Serves (begin_of begin) first.alone.engine []

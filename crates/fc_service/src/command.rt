@@ -1,4 +1,6 @@
 //! The command line of `fcd`, and its help texts.
+//!
+//! One function makes each option, with its help text, and its range and default if it has them.
 use clap::{Arg, ArgAction, Command, Error, value_parser};
 use fc_cli::command_line::VERSION;
 use std::alloc::Global;
@@ -53,7 +55,7 @@ be had, or memory was refused at the start.";
 /// Describes the command line of `fcd`.
 ///
 /// # Errors
-/// Memory for the description can't be allocated.
+/// Returns an error if memory for the description can't be allocated.
 pub fn command<'a>(alloc: Global) -> Result<Command<'a>, Error> {
     Ok(
         Command::new(alloc, "fcd")
@@ -79,6 +81,7 @@ fn option<'a>(
         .help(help)
 }
 
+// Describes the command line of `fcd play`. Returns an error if memory can't be allocated.
 fn play_command<'a>(alloc: Global) -> Result<Command<'a>, Error> {
     let workers = option(
         alloc,
@@ -99,6 +102,7 @@ fn play_command<'a>(alloc: Global) -> Result<Command<'a>, Error> {
     )
 }
 
+// Describes the command line of `fcd serve`. Returns an error if memory can't be allocated.
 fn serve_command<'a>(alloc: Global) -> Result<Command<'a>, Error> {
     Ok(
         Command::new(alloc, "serve")
@@ -217,7 +221,7 @@ fn log<'a>(alloc: Global) -> Arg<'a> {
     .default_value("off")
 }
 
-// Makes the option for the number of workers that run long jobs.
+// Makes the option for the number of workers of `fcd serve`, which run long programs.
 fn expensive_workers<'a>(alloc: Global) -> Arg<'a> {
     option(
         alloc,

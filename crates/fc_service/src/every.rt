@@ -28,10 +28,11 @@ pub enum BadTimer {
     Memory(#[from] AllocError),
 }
 
-/// Reads the timers that the options give.
+/// Reads the timers that the options of `fcd serve` give.
 ///
-/// A request holds one of the server's exchanges for 247 s. All timers together may hold half of
-/// the exchanges, and no more than the share of an address.
+/// There are none if `--every` isn't given. A request holds one of the server's exchanges for
+/// 247 s. All timers together may hold half of the exchanges, and no more than the share of an
+/// address.
 ///
 /// # Errors
 /// Returns the error of the first value that is refused:
@@ -61,7 +62,8 @@ fn most_held(limits: Limits) -> u64
     (limits.exchanges / 2).min(limits.share) as u64
 }
 
-// Reads the timers of `texts`, which may hold `most` exchanges.
+// Reads the timers of `texts`, which may hold `most` exchanges. Returns the error of the first text
+// that is refused, as `timers_in` does.
 fn timers_of(alloc: Global, texts: &[&str], most: u64) -> Result<Vec<Timer>, BadTimer>
     ensures timers { IfOk result (λ v. AreTimers (map (λ text. text.now) texts.now) v.items) }
     ensures few { IfOk result (λ v. timers_hold v.items ≤ most) }
@@ -75,7 +77,8 @@ fn timers_of(alloc: Global, texts: &[&str], most: u64) -> Result<Vec<Timer>, Bad
     Ok(timers)
 }
 
-// Reads one more timer, and returns the number of exchanges left.
+// Reads the timer of `text`, and adds it to `timers`. Returns how many of the `left` exchanges its
+// requests leave. Returns the error of a text that is refused; `TooMany` has the number `most`.
 fn push_timer(text: &str, left: u64, most: u64, timers: &mut Vec<Timer>) -> Result<u64, BadTimer>
     ensures { MatchResult result (Pushes text.now left timers.old.items timers.new.items) (IsRefusedBy text.now left most) }
 {
@@ -89,7 +92,8 @@ fn push_timer(text: &str, left: u64, most: u64, timers: &mut Vec<Timer>) -> Resu
     }
 }
 
-// Reads a timer, such as `1000:7`.
+// Reads a timer, such as `1000:7`. Returns `None` if the text isn't a period and a slot in their
+// ranges.
 fn timer_of(text: &str) -> Option<Timer>
     ensures { MatchOption result (IsNoTimerText text.now) (IsTimerText text.now) }
 {

@@ -2,10 +2,11 @@
 //!
 //! ```rust
 //! use fc_cli::Status;
+//! use fc_server::DEFAULT_BEGIN;
 //! use fc_service::play::play;
 //! use std::alloc::Global;
 //!
-//! /// Returns the output of a server for lines, if all of them are good.
+//! /// Returns the output of a server for lines, or `None` if they couldn't all be played.
 //! fn played(alloc: Global, lines: &[u8]) -> Option<Vec<u8>> {
 //!     let mut out = Vec::new(alloc);
 //!     let mut err = Vec::new(alloc);
@@ -24,8 +25,9 @@
 //!   send are printed, in that order. A snapshot has the readings of the last line that gave some,
 //!   its own line included, or zeros. The same holds for the lines before a bad one (`play`).
 //! - **Lines by workers**: a new dispatcher handles each line, once, in order, before the next is
-//!   read. Its front began with the given policy. An immediate response is printed. For a job, some
-//!   emission is printed, or nothing (`play_by_workers`, by `IsPlayedBeside`).
+//!   read. Its front began with the given policy. A line's output is its immediate response; for a
+//!   job it is some emission, or nothing (`play_by_workers`, by `IsPlayedBeside`). The contract
+//!   doesn't say that the output was printed.
 //! - **A server on a socket** receives in one loop, on one thread or as the dispatcher of workers
 //!   (`run_rounds`, by `HasRun`). Its rounds follow one another on one server. A round receives a
 //!   datagram or none, and then reads the time. At this time a received datagram is handled, once,

@@ -1,4 +1,6 @@
 //! Playing lines: an ingress executes each line, and its output is printed.
+//!
+//! The ingress is a server on one thread, or one that waits for its workers.
 ghost use Rattle.std.specs.Prelude.{◌≡◌, ◌++◌, ⊤, ℕ, Err, List, Option, OnOk};
 ghost use Rattle.std.specs.Io.KnownBytes.{Appends, IsAtEnd};
 ghost use Rattle.coap_msg.specs.declared.types.Emission.{Emission};
@@ -33,12 +35,14 @@ pub(crate) trait LineIngress: Ingress {
 
 /// Reads lines, executes each of them, and prints the datagrams that it sends.
 ///
-/// A line's output is printed before the next line is read. It has the response to the line's
-/// datagram, then the retransmissions and the notifications at the line's time.
+/// For `fcd play`: on one thread, or with workers, waited for after each line. A line's output is
+/// printed before the next line is read. It has the response to the line's datagram, then the
+/// retransmissions and the notifications at the line's time.
 ///
 /// # Errors
-/// A line is bad; then the lines before it were played, and exactly their output was printed. Or
-/// reading or writing failed, or memory for a line couldn't be allocated.
+/// Returns `BadLine` if a line is bad. Then the lines before it were played, and exactly their
+/// output was printed. Returns `Input` or `Output` if reading or writing failed, and `Memory` if
+/// memory for a line can't be allocated.
 pub(crate) fn play_lines<N: LineIngress, R: BufRead + Drop, W: Write>(
     alloc: Global,
     ingress: &mut N,
@@ -62,7 +66,8 @@ pub(crate) fn play_lines<N: LineIngress, R: BufRead + Drop, W: Write>(
     Ok(())
 }
 
-// Reads the line with this number, and executes it.
+// Reads the line with this number, executes it, and prints its output. Returns `BadLine` if it is
+// bad; then nothing is executed or printed. The other errors are those of `play_lines`.
 fn play_line<N: LineIngress, W: Write>(
     alloc: Global,
     ingress: &mut N,
@@ -93,7 +98,7 @@ fn play_line<N: LineIngress, W: Write>(
     }
 }
 
-// Sets the readings that a line gives, if it gives any.
+// Sets the readings of the jobs to those that a line gives, if it gives any.
 fn hand<N: LineIngress>(ingress: &mut N, line: &Line)
     ensures { IsHandedBy N.hands N.calls line.now ingress.old ingress.new }
 {
@@ -103,7 +108,8 @@ fn hand<N: LineIngress>(ingress: &mut N, line: &Line)
     }
 }
 
-// Executes a line, and prints the datagram that it sends, which is written over another emission.
+// Executes a line, and prints its immediate response, if there is one, which is written over
+// `reply`. Returns an error if printing fails.
 fn carry_out<N: LineIngress, W: Write>(
     ingress: &mut N,
     reply: &mut Emission,
@@ -134,8 +140,9 @@ fn time(line: &Line) -> u64
     }
 }
 
-// Prints the retransmissions and the notifications at `now`, in milliseconds, until none is left.
-// Each is written over an emission.
+// Prints the retransmissions and the notifications at `now`, in milliseconds, until none is left,
+// no message ID is available, or 8,192 steps were taken. Each is written over `emission`. Returns
+// an error if printing fails.
 fn flush<N: Ingress, W: Write>(
     ingress: &mut N,
     now: u64,
@@ -156,7 +163,7 @@ fn flush<N: Ingress, W: Write>(
     Ok(())
 }
 
-// Prints an emission if it is sent.
+// Prints an emission if `sent`. Returns an error if printing fails.
 fn print_if<W: Write>(out: &mut W, sent: bool, emission: &Emission) -> io::Result<()>
     ensures { OnOk result (Appends (W.contents out.old) (W.contents out.new) (output_of (emission_if sent emission.now))) }
 {

@@ -1,4 +1,6 @@
-//! The values of `--log`: `info`, `changes` and `report:SECONDS`, in any number.
+//! The values of `--log` of `fcd serve`, in any number.
+//!
+//! They are `off`, `info`, `changes` and `report:SECONDS`.
 ghost use Rattle.std.specs.Prelude.{◌≡◌, IfSome, None, map};
 ghost use Rattle.std.specs.List.{list_any};
 ghost use Rattle.std.specs.Str.{bytes_eq};
@@ -18,7 +20,7 @@ pub struct LogOptions {
     pub info: bool,
     /// Each request to change a program that a job answers.
     pub changes: bool,
-    /// The counts of datagrams and notifications, each so many milliseconds, or never.
+    /// The period of reports of the counts, in milliseconds, or `None` for no reports.
     pub report: Option<u64>,
 }
 
@@ -36,7 +38,8 @@ pub(crate) fn logs_in(matches: &ArgMatches<'_>) -> Option<LogOptions>
     })
 }
 
-// Reads the period of reports, in milliseconds.
+// Reads the period of reports, in milliseconds: `Some(None)` if no value gives one. Returns `None`
+// if a value is refused, as `logs_in` does.
 fn period_in(matches: &ArgMatches<'_>) -> Option<Option<u64>>
     ensures { IfSome result (ArePeriods (log_texts (found_of matches.now)) None) }
 {
@@ -46,7 +49,8 @@ fn period_in(matches: &ArgMatches<'_>) -> Option<Option<u64>>
     }
 }
 
-// Returns the period that the last text of reports gives.
+// Returns the period that the last text of reports gives, or `Some(None)` if none gives one.
+// Returns `None` if a text is refused.
 fn period_among(texts: &[&str]) -> Option<Option<u64>>
     ensures { IfSome result (ArePeriods (map (λ text. text.now) texts.now) None) }
 {
@@ -57,7 +61,8 @@ fn period_among(texts: &[&str]) -> Option<Option<u64>>
     Some(period)
 }
 
-// Returns the period that a text gives, or the given one if the text is about other records.
+// Returns the period that a text gives, or `period` if the text is about other records. Returns
+// `None` if the text is refused.
 fn period_after(text: &str, period: Option<u64>) -> Option<Option<u64>>
     ensures { IfSome result (IsPeriodAfter text.now period) }
 {
@@ -67,7 +72,8 @@ fn period_after(text: &str, period: Option<u64>) -> Option<Option<u64>>
     }
 }
 
-// Reads the period of reports in milliseconds, from a text such as `report:60`.
+// Reads the period of reports in milliseconds, from a text such as `report:60`. Returns `None` if
+// the text has another form, or its seconds aren't 1 to 86,400.
 fn report_period(text: &str) -> Option<u64>
     ensures { IfSome result (IsReportText text.now) }
 {

@@ -34,9 +34,12 @@ pub enum BadOption {
     #[error("error: `--bind` is to be an IPv4 address, as 127.0.0.1")]
     Bind,
     /// A value of `--managers` isn't a network, or there are more than four.
+    ///
+    /// It is also the reason if `--exchanges`, `--share` or `--confirm-after` is out of its range,
+    /// which the command line's parser refuses earlier.
     #[error("error: `--managers` takes an address and a number of bits, for example 192.0.2.0/24, at most four times")]
     Managers,
-    /// A value of `--log` names no record, or the seconds of its reports aren't in their range.
+    /// A value of `--log` names no record, or its seconds aren't 1 to 86,400.
     #[error("error: `--log` takes off, info, changes, or report: and 1 to 86400 seconds, for example report:60")]
     Log,
     /// An option is missing, or its value isn't a number in its range.
@@ -49,8 +52,14 @@ pub enum BadOption {
 /// Reads the options of `fcd serve`.
 ///
 /// # Errors
-/// `--bind` isn't an IPv4 address, a value of `--managers` isn't a network, or a value of `--log`
-/// names no record.
+/// Returns the first of these that holds:
+///
+/// - `Bind` if `--bind` isn't an IPv4 address.
+/// - `Number` if `--port` isn't given or isn't a number below 2^16.
+/// - `Log` if a value of `--log` names no record, or its seconds aren't 1 to 86,400.
+/// - `Number` if `--workers` isn't given or isn't a number below 2^8.
+/// - `Number` if `--limit` isn't given or isn't a number below 2^32.
+/// - `Managers` if the options give no policy (see [`policy_in`]).
 pub fn serve_options<'a>(matches: &ArgMatches<'a>) -> Result<ServeOptions<'a>, BadOption>
     ensures { IfOk result (AreServeOptions (found_of matches.now)) }
 {
@@ -77,18 +86,21 @@ fn address_in(matches: &ArgMatches<'_>) -> Option<Ipv4Addr>
     matches.get_str("bind")?.parse::<Ipv4Addr>().ok()
 }
 
+// Returns the number of `--port`, or `None` if it isn't given or isn't a number below 2^16.
 fn port_in(matches: &ArgMatches<'_>) -> Option<u16>
     ensures { IfSome result (HasNumber (first_value (found_of matches.now) (codes "port"))) }
 {
     u16::try_from(number_in(matches, "port")?).ok()
 }
 
+// Returns the number of `--workers`, or `None` if it isn't given or isn't a number below 2^8.
 fn workers_in(matches: &ArgMatches<'_>) -> Option<u8>
     ensures { IfSome result (HasNumber (first_value (found_of matches.now) (codes "workers"))) }
 {
     u8::try_from(number_in(matches, "workers")?).ok()
 }
 
+// Returns the number of `--limit`, or `None` if it isn't given or isn't a number below 2^32.
 fn limit_in(matches: &ArgMatches<'_>) -> Option<u32>
     ensures { IfSome result (HasNumber (first_value (found_of matches.now) (codes "limit"))) }
 {

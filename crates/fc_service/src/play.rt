@@ -1,4 +1,4 @@
-//! Playing lines on one thread.
+//! Playing lines on one thread, for `fcd play` without `--workers`.
 ghost use Rattle.std.specs.Prelude.{◌≡◌, ℕ, Err, OnOk};
 ghost use Rattle.fc_cli.specs.declared.status.Status.TheVariants.{Bad, Done};
 ghost use Rattle.fc_cli.specs.declared.stop.Stop.TheVariants.{BadLine};
@@ -40,6 +40,7 @@ pub fn play<R: BufRead + Drop, W: Write, E: Write>(
     }
 }
 
+// Plays lines as `play` does. Returns why playing stopped, or `Ok` at the end of the input.
 fn play_alone<R: BufRead + Drop, W: Write>(
     alloc: Global,
     input: R,

@@ -1,4 +1,4 @@
-//! The policy that a command line gives.
+//! The policy that a command line of `fcd` gives.
 ghost use Rattle.std.specs.Prelude.{MatchOption};
 ghost use Rattle.clap.specs.Matches.{first_value, found_of};
 ghost use Rattle.fc_service.specs.Policies.{IsNoPolicyIn, IsNoValueOr, IsPolicyIn, IsValueOr};
@@ -29,7 +29,8 @@ pub fn policy_in(matches: &ArgMatches<'_>) -> Option<Policy>
     )
 }
 
-// Returns the number of an option, or the default if it isn't given.
+// Returns the number of an option, or the default if it isn't given. Returns `None` if its value
+// isn't a number below 2^64.
 fn value(matches: &ArgMatches<'_>, name: &str, default: u64) -> Option<u64>
     ensures { let text = first_value (found_of matches.now) name.now in
         MatchOption result (IsNoValueOr text) (IsValueOr default text) }

@@ -1,4 +1,7 @@
 //! Pools: a new server with locks, its workers, and a driver of datagrams.
+//!
+//! `fcd play --workers` drives one with lines. `fcd serve` with two workers or more drives one with
+//! the datagrams of a socket.
 ghost use Rattle.std.specs.Prelude.{◌≡◌, ◌+◌, ◌<◌, ◌≤◌, ℕ, ⊤, List, vec_len, IfOk};
 ghost use Rattle.fc_workers.specs.Fronts.{beginning};
 ghost use Rattle.fc_server.specs.States.{CanBegin};
@@ -51,7 +54,8 @@ impl<'a, W: Wire> Wire for Counting<'a, W> {
     }
 }
 
-// A dispatcher, and the handle for its waits; the number of jobs dispatched, and of jobs ended.
+// A dispatcher as its driver calls it, and the handle for its waits; the number of jobs that the
+// driver's calls produced, and of jobs ended.
 #[derive(Drop)]
 struct PooledIngress<'a, 'b, R: Wait, B: Bench, G: Gate, W: Wire, M: TimeSource> {
     rt: &'a R,
@@ -78,7 +82,7 @@ impl<'a, 'b, R: Wait, B: Bench, G: Gate, W: Wire, M: TimeSource> PooledIngress<
     W,
     M,
 > {
-    // Closes the dispatcher and returns its own statistics.
+    // Closes the dispatcher, and returns the statistics of the jobs that it ran itself.
     fn close(self) -> Share<B::Tallies, TrackLog<B::Book>>
         ensures { result ≡ self.entry.done.share }
     {
@@ -91,6 +95,7 @@ impl<'a, 'b, R: Wait, B: Bench, G: Gate, W: Wire, M: TimeSource> Ingress
     for PooledIngress<'a, 'b, R, B, G, W, M> {
     ghost calls = { pooled_calls (worker_view B.changes B.ended B.called B.logged M.is_time M.is_random G.passed W.called) };
 
+    // Counts the job that a datagram produced.
     fn handle(&mut self, now: u64, from: Endpoint, bytes: &[u8], reply: &mut Emission) -> Handled {
         let handled = self.dispatcher.handle(self.rt, now, from, bytes, reply);
         if matches!(handled, Handled::Job) {
@@ -111,8 +116,8 @@ impl<'a, 'b, R: Wait, B: Bench, G: Gate, W: Wire, M: TimeSource> Ingress
         self.dispatcher.advance_if_idle(self.rt, shard, now)
     }
 
-    // Returns 0 while a job is running, since it may change a slot or register an observer. The
-    // count of ended jobs is read before the shard is called.
+    // Returns 0 while a job waits or is running, since it may change a slot or register an
+    // observer. The count of ended jobs is read before the shard is called.
     fn idle_until(&self, shard: u8) -> u64 {
         if self.ended.load(Ordering::SeqCst) == self.begun {
             self.dispatcher.idle_until(self.rt, shard)
@@ -121,6 +126,8 @@ impl<'a, 'b, R: Wait, B: Bench, G: Gate, W: Wire, M: TimeSource> Ingress
         }
     }
 
+    // Counts the job of the lease that a shard granted. Nothing is written over `emission`: the job
+    // was sent to a worker, or has ended here.
     fn notify(&mut self, shard: u8, now: u64, emission: &mut Emission) -> NotifyOutcome {
         let _ = emission;
         if self.dispatcher.notify(self.rt, shard, now) {
@@ -137,7 +144,9 @@ pub trait Driver<X> {
     // The driver fed an ingress with these calls, and returned this: the ingress before and after.
     ghost drives: { (S : Type 0) → IngressCalls S → Self → S → S → X → Type 0 } = { λ S calls self first last given. ⊤ };
 
-    /// Drives the ingress to the end.
+    /// Passes datagrams to `ingress`, and returns the driver's result at its end.
+    ///
+    /// The pool's workers end after that.
     fn drive<N: Ingress, R: Wait>(self, rt: &R, ingress: &mut N) -> X
         ensures { drives N N.calls self ingress.old ingress.new result };
 }
@@ -236,7 +245,8 @@ pub fn run_pool<
     run_named::<Brand, R, W, M, D, C, E, X, F>(rt, alloc, err, pool, driver, blanks, book)
 }
 
-// Runs a pool, with ledgers of these names and this book of its front's calls.
+// Runs a pool, with ledgers of the names `B`, and `book` for its front's calls. The errors are
+// those of `run_pool`.
 fn run_named<
     B: Books + Send + Sync,
     R: Threads + Wait + Sync,
@@ -284,7 +294,7 @@ fn run_named<
 }
 
 // Makes a server, the change counters and logs of its workers and driver, and the unassigned
-// shares.
+// shares. Returns `AllocError` if memory for them can't be allocated.
 fn begin<'a, B: Books, D: Device>(
     alloc: Global,
     begin: Begin,
@@ -324,8 +334,8 @@ fn begin<'a, B: Books, D: Device>(
     })
 }
 
-// Closes a server whose workers have ended. `unassigned` has the unassigned shares that their change
-// counters were split from.
+// Closes a server whose workers have ended, and sums their replies. `unassigned` has the unassigned
+// shares that their change counters were split from.
 fn close<B: Books, D: Device, X: Drop, L: Drop>(
     server: Locked<'_, B, D>,
     mut unassigned: Unassigned<B>,
@@ -356,7 +366,8 @@ fn close<B: Books, D: Device, X: Drop, L: Drop>(
 }
 
 // Runs a worker for each change counter except the last, and the driver with the last. Each has one
-// of the logs. The workers and the driver return one share for each change counter.
+// of the logs. The workers and the driver return one share for each change counter. If no worker
+// was started, that is written to `err`. Returns `AllocError` if memory can't be allocated.
 fn run_at<
     B: Bench + Sync,
     R: Threads + Wait + Sync,
@@ -436,14 +447,14 @@ where
     })
 }
 
-// Returns the dispatch policy: `Never` if no worker was started.
+// Returns the dispatch policy: `offload`, or `Never` if no worker was started.
 fn offload_where(has_workers: bool, offload: Offload) -> Offload
     ensures { result ≡ offload_where has_workers offload }
 {
     if has_workers { offload } else { Offload::Never }
 }
 
-// Reports that there is no worker. A failed write is ignored.
+// Reports to `err` that there is no worker. A failed write is ignored.
 fn tell_alone<E: Write>(err: &mut E) {
     let _told = writeln!(
         err,

@@ -22,7 +22,7 @@ impl Replies {
         Replies { sent: 0, failed: 0 }
     }
 
-    /// Returns the replies of a worker.
+    /// Returns the numbers of replies that a worker sent, and that it failed to send.
     pub fn by<T: Drop, L: Drop>(share: &Share<T, L>) -> Replies
         ensures { result ≡ replies_by share.now }
     {
@@ -43,7 +43,7 @@ impl Replies {
         replies
     }
 
-    /// Adds these replies to others.
+    /// Returns the sums of these numbers and of `others`.
     pub fn plus(self, others: Replies) -> Replies
         ensures { result ≡ both_replies self others }
     {
@@ -53,7 +53,7 @@ impl Replies {
         }
     }
 
-    /// Counts a reply, if there was one: it was sent, or it failed.
+    /// Counts a reply, if there was one: `out` says whether it was sent or failed.
     pub fn count_if_any(&mut self, out: Option<bool>)
         ensures { self.new ≡ counted out self.old }
     {

@@ -1,4 +1,4 @@
-//! A server that reports its counts, each so many milliseconds.
+//! A server that reports its counts, with a period in milliseconds.
 ghost use Rattle.std.specs.Prelude.{◌≡◌};
 ghost use Rattle.fc_service.specs.Reporting.{ReportsIfDue, readies_through, reported_calls, reporting_from};
 
@@ -13,9 +13,10 @@ use fc_workers::CallLog;
 use std::marker::Model;
 use std::sync::Wait;
 
-/// A server that is called through this, and whose counts are reported.
+/// An ingress that passes each call to a server, and reports counts of the results.
 ///
-/// Contracts see the server, its counts, and when the next report is due.
+/// A due report is made before a datagram is handled, or before time passes. Contracts see the
+/// server, its counts, their period, when the next report is due, and the log of the reports.
 #[derive(Drop)]
 pub(crate) struct Reporting<'a, N: Ingress, Q: Reporter> {
     ingress: &'a mut N,
@@ -35,7 +36,7 @@ impl<'a, N: Ingress, Q: Reporter> Model for Reporting<'a, N, Q> {
 }
 
 impl<'a, N: Ingress, Q: Reporter> Reporting<'a, N, Q> {
-    /// Begins to report the counts of a server, each `every` milliseconds.
+    /// Begins to report the counts of a server, with a period of `every` milliseconds.
     ///
     /// The first report is due at that time.
     pub(crate) fn new(ingress: &'a mut N, every: u64, reporter: &'a Q) -> Reporting<'a, N, Q>
@@ -51,7 +52,8 @@ impl<'a, N: Ingress, Q: Reporter> Reporting<'a, N, Q> {
         }
     }
 
-    // Makes the report that is due at `now`, in milliseconds, if one is.
+    // Makes the report that is due at `now`, in milliseconds; the next is due one period after
+    // `now`. Nothing changes if none is due.
     fn report_if_due(&mut self, now: u64)
         ensures { ReportsIfDue Q.reported N.calls now self.old self.new }
     {
@@ -88,7 +90,7 @@ impl<'a, N: Ingress, Q: Reporter> Ingress for Reporting<'a, N, Q> {
         self.ingress.advance_if_idle(shard, now)
     }
 
-    // A server is woken up when its next report is due.
+    // Returns no later time than that of the next report, so that the server wakes up for it.
     fn idle_until(&self, shard: u8) -> u64 {
         self.ingress.idle_until(shard).min(self.due)
     }

@@ -1,4 +1,4 @@
-//! Rounds of a server that reports its counts, each so many milliseconds.
+//! Rounds of a server, with reports of its counts or without.
 ghost use Rattle.std.specs.Prelude.{◌≡◌};
 ghost use Rattle.fc_service.specs.Rounds.{HasReceivedBy, round_calls};
 
@@ -40,10 +40,11 @@ impl<'a, K: Sink, Q: Reporter> Sink for CountedSink<'a, K, Q> {
     }
 }
 
-/// Receives datagrams as [`run_rounds`] does, and reports the counts if `reports` has a period.
+/// Receives datagrams as [`run_rounds`] does, and reports the counts.
 ///
-/// A report is made at the first round after it is due. Each receive ends when a report is due, or
-/// up to 100 ms later.
+/// Without a period in `reports`, nothing is reported. A report is made at the first round after it
+/// is due. Each receive ends when a report is due, or up to 100 ms later. Returns the numbers of
+/// replies, as `run_rounds` does.
 pub(crate) fn run_reported<
     R: Wait,
     N: Ingress,

@@ -42,7 +42,7 @@ impl<N: Ingress> Preparation<N> for Unprepared {
     }
 }
 
-/// Receives `limit` datagrams, or never ends if that is 0; returns the replies.
+/// Receives `limit` datagrams, or never ends if that is 0. Counts the replies.
 ///
 /// Each datagram is handled in order, before the next is received, and answered unless it needs a
 /// worker. After each datagram, and after each receive without one, notifications that have
@@ -104,7 +104,7 @@ fn next_wait<N: Ingress>(ingress: &N, now: u64, idle: bool) -> Option<u64>
 }
 
 // Handles a datagram at `now`, in milliseconds, and sends its immediate response, if there is one.
-// The response is written over another emission.
+// The response is written over `reply`, and counted in `replied`.
 fn handle<N: Ingress, K: Sink>(
     ingress: &mut N,
     now: u64,
@@ -124,7 +124,8 @@ fn handle<N: Ingress, K: Sink>(
 }
 
 // Retransmits the notifications that have timed out at `now`, in milliseconds, and notifies
-// observers, until no notification is left. Each is written over an emission.
+// observers, until no notification is left, no message ID is available, or 8,192 steps were taken.
+// Each is written over `emission`, and counted in `replied` if this thread sends it.
 fn flush<N: Ingress, K: Sink>(
     ingress: &mut N,
     now: u64,
@@ -145,7 +146,7 @@ fn flush<N: Ingress, K: Sink>(
     }
 }
 
-// Passes an emission to the sink if it is to be sent, and counts whether it was sent.
+// Passes an emission to the sink if `sent`, and counts whether the sink sent it.
 fn send_if<K: Sink>(sent: bool, emission: &Emission, sink: &K, replied: &mut SentReplies)
     ensures { Sends K.went (option_to_list (emission_if sent emission.now)) replied.old replied.new }
 {
@@ -154,7 +155,7 @@ fn send_if<K: Sink>(sent: bool, emission: &Emission, sink: &K, replied: &mut Sen
     }
 }
 
-// Passes an emission to the sink, and counts whether it was sent.
+// Passes an emission to the sink, and counts whether the sink sent it.
 fn send<K: Sink>(emission: &Emission, sink: &K, replied: &mut SentReplies)
     ensures { Sends K.went (emission.now ∷ []) replied.old replied.new }
 {

@@ -1,4 +1,6 @@
-//! The first serial of a server: by the time of its start, so that no earlier start has used it.
+//! The first serial of a server, by the time of its start.
+//!
+//! It is to be higher than any that an earlier server reached. See [`serial_of_start`].
 ghost use Rattle.std.specs.Prelude.{◌≡◌, ◌≤◌, ◌/◌, min};
 ghost use Rattle.std.specs.Time.{system_time_nanos};
 ghost use Rattle.fc_registry.specs.Slots.{last_serial};
@@ -7,9 +9,9 @@ ghost use Rattle.fc_service.specs.Serials.{serial_of_start};
 use std::io;
 use std::time::{Clock, SystemTime, UNIX_EPOCH};
 
-/// The time from which on a start begins at the same serial, in milliseconds since 1970.
+/// The time from which on each start begins at the same serial.
 ///
-/// It is 2^48, in the year 10889.
+/// It is 2^48 ms since 1970, in the year 10889.
 const LAST_START: u64 = 0x1_0000_0000_0000;
 
 /// The serials of a millisecond.
@@ -17,13 +19,17 @@ const LAST_START: u64 = 0x1_0000_0000_0000;
 /// So the 24 bits of Observe rise by less than 2^23 in 256 s (RFC 7641, section 3.4).
 const OF_MILLISECOND: u64 = 32;
 
-/// The further serials of a whole second: a multiple of 2^24, which leaves the 24 bits of Observe.
+/// The further serials of a whole second.
+///
+/// They are a multiple of 2^24, which leaves the 24 bits of Observe.
 const OF_SECOND: u64 = 0x100_0000;
 
-/// Returns the milliseconds from the beginning of 1970 to now, by the system's clock.
+/// Returns the milliseconds since the beginning of 1970, by the system's clock.
+///
+/// It is the time of a start of `fcd serve`.
 ///
 /// # Errors
-/// The clock can't be read, or is set to a time before 1970.
+/// Returns an error if the clock can't be read, or is set to a time before 1970.
 pub fn unix_milliseconds<R: Clock>(clock: &R) -> io::Result<u64> {
     Ok(milliseconds_of(SystemTime::now(clock)?))
 }
@@ -39,12 +45,11 @@ fn milliseconds_of(time: SystemTime) -> u64
     )
 }
 
-/// Returns the first serial of the slots of a server that starts at this time, in milliseconds
-/// since the beginning of 1970.
+/// Returns the first serial of the slots of a server, by the time of its start.
 ///
-/// A later start begins at a higher serial than any that a server reached in between, unless a slot
-/// changed more than 32 times a millisecond in a run of less than a second, or the clock was set
-/// back.
+/// The time is in milliseconds since the beginning of 1970. A later start begins at a higher serial
+/// than any that a server reached in between. It may not if the clock was set back, or if a slot
+/// changed more than 32 times a millisecond in a run of less than a second.
 pub fn serial_of_start(milliseconds: u64) -> u64
     ensures value { result ≡ serial_of_start milliseconds }
     ensures bound { result ≤ last_serial }

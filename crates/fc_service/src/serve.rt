@@ -71,7 +71,7 @@ pub struct Listening {
     pub told: bool,
 }
 
-/// The receivers of a server's records: of its end, of each program change, and of its reports.
+/// The receivers of a server's records: its end, program changes and reports.
 #[derive(Clone, Copy)]
 pub struct Records<'a, L: Log, C: Recorder, Q: Reporter> {
     pub end: &'a L,
@@ -82,8 +82,8 @@ pub struct Records<'a, L: Log, C: Recorder, Q: Reporter> {
 /// Serves on UDP at an address and a port of this host, as [`serve_at`] does.
 ///
 /// The requests of timers come between the datagrams. The listening address is written to `err` if
-/// `listening.told` is set. Serving also fails if the socket can't be opened; the reason is written
-/// to `err`.
+/// `listening.told` is set. Returns `Done` if `serve_at` returns its source. Otherwise, and if the
+/// socket can't be opened, returns `Failed`, and the reason is written to `err`.
 pub fn serve<
     R: Threads + Wait + Clock + Net + Sync,
     L: Log,
@@ -127,7 +127,7 @@ pub fn serve<
 }
 
 // Serves datagrams of a source, and the requests of timers between them. The responses to timers
-// don't reach the sink.
+// don't reach the sink. The results are those of `serve`; it fails too if the clock can't be read.
 fn serve_timed<
     R: Threads + Wait + Clock + Sync,
     S: Source + Drop,
@@ -166,6 +166,7 @@ fn serve_timed<
     done_if(serve_at(rt, alloc, records, err, sensors, timed, &sink, extent).is_some())
 }
 
+// Returns the status of a server by whether it ran to its end.
 fn done_if(done: bool) -> Status
     ensures { (result ≡ (if done then Done else Failed)) }
 {
@@ -243,7 +244,8 @@ struct Received<S: Source + Drop> {
     replies: Replies,
 }
 
-// Serves to the end.
+// Serves as `serve_at` does, and returns the source and the numbers of replies at the end. Returns
+// why the server doesn't start if the clock can't be read or memory can't be allocated.
 fn serve_to_end<
     R: Threads + Wait + Clock + Sync,
     L: Log,
@@ -320,6 +322,8 @@ impl<'a, 'b, S: Source + Drop, K: Sink, M: TimeSource, Q: Reporter> Driver<Recei
     ghost drives = { λ T calls self first last given. HasReceivedBy self.reports.now.every Q.reported (λ now old new. new ≡ old)
         calls (round_calls S.received M.is_time K.went) self.limit (S.came self.source) (S.came given.source) first last given.replies };
 
+    // Receives datagrams up to the limit, as `run_reported` does, and returns the source and the
+    // numbers of replies.
     fn drive<N: Ingress, R: Wait>(self, rt: &R, ingress: &mut N) -> Received<S> {
         let Receiver {
             mut source,
@@ -342,8 +346,9 @@ impl<'a, 'b, S: Source + Drop, K: Sink, M: TimeSource, Q: Reporter> Driver<Recei
     }
 }
 
-// Runs each datagram's job on this thread, before the next is received. Returns the replies, each
-// counted once.
+// Serves with one worker: runs each datagram's job on this thread, before the next is received.
+// Returns the source, and the numbers of replies, each counted once. Returns `AllocError` if memory
+// for the server can't be allocated.
 fn serve_alone<
     R: Wait,
     C: Recorder,

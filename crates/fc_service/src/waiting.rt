@@ -23,6 +23,7 @@ pub(crate) struct LockStep<'a, 'b, R: Wait, N: Ingress> {
 impl<'a, 'b, R: Wait, N: Ingress> Ingress for LockStep<'a, 'b, R, N> {
     ghost calls = { calls_through (λ waiting. waiting.ingress.now) (waited_calls N.calls) };
 
+    // Waits for the worker of the datagram's job, and returns its response as an immediate one.
     fn handle(&mut self, now: u64, from: Endpoint, bytes: &[u8], reply: &mut Emission) -> Handled {
         self.scripted.begin(self.rt, now);
         match self.ingress.handle(now, from, bytes, reply) {
@@ -53,7 +54,8 @@ impl<'a, 'b, R: Wait, N: Ingress> Ingress for LockStep<'a, 'b, R, N> {
         self.ingress.idle_until(shard)
     }
 
-    // A lease without a datagram had no message ID, or no memory.
+    // Waits for the worker of the lease, and returns its notification as one to be sent. A lease
+    // without a datagram is `Starved`: it had no message ID, or no memory.
     fn notify(&mut self, shard: u8, now: u64, emission: &mut Emission) -> NotifyOutcome {
         self.scripted.begin(self.rt, now);
         match self.ingress.notify(shard, now, emission) {
@@ -72,6 +74,7 @@ impl<'a, 'b, R: Wait, N: Ingress> Ingress for LockStep<'a, 'b, R, N> {
 impl<'a, 'b, R: Wait, N: Ingress> LineIngress for LockStep<'a, 'b, R, N> {
     ghost hands = { λ readings old new. new.ingress.now ≡ old.ingress.now };
 
+    // The workers' snapshots get the readings, from the scripted host.
     fn hand(&mut self, readings: &Readings) {
         self.scripted.set(self.rt, *readings);
     }

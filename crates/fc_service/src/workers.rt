@@ -21,7 +21,7 @@ use std::io::{BufRead, Write};
 use std::sync::Wait;
 use std::thread::Threads;
 
-// The lines that a pool's workers play, and the writer that their output is printed to.
+// The driver of a pool that plays lines: the lines, and the writer of their output.
 #[derive(Drop)]
 struct Player<'a, I: BufRead + Drop, W: Write> {
     alloc: Global,
@@ -33,6 +33,8 @@ struct Player<'a, I: BufRead + Drop, W: Write> {
 impl<'a, I: BufRead + Drop, W: Write> Driver<Result<(), Stop>> for Player<'a, I, W> {
     ghost drives = { λ S calls self first last given. OnOk given (IsFedByLines calls (I.remaining self.input) first) };
 
+    // Plays all lines, and waits after each for the worker that has its job. The clause says which
+    // lines were played, and how. It doesn't say what `out` got, nor anything of an error.
     fn drive<N: Ingress, R: Wait>(self, rt: &R, ingress: &mut N) -> Result<(), Stop> {
         let Player {
             alloc,
@@ -53,7 +55,8 @@ impl<'a, I: BufRead + Drop, W: Write> Driver<Result<(), Stop>> for Player<'a, I,
 ///
 /// Each worker has its own thread. One of them runs the job of a line, and each lease of an
 /// observer. No line is read before the worker of the previous line has finished. If no thread can
-/// be created for a worker, this is written to `err`, and this thread runs the jobs.
+/// be created for a worker, this is written to `err`, and this thread runs the jobs. The clause is
+/// about `Done` alone, and doesn't say what was printed.
 pub fn play_by_workers<R: Threads + Wait + Sync, I: BufRead + Drop, W: Write, E: Write>(
     rt: &R,
     alloc: Global,
@@ -72,7 +75,8 @@ pub fn play_by_workers<R: Threads + Wait + Sync, I: BufRead + Drop, W: Write, E:
     }
 }
 
-// Plays lines on the workers of a pool.
+// Plays lines as `play_by_workers` does. Returns why playing stopped, or `Ok` at the end of the
+// input.
 fn play_in_pool<R: Threads + Wait + Sync, I: BufRead + Drop, W: Write, E: Write>(
     rt: &R,
     alloc: Global,

@@ -11,7 +11,7 @@ use Rattle.fc_workers.specs.Logs.{IsUnfiled, TrackedLog}
 pub data BenchCall : Type 0 where
   -- a shard that isn't idle at this time is unchanged.
   LeavesUnquiet : (shard now : ℕ) → BenchCall
-  -- the time until which a shard stays idle.
+  -- a shard returns this time, before which it is idle unless it is called.
   LooksAhead : (shard until : ℕ) → BenchCall
 
 -- a call of a transmitter for the job with this number.

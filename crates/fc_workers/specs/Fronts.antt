@@ -1,4 +1,4 @@
--- The initial state of a server with locks, and a front that has only been called since.
+-- The initial state of a server with locks, and a front that only calls have changed since.
 use Rattle.std.specs.Prelude.{◌≡◌, ◌⊎◌, ℕ, List, [], ◌∷◌, Option}
 use Rattle.coap_msg.specs.declared.types.Emission.{Emission}
 use Rattle.coap_msg.specs.declared.types.Endpoint.{Endpoint}
@@ -33,7 +33,7 @@ abbrev pub AreFrontsFrom : FrontState → List FrontState → FrontState → Typ
 AreFrontsFrom first [] front = front ≡ first
 AreFrontsFrom first (before ∷ earlier) front = AreFrontsFrom first earlier before × FrontCall before front
 
--- a front that began as the given one, and has only been called since.
+-- a front that began as the given one, and has been changed only by calls since.
 pub record BeganAt (first front : FrontState) : Type 0 where
   pub earlier : List FrontState
   pub calls : AreFrontsFrom first earlier front

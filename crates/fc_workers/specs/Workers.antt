@@ -1,4 +1,4 @@
--- A worker's seat and statistics, and the record of a dispatcher, with logs that have tracks.
+-- A worker's initial state and statistics, and a dispatcher's record, with logs that have tracks.
 use Rattle.fc_workers.specs.declared.dispatcher.Dispatched.{Dispatched as DispatchedWith}
 use Rattle.fc_workers.specs.declared.worker_seed.WorkerSeed.{WorkerSeed as SeatWith}
 use Rattle.fc_workers.specs.declared.share.Share.{Share as ShareWith}

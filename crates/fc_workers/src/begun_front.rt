@@ -1,4 +1,7 @@
 //! A server's front, which began in the initial state that the server's books name.
+//!
+//! [`Locked`](crate::server::Locked) calls it for the workers, under the front's lock. Times are in
+//! milliseconds.
 ghost use Rattle.std.specs.Prelude.{◌≡◌, []};
 ghost use Rattle.fc_core.specs.Answering.{emission_of, responded};
 ghost use Rattle.fc_core.specs.Contents.{IsOf};
@@ -17,7 +20,9 @@ use fc_filed::{FiledFront, FiledTrack, FrontOf, ServerBook};
 use fc_registry::Job;
 use std::marker::PhantomData;
 
-/// A front that began as its server's first front, and has only been called since.
+/// A front that started as its server's first front.
+///
+/// It has been changed only by calls since.
 ///
 /// Each call is filed in the server's book, on the track of the front and on those of the caller.
 #[derive(Drop)]
@@ -28,7 +33,7 @@ pub(crate) struct BegunFront<B: Books> {
 }
 
 impl<B: Books> BegunFront<B> {
-    /// Wraps a front that hasn't been called, with its track.
+    /// Wraps the server's first front, with its track, which has no entry.
     pub(crate) fn new(front: Front, track: FiledTrack<FrontOf<ServerOf<B>>>) -> BegunFront<B>
         requires front { front ≡ B.first.front }
         requires begin { (first_server B.begin).front ≡ B.first.front }
@@ -40,7 +45,9 @@ impl<B: Books> BegunFront<B> {
         }
     }
 
-    /// Handles a datagram, and files that. See [`Front::handle`].
+    /// Handles a datagram, and files the call. See [`Front::handle`].
+    ///
+    /// A job is written over `job`, a response over `reply`. The result says which was, if any.
     pub(crate) fn handle(
         &mut self,
         book: &ServerBook<ServerOf<B>>,
@@ -59,7 +66,7 @@ impl<B: Books> BegunFront<B> {
             .handle_for_first(book, tracks, log.who, now, endpoint, bytes, job, reply)
     }
 
-    /// Advances the clock to a time in milliseconds, and files that. See [`Front::tick`].
+    /// Advances the clock to `now`, and files the call. See [`Front::tick`].
     pub(crate) fn tick(
         &mut self,
         book: &ServerBook<ServerOf<B>>,
@@ -71,7 +78,9 @@ impl<B: Books> BegunFront<B> {
         self.filed.tick(book, &mut log.tracks, log.who, now);
     }
 
-    /// Draws a message ID, and files that. See [`Front::fresh_id`].
+    /// Draws a message ID, and files the call. See [`Front::fresh_id`].
+    ///
+    /// Returns `None` if none is available.
     pub(crate) fn fresh_id(
         &mut self,
         book: &ServerBook<ServerOf<B>>,
@@ -83,7 +92,9 @@ impl<B: Books> BegunFront<B> {
         self.filed.fresh_id(book, &mut log.tracks, log.who, now)
     }
 
-    /// Answers a job, and files that. See [`Front::respond`].
+    /// Answers a job, and files the call. See [`Front::respond`].
+    ///
+    /// If the result is `Sent`, the response is written over `reply`. Otherwise none is to be sent.
     pub(crate) fn respond(
         &mut self,
         book: &ServerBook<ServerOf<B>>,

@@ -72,8 +72,8 @@ pub trait Bench {
 
     /// Handles a datagram, at a time in milliseconds.
     ///
-    /// Its job or its reply is written over `job` or `reply`. See
-    /// [`Front::handle`](fc_core::Front::hear).
+    /// A job is written over `job`, a response over `reply`. The result says which was, if any. See
+    /// [`Front::handle`](fc_core::Front::handle).
     fn handle<R: Wait>(
         &self,
         rt: &R,
@@ -95,18 +95,19 @@ pub trait Bench {
 
     /// Draws a message ID of the server's own, at a time in milliseconds.
     ///
-    /// See [`Front::fresh_id`](fc_core::Front::fresh_id).
+    /// Returns `None` if none is available. See [`Front::fresh_id`](fc_core::Front::fresh_id).
     fn fresh_id<R: Wait>(&self, rt: &R, now: u64, log: &mut TrackLog<Self::Book>) -> Option<u16>
         ensures drawn { IsSomeDraw now result }
         ensures logged { logged (DrawsId now result) log.old log.new };
 
-    /// Returns the readings of the device.
+    /// Returns the readings of the device, for one snapshot.
     fn readings<R: Wait>(&self, rt: &R, log: &mut TrackLog<Self::Book>) -> Readings
         ensures { logged (GivesReadings result) log.old log.new };
 
     /// Takes a snapshot of a job's slot, with these readings.
     ///
-    /// It is written over `found`. A stale result ends the job of a lease. See
+    /// The snapshot is written over `found`, except its program, which is in the result. `Stale`
+    /// ends the job of a lease: `tallies` count it. See
     /// [`Shard::take_into`](fc_registry::Shard::take_into).
     fn take<R: Wait>(
         &self,
@@ -124,7 +125,7 @@ pub trait Bench {
             changes tallies.new shard ≡ changes tallies.old shard }
         ensures ended { ended tallies.new ≡ ended_by (taken_with result found.new) (ended tallies.old) };
 
-    /// Commits a run, at a time in milliseconds.
+    /// Commits the run of `ticket` with this outcome, at a time in milliseconds.
     ///
     /// See [`Shard::commit`](fc_registry::Shard::commit).
     fn commit<R: Wait>(
@@ -175,7 +176,7 @@ pub trait Bench {
             job.now.origin.slot (removal_changes result) }
         ensures ended { ended tallies.new ≡ ended tallies.old };
 
-    /// Passes a signal to a shard, 0 to 7.
+    /// Passes an Acknowledgement, or a Reset message if `reset`, to a shard, 0 to 7.
     ///
     /// See [`Shard::signal`](fc_registry::Shard::signal).
     fn signal<R: Wait>(
@@ -191,7 +192,8 @@ pub trait Bench {
 
     /// Advances a shard, 0 to 7, to a time in milliseconds.
     ///
-    /// See [`Shard::tick`](fc_registry::Shard::tick).
+    /// Returns a message to retransmit, that an observer was removed, or neither. See
+    /// [`Shard::tick`](fc_registry::Shard::tick).
     fn tick_shard<R: Wait>(
         &self,
         rt: &R,
@@ -205,8 +207,8 @@ pub trait Bench {
     /// Advances a shard, 0 to 7, to a time in milliseconds if it is idle then.
     ///
     /// It is idle if no notification has timed out and no observer has a pending one. Returns
-    /// whether the shard was advanced. If it wasn't, nothing changes, and the log doesn't have the
-    /// call. See [`Shard::advance_if_idle`](fc_registry::Shard::advance_if_idle).
+    /// whether the shard was advanced. If it wasn't, it is unchanged (`LeavesUnquiet`), and the log
+    /// doesn't have the call. See [`Shard::advance_if_idle`](fc_registry::Shard::advance_if_idle).
     fn advance_if_idle<R: Wait>(
         &self,
         rt: &R,
@@ -218,17 +220,18 @@ pub trait Bench {
         ensures logged { MatchBool result (logged (AdvancesIdle shard now) log.old log.new)
             (called (LeavesUnquiet shard now) × (log.new ≡ log.old)) };
 
-    /// Returns a time before which a shard, 0 to 7, stays idle, unless it is called.
+    /// Returns a time before which a shard, 0 to 7, is idle unless the shard is called.
     ///
-    /// Before it no notification has timed out, and no observer has a pending one. See
-    /// [`Shard::idle_until`](fc_registry::Shard::idle_until).
+    /// It bounds the wait for the next datagram. Another thread may call the shard at any time. The
+    /// clause says that the bench returned this time; its meaning for a server is `TellsIdleUntil`.
+    /// See [`Shard::idle_until`](fc_registry::Shard::idle_until).
     fn idle_until<R: Wait>(&self, rt: &R, shard: u8) -> u64
         ensures { called (LooksAhead shard result) };
 
     /// Asks a shard, 0 to 7, for its next lease, at a time in milliseconds.
     ///
-    /// The lease's job is written over `job`. Returns whether there is one. See
-    /// [`Shard::write_due`](fc_registry::Shard::write_due).
+    /// The lease's job is written over `job`. Returns `false` if no observer has a pending
+    /// notification. See [`Shard::write_due`](fc_registry::Shard::write_due).
     fn next_due<R: Wait>(
         &self,
         rt: &R,
@@ -242,8 +245,9 @@ pub trait Bench {
 
     /// Notifies the observer of a lease, at a time in milliseconds, and ends its job.
     ///
-    /// The message is written over `emission`. See
-    /// [`Shard::write_note`](fc_registry::Shard::write_note).
+    /// `told` is the content, and `random` sets the timeout of a confirmable message. The message,
+    /// with message ID `id`, is written over `emission`, and is to be sent if the result is `Sent`.
+    /// See [`Shard::write_note`](fc_registry::Shard::write_note).
     fn note<R: Wait>(
         &self,
         rt: &R,
@@ -265,7 +269,7 @@ pub trait Bench {
 
     /// Releases a lease, at a time in milliseconds, and ends its job.
     ///
-    /// See [`Shard::give_up`](fc_registry::Shard::give_up).
+    /// No message is sent for the lease. See [`Shard::give_up`](fc_registry::Shard::give_up).
     fn give_up<R: Wait>(
         &self,
         rt: &R,
@@ -282,7 +286,7 @@ pub trait Bench {
 
     /// Returns the receipt of the program in `job`'s slot.
     ///
-    /// See [`Shard::receipt`](fc_registry::Shard::receipt).
+    /// Returns `None` if the slot is empty. See [`Shard::receipt`](fc_registry::Shard::receipt).
     fn receipt<R: Wait>(&self, rt: &R, job: &Job, log: &mut TrackLog<Self::Book>) -> Option<Receipt>
         ensures receipt { IsSomeReceipt result }
         ensures logged { logged (TellsReceipt job.now result) log.old log.new };
@@ -293,8 +297,8 @@ pub trait Bench {
 
     /// Returns the head word of a slot, without a lock.
     ///
-    /// It is no less than the word that the handle has seen of that slot. See
-    /// [`Heads::peek`](fc_heads::Heads::peek).
+    /// It is no less than the word that `seat`, the worker's handle, has seen of that slot. The
+    /// handle has then seen it. See [`Heads::peek`](fc_heads::Heads::peek).
     fn peek(&self, slot: SlotNumber, seat: &mut HeadSeat, log: &mut TrackLog<Self::Book>) -> u64
         requires { seat.old.table ≡ heads self.now }
         ensures rises { word_of seat.old.view.seen slot ≤ result }
@@ -303,7 +307,8 @@ pub trait Bench {
 
     /// Raises the head word of `job`'s slot, without a lock.
     ///
-    /// Afterwards it is no less than `word`. See [`Heads::raise`](fc_heads::Heads::raise).
+    /// `seat`, the worker's handle, has then seen `word` or a greater one. A head word that is
+    /// greater isn't changed. See [`Heads::raise`](fc_heads::Heads::raise).
     fn raise(&self, job: &Job, word: u64, seat: &mut HeadSeat, log: &mut TrackLog<Self::Book>)
         requires { seat.old.table ≡ heads self.now }
         ensures raised { IsRaised job.now.origin.slot word seat.old seat.new }
@@ -311,7 +316,8 @@ pub trait Bench {
 
     /// Answers a job, at a time in milliseconds, and ends it.
     ///
-    /// The response is written over `reply`. Returns whether one is to be sent. See
+    /// The response is written over `reply`. Returns `false` if none is to be sent: the request's
+    /// lifetime has passed, or no message ID is available. See
     /// [`Front::respond`](fc_core::Front::respond).
     fn respond<R: Wait>(
         &self,

@@ -1,11 +1,12 @@
-//! Books that aren't opened yet.
+//! Books of changes that aren't opened yet, for a new server.
 ghost use Rattle.std.specs.Prelude.{◌≡◌, ◌<◌};
 
 use std::sync::ledger::Blank;
 
 /// Eight books that aren't opened yet, with the same number of parts each.
 ///
-/// The function that opens them names its ledgers after them.
+/// [`Locked::new`](crate::server::Locked::new) opens them, one for each shard, as ledgers that are
+/// named after them.
 #[derive(Drop)]
 pub struct Blanks {
     pub parts: u64,

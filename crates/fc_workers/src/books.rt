@@ -1,4 +1,4 @@
-//! The ledgers that count the changes of a server's shards, and the book of its front's calls.
+//! The ledgers of a server's changes, and the book of its front's calls.
 ghost use Rattle.std.specs.Prelude.{ℕ};
 ghost use Rattle.atomic_table.specs.Seated.{TableId};
 ghost use Rattle.fc_book.specs.Tracks.{no_table};

@@ -1,4 +1,6 @@
-//! The context shared by all workers.
+//! The context shared by all workers, and the parts that their caller supplies.
+//!
+//! These are a test hook, a transmitter, and a source of times.
 ghost use Rattle.std.specs.Prelude.{⊤, ℕ};
 ghost use Rattle.fc_workers.specs.Called.{EndsJob, SendsReply, WireCall};
 ghost use Rattle.fc_workers.specs.declared.call_log.CallLog.{CallLog as Log};
@@ -33,16 +35,17 @@ pub trait Wire {
     // and after.
     ghost called: { WireCall → Log → Log → Type 0 } = { λ call before after. ⊤ };
 
-    /// Sends the reply of the job with this number, and returns whether it went out.
+    /// Sends `emission`, the reply of the job with this number.
     ///
-    /// The reply is the answer of some front to some job, or the notification of some shard.
+    /// Returns whether it went out. The reply is the answer of some front to some job, or the
+    /// notification of some shard.
     fn send<R: Wait>(&self, rt: &R, number: u64, emission: &Emission, log: &mut CallLog) -> bool
         requires { GoesOut emission.now }
         ensures { called (SendsReply number emission.now result) log.old log.new };
 
     /// Is called last for each job, whether or not anything was sent.
     ///
-    /// After it, a thread that waits for the job can continue.
+    /// An implementation may wake a thread that waits for the job.
     fn ended<R: Wait>(&self, rt: &R, number: u64, log: &mut CallLog)
         ensures { called (EndsJob number) log.old log.new };
 }
@@ -59,7 +62,7 @@ pub trait TimeSource {
     // The random words that it returns. It says that a call returned this word.
     ghost is_random: { ℕ → Type 0 } = { λ _. ⊤ };
 
-    /// Returns the time of the call.
+    /// Returns the time of the call, in milliseconds.
     fn now<R: Wait>(&self, rt: &R, log: &mut CallLog) -> u64
         ensures { is_time result log.old log.new };
 

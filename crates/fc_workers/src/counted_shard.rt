@@ -1,4 +1,6 @@
 //! Shards whose changes are counted.
+//!
+//! A server with locks has one under each shard's lock.
 ghost use Rattle.std.specs.Prelude.{◌≡◌, ℕ, ◌+◌, ◌<◌};
 ghost use Rattle.fc_registry.specs.Slots.{IsOwned, slot_in, with_slot};
 ghost use Rattle.fc_registry.specs.Changes.{after_changes};
@@ -41,7 +43,10 @@ impl<L: Ledger> Model for Counted<L> {
 }
 
 impl<L: Ledger> Counted<L> {
-    /// Opens the book of a shard, and returns the tally with all its parts.
+    /// Opens the book of a shard.
+    ///
+    /// Returns the shard with its book, and the tally with all parts of the book. `blank` is the
+    /// unopened book.
     pub fn open(shard: Shard, blank: Blank) -> (Counted<L>, Tally<L>)
         requires slots { HasEightSlots shard }
         requires name { blank.name ≡ L.name }
@@ -60,6 +65,8 @@ impl<L: Ledger> Counted<L> {
     }
 
     /// Runs a call that changes no slot. It may write its result to `room`.
+    ///
+    /// The shard's clock, observers and leases may change.
     pub fn ask<C: ShardCall>(&mut self, call: C, room: &mut C::Room) -> C::Answer
         requires may { C.may_ask call self.old.shard }
         requires none { (answer : C.Answer) → C.changes answer ≡ 0 }
@@ -158,7 +165,7 @@ impl<L: Ledger> Counted<L> {
         &self.shard
     }
 
-    /// Closes the book, with the tally that has all its parts, and returns the shard.
+    /// Closes the book, with the tally `all` of all its parts, and returns the shard.
     ///
     /// The sum of the shard's serials has risen by the tally's changes since the book was opened.
     pub fn close(self, all: &mut Tally<L>) -> Shard

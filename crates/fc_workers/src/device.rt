@@ -14,7 +14,7 @@ pub trait Device {
     // states of the caller's log.
     ghost are_readings: { List ℕ → Log → Log → Type 0 } = { λ readings before after. ⊤ };
 
-    /// Returns the readings of the call.
+    /// Returns the readings at the time of the call, for one snapshot.
     fn readings<R: Wait>(&self, rt: &R, log: &mut CallLog) -> Readings
         ensures { are_readings result log.old log.new };
 }

@@ -1,4 +1,6 @@
 //! The dispatcher, which sends jobs to workers or runs them itself.
+//!
+//! A pool's driver calls it for each datagram (`fc_service`).
 ghost use Rattle.std.specs.Prelude.{◌≡◌, ◌<◌, true, MatchBool, None};
 ghost use Rattle.fc_jobs.specs.Ends.{with_sent};
 ghost use Rattle.fc_workers.specs.Answers.{IsSomeIdle, IsSomeTick};
@@ -73,7 +75,10 @@ pub struct Dispatcher<'a, B: Bench, G: Gate, W: Wire, M: TimeSource> {
 }
 
 impl<'a, B: Bench, G: Gate, W: Wire, M: TimeSource> Dispatcher<'a, B, G, W, M> {
-    /// Makes a dispatcher with this seat, which sends its jobs by `sent`.
+    /// Makes a dispatcher that sends its jobs by `sent`, and has run none.
+    ///
+    /// `seat` is its initial state, with which it runs jobs as a worker does. `jobs` is the channel
+    /// of `sent`.
     pub fn new(
         context: &'a Context<'a, B, G, W, M>,
         jobs: &'a Jobs,
@@ -105,6 +110,8 @@ impl<'a, B: Bench, G: Gate, W: Wire, M: TimeSource> Dispatcher<'a, B, G, W, M> {
     }
 
     /// Closes the channel, and returns the dispatcher's own statistics.
+    ///
+    /// They are of the jobs that it ran itself.
     pub fn close(self) -> Share<B::Tallies, TrackLog<B::Book>>
         ensures { result ≡ self.entry.done.share }
     {
@@ -115,7 +122,8 @@ impl<'a, B: Bench, G: Gate, W: Wire, M: TimeSource> Dispatcher<'a, B, G, W, M> {
 
     /// Handles a datagram, at a time in milliseconds.
     ///
-    /// A reply is written over `reply`, a job is dispatched, and a signal goes to each shard.
+    /// A response is written over `reply`, a job is dispatched, and a signal goes to each shard.
+    /// Returns which of these the datagram led to, if any.
     pub fn handle<R: Wait>(
         &mut self,
         rt: &R,
@@ -153,7 +161,7 @@ impl<'a, B: Bench, G: Gate, W: Wire, M: TimeSource> Dispatcher<'a, B, G, W, M> {
 
     /// Advances a shard, 0 to 7, to a time in milliseconds.
     ///
-    /// Returns the result of the shard's tick, which has a message if one is to be retransmitted.
+    /// Returns a message to retransmit, that an observer was removed, or neither.
     pub fn resend<R: Wait>(&mut self, rt: &R, shard: u8, now: u64) -> Ticked
         ensures ticked { IsSomeTick now result }
         ensures logged { B.logged (AdvancesShard shard now result) self.old.done.share.log self.new.done.share.log }
@@ -179,9 +187,10 @@ impl<'a, B: Bench, G: Gate, W: Wire, M: TimeSource> Dispatcher<'a, B, G, W, M> {
         self.context.bench.advance_if_idle(rt, shard, now, log)
     }
 
-    /// Returns a time before which a shard, 0 to 7, stays idle, unless it is called.
+    /// Returns a time before which a shard, 0 to 7, is idle unless the shard is called.
     ///
-    /// Before it no notification has timed out, and no observer has a pending one.
+    /// It bounds the wait for the next datagram. Another thread may call the shard at any time. The
+    /// clause says that the bench returned this time; its meaning for a server is `TellsIdleUntil`.
     pub fn idle_until<R: Wait>(&self, rt: &R, shard: u8) -> u64
         ensures { B.called (LooksAhead shard result) }
     {
@@ -208,8 +217,8 @@ impl<'a, B: Bench, G: Gate, W: Wire, M: TimeSource> Dispatcher<'a, B, G, W, M> {
         given
     }
 
-    // Sends its job to the workers, if its policy lets it, or runs it. If the policy depends on the
-    // cost of a run, a request is begun first.
+    // Sends the dispatcher's job to the workers, if the policy allows it, or runs it here. If the
+    // policy depends on the cost of a run, a request's job is begun first.
     fn dispatch<R: Wait>(&mut self, rt: &R)
         ensures dispatched { IsDispatched (worker_view B.changes B.ended B.called B.logged M.is_time M.is_random G.passed W.called)
             self.old.offload self.old.job self.old.done self.new.done }
@@ -223,7 +232,7 @@ impl<'a, B: Bench, G: Gate, W: Wire, M: TimeSource> Dispatcher<'a, B, G, W, M> {
         }
     }
 
-    // Sends its job to the workers, if its policy lets it, or runs it.
+    // Sends the job as it arrived to the workers, if the policy allows it, or runs it here.
     fn dispatch_whole<R: Wait>(&mut self, rt: &R)
         ensures dispatched { IsDispatched (worker_view B.changes B.ended B.called B.logged M.is_time M.is_random G.passed W.called)
             self.old.offload self.old.job self.old.done self.new.done }
@@ -236,8 +245,9 @@ impl<'a, B: Bench, G: Gate, W: Wire, M: TimeSource> Dispatcher<'a, B, G, W, M> {
         }
     }
 
-    // Begins a request's job. If its snapshot is of an expensive program, sends the job to the
-    // workers, which begin it again. Otherwise continues it from there.
+    // Begins a request's job. If its snapshot is of a program of cost `least` or more, sends the
+    // job to the workers, which begin it again. Otherwise, or if it can't be sent, continues it
+    // here.
     fn dispatch_request<R: Wait>(&mut self, rt: &R, least: u32)
         requires { self.old.job.turn ≡ None }
         ensures dispatched { IsDispatched (worker_view B.changes B.ended B.called B.logged M.is_time M.is_random G.passed W.called)
@@ -261,7 +271,7 @@ impl<'a, B: Bench, G: Gate, W: Wire, M: TimeSource> Dispatcher<'a, B, G, W, M> {
         }
     }
 
-    // Drops the handle of the program from its job's snapshot.
+    // Drops the handle of the program from the snapshot of a job that was sent.
     fn forget(&mut self)
         ensures done { self.new.done ≡ self.old.done }
         ensures offload { self.new.offload ≡ self.old.offload }
@@ -269,7 +279,7 @@ impl<'a, B: Bench, G: Gate, W: Wire, M: TimeSource> Dispatcher<'a, B, G, W, M> {
         self.scratch.stage.step = Step::Gone;
     }
 
-    // Sends its job to the workers if `goes`. Returns whether it was sent.
+    // Sends the job to the workers if `goes`. Returns whether it was sent; if not, it is kept.
     fn send_if<R: Wait>(&mut self, rt: &R, goes: bool) -> bool
         ensures sent { MatchBool result
             ((goes ≡ true) × (self.new.done ≡ record self.old.done { sent = with_sent self.old.done.sent self.old.job }))
@@ -280,7 +290,7 @@ impl<'a, B: Bench, G: Gate, W: Wire, M: TimeSource> Dispatcher<'a, B, G, W, M> {
         if goes { self.send(rt) } else { false }
     }
 
-    // Sends its job to the workers. Returns whether it was sent.
+    // Sends the job to the workers. If the channel returns it, keeps it and returns `false`.
     fn send<R: Wait>(&mut self, rt: &R) -> bool
         ensures sent { MatchBool result
             (self.new.done ≡ record self.old.done { sent = with_sent self.old.done.sent self.old.job })
@@ -298,8 +308,8 @@ impl<'a, B: Bench, G: Gate, W: Wire, M: TimeSource> Dispatcher<'a, B, G, W, M> {
         }
     }
 
-    // Runs its job. Since an earlier state of its log, the receipt of the job's slot was returned,
-    // or wasn't requested.
+    // Runs the dispatcher's job here, and ends it. `log` is any earlier state of its log since
+    // which the log has at most the request for the receipt of the job's slot.
     fn work<R: Wait>(&mut self, rt: &R)
         ensures worked { (log : Log)
             → IsPriced (worker_view B.changes B.ended B.called B.logged M.is_time M.is_random G.passed W.called) self.old.job log self.old.done.share.log
@@ -312,8 +322,9 @@ impl<'a, B: Bench, G: Gate, W: Wire, M: TimeSource> Dispatcher<'a, B, G, W, M> {
             .work(rt, &mut self.scratch, UNSENT, &self.job, &mut done.share);
     }
 
-    // Returns whether its job may go to the workers as it arrived. No job does before one of them
-    // has asked for a job; if all jobs are to go, the dispatcher waits for that.
+    // Returns whether the policy lets the job go to the workers as it arrived. `Expensive` requests
+    // the receipt of a run's slot for that. Returns `false` if no worker has asked for a job yet;
+    // with `Every` it first waits until one has, or none ever will.
     fn may_go<R: Wait>(&mut self, rt: &R) -> bool
         ensures may { result ≡ true → MayGo (worker_view B.changes B.ended B.called B.logged M.is_time M.is_random G.passed W.called)
             self.old.offload self.old.job self.old.done.share self.new.done.share }
@@ -334,8 +345,8 @@ impl<'a, B: Bench, G: Gate, W: Wire, M: TimeSource> Dispatcher<'a, B, G, W, M> {
         }
     }
 
-    // Returns whether its job's next step is the commit of a program of this cost or more, and a
-    // worker has asked for a job.
+    // Returns whether the job's next step is the commit of a program of cost `least` or more, and a
+    // worker has asked for a job. So the job is worth sending.
     fn stands_expensive(&self, least: u32) -> bool
         ensures { result ≡ true → IsExpensiveAt least self.now.scratch.stage }
     {
@@ -345,7 +356,7 @@ impl<'a, B: Bench, G: Gate, W: Wire, M: TimeSource> Dispatcher<'a, B, G, W, M> {
         }
     }
 
-    // Passes a signal to each shard.
+    // Passes an Acknowledgement, or a Reset message if `reset`, to each shard.
     fn signal<R: Wait>(&mut self, rt: &R, from: Endpoint, id: u16, reset: bool)
         ensures signalled { AreSignalled (worker_view B.changes B.ended B.called B.logged M.is_time M.is_random G.passed W.called)
             8 from id reset self.old.done.share.log self.new.done.share.log }
@@ -358,8 +369,8 @@ impl<'a, B: Bench, G: Gate, W: Wire, M: TimeSource> Dispatcher<'a, B, G, W, M> {
 }
 
 impl<'a, B: Bench, G: Gate, W: Wire, M: TimeSource> Context<'a, B, G, W, M> {
-    // Returns whether a job requests a run of this many instructions or more, by the program that
-    // its slot has now.
+    // Returns whether a job requests a run, and its slot's program may run for `least` instructions
+    // or more. For a run it requests the slot's receipt; an empty slot has none.
     fn is_expensive<R: Wait>(
         &self,
         rt: &R,
@@ -381,7 +392,7 @@ impl<'a, B: Bench, G: Gate, W: Wire, M: TimeSource> Context<'a, B, G, W, M> {
         }
     }
 
-    // Passes a signal to each shard, once.
+    // Passes an Acknowledgement, or a Reset message if `reset`, to each shard, once.
     fn signal<R: Wait>(
         &self,
         rt: &R,

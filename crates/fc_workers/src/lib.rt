@@ -82,7 +82,7 @@
 //!   some observer.
 //! - **A worker's statistics**: it has ended as many jobs as it received, up to 2^64 - 1. Its
 //!   tallies have risen by the changes that the results of its calls report. The result for each
-//!   seat of a pool is its statistics.
+//!   worker seed of a pool is its statistics.
 //! - **A dispatcher** has each datagram handled once. If a delivery or a lease results in a job, it
 //!   sends the job to the workers under the next number, or runs the job and ends it. It sends the
 //!   job only if its policy allows that. Without a job it does neither.
@@ -95,8 +95,8 @@
 //!   took a snapshot here and isn't sent is run from there, with at most eight snapshots in all.
 //!   The receipt is requested at most once, right before the job is sent or run.
 //! - **A server with nine locks** calls a front that began with the server's policy and first
-//!   message ID, and has only been called since. Each shard that a call meets has the policy's time
-//!   for confirmable notifications.
+//!   message ID, and has been changed only by calls since. Each shard that a call meets has the
+//!   policy's time for confirmable notifications.
 //! - A snapshot, an install, a removal and a receipt have the results of a shard with the index of
 //!   the job's slot, in some state. A notification has the result of a shard with the index of the
 //!   lease's slot, for the given lease, message ID, time and content.

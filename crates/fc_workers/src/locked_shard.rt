@@ -1,4 +1,4 @@
-//! A shard guarded by a lock.
+//! A shard guarded by a lock, as [`Locked`](crate::server::Locked) has eight.
 ghost use Rattle.std.specs.Prelude.{◌≡◌, ℕ, ◌+◌, ◌*◌, ◌<◌, replicate};
 ghost use Rattle.fc_registry.specs.Slots.{Shard as Seen};
 ghost use Rattle.fc_workers.specs.Asked.{IsAsked};
@@ -41,7 +41,7 @@ pub(crate) struct LockedShard<const INDEX: u8, B: Books> {
 impl<const INDEX: u8, B: Books> LockedShard<INDEX, B> {
     /// Opens the book of a shard with slots at `first_serial`, and adds a lock.
     ///
-    /// The tally has all parts of the book.
+    /// Returns the locked shard, and the tally with all parts of the book.
     pub(crate) fn new(
         shard: Shard,
         first_serial: u64,
@@ -70,6 +70,8 @@ impl<const INDEX: u8, B: Books> LockedShard<INDEX, B> {
     }
 
     /// Runs a call that changes no slot, under the shard's lock.
+    ///
+    /// The call may write its result to `room`.
     pub(crate) fn ask<C: ShardCall, R: Wait>(
         &self,
         rt: &R,
@@ -83,7 +85,9 @@ impl<const INDEX: u8, B: Books> LockedShard<INDEX, B> {
         self.state.lock(rt).begun.counted.ask(call, room)
     }
 
-    /// Runs a call that may change a slot, under the shard's lock. The tally counts it.
+    /// Runs a call that may change a slot, under the shard's lock.
+    ///
+    /// The tally counts the changes that the result reports. The call may write to `room`.
     pub(crate) fn change<C: Change, R: Wait>(
         &self,
         rt: &R,
@@ -98,7 +102,7 @@ impl<const INDEX: u8, B: Books> LockedShard<INDEX, B> {
         self.state.lock(rt).begun.counted.change(call, room, tally)
     }
 
-    /// Closes the book, with the tally that has all its parts.
+    /// Closes the book, with the tally `all` of all its parts.
     ///
     /// Returns the shard and the serial that its slots began with. The sum of the shard's serials
     /// has risen by the changes that were counted.

@@ -1,4 +1,6 @@
-//! Notification leases, run with the calls of a backend.
+//! Jobs of notification leases, run with the calls of a backend.
+//!
+//! A worker runs them, or the dispatcher.
 ghost use Rattle.std.specs.Prelude.{◌≡◌, ◌+◌, ◌<◌, None};
 ghost use Rattle.coap_msg.specs.declared.types.Emission.{Emission as Emitted};
 ghost use Rattle.fc_core.specs.Receiving.{emission_if};
@@ -24,8 +26,9 @@ impl<'a, B: Bench, G: Gate, W: Wire, M: TimeSource> Context<'a, B, G, W, M> {
     /// Runs the job of a lease, and returns whether a message is to be sent.
     ///
     /// It takes a snapshot of the lease's slot, draws a message ID, runs the program and notifies
-    /// the observer. The message is written over the reply in `tools`. If memory is refused, or no
-    /// message ID is available, the lease is released. No slot changes, and one job is ended.
+    /// the observer. The message is written over `scratch.reply`. If memory is refused, or no
+    /// message ID is available, the lease is released. If the lease isn't active any more, nothing
+    /// else is done. No slot changes, and one job is ended.
     #[inline(never)]
     pub fn notify<R: Wait>(
         &self,
@@ -68,7 +71,9 @@ impl<'a, B: Bench, G: Gate, W: Wire, M: TimeSource> Context<'a, B, G, W, M> {
         }
     }
 
-    // Notifies about the result of a lease's snapshot: a ticket, or an empty slot.
+    // Notifies the lease's observer of a run of the ticket's program, or, if `found` is `None`, of
+    // an empty slot. Returns whether a message, in `reply`, is to be sent. If no message ID is
+    // available, releases the lease instead.
     fn tell<R: Wait>(
         &self,
         rt: &R,
@@ -106,7 +111,8 @@ impl<'a, B: Bench, G: Gate, W: Wire, M: TimeSource> Context<'a, B, G, W, M> {
         }
     }
 
-    // Notifies the observer of a lease.
+    // Notifies the observer of a lease of `told`, with message ID `id`, at the current time.
+    // Returns whether a message, in `reply`, is to be sent.
     fn note<R: Wait>(
         &self,
         rt: &R,
@@ -147,7 +153,7 @@ impl<'a, B: Bench, G: Gate, W: Wire, M: TimeSource> Context<'a, B, G, W, M> {
     }
 }
 
-// Returns whether a notification is sent.
+// Returns whether a message is to be sent, by the result `noted` of the shard.
 fn is_note_sent(noted: NoteOutcome) -> bool
     ensures { (reply : Emitted) → emission_if result reply ≡ sent_of (noted_as noted reply) }
 {

@@ -1,4 +1,4 @@
-//! Workers in threads of their own.
+//! Workers in threads of their own, and the channel by which they get jobs.
 ghost use Rattle.std.specs.Prelude.{◌≡◌, Bool, IfOk, vec_len};
 ghost use Rattle.std.specs.List.{All};
 ghost use Rattle.fc_jobs.specs.Ends.{nothing_got, nothing_sent};
@@ -19,9 +19,10 @@ use std::sync::Wait;
 use std::thread;
 use std::thread::{Promise, Threads};
 
-/// Makes a channel of jobs, and a seat for each of the given tallies, with one of the logs.
+/// Makes a channel of jobs, and a worker seed for each of `tallies`.
 ///
-/// Returns the channel, its sending end and the worker seeds.
+/// Each worker seed has one of `logs`, of which there are as many. Returns the channel, its sending
+/// end and the worker seeds.
 ///
 /// # Errors
 /// Returns `AllocError` if memory can't be allocated.
@@ -39,7 +40,8 @@ pub fn make_seats<T: Drop, J: ServerName>(
     Ok((jobs, sent, seats))
 }
 
-// Makes a seat for each place at the channel, with its tallies.
+// Makes a worker seed for each of `tallies`, with one of `gots`, the places at the channel, and one
+// of `logs`. There are as many of each.
 fn seats_at<T: Drop, J: ServerName>(
     alloc: Global,
     jobs: &Jobs,
@@ -125,12 +127,13 @@ impl<B: Bench, G: Gate, W: Wire, M: TimeSource> Promise<
 ///
 /// The driver sends the jobs, and owns the sending end of the channel. Once the driver drops it,
 /// the channel is closed, and the workers end. The driver's argument says whether workers were
-/// started. If no thread can be made for them, they run after the driver.
+/// started; the clause doesn't say that. If no thread can be made for them, they run after the
+/// driver.
 ///
 /// # Errors
-/// The statistics are those of `run_workers`. If memory is refused for every seat, no worker ever
-/// asks for a job ([`Jobs::is_served`]). A driver that then sends more than 256 jobs waits for
-/// ever.
+/// The statistics are an error if those of `run_workers` are. If memory is refused for every worker
+/// seed, no worker ever asks for a job ([`Jobs::is_served`]). A driver that then sends more than
+/// 256 jobs waits for ever.
 pub fn drive_workers<
     B: Bench + Sync,
     G: Gate + Sync,

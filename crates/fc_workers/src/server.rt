@@ -1,6 +1,6 @@
 //! A server with nine locks: one for the front, and one for each shard.
 //!
-//! No lock guards its head words.
+//! Its calls are those of [`Bench`](crate::bench::Bench). No lock guards its head words.
 //!
 //! Each shard's changes are counted in a ledger of its own, which a type represents. One type
 //! parameter names all eight ([`Books`](crate::books::Books)): a function that opens a server is
@@ -67,7 +67,7 @@ use fc_verify::Verified;
 use std::alloc::{AllocError, Global};
 use std::sync::{Arc, Mutex, Wait};
 
-// Removes and returns the last shard.
+// Removes the last of `shards`, and returns it.
 fn last_of(shards: &mut Vec<Shard>) -> Shard
     requires { 0 < vec_len shards.old }
     ensures last { result ≡ shard_at shards.old.items (vec_len shards.old - 1) }
@@ -79,7 +79,8 @@ fn last_of(shards: &mut Vec<Shard>) -> Shard
     shard
 }
 
-// Makes the unassigned shares, whose tallies have equally many parts, and count no change.
+// Makes the unassigned shares of a new server from its shards' tallies. These have equally many
+// parts, and count no change.
 fn unassigned_of<B: Books>(
     tally0: Tally<BookOf<B, 0>>,
     tally1: Tally<BookOf<B, 1>>,
@@ -121,7 +122,8 @@ struct FrontParts<B: Books> {
     logs: Vec<TrackLog<ServerOf<B>>>,
 }
 
-// Makes a front with this policy, and begins the tracks of its book.
+// Makes a front with this policy, and begins the tracks of its book: those of the front and the
+// shards, and those of each thread, which become its log.
 fn begin_front<B: Books>(
     alloc: Global,
     policy: &Policy,
@@ -143,7 +145,8 @@ fn begin_front<B: Books>(
     Ok(FrontParts { book, front, logs })
 }
 
-// Begins the tracks of eight shards, on which nothing is filed.
+// Begins the tracks of eight shards, on which nothing is filed. They have the keys between that of
+// the front's track and those of the threads'.
 fn begin_shards<B: Books>(book: &ServerBook<ServerOf<B>>, first: &mut ServerTracks<ServerOf<B>>)
     requires { first.old.may_begin ≡ true }
     ensures { first.new ≡ record first.old { next = first.old.next + 8 } }
@@ -185,7 +188,8 @@ impl<'a, B: Books, D: Device> Locked<'a, B, D> {
     ///
     /// It has this policy, and draws `first_id` first. Its programs get the readings of `device`.
     /// It opens the ledgers, and the unassigned shares are all their parts. The calls of its front
-    /// are filed in `book`; each thread of the book has a log.
+    /// are filed in `book`. Returns the server, the unassigned shares, and a log for each thread of
+    /// the book.
     ///
     /// # Errors
     /// Returns `AllocError` if memory for the server can't be allocated.
@@ -331,6 +335,9 @@ impl<'a, B: Books, D: Device> Locked<'a, B, D> {
     }
 }
 
+/// A call of the front or of a shard locks that part, and no other, and calls it.
+///
+/// A call of the head words or of the device takes no lock.
 impl<'a, B: Books, D: Device> Bench for Locked<'a, B, D> {
     ghost called = { IsServerCall B.first };
 
@@ -569,7 +576,7 @@ impl<'a, B: Books, D: Device> Bench for Locked<'a, B, D> {
     }
 }
 
-// Returns whether an answer is sent.
+// Returns whether a response is to be sent, by the result `answered` of the front.
 fn is_sent(answered: Responded) -> bool
     ensures { (reply : Emitted) → emission_if result reply ≡ emission_of (responded answered reply) }
 {

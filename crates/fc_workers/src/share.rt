@@ -69,7 +69,7 @@ impl<T: Drop, J: ServerName> Share<T, TrackLog<J>> {
         self.refusals = self.refusals.saturating_add(1);
     }
 
-    // Counts a reply, by whether it went out.
+    // Counts a reply as sent if `out`, else as failed.
     pub(crate) fn count_reply(&mut self, out: bool)
         ensures { self.new ≡ (if out then record self.old { sent = saturated (self.old.sent + 1) }
             else record self.old { failed = saturated (self.old.failed + 1) }) }

@@ -1,4 +1,4 @@
-//! The tallies of eight shards.
+//! A worker's counts: its changes of the eight shards, and the jobs that it ended.
 ghost use Rattle.std.specs.Prelude.{◌≡◌, ◌+◌, ◌<◌, slice_index};
 ghost use Rattle.fc_registry.specs.Taken.{SlotSnapshot};
 ghost use Rattle.fc_registry.specs.Views.{taken_with};
@@ -76,7 +76,7 @@ impl<B: Books> Tallies<B> {
         self.ended = self.ended.saturating_add(1);
     }
 
-    // Counts one more ended job if the job's snapshot is stale.
+    // Counts one more ended job if the snapshot of a lease's job is stale: that job ends so.
     pub(crate) fn end_snapshot(&mut self, taken: &Taken)
         ensures { (found : SlotSnapshot) → self.new ≡ record self.old { ended = ended_by (taken_with taken.now found) self.old.ended } }
     {

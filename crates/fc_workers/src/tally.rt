@@ -30,7 +30,7 @@ impl<L: Ledger> Model for Tally<L> {
 }
 
 impl<L: Ledger> Tally<L> {
-    /// Makes the tally of a share that no change was counted on.
+    /// Makes the tally of a share on which no change was counted.
     pub(crate) fn of(share: Share<L>) -> Tally<L>
         requires parts { 0 < share.parts }
         requires amount { share.amount ≡ 0 }
@@ -48,9 +48,9 @@ impl<L: Ledger> Tally<L> {
         self.shown = self.shown.saturating_add(1);
     }
 
-    /// Compares the tally with the book.
+    /// Compares the tally with the book, when the book is closed.
     ///
-    /// A tally of all parts counts all changes.
+    /// A tally of all parts counts all changes. Neither is changed.
     pub(crate) fn audit(&mut self, book: &mut Book<L>)
         ensures same { (book.new.total ≡ book.old.total) × (self.new ≡ self.old) }
         ensures whole { self.old.parts ≡ L.parts → self.old.changes ≡ book.old.total }

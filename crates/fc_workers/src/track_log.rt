@@ -7,7 +7,9 @@ use fc_filed::{ServerBook, ServerName, ServerTracks};
 use std::alloc::{AllocError, Global};
 use std::marker::Model;
 
-/// The key of the first thread's track: keys 0 to 8 are those of the front and of eight shards.
+/// The key of the first thread's track.
+///
+/// Keys 0 to 8 are those of the tracks of the front and of eight shards.
 const FIRST_THREAD: u64 = 9;
 
 /// A worker's log: that of its calls, and its tracks in the server's book.
@@ -44,7 +46,8 @@ struct ThreadTrack<J: ServerName> {
 }
 
 impl<J: ServerName> TrackLog<J> {
-    // Makes the log of a thread. Its jobs have the next track of `first`.
+    // Makes the log of a thread, with its own track. Its jobs get the next track that `first`
+    // begins.
     fn new(book: &ServerBook<J>, first: &mut ServerTracks<J>, thread: ThreadTrack<J>) -> TrackLog<J>
         requires may_begin { first.old.may_begin ≡ true }
         requires next { J.first_job ≤ first.old.next }
@@ -62,6 +65,9 @@ impl<J: ServerName> TrackLog<J> {
 }
 
 /// Begins the tracks of a book's threads, and returns a log for each.
+///
+/// First the threads' own tracks begin, and then a track for the jobs of each. `first` owns the
+/// right to begin tracks.
 ///
 /// # Errors
 /// Returns `AllocError` if memory for the list can't be allocated.
@@ -84,7 +90,7 @@ pub(crate) fn begin_logs<J: ServerName>(
     Ok(logs)
 }
 
-// Begins the next tracks, one for each thread.
+// Begins the next tracks, one for each thread: its own, under the thread's key.
 fn begin_threads<J: ServerName>(
     alloc: Global,
     book: &ServerBook<J>,

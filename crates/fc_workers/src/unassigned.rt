@@ -1,4 +1,7 @@
 //! Ledger parts that aren't assigned to a worker.
+//!
+//! Workers get their parts from these, and their parts are merged into these before the server is
+//! closed.
 ghost use Rattle.std.specs.Prelude.{◌≡◌, ◌+◌, ◌-◌, ◌<◌, ◌≤◌, map, replicate, vec_len, IfOk};
 ghost use Rattle.fc_workers.specs.Answers.{saturated};
 ghost use Rattle.fc_workers.specs.Counts.{no_changes, no_tallies, sums};
@@ -74,7 +77,8 @@ impl<B: Books> Unassigned<B> {
     /// Splits off the tallies of `workers` workers.
     ///
     /// # Errors
-    /// Returns `AllocError` if memory for them can't be allocated.
+    /// Returns `AllocError` if memory for them can't be allocated. The parts that were split off by
+    /// then are lost.
     pub fn split_each(
         &mut self,
         alloc: Global,
@@ -93,7 +97,7 @@ impl<B: Books> Unassigned<B> {
         Ok(each)
     }
 
-    /// Merges the tallies of a worker.
+    /// Merges the tallies of a worker, whose part is unassigned again.
     pub fn merge(&mut self, worker: Tallies<B>)
         ensures { self.new ≡ record {
           parts = self.old.parts + 1;
@@ -124,6 +128,8 @@ impl<B: Books> Unassigned<B> {
     }
 
     /// Merges the tallies of all these workers.
+    ///
+    /// The clause counts the parts. It doesn't say which changes and jobs they add.
     pub fn merge_each<L: Drop>(&mut self, mut workers: Vec<Share<Tallies<B>, L>>)
         ensures { self.new.parts ≡ self.old.parts + vec_len workers }
     {
@@ -148,7 +154,7 @@ impl<B: Books> Unassigned<B> {
         ]
     }
 
-    /// Returns the number of jobs that were ended, up to 2^64 - 1.
+    /// Returns the number of jobs that the merged workers ended, up to 2^64 - 1.
     pub fn ended(&self) -> u64
         ensures { result ≡ self.now.ended }
     {

@@ -1,4 +1,4 @@
-//! Requests' jobs, run with the calls of a backend.
+//! Requests' jobs, run by a worker or the dispatcher with the calls of a backend.
 ghost use Rattle.std.specs.Prelude.{◌≡◌, ◌<◌, ℕ, None, length};
 ghost use Rattle.fc_verify.specs.Judged.{judged};
 ghost use Rattle.fc_verify.specs.Accepted.{Accepts, IsAccepted};
@@ -121,7 +121,7 @@ impl<'a, B: Bench, G: Gate, W: Wire, M: TimeSource> Context<'a, B, G, W, M> {
     /// Begins a request's job: a run takes a snapshot.
     ///
     /// It takes none if the slot's head word answers the request by one of its ETags. The job's
-    /// stage is a commit only after that one snapshot.
+    /// stage is a commit only after that one snapshot. From it the dispatcher knows a run's cost.
     pub(crate) fn begin<R: Wait>(
         &self,
         rt: &R,
@@ -171,7 +171,8 @@ impl<'a, B: Bench, G: Gate, W: Wire, M: TimeSource> Context<'a, B, G, W, M> {
         }
     }
 
-    // Reads the remaining head words, from the slot after the last of `words` to the last slot.
+    // Reads the remaining head words, and adds them to `words`: from the slot after those that
+    // `words` has, to the last slot.
     #[inline(never)]
     fn list(&self, heads: &mut HeadSeat, words: &mut Words, log: &mut TrackLog<B::Book>)
         requires seen { length words.old.items < 64 }
@@ -186,7 +187,7 @@ impl<'a, B: Bench, G: Gate, W: Wire, M: TimeSource> Context<'a, B, G, W, M> {
         }
     }
 
-    // Removes the program of the job's slot.
+    // Removes the program of the job's slot, and sets the next stage.
     #[inline(never)]
     fn remove<R: Wait>(
         &self,
@@ -204,7 +205,7 @@ impl<'a, B: Bench, G: Gate, W: Wire, M: TimeSource> Context<'a, B, G, W, M> {
         stage.removed(removal);
     }
 
-    // Takes a snapshot for the job.
+    // Requests readings, takes a snapshot of the job's slot with them, and sets the next stage.
     fn take<R: Wait>(
         &self,
         rt: &R,
@@ -231,7 +232,8 @@ impl<'a, B: Bench, G: Gate, W: Wire, M: TimeSource> Context<'a, B, G, W, M> {
         stage.step = Step::took(count, taken, &mut stage.answer);
     }
 
-    // Runs the ticket's program, and commits the run once the gate lets the job through.
+    // Runs the ticket's program, commits the run once the gate lets the job through, and sets the
+    // next stage. After a conflict that is another snapshot, if the job may take one more.
     fn commit<R: Wait>(
         &self,
         rt: &R,
@@ -268,7 +270,8 @@ impl<'a, B: Bench, G: Gate, W: Wire, M: TimeSource> Context<'a, B, G, W, M> {
         stage.step = Step::committed(*count, &outcome, &ticket, committed, &mut stage.answer);
     }
 
-    // Verifies the job's image, and installs the program.
+    // Verifies the job's image, installs the program, and sets the next stage. If a rule or a lack
+    // of memory refuses the image, that is the answer, and no shard is called.
     #[inline(never)]
     fn install<R: Wait>(
         &self,
@@ -291,7 +294,8 @@ impl<'a, B: Bench, G: Gate, W: Wire, M: TimeSource> Context<'a, B, G, W, M> {
         }
     }
 
-    // Installs the program of the job's image.
+    // Installs `program`, that of the job's image, and sets the next stage. If memory for its
+    // handle is refused, no shard is called.
     fn install_program<R: Wait>(
         &self,
         rt: &R,

@@ -1,4 +1,4 @@
-//! Workers, each with a seat of its own.
+//! Workers: the initial state of each, and how it runs a job.
 ghost use Rattle.std.specs.Prelude.{◌≡◌, ◌+◌, ℕ, true, None, IfOk};
 ghost use Rattle.fc_core.specs.Receiving.{emission_if};
 ghost use Rattle.fc_workers.specs.Answers.{saturated};
@@ -35,7 +35,7 @@ pub struct WorkerSeed<T: Drop, L: Drop> {
 }
 
 impl<T: Drop, L: Drop> WorkerSeed<T, L> {
-    /// Makes a seat with a new frame.
+    /// Makes a worker's initial state, with a new frame for its programs.
     ///
     /// # Errors
     /// Returns `AllocError` if memory for the frame can't be allocated.
@@ -56,8 +56,8 @@ impl<T: Drop, L: Drop> WorkerSeed<T, L> {
 
 /// Runs jobs until the channel is closed and empty.
 ///
-/// Each job is run and answered. Its reply, if there is one, is sent and counted. The worker has
-/// ended exactly the jobs that it received.
+/// Each job is run and answered. Its reply, if there is one, is sent and counted. Returns the
+/// worker's statistics. The worker has ended exactly the jobs that it received.
 pub fn worker<B: Bench, G: Gate, W: Wire, M: TimeSource, R: Wait>(
     rt: &R,
     context: &Context<'_, B, G, W, M>,
@@ -111,8 +111,9 @@ impl<'a, B: Bench, G: Gate, W: Wire, M: TimeSource> Context<'a, B, G, W, M> {
 
     /// Runs a request's job from its present stage, and then answers it.
     ///
-    /// The reply is sent and the job is ended, as `work` does. If calls led from the first stage to
-    /// this one, the job is run by these calls and further ones.
+    /// For the dispatcher, which began the job. The reply is sent and the job is ended, as `work`
+    /// does. If calls led from the first stage to this one, the job is run by these calls and
+    /// further ones.
     pub(crate) fn work_begun<R: Wait>(
         &self,
         rt: &R,
@@ -137,7 +138,7 @@ impl<'a, B: Bench, G: Gate, W: Wire, M: TimeSource> Context<'a, B, G, W, M> {
         self.finish(rt, number, replies, &scratch.reply, share);
     }
 
-    // Runs a job, and writes its reply. Returns whether there is one.
+    // Runs a job, and writes its reply over `scratch.reply`. Returns whether there is one.
     fn reply<R: Wait>(
         &self,
         rt: &R,
@@ -163,7 +164,8 @@ impl<'a, B: Bench, G: Gate, W: Wire, M: TimeSource> Context<'a, B, G, W, M> {
         }
     }
 
-    // Runs a request's job, answers it, and writes its reply. Returns whether there is one.
+    // Runs a request's job, answers it, and writes its reply over `scratch.reply`. Returns whether
+    // there is one.
     fn answer<R: Wait>(
         &self,
         rt: &R,
@@ -184,7 +186,8 @@ impl<'a, B: Bench, G: Gate, W: Wire, M: TimeSource> Context<'a, B, G, W, M> {
         self.respond(rt, scratch, job, share)
     }
 
-    // Answers a request's job that was run, and writes its reply. Returns whether there is one.
+    // Answers a request's job that was run, and writes its reply over `scratch.reply`. Returns
+    // whether there is one.
     fn respond<R: Wait>(
         &self,
         rt: &R,
@@ -212,7 +215,7 @@ impl<'a, B: Bench, G: Gate, W: Wire, M: TimeSource> Context<'a, B, G, W, M> {
             .respond(rt, now, job, answer, &mut scratch.reply, tallies, log)
     }
 
-    // Sends the reply of a job, if it has one, and counts it. The last call reports to the
+    // Sends the reply of a job if `replies`, and counts it. The last call reports to the
     // transmitter that the job has ended.
     fn finish<R: Wait>(
         &self,

@@ -24,6 +24,8 @@ pub struct WorldState {
 
 // The effects of the server's calls.
 impl WorldState {
+    // Delivers a datagram. A job that it produces becomes the last task. Returns the datagram to
+    // send immediately, if there is one. The error is that memory for a task can't be allocated.
     fn deliver(
         &mut self,
         now: u64,
@@ -49,6 +51,8 @@ impl WorldState {
         }
     }
 
+    // Requests a lease of a shard. If one is granted, its job becomes the last task. Nothing
+    // happens for a shard above 7. The error is that memory for a task can't be allocated.
     fn due(&mut self, shard: u8, now: u64) -> Result<(), AllocError>
         requires { length self.old.server.shards ≡ 8 }
         ensures { OnOk result (Done (Event.Due shard now) (parts self.old) None (parts self.new)) }
@@ -64,6 +68,8 @@ impl WorldState {
         Ok(())
     }
 
+    // Passes an acknowledgement, or a reset (`reset`), to a shard's observers. Nothing happens for
+    // a shard above 7.
     fn signal(&mut self, shard: u8, endpoint: Endpoint, id: u16, reset: bool)
         requires { length self.old.server.shards ≡ 8 }
         ensures { Done (Event.Signal shard endpoint id reset) (parts self.old) None (parts self.new) }
@@ -73,6 +79,8 @@ impl WorldState {
         }
     }
 
+    // Advances a shard to `now`. Returns its retransmission, if there is one. Nothing happens for a
+    // shard above 7.
     fn tick_shard(&mut self, shard: u8, now: u64) -> Option<Emission>
         requires { length self.old.server.shards ≡ 8 }
         ensures { Done (Event.ShardTick shard now) (parts self.old) result (parts self.new) }
@@ -99,7 +107,9 @@ impl WorldState {
         })
     }
 
-    // Executes an event.
+    // Executes an event, and returns its emission, if there is one. An event of a job that hasn't
+    // arrived does nothing. The error is that memory can't be allocated; then nothing is
+    // guaranteed.
     pub(crate) fn step(
         &mut self,
         alloc: Global,
@@ -117,7 +127,7 @@ impl WorldState {
         self.server.work(alloc, event, &mut self.tasks[job])
     }
 
-    // Executes an event that names no job.
+    // Executes an event that names no job, for `step`.
     fn pass(&mut self, event: &Event<'_>) -> Result<Option<Emission>, AllocError>
         requires named { names event.now ≡ None }
         requires reached { IsReached (parts self.old) }

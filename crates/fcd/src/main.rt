@@ -37,6 +37,7 @@ const FIRST_SERIAL: u64 = 0;
 /// First message ID of the server's own.
 const FIRST_ID: u16 = 0;
 
+// Runs the words of the command line. Returns `Bad` if one of them isn't UTF-8.
 fn run<R: Runtime + AllocGlobal + Threads + Wait + Net + RandomSource + Sync, E: Write>(
     rt: &R,
     files: &HostRuntime,
@@ -48,8 +49,8 @@ fn run<R: Runtime + AllocGlobal + Threads + Wait + Net + RandomSource + Sync, E:
     }
 }
 
-// Runs the command line's command. `files` is the same runtime: several threads read with it, which
-// is proved for its own type only.
+// Runs the command line's command, and returns its status. `files` is the same runtime: several
+// threads read with it, which is proved for its own type only.
 fn obey<R: Runtime + AllocGlobal + Threads + Wait + Net + RandomSource + Sync, E: Write>(
     rt: &R,
     files: &HostRuntime,
@@ -73,7 +74,8 @@ fn obey<R: Runtime + AllocGlobal + Threads + Wait + Net + RandomSource + Sync, E
     }
 }
 
-// Plays standard input to standard output, with this number of workers or on this thread alone.
+// Plays standard input to standard output, with this number of workers, or on this thread alone if
+// `workers` is `None`.
 fn play_input<R: Runtime + AllocGlobal + Threads + Wait + Net + Sync, E: Write>(
     rt: &R,
     err: &mut E,
@@ -94,7 +96,8 @@ fn play_input<R: Runtime + AllocGlobal + Threads + Wait + Net + Sync, E: Write>(
     })
 }
 
-// Serves at the address and port of the command line.
+// Serves at the address and port of the command line. Returns `Bad` if an option is refused, or
+// `Failed` if memory for the timers can't be allocated; the reason is written to `err`.
 fn serve_socket<R: Runtime + AllocGlobal + Threads + Wait + Net + RandomSource + Sync, E: Write>(
     rt: &R,
     files: &HostRuntime,
@@ -126,7 +129,7 @@ fn serve_socket<R: Runtime + AllocGlobal + Threads + Wait + Net + RandomSource +
 }
 
 // Serves with these options and timers. The end is recorded by a logger, changes by a recorder, and
-// counts by a reporter.
+// counts by a reporter. Returns an error if the time or random bytes can't be read.
 fn serve_logged<
     R: Runtime + AllocGlobal + Threads + Wait + Net + RandomSource + Sync,
     E: Write,
@@ -182,7 +185,7 @@ fn serve_logged<
     })
 }
 
-// Returns the filter of a logger: records of level info, or none.
+// Returns the filter of a logger: records of level info if `is_asked`, or none.
 fn level_if(is_asked: bool) -> LevelFilter {
     if is_asked {
         LevelFilter::Info
@@ -191,13 +194,14 @@ fn level_if(is_asked: bool) -> LevelFilter {
     }
 }
 
-// Reports that an option has no meaning.
+// Writes to `err` why an option is refused. The status is 2. Returns an error if writing fails.
 fn tell_bad<E: Write>(err: &mut E, bad: BadOption) -> anyhow::Result<Status> {
     writeln!(err, "{bad}")?;
     Ok(Status::Bad)
 }
 
-// Reports that `--every` defines no timers. The status is 3 if memory can't be allocated, else 2.
+// Writes to `err` why `--every` gives no timers. The status is 3 if memory can't be allocated, else
+// 2. Returns an error if writing fails.
 fn tell_bad_timer<E: Write>(err: &mut E, bad: &BadTimer) -> anyhow::Result<Status> {
     writeln!(err, "{bad}")?;
     Ok(match bad {

@@ -52,6 +52,7 @@ static EXAMPLES: [Example; 3] = [
     },
 ];
 
+// Returns the program's command line, for `parse`.
 fn command<'a>(alloc: Global) -> Result<Command<'a>, Error> {
     let folder = Arg::new(alloc, "folder").value_name("FOLDER").help(
         "Where the texts of the programs lie; the current folder where it isn't given",
@@ -64,6 +65,7 @@ fn command<'a>(alloc: Global) -> Result<Command<'a>, Error> {
     )
 }
 
+// Runs the program by the words of its command line. If one isn't UTF-8, the status is `Bad`.
 fn run<E: Write>(rt: &HostRuntime, err: &mut E) -> anyhow::Result<Status> {
     match words(rt, err)? {
         Some(words) => obey(rt, err, words),
@@ -71,7 +73,8 @@ fn run<E: Write>(rt: &HostRuntime, err: &mut E) -> anyhow::Result<Status> {
     }
 }
 
-// Runs the programs of the folder that the command line names.
+// Runs the programs of the folder that the command line names. If the command line doesn't match,
+// `parse` has printed why, and nothing is run.
 fn obey<E: Write>(rt: &HostRuntime, err: &mut E, words: Vec<String>) -> anyhow::Result<Status> {
     let matches = match parse(rt, command(rt.alloc())?, &words)? {
         Ok(matches) => matches,
@@ -80,7 +83,8 @@ fn obey<E: Write>(rt: &HostRuntime, err: &mut E, words: Vec<String>) -> anyhow::
     show_all(rt, err, matches.get_str("folder").unwrap_or("."))
 }
 
-// Runs each program, up to one that isn't accepted or can't be played.
+// Runs each program, up to one that isn't accepted or can't be played. Returns the status of the
+// last one that was run.
 fn show_all<E: Write>(rt: &HostRuntime, err: &mut E, folder: &str) -> anyhow::Result<Status> {
     let mut out = BufWriter::new(rt.alloc(), io::writer(rt))?;
     for example in &EXAMPLES {
@@ -94,7 +98,7 @@ fn show_all<E: Write>(rt: &HostRuntime, err: &mut E, folder: &str) -> anyhow::Re
 }
 
 // Prints the verdict on a program, the lines that install it and send it requests, and their
-// output.
+// output. Returns the status of the verdict unless that is `Done`, or else of the requests.
 fn show<R: Files + AllocGlobal, W: Write, E: Write>(
     rt: &R,
     out: &mut W,

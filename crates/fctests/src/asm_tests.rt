@@ -1,4 +1,4 @@
-//! Sources and their meaning: the expected values are the assembler's rules.
+//! Sources and their meaning: the expected values follow from the assembler's rules.
 use fc_asm::{AsmError, assemble, disassemble};
 use fc_isa::{AluOp, Insn, Jump, LoadType, Operand, Reg, Relation, Size, Target, Width};
 use std::alloc::{AllocError, Global};

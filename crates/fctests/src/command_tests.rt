@@ -10,7 +10,7 @@ use std::net::{Ipv4Addr, SocketAddrV4};
 use std::process::Abort;
 use std::test::Fail;
 
-// Returns the text for words that are no command.
+// Returns the text that `fcd` with this word prints instead of running a command.
 fn told(alloc: Global, word: &str) -> Result<String, Fail> {
     let mut text = String::new(alloc);
     let words = ["fcd", word];

@@ -26,7 +26,8 @@ fn post() -> Job
     post
 }
 
-// Takes a snapshot for the job, and commits its run: returns whether the commit has serial 8.
+// Takes a snapshot for the job, and commits its run. Returns whether the snapshot had serial 8, by
+// the commit's mark.
 fn commit<L: Ledger>(
     alloc: Global,
     counted: &mut Counted<L>,

@@ -77,7 +77,7 @@ pub(crate) struct Driver<'a, B: Bench> {
 impl<'a, B: Bench> Driver<'a, B> {
     /// Delivers a request's datagram at `now`, in milliseconds, and sends its job.
     ///
-    /// Returns whether there was one.
+    /// Returns whether a job was sent.
     pub(crate) fn ask<R: Wait>(
         &self,
         rt: &R,
@@ -97,7 +97,7 @@ impl<'a, B: Bench> Driver<'a, B> {
         }
     }
 
-    /// Delivers a datagram at `now`, in milliseconds, and returns its job.
+    /// Delivers a datagram at `now`, in milliseconds, and returns its job, if it has one.
     pub(crate) fn job<R: Wait>(&self, rt: &R, now: u64, bytes: &[u8]) -> Option<Job> {
         let mut job = blank_job();
         let mut reply = blank_emission();

@@ -48,8 +48,8 @@ fn exchanges_end_in_order_of_arrival(rt: HostRuntime) -> Result<(), AllocError> 
     Ok(())
 }
 
-// A search compares no key if no exchange is stored, and otherwise begins in the middle; the call
-// after it makes no comparison that is counted.
+// A search compares no key if no exchange is stored, and otherwise begins in the middle. Calls
+// other than searches leave the number of comparisons unchanged.
 #[test]
 fn looks_count_their_comparisons(rt: HostRuntime) -> Result<(), AllocError> {
     let mut exchanges = Exchanges::new(rt.alloc(), DEFAULT_LIMITS)?;

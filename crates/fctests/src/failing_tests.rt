@@ -37,12 +37,12 @@ const CREATED: &[u8] = b"\x60\x41\x00\x01\xffversion=1 cost=9 budget=9 vars=8";
 
 const CHANGED: &[u8] = b"\x60\x44\x00\x02";
 
-// The one POST that was executed made serial 2.
+// The ETag is serial 2: the POST was executed once.
 const CONTENT: &[u8] = b"\x60\x45\x00\x03\x48\x00\x00\x00\x00\x00\x00\x00\x02";
 
 const DESCRIBED: &[u8] = b"\x60\x45\x00\x04\xffversion=1 cost=9 budget=9 vars=8";
 
-// So is each response.
+// The responses to these: a duplicate gets the same bytes.
 static ANSWERS: [&[u8]; 8] = [
     CREATED, CREATED, CHANGED, CHANGED, CONTENT, CONTENT, DESCRIBED, DESCRIBED,
 ];

@@ -191,8 +191,8 @@ impl<'a, R: Net + Clock> Net for Known<'a, R> {
         self.rt.connect(addr)
     }
 
-    // A client reaches each server of its network: its own address is left open, and its port is a
-    // free one.
+    // Permits a client only the unspecified address and a free port: with these it reaches each
+    // server of its network.
     fn bind_udp(&self, addr: SocketAddr) -> io::Result<UdpSocket> {
         if addr != SocketAddr::V4(SocketAddrV4::new(Ipv4Addr::UNSPECIFIED, 0)) {
             return Err(io::Error::from(io::ErrorKind::AddrNotAvailable));
@@ -406,7 +406,7 @@ fn an_answer_is_flushed(rt: HostRuntime) -> Result<(), Fail> {
 }
 
 // A POST of JSON: Content-Format, option 12, is 50, in one byte (RFC 7252, sections 5.10 and 12.3),
-// between the path and the marker.
+// between the path and the query.
 #[test]
 fn a_body_has_the_format_that_is_given(rt: HostRuntime) -> Result<(), Fail> {
     let alloc = rt.alloc();
@@ -487,7 +487,7 @@ fn no_input_is_read_where_the_body_is_none_or_a_text(rt: HostRuntime) -> Result<
     Ok(())
 }
 
-// The file of a test, before and after.
+// The name of the file that a test writes and removes.
 const KEPT: &str = "answer-of-a-test";
 
 // Returns the status of a GET with this response, and its output. The response's bytes are written

@@ -9,8 +9,8 @@ use fc_isa::{
 use std::process::Abort;
 use std::test::Fail;
 
-// The bytes are decoded as the program, the program is listed as the line, and it is encoded as the
-// bytes.
+// Checks that the bytes are decoded as the program, that it is listed as the line, and that it is
+// encoded as the bytes.
 fn check_spelling<R: Abort + AllocGlobal>(
     rt: &R,
     line: &str,

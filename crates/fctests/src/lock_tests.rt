@@ -20,7 +20,7 @@ const VALID: u8 = 0x43;
 
 const CONTENT: u8 = 0x45;
 
-// A call of a shard that requests nothing of it, and runs this while the shard's lock is held.
+// A call of a shard that leaves it unchanged, and runs `call` while the shard's lock is held.
 #[derive(Drop)]
 struct WhileHeld<F: Drop> {
     call: F,

@@ -19,7 +19,8 @@ struct Given<'a> {
     steps: u32,
 }
 
-// The program of the source answers a POST of slot 5 without a payload with 2.04 and these results.
+// Checks that the source's program answers a POST of slot 5 without a payload with 2.04 and these
+// results. `found` are its variables before the run.
 fn check_post<R: Abort + AllocGlobal>(
     rt: &R,
     text: &[u8],

@@ -114,7 +114,7 @@ fn options_by_number(rt: HostRuntime) {
 
 #[test]
 fn written(rt: HostRuntime) {
-    // 2.05 in an acknowledgement, with an ETag of eight bytes and a payload.
+    // 2.05 in an acknowledgement, with an ETag of eight bytes and no payload.
     static CONTENT: Outgoing<'static> = Outgoing {
         kind: MessageType::Acknowledgement,
         code: Code::CONTENT,

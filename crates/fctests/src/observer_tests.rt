@@ -172,7 +172,7 @@ fn turns_are_given_up(rt: HostRuntime) -> Result<(), Fail> {
     observers.sent(20, first, 0, 8, 0, &datagram(b"late"));
     assert!(rt; observers.out(first).is_none() && observers.next_due(20, 9).is_none());
     let second = observers.next_due(21, 9).ok_or("due again")?;
-    // It is released by itself at 247,021.
+    // The second lease expires at 247,021.
     observers.advance(247_020);
     assert!(rt; observers.out(second).is_some() && observers.next_due(247_020, 9).is_none());
     observers.advance(247_021);
@@ -196,7 +196,7 @@ fn turns_keep_that_the_slot_was_empty(rt: HostRuntime) -> Result<(), Fail> {
     observers.mark_missing(second);
     observers.advance(247_000);
     assert!(rt; observers.is_missing(second) && !observers.is_missing(first));
-    // It is released.
+    // Both leases have expired.
     observers.advance(247_001);
     assert!(rt; !observers.is_missing(second) && !observers.is_out(second));
     Ok(())

@@ -163,7 +163,7 @@ impl<'c, 'r, C: Clock> Gate for Holding<'c, 'r, C> {
     }
 }
 
-// The input for a server's workers, through the sending end.
+// The requests of a trial, whose jobs are sent to the workers.
 pub(crate) trait Drive<B: Bench> {
     fn drive<R: Wait + Clock>(
         &self,
@@ -274,7 +274,7 @@ impl<B: Bench> Drive<B> for TwoAtOnce {
     }
 }
 
-// The worker's current job, the number of hook calls for its run, and the hook's log.
+// The worker's current job, the number of hook calls for its runs, and the hook's tallies and log.
 #[derive(Drop)]
 struct Turn<T: Drop, L: Drop> {
     tallies: T,

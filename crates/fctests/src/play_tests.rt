@@ -69,8 +69,8 @@ fn failed_reading_is_status_3(rt: HostRuntime) {
     );
 }
 
-// After a line, no more text is read than shows that it is too long for a line; the line was
-// executed.
+// A good line is executed. Of a line without end after it, no more is read than shows that it is
+// too long.
 #[test]
 fn a_line_without_end_is_bad(rt: HostRuntime) -> Result<(), Fail> {
     let line = b"0 1 4101123471b1720130\n".as_slice();
@@ -145,7 +145,7 @@ fn failed_flushing_is_status_3(rt: HostRuntime) {
     );
 }
 
-// A command line without memory isn't a bad one.
+// If memory for the command line can't be allocated, the status isn't that of a bad command line.
 #[test]
 fn a_command_without_memory_is_status_3(rt: HostRuntime) {
     let status = explain(&rt, &Error::from(AllocError));

@@ -56,7 +56,7 @@ fn answered(client: &UdpSocket, port: u16, datagram: &[u8], wait: u64) -> io::Re
 }
 
 // Another address is forbidden to remove a program, and its duplicate gets the same response. Above
-// its share the address gets 5.03 or no response; the manager removes the program.
+// its share the address gets 5.03 or no response. The manager's DELETE of the empty slot gets 2.02.
 fn ask_from_two<R: Abort + Net>(rt: &R, port: u16) -> Result<(), Fail> {
     let other = client_at(rt, Ipv4Addr::new(127, 0, 0, 2))?;
     let manager = client_at(rt, Ipv4Addr::LOCALHOST)?;

@@ -33,8 +33,8 @@ fn printed<R: Abort + AllocGlobal>(
     Ok(out)
 }
 
-// Each time slot 0 responds with a 2.05 with the ETag of the first install, and these hex digits
-// after it.
+// Checks that slot 0 responds to each of two requests with a 2.05 with the ETag of the first
+// install, and the hex digits of `reply` after it.
 fn check_replied<R: Abort + AllocGlobal>(
     rt: &R,
     text: &[u8],
@@ -50,7 +50,7 @@ fn check_replied<R: Abort + AllocGlobal>(
     Ok(())
 }
 
-// Each time slot 0 responds with this code's byte alone.
+// Checks that slot 0 responds to each of two requests with this code alone, without an option.
 fn check_code<R: Abort + AllocGlobal>(rt: &R, text: &[u8], code: &str) -> Result<(), Fail> {
     let printed = printed(rt, text, 0, "")?;
     let wanted = format!(in rt.alloc(); "\n1 60{code}0002\n1 60{code}0003\n")?;
@@ -120,8 +120,8 @@ fn programs_with_calls_reply(rt: HostRuntime) -> Result<(), Fail> {
     Ok(())
 }
 
-// A program with 16 bytes of variables: it stores 7 into the second word, and then replies with a
-// helper's result.
+// Checks the replies of a program with 16 bytes of variables: it stores 7 into the second word, and
+// then replies with the result of a helper.
 fn check_answer<R: Abort + AllocGlobal>(
     rt: &R,
     calls: &str,

@@ -25,7 +25,7 @@ use std::test::Fail;
 use std::thread::Threads;
 use std::time::Clock;
 
-// Nobody at 127.0.0.1 is a manager, and there are two exchanges.
+// No client at 127.0.0.1 is a manager, and there are two exchanges.
 const POLICY: Policy = Policy {
     managers: [Network {
         ip: [192, 0, 2, 0],
@@ -99,7 +99,7 @@ const EXPECTED: &str = "\
 [INFO  fcd] report received=4 forbidden=1 unavailable=1 notified=0 resent=0 removed=0 failed=2
 ";
 
-// Returns the lines that a server with this many workers reports in this period.
+// Returns the lines that a server with this many workers reports, with this period.
 fn reported_by<R: Abort + AllocGlobal + Threads + Wait + Clock + Sync>(
     rt: &R,
     workers: u8,

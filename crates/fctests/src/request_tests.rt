@@ -260,7 +260,7 @@ fn elective_options(rt: HostRuntime) {
 
 #[test]
 fn etags(rt: HostRuntime) {
-    // One of seven bytes doesn't count.
+    // An ETag of seven bytes doesn't count.
     let tags = request_of(
         b"\x40\x01\x00\x01\x47\x01\x02\x03\x04\x05\x06\x07\x08\x00\x00\x00\x00\x00\x00\x00\x09\x71\x72\x01\x30",
     );
@@ -277,7 +277,7 @@ fn two_queries(rt: HostRuntime) {
 fn queries_and_payloads(rt: HostRuntime) {
     let mut bytes = [0u8; 1280];
     bytes[..8].copy_from_slice(b"\x40\x01\x00\x01\xb1\x72\x01\x30");
-    // 64 empty values have 63 bytes, 65 have 64, 66 have 65.
+    // 64 empty arguments, separated by `&`, have 63 bytes; 65 have 64, and 66 have 65.
     bytes[8] = 0x40;
     check_outcome(&rt, &bytes[..72], Outcome::Accepted);
     check_outcome(&rt, &bytes[..73], Outcome::Accepted);
@@ -333,7 +333,7 @@ fn replies(rt: HostRuntime) {
     };
     let more = reply_of(Code::CONTINUE, 0x4000, taken, b"");
     check_reply(&rt, &more, b"\x61\x5f\x40\x00o\xd1\x0e\x0a");
-    // All five, and a sequence number of 0, which has no byte.
+    // All five options; a sequence number of 0, and a Content-Format of 0, have no byte.
     let all = ReplyOptions {
         etag: Some(16_777_216),
         observe: Some(0),

@@ -133,7 +133,7 @@ pub(crate) fn answers(alloc: Global, script: &[(&[u8], &[u8])]) -> Result<Script
     Ok(server)
 }
 
-// The server received these bytes, followed by those, as the datagram at this place.
+// Checks that the datagram that the server received at this place is `first`, followed by `second`.
 pub(crate) fn check_sent<R: Abort>(
     rt: &R,
     server: &Scripted,

@@ -43,7 +43,7 @@ pub(crate) fn at_port(port: u16) -> SocketAddrV4 {
     SocketAddrV4::new(Ipv4Addr::LOCALHOST, port)
 }
 
-// A request to this path has this response, and the client ends with this status.
+// Checks that a request to this path gets this response, and that the client ends with this status.
 pub(crate) fn check_asked<R: Abort + Net + Clock + RandomSource + AllocGlobal>(
     rt: &R,
     port: u16,
@@ -187,7 +187,7 @@ fn serve_counter<R: Abort + AllocGlobal + Threads + Wait + Clock + Net + RandomS
     Ok(())
 }
 
-// One line was logged, with this message.
+// Checks that one line was logged, and that it ends with this message.
 pub(crate) fn check_logged<R: Abort>(rt: &R, memory: Memory, message: &str) {
     let lines = memory.into_lines();
     assert!(rt; lines.len() == 1, "one line");
@@ -382,7 +382,8 @@ impl Sink for Lossy {
     }
 }
 
-// Serves the script: a receive without a result is no datagram, and a lost response is counted.
+// Serves the script up to two datagrams. A receive without a result is no datagram. Of the two
+// responses, the second is lost and counted. Returns the log.
 fn serve_script<R: Abort + AllocGlobal + Threads + Wait + Clock + Sync>(
     rt: &R,
     level: LevelFilter,
@@ -642,8 +643,8 @@ fn ask_for_readings<R: Abort + Net + Clock + RandomSource + AllocGlobal>(
     Ok(())
 }
 
-// A device with a clock alone reads the milliseconds since the server began, the least byte first,
-// and zeros.
+// Checks that a server without sensors supplies the milliseconds since its start, least significant
+// byte first, and zeros.
 fn check_clock<R: Abort + AllocGlobal + Threads + Wait + Clock + Net + RandomSource + Sync>(
     rt: &R,
     workers: u8,

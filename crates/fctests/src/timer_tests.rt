@@ -42,7 +42,8 @@ const PEER: Endpoint = Endpoint {
     port: 40_000,
 };
 
-// The waits of the source, receive after receive, and the sender of a byte then.
+// The expected wait of each receive of the source, and the sender of the byte that it gives, or
+// `None` without one.
 static WAITS: [(Option<u64>, Option<Endpoint>); 4] = [
     (Some(1000), None),
     (Some(100), None),
@@ -50,7 +51,7 @@ static WAITS: [(Option<u64>, Option<Endpoint>); 4] = [
     (Some(100), Some(PEER)),
 ];
 
-// A source by that list, and the number of receives that waited as long as it says.
+// A source that follows that list, and counts the receives whose wait was the expected one.
 #[derive(Drop)]
 struct Listed {
     calls: usize,
@@ -76,8 +77,8 @@ impl Source for Listed {
 }
 
 // The waits of the server's receives, and their results: a POST of /r/7 each 1,000 ms, and one of
-// /r/63 each 2,500 ms. At 4,200 ms two beats of the first and one of the second are overdue, and
-// each makes one request.
+// /r/63 each 2,500 ms. At 4,200 ms three beats of the first timer and one of the second have come,
+// and each timer makes one request.
 static RECEIVES: [(Option<u64>, Option<(&[u8], Endpoint)>); 7] = [
     (None, Some((b"\x50\x02\x00\x00\xb1r\x017", TIMERS))),
     (Some(100), None),

@@ -20,7 +20,8 @@ use std::time::Clock;
 // A GET of slot 0 that registers, with token 0x6f (RFC 7641, section 2).
 const REGISTRATION: &[u8] = &[0x41, 1, 0, 9, 0x6f, 0x60, 0x51, b'r', 0x01, b'0'];
 
-// The calls of a server whose slot 0 has the counter, an observer and a new state.
+// The calls whose effect a test checks. The server's slot 0 has the counter, an observer and a new
+// state.
 #[derive(Clone, Copy)]
 pub(crate) enum Told {
     // Its exchanges have expired: then a duplicate is a new request.
@@ -41,7 +42,7 @@ const DAY: u64 = 86_400_000;
 // A random word that adds 500 ms to the timeout of 2,000 ms.
 const WORD: u16 = 500;
 
-// The current time, with this word.
+// A source of the time that a test sets, and of `WORD` as each random word.
 #[derive(Drop)]
 struct Watch {
     now: AtomicU64,
@@ -115,7 +116,7 @@ impl Told {
     }
 }
 
-// The thread that delivers datagrams and runs each job itself.
+// A dispatcher that runs each job itself.
 type Teller<'a, B> = Dispatcher<'a, B, Open, Replies, Watch>;
 
 // Installs the counter in slot 0, registers an observer of it, and changes its state.

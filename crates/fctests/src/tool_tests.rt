@@ -46,7 +46,7 @@ fn a_budget_is_a_number_or_auto(rt: HostRuntime) {
     }
 }
 
-// As many bytes as are read: no number of slots fits their length.
+// One byte more is read than the longest image has, and no number of slots fits this length.
 #[test]
 fn an_image_without_end_is_refused(rt: HostRuntime) -> Result<(), Fail> {
     let alloc = rt.alloc();

@@ -1,7 +1,7 @@
 //! The wait of a server for each datagram.
 //!
-//! It is 100 ms. If none arrived within these, it has no end as long as the server has nothing to
-//! do.
+//! It is 100 ms. After a receive without a datagram it is unlimited, while the server has nothing
+//! to do.
 ghost use Rattle.std.specs.Prelude.{◌≤◌, IfSome, length};
 
 use crate::failing_tests::{POST, PUT};
@@ -21,7 +21,7 @@ use std::thread;
 use std::thread::Threads;
 use std::time::{Clock, Duration};
 
-// Slot 1 is observed, and no longer.
+// A registration of an observer of slot 1, and its deregistration.
 const REGISTER: &[u8] = b"\x40\x01\x00\x03\x60\x51\x72\x01\x31";
 
 const DEREGISTER: &[u8] = b"\x40\x01\x00\x04\x61\x01\x51\x72\x01\x31";
@@ -41,7 +41,7 @@ static RECEIVES: [(Option<u64>, Option<&[u8]>); 10] = [
     (None, Some(POST)),
 ];
 
-// A source by that list, and the number of receives that waited as long as it says.
+// A source that follows that list, and counts the receives whose wait was the expected one.
 #[derive(Drop)]
 struct Listed {
     calls: usize,
@@ -115,8 +115,9 @@ fn a_server_that_has_nothing_to_do_waits_without_end(rt: HostRuntime) {
 static PUT_EXPENSIVE: &[u8] =
     b"\x40\x03\x00\x01\xb1\x70\x01\x31\xff\x46\x43\x42\x32\x00\x00\x08\x00\x0f\x20\x00\x00\x00\x00\x00\x00\xb7\x06\x00\x00\x00\x00\x00\x00\xb7\x07\x00\x00\x00\x00\x00\x00\x07\x07\x00\x00\x01\x00\x00\x00\xa5\x07\xfe\xff\x00\x04\x00\x00\x07\x06\x00\x00\x01\x00\x00\x00\xa5\x06\xfb\xff\x04\x00\x00\x00\xb7\x00\x00\x00\x00\x00\x00\x00\x95\x00\x00\x00\x00\x00\x00\x00";
 
-// A source that gives an expensive program and a POST to it, for which a worker is already waiting,
-// and then nothing: it stores its wait while the job runs.
+// A source that gives an expensive program, once a worker had time to ask for a job, and a POST to
+// it. It stores the wait of its fourth call, while the POST's job runs. Another POST ends the
+// server.
 #[derive(Drop)]
 struct Busy<'a, C: Clock> {
     clock: &'a C,
@@ -124,7 +125,7 @@ struct Busy<'a, C: Clock> {
     seen: &'a AtomicUsize,
 }
 
-// Whether the wait was 100 ms while the job ran.
+// The values that are stored: the wait was 100 ms while the job ran, or it was another one.
 const SHORT: usize = 1;
 
 const LONG: usize = 2;

@@ -1,4 +1,6 @@
 //! Cases: files of vectors.
+//!
+//! A vector has a command, its input, and the output that it must have.
 ghost use Rattle.std.specs.Prelude.{◌≡◌, ◌++◌, ◌∷◌, [], IfOk, IfSome, OnOk, IsTrue};
 ghost use Rattle.std.specs.List.{flat_map};
 ghost use Rattle.fcvectors.specs.Cases.{AreLines, Allows, AllowsTold, IsVectorOf, dots, last_status, piece_bytes, status_after};
@@ -98,7 +100,7 @@ pub(crate) fn vector_of<'a>(
     })
 }
 
-// Returns the command of the first line.
+// Returns the command of the first line, or `None` if that line has none.
 fn command_of<'a>(lines: &[CaseLine<'a>]) -> Option<&'a [u8]> {
     match lines.first() {
         Some(CaseLine::Command(command)) => Some(command),
@@ -127,7 +129,7 @@ fn append_piece(line: &CaseLine<'_>, stream: Stream, bytes: &mut Vec<u8>) -> Res
     }
 }
 
-// Returns the status that a line gives, or `Done`.
+// Returns the status of the last line that gives one, or `Done` if none does.
 fn status_of(lines: &[CaseLine<'_>]) -> Status
     ensures { result ≡ last_status lines.now }
 {
@@ -136,7 +138,7 @@ fn status_of(lines: &[CaseLine<'_>]) -> Status
         .fold(Status::Done, |status, line| status_after(status, line))
 }
 
-// Returns the status after a line.
+// Returns the status that the line gives, or `status`, the one before it, if it gives none.
 fn status_after(status: Status, line: &CaseLine<'_>) -> Status
     ensures { result ≡ status_after status line.now }
 {
@@ -150,8 +152,9 @@ impl Output {
     /// Returns whether this expected output allows another one.
     ///
     /// The other output has the same status and the same bytes on standard output. On standard
-    /// error it has the same bytes; or it begins with those before `..`, if that is the last
-    /// expected line; or, if none is expected, it has output exactly if the status isn't `Done`.
+    /// error it has the same bytes, or begins with those before `..` if that is the last expected
+    /// line. If none are expected there, it has some exactly if the status isn't `Done`. The clause
+    /// says this of `true` alone.
     pub(crate) fn allows(&self, other: &Output) -> bool
         ensures { IsTrue result → Allows self.now other.now }
     {
@@ -160,6 +163,7 @@ impl Output {
             && self.allows_told(&other.stderr)
     }
 
+    // Returns whether the bytes `told` on standard error are allowed. See `allows`.
     fn allows_told(&self, told: &[u8]) -> bool
         ensures { IsTrue result → AllowsTold self.now.status self.now.stderr.items told.now }
     {
@@ -173,7 +177,7 @@ impl Output {
     }
 }
 
-// Returns the text before the last line, if that is `..`.
+// Returns the text before the last line if that is `..`, or `None`.
 fn before_dots(said: &[u8]) -> Option<&[u8]>
     ensures { IfSome result (λ start. said.now ≡ start.now ++ dots) }
 {

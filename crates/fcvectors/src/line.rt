@@ -49,7 +49,7 @@ impl Copies<'_> {
         Ok(())
     }
 
-    // Appends one of them.
+    // Appends one of the copies.
     fn append_one(&self, bytes: &mut Vec<u8>) -> Result<(), AllocError>
         ensures { OnOk result (bytes.new.items ≡ bytes.old.items ++ copy_bytes self.now) }
     {
@@ -101,7 +101,8 @@ fn piece_of(line: &[u8]) -> (Stream, &[u8])
     }
 }
 
-// Returns the text after a mark and a space; no text after a mark alone.
+// Returns the text after a mark and a space, which is empty after a mark alone, or `None` if the
+// line doesn't begin so.
 fn after_mark(line: &[u8], mark: u8) -> Option<&[u8]>
     ensures { MatchOption result ((text : List ℕ) → HasMark mark line.now text → ⊥) (λ text. HasMark mark line.now text.now) }
 {
@@ -115,7 +116,7 @@ fn after_mark(line: &[u8], mark: u8) -> Option<&[u8]>
     }
 }
 
-// Returns the copies of a piece.
+// Returns the copies of a piece, or `None` if the piece is malformed.
 fn copies_of(piece: &[u8]) -> Option<Copies<'_>>
     ensures { IfSome result (IsPiece piece.now) }
 {
@@ -125,7 +126,8 @@ fn copies_of(piece: &[u8]) -> Option<Copies<'_>>
     }
 }
 
-// Returns the copies of a text, as many as `*N*` at its start says, or one.
+// Returns the copies of a text, as many as `*N*` at its start says, or one. It is `None` if `*`
+// isn't followed by a number and another `*`.
 fn counted(text: &[u8], ends_line: bool) -> Option<Copies<'_>>
     ensures copies { IfSome result (λ copies. IsCounted text.now copies.count copies.text.now) }
     ensures ends_line { IfSome result (λ copies. copies.ends_line ≡ ends_line) }
@@ -146,7 +148,7 @@ fn counted(text: &[u8], ends_line: bool) -> Option<Copies<'_>>
     })
 }
 
-// Returns the status with this word; `Done` has none.
+// Returns the status with this word, or `None` if there is none. `Done` has no word.
 fn status_named(word: &[u8]) -> Option<Status>
     ensures { IfSome result (λ status. IsWordOf status word.now) }
 {

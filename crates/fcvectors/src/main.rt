@@ -35,6 +35,7 @@ use std::sync::Wait;
 use std::thread::Threads;
 use std::{fs, io};
 
+// Returns the program's command line, for `parse`.
 fn command<'a>(alloc: Global) -> Result<Command<'a>, Error> {
     let cases = Arg::new(alloc, "case")
         .value_name("CASE")
@@ -48,6 +49,7 @@ fn command<'a>(alloc: Global) -> Result<Command<'a>, Error> {
     )
 }
 
+// Runs the program by the words of its command line. If one isn't UTF-8, the status is `Bad`.
 fn run<R: Runtime + AllocGlobal + Threads + Wait + Sync, E: Write>(
     rt: &R,
     err: &mut E,
@@ -58,7 +60,8 @@ fn run<R: Runtime + AllocGlobal + Threads + Wait + Sync, E: Write>(
     }
 }
 
-// Executes the cases that the command line names, or all.
+// Executes the cases that the command line names, or all. If the command line doesn't match,
+// `parse` has printed why, and nothing is executed.
 fn obey<R: Runtime + AllocGlobal + Threads + Wait + Sync, E: Write>(
     rt: &R,
     err: &mut E,
@@ -100,7 +103,8 @@ fn check_files<R: Runtime + AllocGlobal + Threads + Wait + Sync, W: Write, E: Wr
     Ok(status)
 }
 
-// Executes the case in this file, and prints whether it has the expected result.
+// Executes the case in this file, and prints whether it has the expected result. Returns `Done` if
+// it has, `Refused` if it differs, and `Bad` or `Failed` if it isn't executed.
 fn check_file<R: Runtime + AllocGlobal + Threads + Wait + Sync, W: Write, E: Write>(
     rt: &R,
     out: &mut W,
@@ -116,12 +120,13 @@ fn check_file<R: Runtime + AllocGlobal + Threads + Wait + Sync, W: Write, E: Wri
     }
 }
 
+// Prints to `err` that no suite has a file of this name. Returns `Bad`.
 fn tell_misnamed<E: Write>(err: &mut E, path: &str) -> anyhow::Result<Status> {
     writeln!(err, "{path}: no name of a case")?;
     Ok(Status::Bad)
 }
 
-// Prints the result of a case.
+// Prints the result of a case, and returns the status for it.
 fn tell_found<W: Write, E: Write>(
     out: &mut W,
     err: &mut E,
@@ -135,11 +140,14 @@ fn tell_found<W: Write, E: Write>(
     }
 }
 
+// Prints to `out` that the case has the expected result. Returns `Done`.
 fn print_agreement<W: Write>(out: &mut W, name: &str) -> anyhow::Result<Status> {
     writeln!(out, "ok {name}")?;
     Ok(Status::Done)
 }
 
+// Prints to `out` that the case differs, and at which line, and to `err` the output that came.
+// Returns `Refused`.
 fn tell_difference<W: Write, E: Write>(
     out: &mut W,
     err: &mut E,
@@ -151,7 +159,8 @@ fn tell_difference<W: Write, E: Write>(
     Ok(Status::Refused)
 }
 
-// Executes the case of this text.
+// Executes the case of this text. `command` is for vectors without one. Returns the first
+// difference, or `None` if there is none.
 fn check_text<R: Runtime + AllocGlobal + Threads + Wait + Sync>(
     rt: &R,
     text: &[u8],
@@ -161,7 +170,7 @@ fn check_text<R: Runtime + AllocGlobal + Threads + Wait + Sync>(
     check_case(rt, &lines, command)
 }
 
-// Prints why a case isn't executed.
+// Prints to `err` why a case isn't executed. Returns `Failed` or `Bad`.
 fn explain<E: Write>(err: &mut E, name: &str, error: &CaseError) -> anyhow::Result<Status> {
     match error {
         CaseError::Memory(_) => {

@@ -23,7 +23,8 @@ pub(crate) struct Difference {
 
 /// Executes the vectors of a case, up to the first that differs.
 ///
-/// If one of the lines before the first command isn't blank, they are a vector with this command.
+/// Returns that vector's output, or `None` if no vector differs. If one of the lines before the
+/// first command isn't blank, they are a vector with the command `command`.
 ///
 /// # Errors
 /// Returns that a vector has no command or an unknown one, or that memory couldn't be allocated.
@@ -45,7 +46,8 @@ pub(crate) fn check_case<'a, R: AllocGlobal + Threads + Wait + Sync>(
     Ok(None)
 }
 
-// Executes the vector at this line; one that plays is executed by each of the players.
+// Executes the vector at this line; one that plays is executed by each of the players. Returns the
+// first difference, or `None` if there is none.
 fn check_vector<R: AllocGlobal + Threads + Wait + Sync>(
     rt: &R,
     vector: &Vector<'_>,
@@ -72,7 +74,8 @@ fn players_of(command: &[u8]) -> &'static [Option<u8>] {
     }
 }
 
-// Makes a difference, unless there was no memory for the vector.
+// Makes a difference. The error is that the vector failed for lack of memory: that is no
+// difference.
 fn found(line: usize, workers: Option<u8>, came: Output) -> Result<Difference, CaseError> {
     if came.status == Status::Failed {
         return Err(CaseError::Memory(AllocError));
@@ -85,7 +88,7 @@ fn found(line: usize, workers: Option<u8>, came: Output) -> Result<Difference, C
 }
 
 impl Difference {
-    /// Prints the output of the vector: its player, its status, and its two streams.
+    /// Prints the vector's output to `err`: player, status, and its two streams.
     ///
     /// # Errors
     /// Returns the writer's error.

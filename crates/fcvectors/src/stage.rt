@@ -61,7 +61,7 @@ pub(crate) fn output_of<R: AllocGlobal + Threads + Wait + Sync>(
     Ok(Some(output))
 }
 
-/// Returns whether the last stage of a command plays.
+/// Returns whether the last stage of a command plays lines.
 pub(crate) fn is_play(command: &[u8]) -> bool {
     let start = command
         .iter()
@@ -70,7 +70,8 @@ pub(crate) fn is_play(command: &[u8]) -> bool {
     command[start..].trim_ascii_start().starts_with(b"play")
 }
 
-// Runs a stage, by its name and its options.
+// Runs a stage, by its name and its options, on `input`, and writes to `output`. Returns `None` if
+// the name or an option is unknown.
 fn run_stage<R: AllocGlobal + Threads + Wait + Sync>(
     rt: &R,
     workers: Option<u8>,
@@ -90,7 +91,7 @@ fn run_stage<R: AllocGlobal + Threads + Wait + Sync>(
     }
 }
 
-// Runs a stage that has no options.
+// Runs a stage that has no options. Returns `None` if its name is unknown.
 fn run_plain(alloc: Global, name: &str, mut input: &[u8], output: &mut Output) -> Option<Status> {
     let Output { stdout, stderr, .. } = output;
     match name {
@@ -112,6 +113,7 @@ fn ending(writing: Result<(), AllocError>) -> Status {
 }
 
 // Plays lines from the first serial and the first message ID in the options, 0 if there are none.
+// Returns `None` if an option is unknown or malformed.
 fn play_from<R: AllocGlobal + Threads + Wait + Sync>(
     rt: &R,
     workers: Option<u8>,
@@ -154,7 +156,7 @@ fn play_from<R: AllocGlobal + Threads + Wait + Sync>(
 }
 
 // Returns the policy in the options: its networks are separated by commas, and without an option it
-// is the default.
+// is the default. It is `None` if an option is malformed, or memory can't be allocated.
 fn policy_in(alloc: Global, options: &str) -> Option<Policy> {
     let networks = option(options, "--managers").unwrap_or("0.0.0.0/0");
     let networks = networks.split(',').collect::<Vec<_>>(alloc).ok()?;
@@ -166,10 +168,14 @@ fn policy_in(alloc: Global, options: &str) -> Option<Policy> {
     )
 }
 
+// Returns the limit in the option with this name, or `default` if it isn't given. It is `None` if
+// the option isn't a number.
 fn limit(options: &str, name: &str, default: usize) -> Option<usize> {
     usize::try_from(number_in(options, name, default as u64)?).ok()
 }
 
+// Returns the number in the option with this name, or `default` if it isn't given. It is `None` if
+// the option isn't a number.
 fn number_in(options: &str, name: &str, default: u64) -> Option<u64> {
     match option(options, name) {
         Some(text) => text.parse::<u64>().ok(),
@@ -177,6 +183,8 @@ fn number_in(options: &str, name: &str, default: u64) -> Option<u64> {
     }
 }
 
+// Assembles a source to an image, as `fcasm image` does. Returns `None` if an option is unknown,
+// malformed, or missing.
 fn write_image(
     alloc: Global,
     options: &str,
@@ -193,6 +201,7 @@ fn write_image(
     Some(image(alloc, &mut input, stdout, stderr, vars, budget, version))
 }
 
+// Lists an image, as `fcasm list` does. Returns `None` if an option is unknown.
 fn write_listing(
     alloc: Global,
     options: &str,
@@ -206,6 +215,8 @@ fn write_listing(
     Some(list(alloc, &mut input, stdout, stderr, !options.is_empty()))
 }
 
+// Runs a program on the request in the options, as `fcasm run` does. Returns `None` if an option or
+// the method is unknown.
 fn run_asked(
     alloc: Global,
     options: &str,
@@ -225,7 +236,8 @@ fn run_asked(
     }
 }
 
-// Returns the request to a program in the options, which are those of `fcasm run`.
+// Returns the request to a program in the options, which are those of `fcasm run`, or the error
+// that `fcasm run` reports. It is `None` if the method is unknown.
 fn asked_by(alloc: Global, options: &str) -> Option<Result<Asked, AskedError>> {
     let method = match option(options, "--method") {
         None | Some("get") => Method::Get,
@@ -242,14 +254,15 @@ fn asked_by(alloc: Global, options: &str) -> Option<Result<Asked, AskedError>> {
     })
 }
 
-// Returns the word after an option's name.
+// Returns the word after an option's name, or `None` if the option isn't given.
 fn option<'a>(options: &'a str, name: &str) -> Option<&'a str> {
     let mut words = options.split_whitespace();
     words.find(|word| *word == name)?;
     words.next()
 }
 
-// Returns whether each word that begins with two dashes is one of these names.
+// Returns whether each word that begins with two dashes is one of these names. If not, the stage
+// has an unknown option.
 fn are_options(options: &str, names: &[&str]) -> bool {
     let mut words = options.split_whitespace();
     words.all(|word| !word.starts_with("--") || names.iter().any(|name| *name == word))

@@ -45,7 +45,8 @@ pub struct Config {
 /// Returns whether each field is in its range.
 ///
 /// There are at most four managers, prefixes of at most 32 bits, and 65,536 exchanges.
-/// `confirm_after` is at most 86,400,000 ms, and the serial is below 2^63.
+/// `confirm_after` is at most 86,400,000 ms, and the serial is below 2^63. The prefixes of all four
+/// entries count. `numzela_server_new` makes no server with any other configuration.
 pub(crate) fn is_valid(config: &Config) -> bool
     ensures valid { result ≡ is_valid config.now }
     ensures begins { result ≡ true → CanBegin (begin_for config.now) }
@@ -61,6 +62,7 @@ pub(crate) fn is_valid(config: &Config) -> bool
         && is_prefix(d)
 }
 
+// Returns whether a subnet's prefix has at most 32 bits.
 fn is_prefix(subnet: &Subnet) -> bool
     ensures { result ≡ is_prefix subnet.now }
 {
@@ -85,13 +87,15 @@ pub(crate) fn begin_for(config: &Config) -> Begin
     }
 }
 
+// Returns `value`, or `default` if `value` is 0.
 fn or_default(value: u64, default: u64) -> u64
     ensures { result ≡ or_default value default }
 {
     if value == 0 { default } else { value }
 }
 
-// Returns the networks of the managers. The last one given is repeated for those that are missing.
+// Returns the networks of the first `count` managers. The last one of them is repeated for those
+// that are missing. With none, every address is a manager's.
 fn managers_for(count: u8, subnets: &[Subnet; 4]) -> Managers
     ensures { result ≡ managers_for count subnets.now }
 {
@@ -111,6 +115,7 @@ fn managers_for(count: u8, subnets: &[Subnet; 4]) -> Managers
     }
 }
 
+// Returns the network of a subnet, for `managers_for`.
 fn network_for(subnet: &Subnet) -> Network
     ensures { result ≡ network_for subnet.now }
 {

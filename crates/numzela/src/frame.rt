@@ -29,7 +29,7 @@ impl Model for Frame {
 }
 
 impl Frame {
-    // Returns an empty handle.
+    // Returns an empty handle, for `take` to leave.
     fn empty() -> Frame
         ensures { result.value ≡ None }
     {
@@ -50,7 +50,7 @@ impl Frame {
         }
     }
 
-    // Moves a box's pointer out of a handle.
+    // Moves a box's pointer out of a handle, or returns `None` if the handle is empty.
     fn release(self, alloc: Global) -> Option<Loose<fc_machine::Frame, Global>>
         ensures { loose_value result ≡ self.value }
     {
@@ -72,7 +72,7 @@ impl Frame {
         Frame::hold(Loose::of(machine))
     }
 
-    // Returns the frame that the handle holds, if it holds one.
+    // Returns the frame that the handle holds, or `None` if it is empty.
     fn into_box(self, alloc: Global) -> Option<Box<fc_machine::Frame>>
         ensures { boxed result ≡ self.value }
     {
@@ -82,7 +82,8 @@ impl Frame {
         }
     }
 
-    // Takes the frame out of the handle, which is empty then.
+    // Takes the frame out of the handle, which is then empty, or returns `None` if it was. A call
+    // that uses the frame puts it back.
     pub(crate) fn take(&mut self, alloc: Global) -> Option<Box<fc_machine::Frame>>
         ensures held { boxed result ≡ self.old.value }
         ensures now { self.new.value ≡ None }
@@ -90,7 +91,7 @@ impl Frame {
         replace(self, Frame::empty()).into_box(alloc)
     }
 
-    // Puts a frame into the handle.
+    // Puts a frame into the handle, from which `take` has taken any other.
     pub(crate) fn put(&mut self, machine: Box<fc_machine::Frame>)
         ensures { self.new.value ≡ Some machine.value }
     {
@@ -122,6 +123,7 @@ pub extern "C" fn numzela_frame_new(alloc: Global, frame: &mut Frame) -> u32
     }
 }
 
+// Makes a frame in a box. The error is that memory can't be allocated.
 fn make_machine(alloc: Global) -> Result<Box<fc_machine::Frame>, AllocError> {
     let machine = fc_machine::Frame::new(alloc)?;
     match Box::new(alloc, machine) {

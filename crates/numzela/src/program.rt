@@ -40,7 +40,7 @@ impl Model for Program {
 }
 
 impl Program {
-    // Returns an empty handle.
+    // Returns an empty handle, for `take` to leave.
     fn empty() -> Program
         ensures { result.value ≡ None }
     {
@@ -61,7 +61,7 @@ impl Program {
         }
     }
 
-    // Moves a box's pointer out of a handle.
+    // Moves a box's pointer out of a handle, or returns `None` if the handle is empty.
     fn release(self, alloc: Global) -> Option<Loose<Verified, Global>>
         ensures { loose_value result ≡ self.value }
     {
@@ -83,7 +83,7 @@ impl Program {
         Program::hold(Loose::of(verified))
     }
 
-    // Returns the program that the handle holds, if it holds one.
+    // Returns the program that the handle holds, or `None` if it is empty.
     fn into_box(self, alloc: Global) -> Option<Box<Verified>>
         ensures { boxed result ≡ self.value }
     {
@@ -93,7 +93,8 @@ impl Program {
         }
     }
 
-    // Takes the program out of the handle, which is empty then.
+    // Takes the program out of the handle, which is then empty, or returns `None` if it was. A call
+    // that uses the program puts it back.
     fn take(&mut self, alloc: Global) -> Option<Box<Verified>>
         ensures held { boxed result ≡ self.old.value }
         ensures now { self.new.value ≡ None }
@@ -101,7 +102,7 @@ impl Program {
         replace(self, Program::empty()).into_box(alloc)
     }
 
-    // Puts a program into the handle.
+    // Puts a program into the handle, from which `take` has taken any other.
     fn put(&mut self, verified: Box<Verified>)
         ensures { self.new.value ≡ Some verified.value }
     {
@@ -187,6 +188,8 @@ pub extern "C" fn numzela_program_load(
     }
 }
 
+// Verifies an image, and returns its program in a box. The error is a broken rule, or that memory
+// can't be allocated.
 fn load(alloc: Global, image: &[u8]) -> Result<Box<Verified>, Refusal>
     ensures accepts { IfOk result (λ loaded. judged image.now ≡ Accepts loaded.value) }
     ensures refused { IfErr result (IsRefusal image.now) }
@@ -198,6 +201,7 @@ fn load(alloc: Global, image: &[u8]) -> Result<Box<Verified>, Refusal>
     }
 }
 
+// Returns the verdict on an accepted image.
 fn accepted(verified: &Verified) -> Verdict
     ensures { result ≡ verdict_for verified.now }
 {
@@ -211,6 +215,7 @@ fn accepted(verified: &Verified) -> Verdict
     }
 }
 
+// Returns the number of an image's version for C.
 fn version_number(version: ImageVersion) -> u32
     ensures { result ≡ number_in version }
 {
@@ -220,6 +225,7 @@ fn version_number(version: ImageVersion) -> u32
     }
 }
 
+// Returns the verdict on an image that breaks a rule. A slot from 2^32 on is written as 2^32 - 1.
 fn refused(fault: &Fault) -> Verdict
     ensures { result ≡ refusal_for fault.now }
 {
@@ -271,7 +277,7 @@ pub extern "C" fn numzela_program_run(
     status
 }
 
-// Runs a program in the frame of a handle, if it holds one.
+// Runs a program in the frame of a handle. Returns `EMPTY` if the handle holds none.
 fn run_held(
     alloc: Global,
     frame: &mut Frame,
@@ -312,7 +318,8 @@ fn run_held(
     status
 }
 
-// Runs a program in a frame, if each length is in its range.
+// Runs a program in a frame. Returns `OUT_OF_RANGE`, and writes nothing, if a length isn't in its
+// range.
 fn run_in(
     machine: &mut fc_machine::Frame,
     verified: &Verified,
@@ -348,18 +355,22 @@ fn run_in(
     OK
 }
 
+// Returns the method of a request for C.
 fn method_for(is_post: bool) -> Method
     ensures { result ≡ method_for is_post }
 {
     if is_post { Method::Post } else { Method::Get }
 }
 
+// Returns the Content-Format of a request for C, or `None` if it has none.
 fn format_for(has_format: bool, format: u16) -> Option<u16>
     ensures { result ≡ format_for has_format format }
 {
     if has_format { Some(format) } else { None }
 }
 
+// Writes the outcome of a run: the variables, the reply to the start of `reply`, and the rest to
+// `response`.
 fn write_outcome(outcome: &Outcome, vars: &mut [u8], reply: &mut [u8], response: &mut ResponseHead)
     requires vars { length vars.old ≡ outcome.now.program.vars_size }
     requires room { room_of outcome.now.input.request.method ≤ length reply.old }

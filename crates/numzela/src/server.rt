@@ -50,7 +50,7 @@ impl Model for Server {
 }
 
 impl Server {
-    // Returns an empty handle.
+    // Returns an empty handle, for `take` to leave.
     fn empty() -> Server
         ensures { result.value ≡ None }
     {
@@ -71,7 +71,7 @@ impl Server {
         }
     }
 
-    // Moves a box's pointer out of a handle.
+    // Moves a box's pointer out of a handle, or returns `None` if the handle is empty.
     fn release(self, alloc: Global) -> Option<Loose<Serving, Global>>
         ensures { loose_value result ≡ self.value }
     {
@@ -93,7 +93,7 @@ impl Server {
         Server::hold(Loose::of(serving))
     }
 
-    // Returns the server that the handle holds, if it holds one.
+    // Returns the server that the handle holds, or `None` if it is empty.
     fn into_box(self, alloc: Global) -> Option<Box<Serving>>
         ensures { boxed result ≡ self.value }
     {
@@ -103,7 +103,8 @@ impl Server {
         }
     }
 
-    // Takes the server out of the handle, which is empty then.
+    // Takes the server out of the handle, which is then empty, or returns `None` if it was. A call
+    // that uses the server puts it back.
     fn take(&mut self, alloc: Global) -> Option<Box<Serving>>
         ensures held { boxed result ≡ self.old.value }
         ensures now { self.new.value ≡ None }
@@ -111,7 +112,7 @@ impl Server {
         replace(self, Server::empty()).into_box(alloc)
     }
 
-    // Puts a server into the handle.
+    // Puts a server into the handle, from which `take` has taken any other.
     fn put(&mut self, serving: Box<Serving>)
         ensures { self.new.value ≡ Some serving.value }
     {
@@ -167,6 +168,7 @@ pub extern "C" fn numzela_server_new(alloc: Global, server: &mut Server, config:
     }
 }
 
+// Makes a server in a box. The error is that memory can't be allocated.
 fn make_serving(alloc: Global, begin: &Begin) -> Result<Box<Serving>, AllocError>
     requires { CanBegin begin.now }
     ensures { IfOk result (λ made. Serves (begin_of begin.now) made.value.alone.engine []) }
@@ -182,7 +184,8 @@ fn make_serving(alloc: Global, begin: &Begin) -> Result<Box<Serving>, AllocError
 /// Receives a datagram, handles it, and writes the response if there is one.
 ///
 /// The time is in milliseconds, and `readings` is the sensor input. Returns `SEND` if a response
-/// was written, `OK` if there is none, and `EMPTY` if the handle is empty.
+/// was written, `OK` if there is none, and `EMPTY` if the handle is empty. Unless it is `SEND`,
+/// `out` is unchanged.
 #[unsafe(no_mangle)]
 pub extern "C" fn numzela_server_receive(
     alloc: Global,
@@ -209,7 +212,8 @@ pub extern "C" fn numzela_server_receive(
 /// Performs the pending work, up to the next datagram to send.
 ///
 /// The datagram, a retransmission or a notification, is written. The time is in milliseconds.
-/// Returns `SEND` if a datagram was written, else `OK`, or `EMPTY` if the handle is empty.
+/// Returns `SEND` if a datagram was written, else `OK`, or `EMPTY` if the handle is empty. Unless
+/// it is `SEND`, `out` is unchanged. The caller polls again after each `SEND`.
 #[unsafe(no_mangle)]
 pub extern "C" fn numzela_server_poll(
     alloc: Global,
@@ -250,7 +254,7 @@ pub extern "C" fn numzela_server_advance(alloc: Global, server: &mut Server, now
 /// Writes a time in milliseconds before which there is nothing to do.
 ///
 /// A datagram that is received may change that. At 2^64 - 1 there is nothing to do at any time.
-/// Returns `OK`, or `EMPTY` if the handle is empty.
+/// Returns `OK`, or `EMPTY` if the handle is empty; then `deadline` is unchanged.
 #[unsafe(no_mangle)]
 pub extern "C" fn numzela_server_deadline(
     alloc: Global,
@@ -279,6 +283,8 @@ pub extern "C" fn numzela_server_free(alloc: Global, server: &mut Server)
 }
 
 impl Serving {
+    // Handles a datagram, for `numzela_server_receive`. Returns `SEND` if a response was written
+    // over `out`, otherwise `OK`.
     fn receive(
         &mut self,
         now: u64,
@@ -300,6 +306,8 @@ impl Serving {
         write_if(is_reply(handled), &self.emission, out)
     }
 
+    // Performs the pending work, for `numzela_server_poll`. Returns `SEND` if a datagram was
+    // written over `out`, otherwise `OK`.
     fn poll(&mut self, now: u64, random: u16, readings: &Readings, out: &mut Datagram) -> u32
         ensures polled { HasPolled readings.now now random self.old.alone self.new.alone result out.new }
         ensures status { result ≤ 1 }
@@ -309,7 +317,8 @@ impl Serving {
         self.flush(now, out)
     }
 
-    // Takes the pending steps at a time, up to the first that sends.
+    // Takes the pending steps at a time, up to the first that sends. Returns `SEND` if a datagram
+    // was written over `out`, otherwise `OK`: nothing is left, or `STEPS` steps were taken.
     fn flush(&mut self, now: u64, out: &mut Datagram) -> u32
         ensures flushed { HasFlushed now self.old.alone self.new.alone result out.new }
         ensures status { result ≤ 1 }
@@ -329,7 +338,7 @@ impl Serving {
     }
 }
 
-// Writes an emission, if it is to be sent.
+// Writes an emission over `out` if it is to be sent. Returns `SEND` if so, otherwise `OK`.
 fn write_if(sent: bool, emission: &Emission, out: &mut Datagram) -> u32
     ensures writes { Writes result (emission_if sent emission.now) out.new }
     ensures status { result ≤ 1 }
@@ -342,6 +351,7 @@ fn write_if(sent: bool, emission: &Emission, out: &mut Datagram) -> u32
     SEND
 }
 
+// Writes the receiver, the size and the bytes of an emission over `out`.
 fn write_datagram(emission: &Emission, out: &mut Datagram)
     ensures { IsWritten emission.now out.new }
 {

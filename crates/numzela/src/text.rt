@@ -5,8 +5,8 @@ use fc_rules::{rule_numbered, rule_text};
 
 /// Writes the text of the rule with a number, as far as it fits.
 ///
-/// The text says how an image breaks the rule. Returns the number of bytes that were written. There
-/// is no text if no rule has the number.
+/// The text says how an image breaks the rule. Returns the number of bytes that were written. It is
+/// 0 if no rule has the number; the clause says only that the bytes fit.
 #[unsafe(no_mangle)]
 pub extern "C" fn numzela_rule_text(rule: u32, out: &mut [u8]) -> usize
     ensures { result ≤ length out.old }
