@@ -27,7 +27,8 @@ IsThread who v = HasKey who v.own
 abbrev pub with_call : CallEntry → BookView CallEntry → BookView CallEntry
 with_call e v = with_filed keys_of e v
 
--- the calls of a thread from its i-th on, which is of counter i % 2, with these results.
+-- the calls of a thread from its i-th call on, with these results. The i-th call is one of counter
+-- i % 2.
 abbrev pub calls_in_turn : ℕ → ℕ → List ℕ → List CallEntry
 calls_in_turn who i [] = []
 calls_in_turn who i (a ∷ answers) = call_of (i % 2) who a ∷ calls_in_turn who (i + 1) answers
@@ -37,7 +38,7 @@ pub record HasMadeCalls (who calls : ℕ) (entries : List CallEntry) (answers : 
   pub entries_are : entries ≡ calls_in_turn who 0 answers
   pub count : length answers ≡ calls
 
--- its track alone is in the view, with these calls.
+-- the thread's track alone is in the view, with these calls.
 pub record IsCaller (who calls : ℕ) (v : BookView CallEntry) (answers : List ℕ) : Type 0 where
   pub entries : List CallEntry
   pub view : v ≡ own_view who entries
@@ -45,14 +46,14 @@ pub record IsCaller (who calls : ℕ) (v : BookView CallEntry) (answers : List �
 
 -- ---- both
 
--- each is a call of counter 0 or 1 by thread 2 or 3.
+-- each entry is a call of counter 0 or 1 by thread 2 or 3.
 abbrev pub AreTheirs : List CallEntry → Type 0
 AreTheirs [] = Unit {0}
 AreTheirs (e ∷ es) = (e.part < 2) × (2 ≤ e.who) × (e.who < 4) × AreTheirs es
 
 -- there is one history, of calls of these counters by these threads alone. The calls of each
--- counter are numbered from 0 on, as many as it counted; and the calls of each thread are as many
--- as it made, of the counters alternately, with its results.
+-- counter are numbered from 0 on, as many as the counter counted. The calls of each thread are as
+-- many as it made, of the counters alternately, with its results.
 pub record HasOneHistory (calls : ℕ) (r : CallerResults) : Type 0 where
   pub log : List CallEntry
   pub theirs : AreTheirs log

@@ -1,5 +1,5 @@
--- Tracks of one history, and their owners, for entries of any form: a function gives the keys of
--- each.
+-- Tracks of one history, and their owners, for entries of any form: a function returns the keys of
+-- each entry.
 use Rattle.std.specs.Prelude.{◌≡◌, ◌⊎◌, ℕ, ◌+◌, ◌<◌, ◌≤◌, ◌==◌, ◌||◌, Bool, true, false, List, [], ◌∷◌, ◌++◌, map}
 use Rattle.std.specs.List.{filter}
 use lib.ListN.{get_elem?}
@@ -47,11 +47,11 @@ module _ {E : Type 0} where
   other_tracks [] = []
   other_tracks (t ∷ ts) = ts
 
-  -- the view of an owner of no track, that begins none.
+  -- the view of an owner that has no track, and may begin none.
   abbrev pub no_tracks : BookView E
   no_tracks = record { locked = []; own = []; may_begin = false; next = 0 }
 
-  -- the first owner's view: no track has begun, and it may begin each.
+  -- the first owner's view: no track has begun, and the owner may begin each.
   abbrev pub first_view : BookView E
   first_view = record { locked = []; own = []; may_begin = true; next = 0 }
 
@@ -63,11 +63,11 @@ module _ {E : Type 0} where
   abbrev pub own_view : ℕ → List E → BookView E
   own_view k entries = record { locked = []; own = track k entries ∷ []; may_begin = false; next = 0 }
 
-  -- the track is one of its own, or one that it may begin.
+  -- the owner owns the track: it is one of the owner's own, or one that the owner may begin.
   abbrev pub OwnsTrack : ℕ → BookView E → Type 0
   OwnsTrack k v = HasKey k v.own ⊎ ((v.may_begin ≡ true) × (v.next ≤ k))
 
-  -- or of a part.
+  -- the owner owns the track, or has it as a part's.
   abbrev pub HasTrack : ℕ → BookView E → Type 0
   HasTrack k v = HasKey k v.locked ⊎ OwnsTrack k v
 
@@ -87,7 +87,7 @@ module _ {E : Type 0} (keys : E → EntryKeys) where
   AreOn log [] = Unit {0}
   AreOn log (t ∷ ts) = (t.entries ≡ on t.key log) × AreOn log ts
 
-  -- the track after the entry is filed: with the entry last, if it is on it.
+  -- the track after an entry is filed: the entry is appended if it is on the track.
   abbrev pub track_with : E → Track E → Track E
   track_with e t = track t.key (entries_with (is_on t.key e) t.entries e)
 
@@ -97,8 +97,8 @@ module _ {E : Type 0} (keys : E → EntryKeys) where
 
 -- ---- the rule
 
--- the view's tracks are exactly the entries of the history with their keys. No two have the same
--- key, and those that it may begin have no entry.
+-- the view's tracks are exactly the entries of the history with their keys. No two tracks have the
+-- same key, and the tracks that the owner may begin have no entry.
 pub record IsViewOf {E : Type 0} (keys : E → EntryKeys) (log : List E) (v : BookView E) : Type 0 where
   pub locked : AreOn keys log v.locked
   pub own : AreOn keys log v.own
@@ -125,44 +125,44 @@ pub record HasHistory {E : Type 0} (keys : E → EntryKeys) (v : BookView E) : T
 -- ---- moves
 
 module _ {E : Type 0} (keys : E → EntryKeys) where
-  -- an owner that has a part's track during a call, which is filed.
+  -- an owner's view after it takes over a part's track and files an entry.
   abbrev pub filed_with : E → BookView E → BookView E → BookView E
   filed_with e v w = record { locked = with_entry keys e w.locked; own = with_entry keys e v.own; may_begin = v.may_begin; next = v.next }
 
-  -- an owner after an entry is filed, without a part's track.
+  -- an owner's view after an entry is filed on the owner's own tracks.
   abbrev pub with_filed : E → BookView E → BookView E
   with_filed e v = record v { own = with_entry keys e v.own }
 
 module _ {E : Type 0} where
-  -- it without the part's track.
+  -- the owner's view without the part's track.
   abbrev pub without_locked : BookView E → BookView E
   without_locked v = record v { locked = [] }
 
-  -- and the part's track alone.
+  -- the view of the part's track alone.
   abbrev pub locked_of : BookView E → BookView E
   locked_of v = record { locked = v.locked; own = []; may_begin = false; next = 0 }
 
-  -- the next track is begun, for another.
+  -- the owner's view after it begins the next track for another owner.
   abbrev pub with_next : BookView E → BookView E
   with_next v = record v { next = v.next + 1 }
 
-  -- and for itself: it is the first of its own.
+  -- the owner's view after it begins the next track for itself: that track is the first of its own.
   abbrev pub with_begun : BookView E → BookView E
   with_begun v = record v { own = track v.next [] ∷ v.own; next = v.next + 1 }
 
-  -- the first of its own tracks alone.
+  -- the view of the first of an owner's own tracks alone.
   abbrev pub first_own : BookView E → BookView E
   first_own v = record { locked = []; own = first_track v.own; may_begin = false; next = 0 }
 
-  -- it without that.
+  -- the owner's view without that track.
   abbrev pub without_first : BookView E → BookView E
   without_first v = record v { own = other_tracks v.own }
 
-  -- with another's tracks, first among its own.
+  -- the owner's view after a merge: the other's tracks are the first of its own.
   abbrev pub merged_with : BookView E → BookView E → BookView E
   merged_with v w = record v { own = w.own ++ v.own }
 
-  -- with a part's track, first among its own.
+  -- the owner's view after a part is closed: the part's track is the first of its own.
   abbrev pub with_part : BookView E → BookView E → BookView E
   with_part v w = record v { own = w.locked ++ v.own }
 

@@ -117,7 +117,7 @@ impl NewBook {
         Ok(NewBook { words, seat })
     }
 
-    /// Names the book, and returns it with the owner of no track yet.
+    /// Names the book, and returns it with an owner that has no track yet.
     ///
     /// The owner may begin each track.
     pub fn with_name<J: BookName>(self) -> (Book<J>, Tracks<J>)
@@ -219,7 +219,7 @@ impl<J: BookName> Tracks<J> {
         steps::attest(&book.words, &mut self.seat);
     }
 
-    /// Files a call of a part, whose lock the caller holds.
+    /// Files a call of a part; the caller holds the part's lock.
     ///
     /// The call becomes the last entry on the tracks of its part, its thread and its job.
     pub fn file<P: Part>(&mut self, book: &Book<J>, part: &mut PartTrack<P>, entry: &CallEntry)

@@ -66,7 +66,7 @@ impl<J: BookName, const KEY: u64> CallCounter<J, KEY> {
 
     /// Closes the counter, and returns its count.
     ///
-    /// `tracks` takes its track over.
+    /// The counter's track becomes one of those of `tracks`.
     pub fn close(self, book: &Book<J>, tracks: &mut Tracks<J>) -> u64
         ensures count { result ≡ length self }
         ensures counted { AreCounted KEY 0 self }

@@ -32,10 +32,10 @@
 //! - A filed call is the last entry on the tracks of its part, its thread and its job, and on no
 //!   other.
 //! - Under every schedule there is one history, of which each track is exactly the entries with its
-//!   key. A track changes its owner as a whole, and no track has two.
+//!   key. A track changes its owner as a whole, and no track has two owners.
 //! - Two threads that call two counters have one history. The calls of each counter are numbered in
-//!   it from 0 on, as many as it counted. The calls of each thread are those that it made, in its
-//!   order, with their results.
+//!   that history from 0 on, as many as the counter counted. The calls of each thread are those
+//!   that the thread made, in its order, with their results.
 //!
 //! The counters stand in for the parts of a server. The tracks, views and moves don't depend on the
 //! form of an entry. So another book uses them too, with entries of its own and a longer rule

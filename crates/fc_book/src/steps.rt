@@ -1,8 +1,8 @@
 //! The steps of the book's rule, for the methods of [`Tracks`](crate::Tracks).
 //!
 //! A seat is an owner's handle at the book's table, `words`. In a clause `me.0` is its view: its
-//! tracks, and whether it may begin others. `me.1` is the table's slots that are out with it: none.
-//! Each step loads the table's first word, which no thread writes.
+//! tracks, and whether it may begin others. `me.1` lists the table's slots that the handle has
+//! taken out: none. Each step loads the table's first word, which no thread writes.
 ghost use Rattle.std.specs.Prelude.{◌≡◌, ◌<◌, ◌+◌, [], ◌∷◌, ◌++◌, true, false};
 ghost use Rattle.fc_book.specs.Calls.{keys_of};
 ghost use Rattle.fc_book.specs.Tracks.{AreSingle, HasHistory, HasKey, with_begun, filed_with, first_own, locked_of, merged_with, no_tracks, own_view, part_view, with_next, with_part, without_first, without_locked};
@@ -48,7 +48,7 @@ pub(crate) fn file<X: EntryName>(words: &Words, seat: &mut CallSeat, part: CallS
 
 /// Moves the part's track out of the owner, and returns it in a handle of its own.
 ///
-/// The caller puts that back under the part's lock.
+/// The caller puts that handle back under the part's lock.
 pub(crate) fn return_part(words: &Words, seat: &mut CallSeat) -> CallSeat
     requires size { 0 < words.now.shared.table_id.words }
     requires table { seat.old.table_id ≡ words.now.shared.table_id }
@@ -58,7 +58,7 @@ pub(crate) fn return_part(words: &Words, seat: &mut CallSeat) -> CallSeat
     words.shared.split_seat::<ReturnsPart>(seat)
 }
 
-/// Begins the next track, and returns it in a new handle: that of a part.
+/// Begins the next track, which is a part's, and returns it in a new handle.
 pub(crate) fn begin_part(words: &Words, seat: &mut CallSeat) -> CallSeat
     requires size { 0 < words.now.shared.table_id.words }
     requires table { seat.old.table_id ≡ words.now.shared.table_id }

@@ -59,8 +59,8 @@ GivesTurnAt now before job after =
     let at = at_time before now in
     (job ≡ due_job (due_place at) at) × (after ≡ after_due (due_place at) at)
 
--- a signal reaches the observers of every slot. It isn't an abbreviation, nor is the next one: a
--- proof about another call has to state which call it is.
+-- a signal reaches the observers of every slot. This definition and the next one aren't
+-- abbreviations: a proof about another call has to state which call it is.
 unfoldable pub HandsOn : Bool → Endpoint → ℕ → Shard → Shard → Type 0
 HandsOn reset from id before after = after ≡ signalled (signal_call reset from id) before
 
@@ -72,12 +72,13 @@ GivesUpAt now turn before after = after ≡ after_given_up turn (at_time before 
 abbrev pub TakesTo : Job → List ℕ → Shard → Taken → Shard → Type 0
 TakesTo job readings before taken after = TakesAt job readings before taken × (after ≡ after_snapshot job before)
 
--- it does so, with the variables written to the snapshot's memory; a program in the snapshot has as
--- many variables as were written.
+-- a job takes a snapshot, with the variables written to the snapshot's memory. A program in the
+-- snapshot has as many variables as were written.
 abbrev pub TakesInto : Job → List ℕ → Shard → handles.Taken → SlotSnapshot → Shard → Type 0
 TakesInto job readings before taken found after = TakesTo job readings before (taken_with taken found) after × HasSize taken found
 
--- a program is installed in the slot of a job, which determines the variables that it leaves.
+-- a program is installed in the slot of a job; the job determines the variables that the install
+-- leaves.
 abbrev pub InstallsTo : Job → Program → Shard → Made → Shard → Type 0
 InstallsTo job program before made after =
     let slot = job.origin.slot in
@@ -112,8 +113,8 @@ HandlesAt now from bytes brings before after =
     let at = advanced before now in
     (brings ≡ delivered at from bytes) × (after ≡ after_delivered at from bytes)
 
--- a front is advanced to this time. It isn't an abbreviation, so that no other call of a front is
--- one.
+-- a front is advanced to this time. It isn't an abbreviation, so that no other call of a front
+-- counts as this one.
 unfoldable pub AdvancesTo : ℕ → FrontState → FrontState → Type 0
 AdvancesTo now before after = after ≡ advanced before now
 
@@ -123,7 +124,7 @@ DrawsAt now id before after =
     let at = advanced before now in
     (id ≡ free_id at.ids at.now) × (after ≡ record at { ids = drawn_for false at.ids at.now })
 
--- a job is answered at this time, and this is to be sent, or nothing.
+-- a job is answered at this time, and this emission, or nothing, is to be sent.
 pub record AnswersAt (now : ℕ) (job : Job) (content : Content) (sent : Option Emission) (before after : FrontState) : Type 0 where
   pub answered : Answered
   pub answers : AnswersIn (advanced before now) job content answered

@@ -26,7 +26,7 @@ pub data LoggedCall : Type 0 where
   AdvancesFront : (now : ℕ) → LoggedCall
   -- a message ID is drawn at this time, or none is available.
   DrawsId : (now : ℕ) (id : Option ℕ) → LoggedCall
-  -- a job is answered at this time, and this is to be sent, or nothing.
+  -- a job is answered at this time, and this emission, or nothing, is to be sent.
   AnswersRequest : (now : ℕ) (job : Job) (content : Content) (sent : Option Emission) → LoggedCall
   -- the receipt of the program in a job's slot.
   TellsReceipt : (job : Job) (receipt : Option Receipt) → LoggedCall

@@ -1,7 +1,7 @@
 //! Calls of a shard.
 //!
 //! The contract of a call mentions only the shard that is passed to it. The workers (`fc_workers`)
-//! call a shard by one of these under its lock, and `fc_filed` files them.
+//! call a shard by one of these under the shard's lock, and `fc_filed` files the calls.
 ghost use Rattle.std.specs.Prelude.{◌≡◌, ℕ, ◌+◌, ⊤, if◌then◌else◌};
 ghost use Rattle.fc_registry.specs.Notes.{noted_as};
 ghost use Rattle.fc_registry.specs.Slots.{IsOwned, Shard as Seen};

@@ -6,11 +6,11 @@
 //!
 //! # What is proved
 //!
-//! - A request's job that takes a snapshot leaves its shard unchanged. A lease's job doesn't, since
-//!   its lease may have timed out.
-//! - A call of a shard has its effect. The shard keeps its index, its eight slots and the time of
-//!   its confirmable notifications. Its serials increase by the changes that the result reports; if
-//!   there are none, its slots don't change.
+//! - A request's job that takes a snapshot leaves its shard unchanged. A lease's job may change the
+//!   shard, since its lease may have timed out.
+//! - A call of a shard has the effect that is defined for it. The shard keeps its index, its eight
+//!   slots and the time of its confirmable notifications. Its serials increase by the changes that
+//!   the result reports; if there are none, its slots don't change.
 //!
 //! By the contracts of `laws`, `ShardCall::call`, `Change::has_changed`.
 #![tactic(auto)]

@@ -23,9 +23,10 @@ use Rattle.fc_core.specs.Rows.{names}
 
 -- ---- the origin of an answer
 
--- the event, which names job k, finds the job at a stage and its slot, after this many tickets of
--- the job. It makes the job's answer 5.03: memory for a ticket or an install can't be allocated,
--- the slot changed under the eighth ticket, or the slot is at its last serial and has to change.
+-- the event names job k, and makes its answer 5.03. The job is at this stage, this is its slot, and
+-- it has had this many tickets. One of three things happens. Memory for a ticket or an install
+-- can't be allocated, the slot changed under the eighth ticket, or the slot is at its last serial
+-- and has to change.
 pub data IsUnavailable (e : Event) (k : ℕ) (j : Job) (slot : Slot) (at : Stage) (taken : ℕ) : Type 0 where
   NoTicket : (count : ℕ) (readings : List ℕ) (p : Present) (event : e ≡ Take k false readings) (is : at ≡ ToTake count) (found : slot.present ≡ Some p) → IsUnavailable e k j slot at taken
   NoMemory : (event : e ≡ Install k false) (is : at ≡ ToInstall) → IsUnavailable e k j slot at taken
@@ -34,14 +35,14 @@ pub data IsUnavailable (e : Event) (k : ℕ) (j : Job) (slot : Slot) (at : Stage
   LastInstall : (p : Program) (event : e ≡ Install k true) (is : at ≡ ToInstall) (accepted : judged (image_of j.ask) ≡ Accepts p) (last : 9223372036854775807 ≤ slot.serial) → IsUnavailable e k j slot at taken
   LastRemoval : (p : Present) (event : e ≡ Remove k) (is : at ≡ ToRemove) (found : slot.present ≡ Some p) (last : 9223372036854775807 ≤ slot.serial) → IsUnavailable e k j slot at taken
 
--- it makes the answer 4.04: the job's snapshot finds the slot empty, or there is nothing to
+-- the event makes the answer 4.04: the job's snapshot finds the slot empty, or there is nothing to
 -- describe.
 pub data IsMissing (e : Event) (k : ℕ) (slot : Slot) (at : Stage) : Type 0 where
   NothingTaken : (memory : Bool) (readings : List ℕ) (count : ℕ) (event : e ≡ Take k memory readings) (is : at ≡ ToTake count) (empty : slot.present ≡ None) → IsMissing e k slot at
   NothingDescribed : (event : e ≡ Receipt k) (is : at ≡ ToDescribe) (empty : slot.present ≡ None) → IsMissing e k slot at
 
--- it installs a program: the receipt is the program's, with the slot's new serial as its version.
--- The program is created exactly if the slot was empty.
+-- the event installs a program: the receipt is the program's, with the slot's new serial as its
+-- version. The program is created exactly if the slot was empty.
 pub record IsMade (e : Event) (k : ℕ) (j : Job) (slot : Slot) (at : Stage) (receipt : Facts) (created : Bool) : Type 0 where
   pub program : Program
   pub event : e ≡ Install k true
@@ -54,15 +55,15 @@ pub record IsMade (e : Event) (k : ℕ) (j : Job) (slot : Slot) (at : Stage) (re
   pub vars : receipt.vars ≡ program.vars_size
   pub empty : created ≡ is_none slot.present
 
--- it refuses the job's image, with this judgement.
+-- the event refuses the job's image, with this judgement.
 pub record IsRefused (e : Event) (k : ℕ) (j : Job) (at : Stage) (judgement : Judgement) : Type 0 where
   pub event : e ≡ Install k true
   pub is : at ≡ ToInstall
   pub judged_as : judged (image_of j.ask) ≡ judgement
 
--- it commits a run: the answer has the run's code, its block of the reply and its ticket's serial.
--- A run that wants to write is answered only if the slot is still at its ticket's serial, below the
--- last one.
+-- the event commits a run: the answer has the run's code, its block of the reply and its ticket's
+-- serial. A run that wants to write is answered only if the slot is still at its ticket's serial,
+-- below the last one.
 pub record IsRan (e : Event) (k : ℕ) (slot : Slot) (at : Stage) (run : RunAnswer) : Type 0 where
   pub now : ℕ
   pub count : ℕ
@@ -74,14 +75,14 @@ pub record IsRan (e : Event) (k : ℕ) (slot : Slot) (at : Stage) (run : RunAnsw
   pub serial : run.serial ≡ ticket.serial
   pub writes : wants ticket ≡ true → (slot.serial ≡ ticket.serial) × (slot.serial < 9223372036854775807)
 
--- it removes the slot's program, or finds none: the slot is below the last serial, or empty.
+-- the event removes the slot's program, or finds none: the slot is below the last serial, or empty.
 pub record IsDeleted (e : Event) (k : ℕ) (slot : Slot) (at : Stage) : Type 0 where
   pub event : e ≡ Remove k
   pub is : at ≡ ToRemove
   pub may : (slot.present ≡ None) ⊎ (slot.serial < 9223372036854775807)
 
--- it returns the receipt of the slot's program: its version is that of its install, whatever the
--- slot's serial.
+-- the event returns the receipt of the slot's program: its version is that of the install, whatever
+-- the slot's serial.
 pub record IsDescribed (e : Event) (k : ℕ) (slot : Slot) (at : Stage) (receipt : Facts) : Type 0 where
   pub found : Present
   pub event : e ≡ Receipt k
@@ -105,7 +106,7 @@ pub record IsValid (e : Event) (k : ℕ) (j : Job) (words : List ℕ) (at : Stag
   pub word : word_at words j.origin.slot ≡ head_word serial true
   pub asked : HasSerial j.etags.items serial
 
--- it reads the last of the 64 head words, which the job has read in the order of the slots.
+-- the event reads the last of the 64 head words, which the job has read in the order of the slots.
 pub record IsListed (e : Event) (k : ℕ) (words : List ℕ) (at : Stage) (list : List ℕ) : Type 0 where
   pub seen : ArrayVec ℕ
   pub event : e ≡ Peek k 63
@@ -113,7 +114,7 @@ pub record IsListed (e : Event) (k : ℕ) (words : List ℕ) (at : Stage) (list 
   pub list_is : list ≡ seen.items ++ word_at words 63 ∷ []
   pub count : length list ≡ 64
 
--- the reason why an event makes this a job's answer.
+-- the reason why an event gives a job this answer.
 abbrev pub IsCause : Event → ℕ → Job → Slot → List ℕ → Stage → ℕ → Content → Type 0
 IsCause e k j slot words at taken (Ran run) = IsRan e k slot at run
 IsCause e k j slot words at taken Missing = IsMissing e k slot at
@@ -126,7 +127,7 @@ IsCause e k j slot words at taken Deleted = IsDeleted e k slot at
 IsCause e k j slot words at taken (Described receipt) = IsDescribed e k slot at receipt
 IsCause e k j slot words at taken (Listed list) = IsListed e k words at list
 
--- the reason why an event after a history makes this the answer of the job that it names.
+-- the reason why an event after a history gives the job that it names this answer.
 abbrev pub Causes : History → Entry → ℕ → Content → Type 0
 Causes h r k c = IsCause r.event k (job (seen h) k) (slot_at (seen h) (slot_of (seen h) k)) (seen h).words (stage (seen h) k) (length (snapshots_of h k)) c
 

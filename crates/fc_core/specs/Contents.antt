@@ -1,4 +1,4 @@
--- Content of an answer. The rule and the slot that a refusal by typing names are left open.
+-- Content of an answer. The rule and the slot of a refusal by typing aren't specified.
 use Rattle.std.specs.Prelude.{◌≡◌, ◌≤◌, ℕ, Bool, true, List, Option}
 use Rattle.fc_isa.specs.declared.rule.Rule.{Rule}
 use Rattle.fc_registry.specs.declared.receipt.Receipt.{Receipt}
@@ -42,7 +42,7 @@ pub data Content : Type 0 where
   Made : (receipt : Receipt) (created : Bool) → Content
   -- the first rule that an image breaks, and its slot.
   Rejected : (rule : Rule) (slot : ℕ) → Content
-  -- only the typing was missing.
+  -- only the typing refuses the image.
   Untyped : Content
   -- the client already has the response of the slot at this serial.
   Valid : (serial : ℕ) → Content
@@ -59,13 +59,13 @@ pub record AreOne (ran : Run) (t : Ticket) (m : Mark) : Type 0 where
   pub origin : m.origin ≡ t.origin
   pub serial : m.found ≡ t.serial
 
--- the mark of a commit that was done belongs to the outcome and the ticket; if it wrote, its serial
--- isn't above the last one.
+-- the mark of a commit that was done belongs to the outcome and the ticket; if the commit wrote,
+-- the mark's serial isn't above the last one.
 abbrev pub AreDone : Run → Ticket → Committed → Type 0
 AreDone ran t (Done m) = AreOne ran t m × (m.changed ≡ true → m.serial ≤ last_serial)
 AreDone ran t other = Unit {0}
 
--- an install isn't above the last serial.
+-- the new serial of an install isn't above the last serial.
 abbrev pub IsMadeBelow : Install → Type 0
 IsMadeBelow (Raised serial created) = serial ≤ last_serial
 IsMadeBelow AtEnd = Unit {0}

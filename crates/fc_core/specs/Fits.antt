@@ -37,7 +37,7 @@ FitsTurn job slot (turns.ToDraw (Some t)) = IsTicketOf job slot t
 FitsTurn job slot (turns.ToNote (Some t) id) = IsTicketOf job slot t
 FitsTurn job slot other = Unit {0}
 
--- the notification of a lease at a slot with this serial is its own.
+-- the notification, at a slot with this serial, belongs to this lease.
 abbrev pub TellsOwn : Turn → ℕ → Option Ticket → Type 0
 TellsOwn turn serial None = Unit {0}
 TellsOwn turn serial (Some t) = (t.origin.slot ≡ turn.slot) × (t.turn ≡ Some turn.number) × (t.serial ≤ serial)

@@ -25,7 +25,7 @@ word_at words n = slice_index_or words n 0
 abbrev pub word_raised : ℕ → ℕ → List ℕ → List ℕ
 word_raised n word words = slice_set words n (max (word_at words n) word)
 
--- the head words after that of slot n was raised, if one was.
+-- the head words after the head word of slot n was raised, if a word is given.
 abbrev pub published : Option ℕ → ℕ → List ℕ → List ℕ
 published None n words = words
 published (Some word) n words = word_raised n word words

@@ -42,12 +42,12 @@ pub data History : Type 0 where
   Begins : (serial : ℕ) (id : ℕ) (policy : Policy) → History
   Then : (before : History) (entry : Entry) → History
 
--- summary of a history: the policy, the first serial of the slots, and the latest time that the
--- front was passed; the opened exchanges, the payloads of new requests, and the message IDs that
--- the server draws; the jobs, each at its stage; of each slot its changes and the calls on its
--- observers; the latest time that each shard was passed; and the head words. Exchanges and jobs are
--- listed oldest first, since their positions are their numbers. Payloads, changes and calls are
--- listed newest first.
+-- summary of a history. It has the policy, the first serial of the slots, the latest time passed to
+-- the front, and the opened exchanges. It has the payloads of new requests, and the message IDs
+-- that the server draws. It has the jobs, each at its stage, and for each slot its changes and the
+-- calls on its observers. It also has the latest time passed to each shard, and the head words.
+-- Exchanges and jobs are listed oldest first, since their positions are their numbers. Payloads,
+-- changes and calls are listed newest first.
 pub record Seen : Type 0 where
   pub policy : Policy
   pub first_serial : ℕ
@@ -116,7 +116,7 @@ inputs s k = inputs_at (task_at s.tasks k) (slot_at s (job s k).origin.slot) (ar
 abbrev pub front_in : Seen → ℕ → FrontState
 front_in s at = record { managers = s.policy.managers; limits = s.policy.limits; now = at; opened = length s.exchanges; held = filter (is_held at) s.exchanges; transfers = transfers s.additions; ids = s.ids }
 
--- the front after it was passed a time, which never moves it back.
+-- the front after a time was passed to it; its clock never goes back.
 abbrev pub front_at : Seen → ℕ → FrontState
 front_at s now = front_in s (max s.time now)
 
@@ -151,8 +151,8 @@ time_by (Draws k now) s = if needs_id (stage s k) then max s.time now else s.tim
 time_by (Passes now) s = max s.time now
 time_by Rests s = s.time
 
--- a delivery opens an exchange, and answers a refusal immediately; other exchanges are answered at
--- their job's stage.
+-- a delivery opens an exchange, and answers a refusal immediately. The exchanges of other requests
+-- are answered at their job's stage.
 abbrev pub exchanges_received : Received → Endpoint → Option Emission → Seen → ℕ → List Exchange
 exchanges_received x to emitted s now = answered_in (length s.exchanges) (kept_of x emitted) (s.exchanges ++ opened_by x (next_opening (front_at s now)) to)
 
@@ -168,7 +168,8 @@ abbrev pub additions_by : AtFront → Seen → List Addition
 additions_by (Receives now to bytes) s = added_by (received_at s now to bytes) (max s.time now) to
 additions_by other s = []
 
--- an answer within the lifetime to a request that isn't confirmable draws a message ID.
+-- an answer to a request that isn't confirmable draws a message ID, if it is within the exchange's
+-- lifetime.
 abbrev pub ids_answered : Option Content → Bool → Bool → Ids → ℕ → Ids
 ids_answered (Some content) true confirmable ids at = drawn_for confirmable ids at
 ids_answered content live confirmable ids at = ids
@@ -199,9 +200,9 @@ abbrev pub shard_time_after : Option ℕ → Event → Seen → ℕ → ℕ
 shard_time_after None e s i = s.shard_time i
 shard_time_after (Some k) e s i = if (job s k).origin.slot % 8 == i then handed (row e (inputs s k)).hands (s.shard_time i) else s.shard_time i
 
--- effect of an event on its own shard, rather than on that of a job's slot: it requests the lease
--- of an observer of its slots, passes a signal to them all, lets time pass there, or has no effect
--- there.
+-- effect of an event on the shard that it names itself, rather than on the shard of a job's slot.
+-- The event requests the lease of an observer of the shard's slots, sends a signal to all of them,
+-- lets time pass there, or has no effect there.
 pub data AtShard : Type 0 where
   AsksTurn : (shard now : ℕ) → AtShard
   Signals : (shard : ℕ) (to : Endpoint) (id : ℕ) (reset : Bool) → AtShard
@@ -214,7 +215,7 @@ at_shard (Signal shard to id reset) = Signals shard to id reset
 at_shard (ShardTick shard now) = Ticks shard now
 at_shard other = Calm
 
--- time that it passes to a shard, one of eight.
+-- time that the event passes to a shard, one of eight.
 abbrev pub hands_by : AtShard → ℕ → Option ℕ
 hands_by (AsksTurn shard now) i = if (shard == i) && nat_lt i 8 then Some now else None
 hands_by (Ticks shard now) i = if (shard == i) && nat_lt i 8 then Some now else None
@@ -232,7 +233,7 @@ words_seen (Some k) e s = words_after (row e (inputs s k)) (task_at s.tasks k) s
 abbrev pub is_overdue_at : Seen → ℕ → ℕ → ℕ → Bool
 is_overdue_at s i at k = is_some (overdue_entry (list_at_time at (watch s (8 * k + i))))
 
--- the first such place; a shard above 7 has none.
+-- the first place with such a notification; a shard above 7 has none.
 unfoldable pub overdue_in : Seen → ℕ → ℕ → Option ℕ
 overdue_in s i at = if nat_lt i 8 then place_from (is_overdue_at s i at) 8 0 else None
 
@@ -240,7 +241,7 @@ overdue_in s i at = if nat_lt i 8 then place_from (is_overdue_at s i at) 8 0 els
 abbrev pub is_due_at : Seen → ℕ → ℕ → ℕ → Bool
 is_due_at s i at k = is_some (next_turn (slot_at s (8 * k + i)).notify_serial (list_at_time at (watch s (8 * k + i))))
 
--- the first such place.
+-- the first place with such an observer.
 unfoldable pub due_in : Seen → ℕ → ℕ → Option ℕ
 due_in s i at = if nat_lt i 8 then place_from (is_due_at s i at) 8 0 else None
 
@@ -249,9 +250,9 @@ abbrev pub is_place_of : Option ℕ → ℕ → ℕ → Bool
 is_place_of None i n = false
 is_place_of (Some k) i n = (8 * k + i) == n
 
--- its calls on the observers of slot n: a lease goes to the first observer with a pending
--- notification, and a signal to all slots of its shard; a tick goes to the first with a
--- notification that has timed out.
+-- calls of an event at its own shard on the observers of slot n. A request for a lease is for the
+-- first slot with a pending notification, and a signal is for all slots of the shard. A tick is for
+-- the first slot with a notification that has timed out.
 abbrev pub calls_by : AtShard → Seen → ℕ → List ObserverCall
 calls_by (AsksTurn shard now) s n =
     if is_place_of (due_in s shard (max (s.shard_time shard) now)) shard n
@@ -269,12 +270,12 @@ abbrev pub turn_at : Option ℕ → Seen → ℕ → ℕ → Option Job
 turn_at None s i at = None
 turn_at (Some k) s i at = turn_given_to (8 * k + i) at (slot_at s (8 * k + i)).notify_serial (watch s (8 * k + i))
 
--- jobs that it produces.
+-- jobs that an event at its own shard produces.
 abbrev pub turns_by : AtShard → Seen → List Task
 turns_by (AsksTurn shard now) s = map new_task (option_to_list (turn_at (due_in s shard (max (s.shard_time shard) now)) s shard (max (s.shard_time shard) now)))
 turns_by other s = []
 
--- jobs that an event produces: a lease, or a request.
+-- jobs that an event produces: that of a lease, or that of a request.
 abbrev pub tasks_brought : Event → Seen → List Task
 tasks_brought e s = turns_by (at_shard e) s ++ tasks_by (at_front e) s
 
@@ -313,6 +314,6 @@ history_after h [] os = h
 history_after h (e ∷ es) [] = h
 history_after h (e ∷ es) (o ∷ os) = history_after (Then h (did e o)) es os
 
--- for a server that begins at serial 0 and message ID 0, with the default policy.
+-- the history of a server that begins at serial 0 and message ID 0, with the default policy.
 abbrev pub history_of : List Event → List (Option Emission) → History
 history_of events emissions = history_after (Begins 0 0 default_policy) events emissions

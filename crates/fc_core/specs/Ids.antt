@@ -39,7 +39,7 @@ abbrev pub reply_id : Bool → ℕ → Option ℕ → Option ℕ
 reply_id true id free = Some id
 reply_id false id free = free
 
--- message IDs after such a message.
+-- message IDs after a response.
 abbrev pub drawn_for : Bool → Ids → ℕ → Ids
 drawn_for true ids at = ids
 drawn_for false ids at = drawn ids at

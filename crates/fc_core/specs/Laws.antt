@@ -16,8 +16,8 @@ use Rattle.fc_core.specs.History.{Entry, History, Begins, Then, Seen, seen, job,
 
 -- ---- strays
 
--- whether a job of slot `own` needs the head word of slot n: that of its own slot, or of the slot
--- after those that it has read.
+-- whether a job of slot `own` needs the head word of slot n. It needs the word of its own slot, or
+-- of the slot after those that it has read.
 abbrev pub needs_word : ℕ → ℕ → Stage → Bool
 needs_word own n ToMatch = n == own
 needs_word own n (ToList seen) = n == length seen.items
@@ -46,7 +46,7 @@ is_noop_at (Signal shard to id reset) own at = false
 is_noop_at (ShardTick shard now) own at = false
 is_noop_at other own at = true
 
--- stage of the job that is named, if one is, and its slot.
+-- stage of the job that is named, if one is named, and the job's slot.
 abbrev pub stage_named : Seen → Option ℕ → Stage
 stage_named s None = Gone
 stage_named s (Some k) = stage s k
@@ -117,19 +117,19 @@ abbrev pub IsNewest : List Snapshot → Ticket → Type 0
 IsNewest [] t = ⊥
 IsNewest (x ∷ xs) t = x.ticket ≡ t
 
--- a run's answer comes from the newest of these snapshots: the code that its program means, the
--- block of the reply that its request names, and the serial of the snapshot.
+-- a run's answer comes from the newest of these snapshots. It has the code that the snapshot's
+-- program means, the block of the reply that the request names, and the serial of the snapshot.
 abbrev pub IsOfNewest : List Snapshot → RunAnswer → Type 0
 IsOfNewest [] run = ⊥
 IsOfNewest (t ∷ ts) run = (run.code ≡ (meaning_at t.ticket).code) × (run.cut ≡ cut_for t.ticket.block (meaning_at t.ticket).reply) × (run.serial ≡ t.ticket.serial)
 
--- the answer that a job is about to give, after its slot's new head word is published.
+-- the answer that a job gives next, or after it publishes its slot's new head word.
 abbrev pub answer_at : Stage → Option Content
 answer_at (ToRaise word content) = Some content
 answer_at (ToAnswer content) = Some content
 answer_at other = None
 
--- at the commit of a run that wants to write, the slot is at another serial than the job's ticket.
+-- at the commit of a run that wants to write, the slot's serial isn't that of the job's ticket.
 pub record IsOvertaken (s : Seen) (k : ℕ) : Type 0 where
   pub count : ℕ
   pub ticket : Ticket

@@ -1,4 +1,5 @@
--- The permitted emissions of each event, and no other. And the meaning of each snapshot.
+-- The permitted emissions of each event; no other is permitted. The meaning of each snapshot is
+-- defined here too.
 use Rattle.std.specs.Prelude.{◌≡◌, ℕ, ◌+◌, ◌*◌, ◌≤◌, Bool, true, false, List, Option, Some, None, max}
 use Rattle.coap_msg.specs.declared.types.Emission.{Emission}
 use Rattle.fc_image.specs.Paths.{IsLongest}
@@ -34,23 +35,23 @@ abbrev pub AnswerEmits : Option Content → Job → FrontState → Option Emissi
 AnswerEmits None j f emitted = emitted ≡ None
 AnswerEmits (Some content) j f emitted = IsAnswered (opening_is_live f.now j.origin.opening) (id_in f j.confirmable j.origin.id) j content emitted
 
--- retransmission of a tick.
+-- retransmission by a tick.
 abbrev pub resent : Ticked → Option Emission
 resent (Resend emission) = Some emission
 resent other = None
 
--- retransmission of a tick at a place of shard i, at this time; none without a place.
+-- retransmission by a tick at a place of shard i, at this time; none without a place.
 abbrev pub resent_at : Option ℕ → Seen → ℕ → ℕ → Option Emission
 resent_at None s i at = None
 resent_at (Some k) s i at = resent (ticked (list_at_time at (watch s (8 * k + i))))
 
--- retransmission of an event at its own shard.
+-- retransmission by an event at its own shard.
 abbrev pub resent_in : AtShard → Seen → Option Emission
 resent_in (Ticks i now) s = resent_at (overdue_in s i (max (s.shard_time i) now)) s i (max (s.shard_time i) now)
 resent_in other s = None
 
 -- emission of an event without an effect on the front: the notification of the job that it names,
--- or a retransmission of its own shard.
+-- or a retransmission by the event's own shard.
 abbrev pub sends_in : Option ℕ → Event → Seen → Option Emission
 sends_in None e s = resent_in (at_shard e) s
 sends_in (Some k) e s = sends e (inputs s k)
@@ -71,8 +72,9 @@ abbrev pub IsLegal : History → Type 0
 IsLegal (Begins serial id policy) = Unit {0}
 IsLegal (Then h r) = Emits (seen h) r.event r.emitted × IsLegal h
 
--- a ticket's program has a meaning for its request and the variables and readings of the snapshot:
--- the run reaches its exit, in at most the steps of the longest path, which are at most the budget.
+-- a ticket's program has a meaning for the request, and for the variables and readings of the
+-- snapshot. The run reaches its exit in at most the steps of the longest path, and these are at
+-- most the budget.
 pub record IsMeant (t : Ticket) : Type 0 where
   pub run : IsRun t.found.program (input_of t)
   pub longest : IsLongest t.found.program.version t.found.program.code t.found.program.cost
@@ -89,7 +91,7 @@ FindsMeaning readings s (ToTake count) = FoundMeans s.job readings s.slot.serial
 FindsMeaning readings s (ToTell turn turns.ToTake) = FoundMeans s.job readings s.slot.serial s.slot.present
 FindsMeaning readings s other = Unit {0}
 
--- a snapshot at its stage that finds a program finds one with a meaning, whether or not memory for
+-- if a snapshot at its stage finds a program, the program has a meaning, whether or not memory for
 -- a ticket can be allocated.
 abbrev pub TakesMeaning : Seen → Event → Type 0
 TakesMeaning s (Take k memory readings) = FindsMeaning readings (inputs s k) (stage s k)

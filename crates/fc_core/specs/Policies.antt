@@ -12,7 +12,7 @@ use Rattle.fc_core.specs.declared.policy.Policy.{Policy}
 abbrev pub is_in : List ℕ → Network → Bool
 is_in ip n = address_number ip / 2 ^ (32 - n.bits) == address_number n.ip / 2 ^ (32 - n.bits)
 
--- whether its address is in one of these networks.
+-- whether an endpoint's address is in one of these networks.
 abbrev pub is_manager : List Network → Endpoint → Bool
 is_manager managers to = list_any (is_in to.ip) managers
 
@@ -22,8 +22,8 @@ changes_program (actions.Install n) = true
 changes_program (actions.Remove n) = true
 changes_program other = false
 
--- whether an endpoint is allowed an action: managers are allowed each action, others those that
--- change no program.
+-- whether an endpoint is allowed an action: managers are allowed each action, other endpoints only
+-- actions that change no program.
 abbrev pub is_allowed : List Network → Endpoint → Action → Bool
 is_allowed managers to action = not (changes_program action) || is_manager managers to
 

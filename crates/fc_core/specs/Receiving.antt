@@ -52,8 +52,8 @@ pub data Received : Type 0 where
   Rejected : (id : ℕ) → Received
   -- an acknowledgement or a reset of the message that was sent with this message ID.
   Signals : (id : ℕ) (reset : Bool) → Received
-  -- a request without a response: a duplicate of one in progress, or of an answered non-confirmable
-  -- one; or a non-confirmable one above its address's share.
+  -- a request that gets no response. It duplicates a request in progress, or an answered
+  -- non-confirmable request; or it is non-confirmable and above its address's share.
   Unanswered : Received
   -- a duplicate of a confirmable request that was answered by these bytes.
   Again : (bytes : List ℕ) → Received
@@ -68,7 +68,7 @@ pub data Received : Type 0 where
   -- a new request that is served, with its complete body (RFC 7959, section 2.5).
   Opened : (m : Message) (asked : Asked) (body : List ℕ) → Received
 
--- slot of a resource; the list of slots belongs to no slot, and its job has slot 0, which it reads
+-- slot of a resource. The list of slots belongs to no slot; its job has slot 0, and reads that slot
 -- like the others.
 abbrev pub slot_of_resource : Resource → ℕ
 slot_of_resource (resources.Run n) = n
@@ -106,8 +106,8 @@ abbrev pub is_confirmable : MessageType → Bool
 is_confirmable Confirmable = true
 is_confirmable other = false
 
--- a new request from an address that has used its share: the response to a non-confirmable one
--- would need a message ID of the server, so it is ignored (RFC 7252, section 4.3).
+-- a new request from an address that has used its share. A non-confirmable request is ignored,
+-- since its response would need a message ID of the server (RFC 7252, section 4.3).
 abbrev pub over_share : Bool → Message → Received
 over_share true m = Full m
 over_share false m = Unanswered
@@ -172,7 +172,7 @@ named_block None asked = asked
 abbrev pub observes : Option ℕ → Bool
 observes option = has_observe observe.REGISTER option || has_observe observe.CANCEL option
 
--- such a request is answered by a run, even if its client has the response.
+-- a request that registers or cancels is answered by a run, even if its client has the response.
 abbrev pub etags_by : Bool → List ℕ → List ℕ
 etags_by true etags = []
 etags_by false etags = etags
@@ -242,7 +242,7 @@ opened_by (Silenced m) o to = exchange_of o to m ∷ []
 opened_by (Refused m answer) o to = exchange_of o to m ∷ []
 opened_by other o to = []
 
--- emission that is stored as its answer, if any.
+-- emission that is stored as the exchange's answer, if any.
 abbrev pub kept_of : Received → Option Emission → Option Emission
 kept_of (Refused m answer) emitted = emitted
 kept_of (Settled m asked response) emitted = emitted
@@ -268,7 +268,7 @@ added_by (Opened m asked body) at to = addition_of at to asked ∷ []
 added_by (Settled m asked response) at to = addition_of at to asked ∷ []
 added_by other at to = []
 
--- transfers after that.
+-- transfers after these payloads were added.
 abbrev pub after_added : List Addition → List Transfer → List Transfer
 after_added [] held = held
 after_added (a ∷ more) held = after_addition a (after_added more held)
@@ -295,17 +295,17 @@ abbrev pub emission_if : Bool → Emission → Option Emission
 emission_if true emission = Some emission
 emission_if false emission = None
 
--- result: a job, a signal for the observers, or the response to send immediately.
+-- result of a delivery: a job, a signal for the observers, or the response to send immediately.
 abbrev pub handed_on : Received → FrontState → Endpoint → Delivered
 handed_on (Opened m asked body) f to = Brings (job_of (next_opening f) to m asked body)
 handed_on (Signals id reset) f to = Signal id reset
 handed_on other f to = reply_or_nothing (sent other f to)
 
--- result of a front that has advanced to the time.
+-- result of a delivery to a front that has advanced to the time.
 abbrev pub delivered : FrontState → Endpoint → List ℕ → Delivered
 delivered f to bytes = handed_on (received f to bytes) f to
 
--- a front that stores this as the answer of the exchange with this number.
+-- a front that stores this emission as the answer of the exchange with this number.
 abbrev pub keeping : ℕ → Option Emission → FrontState → FrontState
 keeping number None f = f
 keeping number (Some emission) f = record f { held = map (answered f.now number emission.bytes) f.held }

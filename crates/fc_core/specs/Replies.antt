@@ -13,7 +13,8 @@ use Rattle.fc_registry.specs.declared.receipt.Receipt.{Receipt}
 use Rattle.fc_core.specs.Contents.{Content, Ran, Missing, Unavailable, Made, Rejected, Untyped, Valid, Deleted, Described, Listed}
 use Rattle.fc_core.specs.Links.{links_text}
 
--- an install's response: its receipt, and the last block of its image if it came in blocks.
+-- an install's response: the receipt of the program, and the last block of the image if the image
+-- came in blocks.
 abbrev pub made_response : ℕ → Job → Receipt → Response
 made_response answer j receipt = record { code = answer; options = block1 j.block; payload = receipt_text receipt }
 

@@ -1,5 +1,5 @@
--- A job's next action as its stage, with the data beside it: its snapshot, the head words that it
--- has listed, and its answer.
+-- A job's next action as its stage, with the data stored next to it: the snapshot, the head words
+-- that the job has listed, and its answer.
 use Rattle.std.specs.Prelude.{◌≡◌, ℕ, Some, None}
 use Rattle.arrayvec.specs.ArrayVec.{ArrayVec}
 use Rattle.fc_registry.specs.Taken.{SlotSnapshot, IsSized, ticket_with}
@@ -46,11 +46,11 @@ FitsStep (steps.ToCommit count program) f = IsSized program.value f
 FitsStep (steps.ToTell turn needs) f = FitsTurnStep needs f
 FitsStep other f = Unit {0}
 
--- the action is this stage, with this answer and any other data.
+-- the action, with this answer and any other data, is this stage.
 abbrev pub StandsAt : Step → Content → Stage → Type 0
 StandsAt step content stage = (f : SlotSnapshot) (seen : ArrayVec ℕ) → (stage_of step f seen content ≡ stage) × FitsStep step f
 
--- the action is the one after a snapshot by this transition, with this answer and this snapshot.
+-- this transition leads to the action after a snapshot, with this answer and this snapshot.
 abbrev pub LeadsTo : Taken → (spec.Taken → Stage) → Step → Content → Type 0
 LeadsTo taken row step content =
     (f : SlotSnapshot) (seen : ArrayVec ℕ) → HasSize taken f → (stage_of step f seen content ≡ row (taken_with taken f)) × FitsStep step f

@@ -1,7 +1,7 @@
 -- The transitions of a history: the effect of each event on the job that it names, and on that
--- job's slot and shard. An event is a call for its job, whose result depends on the slot and its
--- surroundings. Its transition is the effect of that call. An event that is no call leaves the job
--- as it is.
+-- job's slot and shard. An event is a call for its job; the result of the call depends on the slot
+-- and its surroundings. Its transition is the effect of that call. An event that is no call leaves
+-- the job as it is.
 use Rattle.std.specs.Prelude.{◌≡◌, ℕ, ◌/◌, ◌==◌, Bool, true, false, Option, Some, None, List, [], ◌∷◌, length, max}
 use Rattle.coap_msg.specs.declared.types.Emission.{Emission}
 use Rattle.fc_verify.specs.Accepted.{Judgement, Accepts, Breaks, Untypable}
@@ -104,9 +104,9 @@ call_at other s needs = None
 
 -- ---- its move
 
--- transition of a job: its new stage, and the changes of its slot and the calls on the slot's
--- observers, both the newest first; the time that the slot's shard is passed, and the head word
--- that is raised for the slot.
+-- transition of a job. It has the job's new stage, the changes of its slot and the calls on the
+-- slot's observers, both the newest first. It also has the time passed to the slot's shard, and the
+-- head word raised for the slot.
 pub record Move : Type 0 where
   pub stage : Stage
   pub changes : List Change
@@ -185,7 +185,8 @@ task_moved task m = record { job = task.job; stage = m.stage }
 abbrev pub shard_moved : Move → ℕ → Shard → Shard
 shard_moved m n shard = with_calls m.calls n (with_slot (record shard { now = handed m.hands shard.now }) n (after_changes (slot_in shard n) m.changes))
 
--- notification that a lease sends for its snapshot at a shard that is passed this time.
+-- notification that a lease sends for its snapshot at a shard, after this time is passed to the
+-- shard.
 abbrev pub note_on : Shard → ℕ → Turn → ℕ → Option Ticket → Option Emission
 note_on shard now turn id found = note_at turn id (max shard.now now) found (watch_at shard (turn.slot / 8))
 

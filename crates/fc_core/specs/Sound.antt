@@ -8,8 +8,8 @@ use Rattle.fc_core.specs.Fits.{FitsSlot, FitsStage, IsSafe}
 use Rattle.fc_core.specs.History.{Seen, job, slot_at, stage, watch}
 use Rattle.fc_core.specs.Receiving.{JobWithin, RequestWithin}
 
--- the commits of each slot are a chain, and each job is within its limits and fits its slot, and so
--- are the observers' requests.
+-- the commits of each slot are a chain. Each job is within its limits and fits its slot, and the
+-- observers' requests are within their limits.
 pub record IsSoundlySeen (s : Seen) : Type 0 where
   pub chain : (n : ℕ) → IsChain (new_slot s.first_serial) (s.changes n)
   pub within : (k : ℕ) → JobWithin (job s k)

@@ -7,11 +7,11 @@ use Rattle.fc_core.specs.Contents.{Content}
 use Rattle.fc_core.specs.TurnStage.{TurnStage}
 
 pub data Stage : Type 0 where
-  -- read its slot's head word, which may answer it without a run.
+  -- read the head word of the job's slot, which may answer the job without a run.
   ToMatch : Stage
-  -- take a snapshot, after this many before it.
+  -- take a snapshot; `count` is the number of snapshots before it.
   ToTake : (count : ℕ) → Stage
-  -- commit this ticket's run; the number counts the snapshots so far.
+  -- commit this ticket's run; `count` is the number of snapshots so far.
   ToCommit : (count : ℕ) (ticket : Ticket) → Stage
   -- install the program of its image.
   ToInstall : Stage
@@ -19,13 +19,13 @@ pub data Stage : Type 0 where
   ToRemove : Stage
   -- read the receipt of its slot's program.
   ToDescribe : Stage
-  -- read the head word of the slot after those of these words.
+  -- read the next slot's head word; `seen` has the words of the slots before it.
   ToList : (seen : ArrayVec ℕ) → Stage
-  -- raise the head word of its slot to this one, then send this answer.
+  -- raise the head word of the job's slot to this word, then send this answer.
   ToRaise : (word : ℕ) (content : Content) → Stage
   -- send this answer.
   ToAnswer : (content : Content) → Stage
-  -- notify the observer that has this lease, which needs this next.
+  -- notify the observer that has this lease; `needs` is the lease's next action.
   ToTell : (turn : Turn) (needs : TurnStage) → Stage
-  -- nothing: it was answered, released or lost, or it never arrived.
+  -- nothing: the job was answered, released or lost, or it never arrived.
   Gone : Stage

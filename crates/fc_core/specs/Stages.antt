@@ -59,8 +59,8 @@ took count Missing = ToAnswer Misses
 took count Refused = ToAnswer Unavailable
 took count Stale = ToAnswer Unavailable
 
--- a lease that isn't out any more at its snapshot has ended, and one without memory still needs a
--- snapshot.
+-- a lease that isn't active at its snapshot has ended. A lease without memory for its snapshot
+-- still needs a snapshot.
 abbrev pub turn_took : Turn → Taken → Stage
 turn_took turn (Given t) = ToTell turn (turns.ToDraw (Some t))
 turn_took turn Missing = ToTell turn (turns.ToDraw None)
@@ -96,11 +96,11 @@ abbrev pub without_memory : Taken → Taken
 without_memory (Given t) = Refused
 without_memory other = other
 
--- answer of a ticket's run, whose client observes the slot from now on or doesn't.
+-- answer of a ticket's run, and whether the client observes the slot from now on.
 abbrev pub run_content : Ticket → Bool → Content
 run_content t observed = Ran (run_answer t (meaning_at t) observed)
 
--- a run whose slot has changed takes another snapshot, at most eight in all.
+-- the job of a run whose slot has changed takes another snapshot, at most eight in all.
 abbrev pub retaken : ℕ → Stage
 retaken count = if nat_lt count snapshots then ToTake count else ToAnswer Unavailable
 
@@ -131,7 +131,7 @@ matched_by false word = ToTake 0
 abbrev pub matched : ℕ → List ℕ → Stage
 matched word serials = matched_by (is_match word serials) word
 
--- after the head words of this many slots.
+-- the stage after these head words were read.
 abbrev pub listed : List ℕ → Stage
 listed words = if nat_lt (length words) 64 then ToList (record { items = words }) else ToAnswer (Listed words)
 
@@ -144,7 +144,7 @@ abbrev pub image_of : Ask → List ℕ
 image_of (Installs image initial) = image.items
 image_of other = []
 
--- after the head word of a job's slot was raised.
+-- the stage after the head word of a job's slot was raised.
 abbrev pub word_raised : Stage → Stage
 word_raised (ToRaise word content) = ToAnswer content
 word_raised other = other
@@ -154,7 +154,7 @@ abbrev pub content_at : Stage → Option Content
 content_at (ToAnswer content) = Some content
 content_at other = None
 
--- its stage after it is answered.
+-- stage of a job after it is answered.
 abbrev pub ended : Stage → Stage
 ended (ToAnswer content) = Gone
 ended other = other

@@ -25,7 +25,7 @@ use Rattle.fc_core.specs.Stages.{after_commit, listed, made, matched, removed, t
 
 -- a call for a job.
 pub data Call : Type 0 where
-  -- read the head word of the job's slot, whose client has the responses of these serials.
+  -- read the head word of the job's slot; the job's client has the responses of these serials.
   Matches : (serials : List ℕ) (word : ℕ) → Call
   -- read the head word of the slot after those already read.
   Lists : (seen : ArrayVec ℕ) (word : ℕ) → Call
@@ -48,10 +48,10 @@ pub data Call : Type 0 where
   Notes : (turn : Turn) (found : Option Ticket) (id : ℕ) → Call
   -- a lease is released, whatever it needs.
   GivesUp : (turn : Turn) (needs : TurnStage) → Call
-  -- its worker is lost, whatever the job needs.
+  -- the job's worker is lost, whatever the job needs.
   Loses : (needs : Stage) → Call
 
--- stage that needs it.
+-- stage that needs the call.
 abbrev pub called_at : Call → Stage
 called_at (Matches serials word) = ToMatch
 called_at (Lists seen word) = ToList seen
@@ -70,7 +70,7 @@ called_at (Notes turn found id) = ToTell turn (turns.ToNote found id)
 called_at (GivesUp turn needs) = ToTell turn needs
 called_at (Loses needs) = needs
 
--- stage of the job after it: the transition by its result.
+-- stage of the job after the call: the transition by the call's result.
 abbrev pub next_stage : Call → Stage
 next_stage (Matches serials word) = matched word serials
 next_stage (Lists seen word) = listed (seen.items ++ word ∷ [])
@@ -86,14 +86,14 @@ next_stage (TakesTurn turn taken) = turn_took turn taken
 next_stage (Draws turn found free) = ToTell turn (with_id found free)
 next_stage other = Gone
 
--- change of the job's slot by its result.
+-- change of the job's slot by the call's result.
 abbrev pub changes_told : Call → List Change
 changes_told (Commits count t (Done m)) = if m.changed then Wrote (commit_of t) ∷ [] else []
 changes_told (Installs p initial (Raised serial created)) = Installed p initial ∷ []
 changes_told (Removes (removals.Removed serial)) = Removed ∷ []
 changes_told other = []
 
--- head word that it raises for the job's slot.
+-- head word that the call raises for the job's slot.
 abbrev pub word_told : Call → Option ℕ
 word_told (Raises word content) = Some word
 word_told other = None

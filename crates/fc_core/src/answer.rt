@@ -26,7 +26,7 @@ pub enum End {
     /// The slot is at its last serial, memory couldn't be allocated, or the slot changed since the
     /// job's eighth snapshot.
     Unavailable,
-    /// A program was installed; the slot was empty before, or it wasn't.
+    /// A program was installed; `true` if the slot was empty before.
     Made(Receipt, bool),
     /// An image was refused.
     Rejected(Refusal),
@@ -56,9 +56,10 @@ pub(crate) enum AnswerBody {
 
 /// The answer of a job.
 ///
-/// The answer of a run is made from its outcome and consumes the mark of its commit: without a mark
-/// none can be made. A clause sees the answer's content, except for the rule and the slot that a
-/// refusal by typing names. An answer has memory for a block, and is overwritten in place.
+/// The answer of a run is made from the run's outcome, and consumes the mark of its commit. Without
+/// a mark no answer of a run can be made. A clause sees the answer's content, except for the rule
+/// and the slot that a refusal by typing names. An answer has memory for a block, and is
+/// overwritten in place.
 #[derive(Drop)]
 pub struct Answer {
     said: AnswerBody,
@@ -141,8 +142,8 @@ impl Answer {
     }
 }
 
-// Writes the bytes of a block over `bytes`. Returns the block's place, which it has unless it is a
-// whole body, or `None` if there is no block.
+// Writes the bytes of a block over `bytes`. Returns the block's place, which it has unless the
+// block is a whole body, or `None` if there is no block.
 fn write_block(
     block: Option<BodyBlock<'_>>,
     bytes: &mut ArrayVec<u8, BLOCK>,

@@ -93,7 +93,7 @@ pub enum Responded {
 /// The protocol front end.
 ///
 /// It has the managers' networks, the exchanges younger than EXCHANGE_LIFETIME, the transfers in
-/// progress, the message IDs that the server draws, and the latest time that it was passed.
+/// progress, and the message IDs that the server draws. It also has the latest time passed to it.
 #[derive(Drop)]
 pub struct Front {
     managers: Managers,
@@ -241,7 +241,7 @@ impl Front {
     }
 
     // Returns the message ID of a response: the request's `id` for an acknowledgement, otherwise
-    // the next one that the server draws. It is `None` if that isn't available.
+    // the next one that the server draws. It is `None` if that message ID isn't available.
     fn reply_id(&mut self, confirmable: bool, id: u16) -> Option<u16>
         ensures id { result ≡ id_in self.old confirmable id }
         ensures after { self.new ≡ record self.old { ids = drawn_for confirmable self.old.ids self.old.now } }
@@ -312,8 +312,9 @@ impl Front {
         }
     }
 
-    // Handles a request. A new one without room is answered 5.03, or ignored if its address is over
-    // its share and it isn't confirmable. A duplicate gets the stored response, if there is one.
+    // Handles a request. A new request without room for its exchange is answered 5.03. It is
+    // ignored instead if its address is over its share and it isn't confirmable. A duplicate gets
+    // the stored response, if there is one.
     fn request(
         &mut self,
         endpoint: Endpoint,
@@ -347,7 +348,7 @@ impl Front {
     }
 
     // Handles a new request for which there is room, by `asking`: serves it, answers it with the
-    // code of a refusal, or sends no response. Each opens an exchange.
+    // code of a refusal, or sends no response. In each case an exchange is opened.
     fn open(
         &mut self,
         endpoint: Endpoint,
@@ -432,8 +433,8 @@ impl Front {
         }
     }
 
-    // Returns whether an endpoint is allowed an action. Managers are allowed each action, others
-    // those that change no program.
+    // Returns whether an endpoint is allowed an action. Managers are allowed each action, other
+    // endpoints only actions that change no program.
     fn is_allowed(&self, endpoint: Endpoint, action: Action) -> bool
         ensures { result ≡ is_allowed self.entry.now.managers endpoint action }
     {
@@ -441,7 +442,7 @@ impl Front {
     }
 
     // Adds the payload of a new request with this block to its transfer. Serves the request if its
-    // body is complete; otherwise answers it immediately. It isn't inlined into its caller, which
+    // body is complete; otherwise answers it immediately. This function isn't inlined: its caller
     // would then zero the memory of a body for each request.
     #[inline(never)]
     fn serve_block(
@@ -629,8 +630,8 @@ fn write_job(
     write_ask(&mut job.ask, request, body);
 }
 
-// Returns the block that a request names: that of a PUT, or the one that a GET requests; `None` if
-// it names none.
+// Returns the block that a request names: the one that a PUT sends or that a GET requests. Returns
+// `None` if the request names none.
 fn named_block(request: &Request<'_>) -> Option<Block>
     ensures { result ≡ receiving.named_block (asked_by request.now).block1 (asked_by request.now).block2 }
 {
@@ -666,7 +667,7 @@ fn observes(option: Option<u32>) -> bool
     has_observe(REGISTER, option) || has_observe(CANCEL, option)
 }
 
-// Returns the slot of an action. A list of the slots belongs to none, and its job has slot 0.
+// Returns the slot of an action. A list of the slots belongs to no slot, and its job has slot 0.
 fn slot_asked(action: Action) -> u8
     ensures { result ≡ receiving.slot_asked action }
 {
@@ -709,7 +710,7 @@ fn write_run(ask: &mut Ask, method: Method, slot: u8, request: &Request<'_>)
     }
 }
 
-// Writes the action of answering a request over one of another kind, for `write_run`.
+// Writes the action of answering a request over an action of another kind, for `write_run`.
 fn write_run_anew(ask: &mut Ask, method: Method, slot: u8, request: &Request<'_>)
     requires { IsServable (asked_by request.now) }
     ensures { ask.new ≡ Ask.Run (request_asked method slot (asked_by request.now)) }

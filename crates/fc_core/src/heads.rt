@@ -1,6 +1,6 @@
 //! Head words: the published states of the slots.
 //!
-//! [`Heads`] has those of a server on one thread; the workers' are in `fc_heads`.
+//! [`Heads`] has the head words of a server on one thread; those of the workers are in `fc_heads`.
 ghost use Rattle.std.specs.Prelude.{◌≡◌, ◌≤◌, ◌<◌};
 ghost use Rattle.fc_registry.specs.Slots.{last_serial};
 ghost use Rattle.fc_core.specs.Heads as spec;
@@ -37,7 +37,7 @@ pub fn is_present(word: u64) -> bool
 
 /// The greatest head word raised for each of the 64 slots.
 ///
-/// It is 0 for a slot for which none was raised. A clause sees the words.
+/// The word of a slot for which none was raised is 0. A clause sees the words.
 #[derive(Drop)]
 pub struct Heads {
     words: [u64; WORDS],

@@ -1,6 +1,7 @@
 //! The message IDs that the server draws.
 //!
-//! The front draws one for each response that isn't an acknowledgement, and for each notification.
+//! The front draws a message ID for each response that isn't an acknowledgement, and for each
+//! notification.
 ghost use Rattle.std.specs.Prelude.{◌≡◌, ◌<◌, IfOk, length};
 ghost use Rattle.fc_core.specs.Ids.{first_ids, free_id, drawn, is_recent};
 

@@ -42,7 +42,7 @@ pub struct Policy {
     pub limits: Limits,
     /// The time in milliseconds after which a notification is confirmable.
     ///
-    /// It begins with an observer's registration or last confirmable notification. RFC 7641,
+    /// It is counted from an observer's registration or last confirmable notification. RFC 7641,
     /// section 4.5 allows at most 24 hours. At 0 each notification is confirmable.
     pub confirm_after: u64,
 }

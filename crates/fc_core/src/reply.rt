@@ -64,7 +64,7 @@ fn envelope_of(job: &Job, id: u16) -> Envelope<'_>
     }
 }
 
-// Writes the response to a job whose last call wasn't a run over `bytes`.
+// Writes over `bytes` the response to a job whose last call wasn't a run.
 fn ended(job: &Job, id: u16, end: &End, bytes: &mut Datagram)
     ensures { IsReplyTo job.now id (content_of end.now) (to_job job.now bytes.new) }
 {
@@ -91,8 +91,8 @@ fn ended(job: &Job, id: u16, end: &End, bytes: &mut Datagram)
     }
 }
 
-// Writes a 2.03 (Valid) response; its ETag is the slot's serial, of which the client has the
-// response.
+// Writes a 2.03 (Valid) response. Its ETag is the slot's serial; the client already has the
+// response of that serial.
 fn valid(envelope: &Envelope<'_>, serial: u64, bytes: &mut Datagram)
     ensures { to_peer envelope.now bytes.new ≡ sent_in envelope.now
         (record { code = code 2 3; options = etag serial; payload = [] }) }
@@ -145,7 +145,8 @@ fn link_options() -> ReplyOptions
     }
 }
 
-// Returns all bytes but the first, the comma before the first link; no bytes if there are none.
+// Returns all bytes except the first, which is the comma before the first link. Returns no bytes if
+// there are none.
 fn after_first(bytes: &[u8]) -> &[u8]
     ensures { result.now ≡ drop 1 bytes.now }
 {

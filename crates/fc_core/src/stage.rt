@@ -27,7 +27,7 @@ const SNAPSHOTS: u8 = 8;
 /// The next action that a job needs.
 #[derive(Drop)]
 pub enum Step {
-    /// Read its slot's head word, which may answer it without a run.
+    /// Read the head word of the job's slot, which may answer the job without a run.
     ToMatch,
     /// Take a snapshot; the number counts the snapshots before it.
     ToTake(u8),
@@ -39,15 +39,15 @@ pub enum Step {
     ToRemove,
     /// Read the receipt of its slot's program.
     ToDescribe,
-    /// Read the head word of the slot after those whose words it has listed.
+    /// Read the head word of the slot after those whose words the job has listed.
     ToList,
-    /// Raise the head word of its slot to this one, then send its answer.
+    /// Raise the head word of the job's slot to this word, then send the job's answer.
     ToRaise(u64),
     /// Send its answer.
     ToAnswer,
-    /// Notify the observer that has this lease, which needs this next.
+    /// Notify this lease's observer; the second field is the lease's next action.
     ToTell(Turn, TurnStep),
-    /// Nothing: it was answered, released or lost, or it never arrived.
+    /// Nothing: the job was answered, released or lost, or it never arrived.
     Gone,
 }
 
@@ -58,9 +58,9 @@ pub enum TurnStep {
     ToTake,
     /// Draw a message ID for this program's snapshot; `None` if the slot was empty.
     ToDraw(Option<Arc<Verified>>),
-    /// Send the notification of that snapshot, with this message ID.
+    /// Send the notification of this program's snapshot, with this message ID.
     ///
-    /// It is `None` if the slot was empty.
+    /// The program is `None` if the slot was empty.
     ToNote(Option<Arc<Verified>>, u16),
 }
 
@@ -127,8 +127,8 @@ impl Stage {
 
     /// Sets the first stage of a request's job.
     ///
-    /// [`Stage::begin`] calls it for a job without a lease; the workers (`fc_workers`) run no
-    /// other.
+    /// [`Stage::begin`] calls it for a job without a lease; the workers (`fc_workers`) run no other
+    /// jobs.
     pub fn ask(&mut self, job: &Job)
         ensures { self.new ≡ asked_stage job.now }
     {
@@ -173,7 +173,7 @@ impl Stage {
         self.step = Step::took(count, taken, &mut self.answer);
     }
 
-    /// Continues after an install, whose receipt has no version yet.
+    /// Continues after an install; `receipt` has no version yet.
     ///
     /// The slot's head word is raised next. If the slot is at its last serial, the answer is 5.03.
     pub fn made(&mut self, receipt: Receipt, made: Made)
@@ -195,8 +195,8 @@ impl Stage {
 
     /// Continues after a removal.
     ///
-    /// The slot's head word is raised next, unless the slot was empty; both are answered 2.02. If
-    /// the slot is at its last serial, the answer is 5.03.
+    /// The slot's head word is raised next, unless the slot was empty. In both cases the answer is
+    /// 2.02. If the slot is at its last serial, the answer is 5.03.
     pub fn removed(&mut self, removal: Removal)
         requires { IsRemovedBelow removal }
         ensures { self.new ≡ rows.removed removal }
@@ -235,7 +235,7 @@ impl Stage {
 
     /// Continues after a failed allocation: the answer is 5.03.
     ///
-    /// It is the same if the slot is at its last serial.
+    /// The answer is the same if the slot is at its last serial.
     pub fn unavailable(&mut self)
         ensures { self.new ≡ ToAnswer Unavailable }
     {
@@ -295,7 +295,7 @@ impl Stage {
 ///
 /// They are for a caller that borrows the stage's snapshot and answer one by one.
 impl Step {
-    /// Continues after a request's snapshot; `count` is the number of those before it.
+    /// Continues after a request's snapshot; `count` snapshots came before it.
     ///
     /// A program is run and committed next. Otherwise `answer` is written: 4.04 if the slot is
     /// empty, 5.03 if memory can't be allocated.
@@ -331,9 +331,9 @@ impl Step {
 
     /// Continues after a commit.
     ///
-    /// A run whose slot changed since its snapshot takes another one, at most eight in all. An
-    /// outcome that doesn't belong to the ticket is no outcome of this job, which is then
-    /// unavailable.
+    /// If the slot changed since the run's snapshot, the job takes another snapshot, at most eight
+    /// in all. An outcome that doesn't belong to the ticket is no outcome of this job, and the
+    /// answer is 5.03.
     pub fn committed(
         count: u8,
         outcome: &Outcome<'_>,
@@ -362,7 +362,7 @@ impl Step {
     }
 
     // Continues after the slot changed since the snapshot; `count` is the number of snapshots. The
-    // job takes another one; after the eighth, `answer` is 5.03.
+    // job takes another snapshot; after the eighth, `answer` is 5.03.
     fn overtaken(count: u8, answer: &mut Answer) -> Step
         ensures { StandsAt result answer.new (rows.retaken count) }
     {

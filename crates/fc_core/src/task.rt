@@ -1,7 +1,7 @@
 //! Tasks: the effect of each event on a job, its slot and its shard.
 //!
 //! `fc_server` applies an event by one of these calls. A call has no effect if the task's stage
-//! needs another one, except [`Task::begin`] and [`Task::lose`].
+//! needs another call, except [`Task::begin`] and [`Task::lose`].
 ghost use Rattle.std.specs.Prelude.{◌≡◌, ℕ, ◌<◌, List, None, Option, Some, false, option_copied, max, OnOk, IsErr};
 ghost use Rattle.fc_verify.specs.Accepted.{Accepts};
 ghost use Rattle.fc_verify.specs.Judged.{judged};
@@ -49,14 +49,14 @@ impl Task {
         Task { job, stage }
     }
 
-    /// Makes a task without a job; [`Task::begin`] starts one that is written to it.
+    /// Makes a task without a job; [`Task::begin`] starts a job that is written to it.
     pub fn blank() -> Task
         ensures { result ≡ new_task result.job }
     {
         Task::new(blank_job())
     }
 
-    /// Sets the first stage of its job.
+    /// Sets the first stage of the task's job.
     pub fn begin(&mut self)
         ensures { self.new ≡ new_task self.old.job }
     {
@@ -86,7 +86,7 @@ impl Task {
         }
     }
 
-    /// Takes a snapshot of its slot in its shard, with these readings.
+    /// Takes a snapshot of the job's slot in its shard, with these readings.
     ///
     /// Returns whether memory could be allocated; `true` if no snapshot is needed. If not, a
     /// request is answered 5.03, and a lease still needs its snapshot.
@@ -109,7 +109,7 @@ impl Task {
         memory
     }
 
-    // Takes the snapshot of its lease `turn`. Returns whether memory could be allocated.
+    // Takes the snapshot of the job's lease `turn`. Returns whether memory could be allocated.
     fn take_turn(&mut self, turn: Turn, shard: &mut Shard, readings: &Readings) -> bool
         requires owned { IsOwned shard.old self.old.job.origin.slot }
         requires fits { FitsStage self.old.job (slot_in shard.old self.old.job.origin.slot) self.old.stage }
@@ -144,7 +144,7 @@ impl Task {
         }
     }
 
-    // Takes the snapshot of its lease `turn` as if memory couldn't be allocated.
+    // Takes the snapshot of the job's lease `turn` as if memory couldn't be allocated.
     fn refuse_turn(&mut self, turn: Turn, shard: &mut Shard)
         requires owned { IsOwned shard.old self.old.job.origin.slot }
         requires fits { FitsStage self.old.job (slot_in shard.old self.old.job.origin.slot) self.old.stage }
@@ -157,7 +157,7 @@ impl Task {
         stage.step = Step::turn_took(turn, taken);
     }
 
-    /// Runs its snapshot's program, and commits in its shard at `now`, in milliseconds.
+    /// Runs the snapshot's program, and commits in its shard at `now`, in milliseconds.
     pub fn commit(&mut self, frame: &mut Frame, shard: &mut Shard, now: u64)
         requires owned { IsOwned shard.old self.old.job.origin.slot }
         requires fits { FitsStage self.old.job (slot_in shard.old self.old.job.origin.slot) self.old.stage }
@@ -271,7 +271,7 @@ impl Task {
 
     /// Stores the message ID `free` for the notification of its lease.
     ///
-    /// If `free` is `None`, it still needs one.
+    /// If `free` is `None`, the lease still needs one.
     pub fn draw(&mut self, free: Option<u16>)
         ensures { self.new ≡ task_moved self.old (moves (drew free self.old.stage)) }
     {

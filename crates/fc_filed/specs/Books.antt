@@ -1,4 +1,5 @@
--- The rule of a server's book, whose words are the head words, and its attested history.
+-- The rule of a server's book, and the book's attested history. The book's words are the head
+-- words.
 use Rattle.std.specs.Prelude.{◌≡◌, ℕ, ◌<◌, ◌≤◌, List, [], ◌∷◌, drop, length}
 use lib.ListN.{get_elem?}
 use mathlib.Core.Option.{some}
@@ -56,8 +57,8 @@ pub record HaveServerHistory (first_job : ℕ) (words : List ℕ) (views : List 
   pub keyed : AreKeyed first_job log
   pub sent : AreSent first_job log views
 
--- the view is one of such a history. If all threads' tracks are its own, then each job's track is
--- its own or is right for its job.
+-- the view is one of such a history. If the view owns all threads' tracks, then it owns each job's
+-- track, or that track is right for its job.
 pub record HasServerHistory (first_job : ℕ) (v : BookView FiledEntry) : Type 0 where
   pub log : List FiledEntry
   pub is : IsViewOf entry_keys log v

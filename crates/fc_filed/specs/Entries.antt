@@ -20,11 +20,12 @@ part_key who NoPart = who
 abbrev pub entry_keys : FiledEntry → EntryKeys
 entry_keys e = record { part = part_key e.who (part_of e.operation); who = e.who; job = e.job }
 
--- it is for a job that came before, or produces one.
+-- the operation is for a job that came before, or produces one.
 abbrev pub is_of_job : Operation → Bool
 is_of_job operation = is_for_job operation || is_some (job_brought operation)
 
--- keys 0 to 8 are of parts, those below the first job's are of threads, and the others of jobs.
+-- keys 0 to 8 belong to parts, the other keys below the first job's to threads, and all further
+-- keys to jobs.
 pub record IsKeyed (first_job : ℕ) (e : FiledEntry) : Type 0 where
   pub who : (9 ≤ e.who) × (e.who < first_job)
   pub job : is_of_job e.operation ≡ true → first_job ≤ e.job

@@ -35,7 +35,7 @@ pub record IsOperationOf (of_job : Bool) (operation : Operation) (before after :
   pub event : before.index < 8 → IsEvent operation
 
 -- the operations lead to the shard from a new server's first shard of its index, 0 to 7; the key is
--- one more.
+-- the index plus one.
 abbrev pub AreCallsOf : Begin → ℕ → List FiledEntry → Shard → Type 0
 AreCallsOf begin key calls shard =
     HasEightSlots shard × (shard.index < 8) × (key ≡ shard.index + 1)
@@ -43,12 +43,12 @@ AreCallsOf begin key calls shard =
 
 -- ---- the cost of a snapshot's program
 
--- it has a program that takes this number of steps or more.
+-- the snapshot has a program that takes this number of steps or more.
 abbrev pub CostsFrom : ℕ → Taken → Type 0
 CostsFrom least (Given program) = least ≤ program.value.cost
 CostsFrom least other = ⊥
 
--- it hasn't.
+-- the snapshot has no such program.
 abbrev pub IsCheap : ℕ → Taken → Type 0
 IsCheap least (Given program) = program.value.cost < least
 IsCheap least other = Unit {0}

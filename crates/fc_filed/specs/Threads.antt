@@ -40,7 +40,7 @@ pub record MayFile (first_job who : ℕ) (v : BookView FiledEntry) (operation : 
   pub job : is_of_job operation ≡ true → HasJobFirst first_job v
   pub event : IsEvent operation
 
--- the track of a job begins if there is one.
+-- the track of a job begins if there is a job.
 abbrev pub begun_if : Bool → BookView FiledEntry → BookView FiledEntry
 begun_if brings v = if brings then with_begun v else v
 

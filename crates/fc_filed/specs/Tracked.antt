@@ -34,8 +34,8 @@ pub record LeadsPart {S : Type 0} (Does : Operation → S → S → Type 0) (k :
   pub has : HasTrackOf k entries tracks
   pub leads : OperationsLead Does entries first end
 
--- the owner has the tracks of all parts, which lead from one server to another, and those of all
--- threads. Each job's track that it has is right for its job.
+-- the owner has the tracks of all parts, and these lead from one server to another. It also has the
+-- tracks of all threads. Each job's track that it has is right for its job.
 pub record OwnsAll (first_job : ℕ) (v : BookView FiledEntry) (first end : ServerState) : Type 0 where
   pub front : LeadsPart FrontDoes 0 v.own first.front end.front
   pub shards : (i : ℕ) → i < 8 → LeadsPart ShardDoes (i + 1) v.own (shard_at first.shards i) (shard_at end.shards i)

@@ -193,7 +193,7 @@ impl<J: ServerName> ServerTracks<J> {
         }
     }
 
-    /// Begins the next track, for a new owner, and returns that.
+    /// Begins the next track, for a new owner, and returns that owner.
     pub fn begin_tracks(&mut self, book: &ServerBook<J>) -> ServerTracks<J>
         requires may_begin { self.old.may_begin ≡ true }
         ensures new { result ≡ own_view self.old.next [] }
@@ -266,9 +266,9 @@ impl<J: ServerName> ServerTracks<J> {
         look_as::<Brand, J>(book, self, who, slot)
     }
 
-    /// Raises the head word of `slot`, 0 to 63, to `word` if that is greater.
+    /// Raises the head word of `slot`, 0 to 63, to `word` if `word` is greater.
     ///
-    /// It files that for the job whose track is first. It takes no lock.
+    /// It files the raise for the job whose track is first. It takes no lock.
     pub fn raise(&mut self, book: &ServerBook<J>, who: u64, slot: usize, word: u64)
         requires slot { slot < 64 }
         requires thread { HasOwnTrack J.first_job who self.old }

@@ -19,9 +19,9 @@ pub fn tracks_are_one_history()
 
 /// An attested history is legal if its owner has the parts' and threads' tracks.
 ///
-/// The owner has to have the tracks of all parts and threads. Each job's track that it has is
-/// required to be right, and the jobs have to come in the order of their keys. A job's track that
-/// it doesn't have, such as that of a lost message, is right by the rule.
+/// The owner has to have the tracks of all parts and threads. Each job's track that the owner has
+/// must be right, and the jobs must come in the order of their keys. A job's track that the owner
+/// doesn't have, such as that of a lost message, is right by the rule.
 pub fn attested_tracks_are_one_history()
     ensures { (first_job : ℕ) (b : Begin) (v : BookView FiledEntry) (end : ServerState) (h : HasServerHistory first_job v) →
         end.words ≡ h.words → HaveNextNumbers 0 (bringing (log_of first_job h.log)) → OwnsAll first_job v (first_server b) end →

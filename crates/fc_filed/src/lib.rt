@@ -2,15 +2,16 @@
 //!
 //! The calls are those of its front, its shards and its head words.
 //!
-//! [fc_book](../../fc_book/src/lib.rt) keeps one history by tracks that change owners. This is such
-//! a book over a server's operations. The front and each shard are under their locks together with
-//! the tracks of their calls ([`FiledFront`], [`FiledShard`]). So each call is filed before the
-//! lock is free. The table's words are the head words, so a look or a raise is filed in the step
-//! that makes it ([`ServerTracks::look`]). A filed call costs three loads of one word; a look or a
-//! raise costs nothing more than the step itself.
+//! [fc_book](../../fc_book/src/lib.rt) keeps one history by tracks that change owners. This crate
+//! has such a book of a server's operations. The front and each shard are under their locks
+//! together with the tracks of their calls ([`FiledFront`], [`FiledShard`]). So each call is filed
+//! before the lock is free. The table's words are the head words, so a look or a raise is filed in
+//! the step that makes it ([`ServerTracks::look`]). A filed call costs three loads of one word; a
+//! look or a raise costs nothing more than the step itself.
 //!
-//! The front's track has key 0, shard i's `i + 1`, and the threads' have 9 and up. From the *first
-//! job's* key on, each job has its own. The rule is `HaveServerHistory` (`specs/Books.antt`).
+//! The front's track has key 0, shard i's track key `i + 1`, and the threads' tracks keys from 9
+//! on. From the *first job's* key on, each job has a key of its own. The rule is
+//! `HaveServerHistory` (`specs/Books.antt`).
 //!
 //! The server of `fc_workers` has its front under its lock in this form. Its shards and head words
 //! aren't filed yet: once they are, the calls of all workers are one legal history.

@@ -187,11 +187,11 @@ impl<J: ServerName, P: Part> FiledShard<J, P> {
         is_idle
     }
 
-    /// Takes a snapshot of a request's slot unless its program is expensive.
+    /// Takes a snapshot of a request's slot unless the slot's program is expensive.
     ///
     /// See [`Shard::take_into`]. The slot is that of `job`. If the program may take `least` steps
     /// or more, the snapshot is dropped and nothing is filed. Then the result is `None`: a worker
-    /// is to take its own.
+    /// is to take its own snapshot.
     pub fn take_unless_expensive(
         &mut self,
         book: &ServerBook<J>,
@@ -300,7 +300,7 @@ fn file_answer<Y: FiledName, J: ServerName, P: Part, A, B, X: OperationName<A, B
     file_as::<Y, J, P>(book, tracks, track, who);
 }
 
-/// Begins the track of an observer's job, if there is one.
+/// Begins the track of an observer's job if `is_due`: if a lease was granted.
 fn begin_if<J: ServerName>(book: &ServerBook<J>, tracks: &mut ServerTracks<J>, is_due: bool)
     requires { tracks.old.may_begin ≡ true }
     ensures { tracks.new ≡ begun_if is_due tracks.old }

@@ -166,7 +166,7 @@ pub(crate) fn attest<J: ServerName>(words: &FiledWords, seat: &mut FiledSeat)
 
 /// Reads a head word, and files that.
 ///
-/// The entry has the thread and the job of the one that `X` names.
+/// The filed entry has the thread and the job of the entry that `X` names.
 pub(crate) fn look<X: FiledName>(words: &FiledWords, seat: &mut FiledSeat, slot: usize) -> u64
     requires size { words.now.shared.table_id.words ≡ 72 }
     requires table { seat.old.table_id ≡ words.now.shared.table_id }
@@ -181,7 +181,7 @@ pub(crate) fn look<X: FiledName>(words: &FiledWords, seat: &mut FiledSeat, slot:
 
 /// Raises a head word to the greater of it and `word`, and files that.
 ///
-/// The entry has the thread and the job of the one that `X` names.
+/// The filed entry has the thread and the job of the entry that `X` names.
 pub(crate) fn raise<X: FiledName>(words: &FiledWords, seat: &mut FiledSeat, slot: usize, word: u64)
     requires size { words.now.shared.table_id.words ≡ 72 }
     requires table { seat.old.table_id ≡ words.now.shared.table_id }

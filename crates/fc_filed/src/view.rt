@@ -21,7 +21,7 @@ impl TableRule<u8, BookView<FiledEntry>, u64> for ServerRule {
 
 /// The name of an entry that is filed.
 ///
-/// Each call that files chooses it.
+/// Each call that files an entry chooses its name.
 pub trait FiledName {
     ghost use Rattle.fc_filed.specs.declared.entry.FiledEntry.{FiledEntry};
 

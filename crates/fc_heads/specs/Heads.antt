@@ -28,16 +28,16 @@ IsWhole v = (length v.seen ≡ 64) × (length v.raised ≡ 64)
 abbrev pub peeked : View → ℕ → ℕ → View
 peeked v slot word = record v { seen = slice_set v.seen slot word }
 
--- a view that has published a word of a slot, and found another one: it has seen the greater of
--- both.
+-- a view after its handle published a word of a slot, and found another one there. The view has
+-- then seen the greater of both.
 abbrev pub raised_to : View → ℕ → ℕ → ℕ → View
 raised_to v slot word found = record {
   seen = slice_set v.seen slot (max found word);
   raised = slice_set v.raised slot (max (word_of v.raised slot) word);
 }
 
--- a handle before and after it published a word of a slot: the word that it found is at least the
--- one that it had seen.
+-- a handle before and after it published a word of a slot. The word that it found there is at least
+-- the one that it had seen.
 pub record IsRaised (slot word : ℕ) (before after : HeadSeat) : Type 0 where
   pub found : ℕ
   pub rises : word_of before.view.seen slot ≤ found

@@ -13,7 +13,7 @@ pub const HEAD_WORDS: usize = 64;
 
 /// The published words of 64 slots, each initially 0.
 ///
-/// In contracts it is the identity of the table: only these words are in it.
+/// In contracts a `Heads` is the identity of the table: only these words are in the table.
 #[derive(Drop)]
 pub struct Heads {
     words: Words,
@@ -32,7 +32,7 @@ impl Model for Heads {
 
 /// A handle to the words, for one thread.
 ///
-/// In contracts it is the table of its words, and the values that it has seen and published.
+/// In contracts a handle is the table of its words, and the values that it has seen and published.
 #[derive(Drop)]
 pub struct HeadSeat {
     seat: Seat<u8, View>,
@@ -92,8 +92,8 @@ impl Heads {
 
     /// Loads the word of a slot, 0 to 63.
     ///
-    /// It is at least the greatest value that the handle has seen of it. The handle has then seen
-    /// it.
+    /// The word is at least the greatest value of it that the handle has seen. The handle has then
+    /// seen it.
     pub fn peek(&self, slot: u8, seat: &mut HeadSeat) -> u64
         requires seat { seat.old.table ≡ self.now }
         requires slot { slot < 64 }
@@ -117,7 +117,7 @@ impl Heads {
 
     /// Exchanges the knowledge of two handles.
     ///
-    /// For each slot each has then seen the greater of the values that both had seen.
+    /// For each slot, each handle has then seen the greater of the values that the two had seen.
     pub fn meet(&self, one: &mut HeadSeat, other: &mut HeadSeat)
         requires { (one.old.table ≡ self.now) × (other.old.table ≡ self.now) }
         ensures one { one.new ≡ record one.old { view = met one.old.view other.old.view } }

@@ -1,8 +1,8 @@
 //! The atomic steps on a word, for the methods of [`Heads`](crate::Heads).
 //!
 //! They are a load, and a step that sets the word to the greater of two numbers. A seat is the part
-//! of a handle that `atomic_table` defines. In a clause `me.0` is the handle's view. `me.1` is the
-//! table's slots that are out with it: none.
+//! of a handle that `atomic_table` defines. In a clause `me.0` is the handle's view. `me.1` lists
+//! the table's slots that the handle has taken out: none.
 ghost use Rattle.std.specs.Prelude.{◌≡◌, ◌<◌, ◌≤◌, []};
 ghost use Rattle.fc_heads.specs.Heads.{IsWhole, fresh, peeked, raised_to, met, word_of};
 

@@ -26,7 +26,7 @@ pub record Receive : Type 0 where
 abbrev pub Comes : Option (List Receive) → Option (List Receive) → List Receive → Type 0
 Comes before after more = IfSome before (λ known. after ≡ Some (known ++ more))
 
--- a reply that a transmitter sends is passed to a sink, once; nothing is if a job ends.
+-- a reply that a transmitter sends is passed to a sink, once. If a job ends, nothing is passed.
 abbrev pub IsHanded : (Emission → Bool → CallLog → CallLog → Type 0) → WireCall → CallLog → CallLog → Type 0
 IsHanded Went (SendsReply number reply out) before after = Went reply out before after
 IsHanded Went (EndsJob number) before after = after ≡ before

@@ -47,7 +47,7 @@ put_off now t = record t { due = next_beat now t }
 abbrev pub NoneDue : ℕ → List Timer → Type 0
 NoneDue now ts = All (λ t. now < t.due) ts
 
--- the timer at a place is due at a time, and none before that place is.
+-- the timer at a place is due at a time, and no timer before that place is due.
 pub record IsFirstDue (now : ℕ) (ts : List Timer) (k : ℕ) : Type 0 where
   pub within : k < length ts
   pub due : (timer_at ts k).due ≤ now
@@ -64,12 +64,12 @@ pub record Asks (now : ℕ) (old new : Timers) (bytes : List ℕ) : Type 0 where
 
 -- ---- how long a receive waits
 
--- at most this number of milliseconds.
+-- a wait, shortened to at most this number of milliseconds.
 abbrev pub at_most : ℕ → Option ℕ → Option ℕ
 at_most ms None = Some ms
 at_most ms (Some wait) = Some (min wait ms)
 
--- from a time, no longer than until the first timer is due.
+-- a wait from a time, shortened to end when the first timer is due.
 abbrev pub until_due : ℕ → List Timer → Option ℕ → Option ℕ
 until_due now ts wait = fold (λ waits t. at_most (t.due - now) waits) wait ts
 

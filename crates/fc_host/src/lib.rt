@@ -37,7 +37,7 @@
 //!   missed beats are skipped. A receive waits no longer than until a timer is due. A timer's
 //!   request is a non-confirmable POST of its slot's resource. A response to it isn't passed to the
 //!   sink. `Timed::next` guarantees this for its timers. `Source` has no clause on timers: by the
-//!   trait, a receive has this for some timers.
+//!   trait, this holds of a receive for some timers.
 //! - **Tested, not proved**: a time is the clock's, and a random word is its low bits. A file is
 //!   read again. A socket is opened at its address and port; tests show what it sends and how long
 //!   it waits.

@@ -88,7 +88,7 @@ struct KeptReadings {
 /// The file is read at the first call, and again at each later time. If times come out of order, a
 /// call with an earlier time gets the readings of a later one. Missing bytes are zeros. A line is
 /// written to standard error if the file can't be read, is a FIFO or is too short. Each later
-/// change of this is reported too.
+/// change of the file's state is reported too.
 #[derive(Drop)]
 pub struct FileSensors<'a, F: Files + Eprint> {
     files: &'a F,
@@ -111,8 +111,8 @@ impl<'a, F: Files + Eprint> FileSensors<'a, F> {
         }
     }
 
-    // Reads the first bytes of the file over `sensed`; zeros follow them. Returns why they aren't
-    // 56; if none could be read, all are zeros.
+    // Reads the first bytes of the file over `sensed`; zeros follow them. Returns why there aren't
+    // 56; if no byte could be read, all are zeros.
     fn read(&self, sensed: &mut Sensed) -> Result<(), Trouble> {
         *sensed = NOTHING;
         if fs::metadata(self.files, self.path)?.file_type().is_fifo() {

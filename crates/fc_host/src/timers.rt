@@ -44,8 +44,8 @@ impl Timer {
         WINDOW / self.every.milliseconds() + 1
     }
 
-    // Sets the timer to its first beat after `now`, a time at which it is due. Beats that it missed
-    // are skipped.
+    // Sets the timer to its first beat after `now`, a time at which the timer is due. Beats that it
+    // missed are skipped.
     fn put_off(&mut self, now: u64)
         requires { self.old.due ≤ now }
         ensures { self.new ≡ put_off now self.old }
@@ -96,8 +96,8 @@ impl Timers {
         self.timers.iter().position(|timer| timer.due <= now)
     }
 
-    // Shortens `wait`, for a receive at `now`, to end when a timer is due, and returns it. Both
-    // times are in milliseconds; a wait of `None` is unlimited.
+    // Returns `wait`, for a receive at `now`, shortened to end when a timer is due. Both times are
+    // in milliseconds; a wait of `None` is unlimited.
     fn until_due(&self, now: u64, wait: Option<u64>) -> Option<u64>
         ensures { result ≡ until_due now self.now.timers.items wait }
     {
@@ -158,10 +158,10 @@ const NON: u8 = 0x50;
 const POST: u8 = 2;
 
 // A Uri-Path option of one byte as the first option (RFC 7252, sections 3.1 and 5.10). The first
-// byte of the next Uri-Path option has only its length.
+// byte of the next Uri-Path option has only that option's length.
 const FIRST_SEGMENT: u8 = 0xb1;
 
-/// A source, together with timers, whose requests come when they are due.
+/// A source and timers: a timer's request comes when the timer is due.
 ///
 /// A receive of the source waits no longer than until the next timer is due. A datagram of the
 /// source with the endpoint of timers is dropped.

@@ -6,7 +6,7 @@ use Rattle.crossbeam_channel.specs.declared.flavors.array.Key.{Key}
 use Rattle.fc_registry.specs.declared.job.Job.{Job}
 use Rattle.fc_jobs.specs.declared.protocol.Numbered.{Numbered}
 
--- identity of a channel: no other has these tables.
+-- identity of a channel: no other channel has these tables.
 pub record Channel : Type 0 where
   pub stamps : TableId
   pub messages : Badge (Key Numbered)

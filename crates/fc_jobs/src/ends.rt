@@ -6,9 +6,9 @@ use std::sync::OnceLock;
 
 /// The end from which the workers receive their jobs.
 ///
-/// It also stores whether a worker has asked for a job, once that is known: `true` from the first
-/// request on, and `false` if none ever will, as when memory to start the workers couldn't be
-/// allocated. A clause sees which channel it is.
+/// It also stores whether a worker has asked for a job, once that is known. This is `true` from the
+/// first request on. It is `false` if no worker will ever ask, for example because memory to start
+/// the workers couldn't be allocated. A clause sees which channel it is.
 #[derive(Drop)]
 pub struct Jobs {
     pub(crate) receiver: RuledReceiver<Numbered, Hand, OnceEach>,
@@ -31,7 +31,7 @@ impl Model for Jobs {
 
 /// The only sending end, with a list of all jobs that were sent.
 ///
-/// The channel is closed when it is dropped.
+/// The channel is closed when its sending end is dropped.
 #[derive(Drop)]
 pub struct Sent {
     pub(crate) sender: RuledSender<Numbered, Hand, OnceEach>,

@@ -79,30 +79,30 @@ impl Jobs {
 impl Jobs {
     /// Returns whether a worker has asked for a job yet.
     ///
-    /// If none has, none may ever: the thread that was to begin them may have been refused memory.
-    /// A caller that sends no job before then doesn't wait for ever.
+    /// If no worker has, perhaps none ever will: the thread that was to start them may have been
+    /// refused memory. A caller that sends no job before a worker has asked doesn't wait for ever.
     pub fn is_served(&self) -> bool {
         self.served.get() == Some(&true)
     }
 
     /// Waits until a worker has asked for a job, or it is known that none will.
     ///
-    /// Returns whether one has.
+    /// Returns whether a worker has asked.
     pub fn await_worker<R: Wait>(&self, rt: &R) -> bool {
         *self.served.wait(rt)
     }
 
     /// Declares that no worker will ask for a job any more.
     ///
-    /// A caller that waits for one continues. If a worker has asked, this has no effect.
+    /// A caller that waits for a worker continues. If a worker has asked, this has no effect.
     pub fn dismiss<R: Wait>(&self, rt: &R) {
         let _ = self.served.set(rt, false);
     }
 }
 
 impl Sent {
-    // Sends a job that has its number, or returns it if the channel can't take it. Then the number
-    // is for the next job.
+    // Sends a job that has its number, or returns it if the channel can't take it. If the job is
+    // returned, the next job gets its number.
     fn send<R: Wait>(&mut self, rt: &R, numbered: Numbered) -> Option<Job>
         requires { (numbered.number ≡ length self.old.sent) × (numbered.number < 2 ^ 61) }
         ensures { MatchOption result (self.new ≡ with_sent self.old numbered.job)

@@ -26,7 +26,7 @@ use Rattle.fc_core.specs.Stages.{new_task}
 abbrev pub asked_at : Seen → ℕ → Endpoint → Message → Asked → Received
 asked_at s now to m r = received_added (add_in (front_at s now) to r) m r
 
--- payload that it adds.
+-- payload that the request adds.
 abbrev pub addition_at : Seen → ℕ → Endpoint → Asked → Addition
 addition_at s now to r = addition_of (max s.time now) to r
 
@@ -43,12 +43,12 @@ abbrev pub Asks : Seen → Event → Message → Asked → Type 0
 Asks s (Deliver now to bytes) m r = IsAskedAnew s now to bytes.now m r
 Asks s other m r = ⊥
 
--- its payload, as it is added.
+-- the payload of that request, as it is added.
 abbrev pub addition_by : Seen → Event → Asked → List Addition
 addition_by s (Deliver now to bytes) r = addition_at s now to r ∷ []
 addition_by s other r = []
 
--- its block fits the payloads before it, and makes this body with them.
+-- the block of that request fits the payloads before it, and makes this body with them.
 abbrev pub FitsBy : Seen → Event → Asked → Place → List ℕ → Type 0
 FitsBy s (Deliver now to bytes) r b body = FitsBehind s.additions (addition_at s now to r) b body
 FitsBy s other r b body = ⊥

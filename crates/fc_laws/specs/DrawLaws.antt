@@ -17,7 +17,7 @@ use Rattle.fc_laws.specs.ExchangeLaws.{FindsNoExchange}
 use Rattle.fc_laws.specs.KeptLaws.{opened_at}
 use Rattle.fc_laws.specs.ReplyLaws.{Refuses}
 
--- the block of a request is answered on arrival, by this.
+-- the block of a request is answered on arrival, by this response.
 abbrev pub Settles : Seen → Event → Message → Asked → Response → Type 0
 Settles s (Deliver now to bytes) m r response = asked_at s now to m r ≡ Settled m r response
 Settles s other m r response = ⊥

@@ -27,7 +27,8 @@ IsOnRequest other = ⊥
 abbrev pub is_within : ℕ → Exchange → Bool
 is_within at e = nat_lt at (e.at + 247000)
 
--- exchange of an endpoint and message ID that was opened within that time, if there is one.
+-- an exchange of this endpoint and message ID that was opened less than 247,000 ms before the time,
+-- if there is one.
 abbrev pub repeated : Seen → ℕ → Endpoint → ℕ → Option Exchange
 repeated s at to id = find (λ e. is_within at e && is_of to id e) s.exchanges
 
@@ -52,9 +53,9 @@ held_at s at = filter (is_within at) s.exchanges
 abbrev pub shared_at : Seen → ℕ → List ℕ → ℕ
 shared_at s at ip = share_of ip (held_at s at)
 
--- the datagram is a request and no duplicate, and there is space: in the last 247,000 ms fewer
--- exchanges were opened than the policy's limit, and fewer of the address than its share; and fewer
--- than 2^64 - 1 were ever opened.
+-- the datagram is a request and no duplicate, and there is space. In the last 247,000 ms fewer
+-- exchanges than the policy's limit were opened, and fewer of the address than its share. Fewer
+-- than 2^64 - 1 exchanges were ever opened.
 pub record IsOpening (s : Seen) (now : ℕ) (to : Endpoint) (bytes : List ℕ) : Type 0 where
   pub message : Message
   pub read : reading_of bytes ≡ Ok message
@@ -64,8 +65,8 @@ pub record IsOpening (s : Seen) (now : ℕ) (to : Endpoint) (bytes : List ℕ) :
   pub share : shared_at s (max s.time now) to.ip < s.policy.limits.share
   pub numbers : length s.exchanges < 18446744073709551615
 
--- there is no space for another exchange: as many were opened in the last 247,000 ms as the
--- policy's limit, or 2^64 - 1 ever.
+-- there is no space for another exchange. In the last 247,000 ms as many were opened as the
+-- policy's limit, or 2^64 - 1 were ever opened.
 abbrev pub HasNoPlace : Seen → ℕ → Type 0
 HasNoPlace s at = (places_of s.policy.limits ≤ length (held_at s at)) ⊎ (18446744073709551615 ≤ length s.exchanges)
 
@@ -152,7 +153,7 @@ pub record Draw : Type 0 where
   pub id : ℕ
   pub at : ℕ
 
--- an event draws the next message ID if another one is next after it.
+-- an event draws the next message ID if the next message ID is another after the event.
 abbrev pub draws_by : Bool → Draw → List Draw → List Draw
 draws_by true draw before = before
 draws_by false draw before = draw ∷ before

@@ -13,8 +13,8 @@ use Rattle.fc_core.specs.Laws.{slot_of}
 abbrev pub slot_word : Slot → ℕ
 slot_word slot = head_word slot.serial (is_some slot.present)
 
--- a job that is to raise its slot's head word was to do so before, or the word is that of this
--- state.
+-- if a job is to raise its slot's head word, it was to raise that word before, or the word is that
+-- of this state.
 abbrev pub PublishesAt : Slot → Stage → Stage → Type 0
 PublishesAt slot old (ToRaise word content) = (old ≡ ToRaise word content) ⊎ (word ≡ slot_word slot)
 PublishesAt slot old other = Unit {0}
@@ -24,7 +24,8 @@ abbrev pub word_to_raise : Stage → List ℕ
 word_to_raise (ToRaise word content) = word ∷ []
 word_to_raise other = []
 
--- head word that an event raises for slot n: that of a job of the slot, which is at its Raise.
+-- head word that an event raises for slot n: the event is the Raise of a job of the slot, at the
+-- job's stage.
 abbrev pub words_raised : ℕ → Event → Seen → List ℕ
 words_raised n (Raise k) s = if slot_of s k == n then word_to_raise (stage s k) else []
 words_raised n other s = []

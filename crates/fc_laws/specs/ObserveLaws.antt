@@ -33,11 +33,11 @@ pub record AsksToObserve (t : Ticket) : Type 0 where
 abbrev pub is_held : Endpoint → List ℕ → ObserverList → Bool
 is_held to token w = list_any (is_entry_of to token) w.held
 
--- whether that of the ticket's request is.
+-- whether the client of the ticket's request is in a list of observers.
 abbrev pub is_among : Ticket → ObserverList → Bool
 is_among t w = is_held t.origin.endpoint t.token.items w
 
--- the event is the commit of this client's GET, by its job at its stage and at its job's slot.
+-- the event is the commit of this client's GET, by the GET's job at its stage, in that job's slot.
 pub record Registers (r : Entry) (s : Seen) (n : ℕ) (to : Endpoint) (token : List ℕ) : Type 0 where
   pub number : ℕ
   pub now : ℕ
@@ -49,13 +49,13 @@ pub record Registers (r : Entry) (s : Seen) (n : ℕ) (to : Endpoint) (token : L
   pub asks : AsksToObserve ticket
   pub client : (same_endpoint ticket.origin.endpoint to && pointwise nat_eq ticket.token.items token) ≡ true
 
--- none of the entries after a history does this.
+-- none of the entries after a history registers this client.
 abbrev pub NoneRegisters : History → List Entry → ℕ → Endpoint → List ℕ → Type 0
 NoneRegisters h [] n to token = Unit {0}
 NoneRegisters h (r ∷ rs) n to token = (Registers r (seen h) n to token → ⊥) × NoneRegisters (Then h r) rs n to token
 
--- a lease of slot n is granted at a time: the job, at its first stage, of the first of its
--- observers with a pending notification then.
+-- a lease of slot n is granted at a time. Its job, at its first stage, is for the slot's first
+-- observer with a pending notification at that time.
 pub record BringsTurn (s : Seen) (n at : ℕ) (after : Seen) : Type 0 where
   pub entry : ObserverEntry
   pub first : find (is_due (max (watch s n).time at) (slot_at s n).notify_serial) (watch s n).held ≡ Some entry

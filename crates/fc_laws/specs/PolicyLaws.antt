@@ -12,13 +12,13 @@ use Rattle.fc_core.specs.History.{Seen}
 use Rattle.fc_core.specs.Policies.{is_manager}
 use Rattle.fc_laws.specs.ExchangeLaws.{bare_by}
 
--- whether it installs a program or removes one.
+-- whether the action installs a program or removes one.
 abbrev pub asks_for_change : Ask → Bool
 asks_for_change (Install image initial) = true
 asks_for_change Remove = true
 asks_for_change other = false
 
--- a job that does so belongs to a manager's endpoint.
+-- a job that installs or removes a program belongs to a manager's endpoint.
 abbrev pub IsManaged : List Network → Job → Type 0
 IsManaged managers j = asks_for_change j.ask ≡ true → is_manager managers j.origin.endpoint ≡ true
 
@@ -28,17 +28,17 @@ abbrev pub over_share_emits : Bool → Seen → Event → Message → Option Emi
 over_share_emits true s e m = bare_by s e m 163
 over_share_emits false s e m = None
 
--- the address of an exchange is one of these.
+-- the address of an exchange is one of these addresses.
 abbrev pub IsAmong : List (List ℕ) → Exchange → Type 0
 IsAmong [] e = ⊥
 IsAmong (ip ∷ ips) e = (is_at ip e ≡ true) ⊎ IsAmong ips e
 
--- the address of each of these exchanges is one of these.
+-- the address of each of these exchanges is one of these addresses.
 abbrev pub AreAmong : List (List ℕ) → List Exchange → Type 0
 AreAmong ips [] = Unit {0}
 AreAmong ips (e ∷ es) = IsAmong ips e × AreAmong ips es
 
--- an address is one of these.
+-- an address is one of these addresses.
 abbrev pub IsOneOf : List ℕ → List (List ℕ) → Type 0
 IsOneOf own [] = ⊥
 IsOneOf own (ip ∷ ips) = (ip ≡ own) ⊎ IsOneOf own ips

@@ -45,11 +45,11 @@ pub data IsTurnedDown (s : Seen) (e : Event) : Type 0 where
   FindsNoRoom : (m : Message) (crowded : FindsNoExchange s e m) → IsTurnedDown s e
   IsAboveShare : (m : Message) (over : ExceedsShare s e m) → IsTurnedDown s e
 
--- the event's call for job k is refused: no ticket, since the slot is empty or memory can't be
--- allocated; no commit, since the slot has changed or is at its last serial; no install, since the
--- image isn't accepted, memory can't be allocated or the slot is at its last serial; nothing
--- removed or described; no answer sent, since its exchange's lifetime has passed or it has no
--- message ID; and for a lease no message ID, or it isn't out any more.
+-- the event's call for job k is refused. No ticket: the slot is empty, or memory can't be
+-- allocated. No commit: the slot has changed, or is at its last serial. No install: the image isn't
+-- accepted, memory can't be allocated, or the slot is at its last serial. Nothing is removed or
+-- described. No answer is sent: its exchange's lifetime has passed, or it has no message ID. A
+-- lease gets no message ID, or isn't active any more.
 pub data IsRefusedCall (s : Seen) (k : ℕ) (e : Event) (emitted : Option Emission) : Type 0 where
   NothingTaken : (count : ℕ) (memory : Bool) (readings : List ℕ) (event : e ≡ Take k memory readings) (at : stage s k ≡ ToTake count)
       (why : (memory ≡ false) ⊎ ((slot_at s (slot_of s k)).present ≡ None)) → IsRefusedCall s k e emitted
@@ -108,13 +108,14 @@ pub record LeavesJobs (before after : Seen) : Type 0 where
   pub tasks : after.tasks ≡ before.tasks
   pub observers : (n : ℕ) → watch after n ≡ watch before n
 
--- everything is unchanged, for any times that were passed and message IDs that were drawn.
+-- everything is unchanged, except the times that were passed and the message IDs that were drawn.
 pub record LeavesAll (before after : Seen) : Type 0 where
   pub slots : LeavesSlots before after
   pub jobs : LeavesJobs before after
   pub front : LeavesFront before after
 
--- everything except the stage of job k, and the time that was passed to the observers of a slot.
+-- everything is unchanged except the stage of job k, and the time that was passed to the observers
+-- of a slot.
 pub record LeavesAllButStage (k : ℕ) (before after : Seen) : Type 0 where
   pub slots : LeavesSlots before after
   pub at : Stage
@@ -122,14 +123,15 @@ pub record LeavesAllButStage (k : ℕ) (before after : Seen) : Type 0 where
   pub observers : (n : ℕ) → watch after n ≡ record (watch before n) { time = (watch after n).time }
   pub front : LeavesFront before after
 
--- everything except that the request has its exchange.
+-- everything is unchanged except that the request has its exchange.
 pub record LeavesAllButExchange (r : Entry) (s : Seen) : Type 0 where
   pub slots : LeavesSlots s (and_then r s)
   pub jobs : LeavesJobs s (and_then r s)
   pub exchange : OpensOne r s
   pub additions : (and_then r s).additions ≡ s.additions
 
--- everything except that, and that the transfer of this endpoint and slot is removed.
+-- everything is unchanged except that the request has its exchange, and that the transfer of this
+-- endpoint and slot is removed.
 pub record LeavesAllButTransfer (r : Entry) (s : Seen) (to : Endpoint) (n : ℕ) : Type 0 where
   pub slots : LeavesSlots s (and_then r s)
   pub jobs : LeavesJobs s (and_then r s)
@@ -138,8 +140,8 @@ pub record LeavesAllButTransfer (r : Entry) (s : Seen) (to : Endpoint) (n : ℕ)
   pub others : (from : Endpoint) (m : ℕ) → same_key to n from m ≡ false →
       bytes_held (and_then r s).time from m (transfers (and_then r s).additions) ≡ bytes_held (and_then r s).time from m (transfers s.additions)
 
--- everything except the stage of job k, and that the lease's observer records that the snapshot
--- found the slot empty.
+-- everything is unchanged except the stage of job k, and that the lease's observer records that the
+-- snapshot found the slot empty.
 pub record LeavesAllButTurn (k : ℕ) (turn : Turn) (before after : Seen) : Type 0 where
   pub slots : LeavesSlots before after
   pub at : Stage

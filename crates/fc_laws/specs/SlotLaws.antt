@@ -26,8 +26,8 @@ IsToRaise other = ⊥
 
 -- ---- changes of a slot
 
--- the event is the install of an accepted image, by its job at its stage and into its job's slot,
--- with memory for it. The job determines the variables that it leaves.
+-- the event installs an accepted image, by its job at the job's stage and in the job's slot, with
+-- memory for the program. The job determines the variables that the install leaves.
 pub record IsInstall (r : Entry) (s : Seen) (n : ℕ) : Type 0 where
   pub number : ℕ
   pub program : Program
@@ -53,7 +53,7 @@ inputs_installing image initial x = record x { job = record x.job { ask = Asks i
 abbrev pub vars_at : Seen → ℕ → List ℕ
 vars_at s n = vars_in (slot_at s n).present
 
--- the event is the commit of a run, by its job at its stage and into its job's slot.
+-- the event is the commit of a run, by its job at the job's stage and in the job's slot.
 pub record IsWriting (r : Entry) (s : Seen) (n : ℕ) : Type 0 where
   pub number : ℕ
   pub now : ℕ
@@ -64,7 +64,7 @@ pub record IsWriting (r : Entry) (s : Seen) (n : ℕ) : Type 0 where
   pub slot : slot_of s number ≡ n
   pub change : (and_then r s).changes n ≡ Committed (commit_of ticket) ∷ s.changes n
 
--- the event removes the slot's program, by its job at its stage.
+-- the event removes the slot's program, by its job at the job's stage.
 pub record IsRemoving (r : Entry) (s : Seen) (n : ℕ) : Type 0 where
   pub number : ℕ
   pub found : Present
@@ -87,7 +87,7 @@ pub record IsOfImage (p : Program) : Type 0 where
   pub image : List ℕ
   pub accepted : judged image ≡ Accepts p
 
--- each program that was installed is one that an image is accepted as.
+-- for each program that was installed, some image is accepted as that program.
 abbrev pub AllOfImages : List Change → Type 0
 AllOfImages [] = Unit {0}
 AllOfImages (Installed p initial ∷ cs) = IsOfImage p × AllOfImages cs

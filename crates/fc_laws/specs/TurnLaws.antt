@@ -24,7 +24,7 @@ use Rattle.fc_core.specs.History.{Entry, Seen, overdue_in, stage, watch}
 use Rattle.fc_core.specs.Laws.{slot_of}
 use Rattle.fc_laws.specs.ObserveLaws.{is_held}
 
--- time of the shard of a job's slot, after it is passed one.
+-- time of the shard of a job's slot, after this time is passed to the shard.
 abbrev pub time_at : Seen → ℕ → ℕ → ℕ
 time_at s k now = max (s.shard_time (slot_of s k % 8)) now
 
@@ -33,9 +33,9 @@ time_at s k now = max (s.shard_time (slot_of s k % 8)) now
 abbrev pub response_of : Ticket → Response
 response_of t = ran_response (meaning_at t).code (cut_for t.block (meaning_at t).reply) t.serial true
 
--- the emission is a notification of the entry that has this lease out at a time: it is sent to that
--- entry's endpoint, with its token, and is confirmable if `confirm_after` ms have passed since the
--- entry's last confirmable one.
+-- the emission is a notification of the entry that has this active lease at a time. It is sent to
+-- that entry's endpoint, with the entry's token. It is confirmable if `confirm_after` ms have
+-- passed since the entry's last confirmable notification.
 pub record Notifies (turn : Turn) (id at confirm_after : ℕ) (w : ObserverList) (response : Response) (e : Emission) : Type 0 where
   pub entry : ObserverEntry
   pub held : Contains w.held entry
@@ -55,7 +55,7 @@ note_as kind id entry response = sent_in (record { to = entry.endpoint; kind = k
 abbrev pub NotifiesOf : Seen → ℕ → ℕ → Turn → ℕ → Response → Emission → Type 0
 NotifiesOf s k now turn id response e = Notifies turn id (time_at s k now) s.policy.confirm_after (watch s (slot_of s k)) response e
 
--- its lease, if it is this one, was granted at least 247,000 ms before.
+-- if the entry has this lease, the lease was granted at least 247,000 ms before.
 abbrev pub HasLapsed : Turn → ℕ → ObserverEntry → Type 0
 HasLapsed turn at o = (since : ℕ) (missing : Bool) → o.phase ≡ TurnOut turn.number since missing → since + 247000 ≤ at
 
@@ -83,7 +83,7 @@ pub record Resends (w : ObserverList) (e : Emission) : Type 0 where
 
 -- ---- removals from a list
 
--- by the commit of its own GET with Observe 1.
+-- an observer is removed by the commit of its own GET with Observe 1.
 pub record Cancels (r : Entry) (s : Seen) (n : ℕ) (to : Endpoint) (token : List ℕ) : Type 0 where
   pub number : ℕ
   pub now : ℕ
@@ -95,7 +95,7 @@ pub record Cancels (r : Entry) (s : Seen) (n : ℕ) (to : Endpoint) (token : Lis
   pub asks : ticket.observe ≡ Some 1
   pub client : (same_endpoint ticket.origin.endpoint to && pointwise nat_eq ticket.token.items token) ≡ true
 
--- by a Reset message that answers the last notification that it was sent.
+-- an observer is removed by a Reset message that answers the last notification sent to it.
 pub record Resets (r : Entry) (s : Seen) (n : ℕ) (to : Endpoint) (token : List ℕ) : Type 0 where
   pub shard : ℕ
   pub id : ℕ
@@ -106,7 +106,8 @@ pub record Resets (r : Entry) (s : Seen) (n : ℕ) (to : Endpoint) (token : List
   pub own : is_entry_of to token entry ≡ true
   pub last : entry.id ≡ Some id
 
--- by a tick of its shard, if the notification to it has timed out after four retransmissions.
+-- an observer is removed by a tick of its shard, if the notification to it has timed out after four
+-- retransmissions.
 pub record TimesOut (r : Entry) (s : Seen) (n : ℕ) (to : Endpoint) (token : List ℕ) : Type 0 where
   pub shard : ℕ
   pub now : ℕ
@@ -129,7 +130,8 @@ abbrev pub IsNoContent : Option Ticket → Type 0
 IsNoContent None = Unit {0}
 IsNoContent (Some t) = (meaning_at t).code ≡ 69 → ⊥
 
--- by the notification of its lease, which is out, if that isn't a 2.05 (Content).
+-- an observer is removed by the notification of its active lease, if that notification isn't a 2.05
+-- (Content).
 pub record IsTurnedAway (r : Entry) (s : Seen) (n : ℕ) (to : Endpoint) (token : List ℕ) : Type 0 where
   pub number : ℕ
   pub now : ℕ

@@ -29,11 +29,11 @@ ghost use Rattle.std.specs.Prelude.{ℕ, ◌⊎◌, ◌++◌, ◌<◌, ◌≤◌
 /// - 4.04 (Not Found): a snapshot or a receipt finds the slot empty.
 /// - 2.03 (Valid): the slot's head word is that of a program at a serial that the request names.
 /// - 2.02 (Deleted): a removal.
-/// - The code of a run, with the requested block of its reply: the commit of the run, and if the
-///   run wants to write, only a commit that may.
-/// - The receipt of an install: it is its program's, its version is the slot's new serial, and it
+/// - The code of a run, with the requested block of its reply: the commit of the run. If the run
+///   wants to write, only a commit that may write is a cause.
+/// - The receipt of an install: it is the program's, its version is the slot's new serial, and it
 ///   says whether the slot was empty.
-/// - The receipt of a slot: it is its program's, with the serial of the program's install.
+/// - The receipt of a slot: it is the program's, with the serial of the program's install.
 /// - A list of head words: it has 64.
 pub fn answers_have_causes()
     ensures { (h : History) (r : Entry) (k : ℕ) (c : Content)
@@ -57,11 +57,11 @@ pub fn empty_slots_are_missing()
         → stage (and_then (did (Take k memory readings) o) s) k ≡ ToAnswer Missing }
 {}
 
-/// The time of the front, and of a shard, is the latest time that it was passed.
+/// The time of the front, and of a shard, is the latest time passed to it.
 ///
-/// The front is passed a time by deliveries, by ticks, and, at their stage, by answers and by
-/// leases that draw a message ID. A shard is passed a time by requests for a lease and by ticks.
-/// Its slots' jobs that commit, notify or release their lease at their stage also pass it one.
+/// Deliveries, ticks, and, at their stage, answers and leases that draw a message ID pass a time to
+/// the front. Requests for a lease, and ticks, pass a time to a shard. So do the jobs of its slots
+/// that commit, notify or release their lease at their stage.
 pub fn times_are_the_greatest()
     ensures front { (h : History) → (seen h).time ≡ greatest (times_of h) }
     ensures shard { (h : History) (i : ℕ) → (seen h).shard_time i ≡ greatest (shard_times_of i h) }

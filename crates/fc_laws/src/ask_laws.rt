@@ -59,7 +59,7 @@ pub fn puts_keep_variables_by_their_query()
 /// A job has its message's endpoint, message ID, token and slot.
 ///
 /// It also has the exchange that its delivery opens. It is confirmable exactly if its message is,
-/// and isn't an observer's lease.
+/// and it isn't an observer's lease.
 pub fn jobs_are_of_their_messages()
     ensures endpoint { (r : Entry) (s : Seen) (from : Endpoint) (m : Message) (j : Job) →
         BringsJob r s from m j → j.origin.endpoint ≡ from }
@@ -83,7 +83,8 @@ pub fn jobs_are_of_their_messages()
 ///
 /// Its block is a GET's Block2 or a PUT's Block1 (RFC 7959, section 2.1). Its Observe is that of a
 /// request of `/r/N` (RFC 7641, section 2). Its ETags are the first four of eight bytes (RFC 7252,
-/// section 5.10.6). It has none if its client registers, by Observe 0, or cancels, by 1.
+/// section 5.10.6). It has no ETags if its client registers, by Observe 0, or cancels, by Observe
+/// 1.
 pub fn jobs_have_their_messages_options()
     ensures block2 { (r : Entry) (s : Seen) (from : Endpoint) (m : Message) (j : Job) →
         BringsJob r s from m j → m.code ≡ 1 → j.block ≡ block_in option.BLOCK2 m }

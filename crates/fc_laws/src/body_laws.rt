@@ -25,10 +25,11 @@ use coap_block::laws::{
 /// Blocks are joined (RFC 7959, section 2.5).
 ///
 /// A new request with a block is served exactly if the block is the last one and fits after those
-/// that its endpoint sent for its slot. The body consists of their payloads since block number 0,
-/// joined, and its own. The request is answered 2.31 (Continue) with its Block1 exactly if it fits
-/// in this way and more blocks follow. A body has at most 8,208 bytes, and at most 16 transfers are
-/// stored. The times of added payloads never decrease.
+/// that its endpoint sent for its slot. The body consists of the payloads of those blocks since
+/// block number 0, joined, and of the request's own payload. The request is answered 2.31
+/// (Continue) with its Block1 exactly if it fits in this way and more blocks follow. A body has at
+/// most 8,208 bytes, and at most 16 transfers are stored. The times of added payloads never
+/// decrease.
 pub fn blocks_are_joined()
     ensures whole { (h : History) (now : ℕ) (to : Endpoint) (m : Message) (r : Asked) (b : Place)
         (body : List ℕ) → r.block1 ≡ Some b →

@@ -34,10 +34,10 @@ pub fn repeats_do_nothing()
 
 /// A new request for which there is space opens an exchange, and nothing else does.
 ///
-/// The request is no duplicate. There is space if fewer than 2^64 - 1 exchanges were ever opened;
-/// and, within the last 247,000 ms, fewer than the policy's limit, and fewer of its address than a
-/// share. The exchange has the delivery's endpoint, message ID and type, and is opened at the
-/// front's time. No exchange is ever lost.
+/// The request is no duplicate. There is space if fewer than 2^64 - 1 exchanges were ever opened.
+/// Within the last 247,000 ms, fewer than the policy's limit must have been opened, and fewer of
+/// the request's address than a share. The exchange has the delivery's endpoint, message ID and
+/// type, and is opened at the front's time. No exchange is ever lost.
 pub fn new_requests_open_exchanges()
     ensures opens { (r : Entry) (s : Seen) → Opens s r.event → OpensOne r s }
     ensures others { (r : Entry) (s : Seen) → (Opens s r.event → ⊥)
@@ -99,8 +99,8 @@ pub fn message_ids_are_drawn_where_needed()
 
 /// The answer of a job is sent less than 247,000 ms after its request was opened.
 ///
-/// It is never sent later. Until then it is sent if its request was confirmable or a message ID of
-/// the server is available.
+/// It is never sent later. In that time it is sent if its request was confirmable or a message ID
+/// of the server is available.
 pub fn answers_go_out_in_time()
     ensures overdue { (s : Seen) (k now : ℕ) (e : Emission) → Emits s (Answer k now) (Some e)
         → max s.time now < opened_at s k + 247000 }
@@ -110,8 +110,8 @@ pub fn answers_go_out_in_time()
 
 /// The stored answer of an exchange consists of the bytes that were sent.
 ///
-/// They are those that its delivery emitted, if it was answered immediately, or those that the
-/// `Answer` of its job emitted. No other event changes a stored answer.
+/// The exchange's delivery emitted them, if it was answered immediately, or the `Answer` of its job
+/// did. No other event changes a stored answer.
 pub fn kept_answers_are_what_went_out()
     ensures opened { (h : History) (r : Entry) → Opens (seen h) r.event → Emits (seen h) r.event r.emitted
         → answers (seen (Then h r)) ≡ answers (seen h) ++ emitted_bytes r.emitted ∷ [] }

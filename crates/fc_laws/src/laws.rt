@@ -45,7 +45,7 @@ pub fn only_the_named_slot_changes()
 /// A job takes at most eight tickets.
 ///
 /// If a run that wants to write finds at its commit that the slot has changed, its job takes
-/// another ticket; after the eighth it is answered 5.03 (Service Unavailable).
+/// another ticket. After the eighth the job is answered 5.03 (Service Unavailable).
 pub fn snapshots_are_few()
     ensures few { (h : History) (k : ℕ) → length (snapshots_of h k) ≤ 8 }
     ensures eighth { (h : History) (k now : ℕ) (o : Option Emission) → IsOvertaken (seen h) k
@@ -70,7 +70,7 @@ pub fn answers_are_of_the_last_snapshot()
 ///
 /// The ticket's program reaches its exit for the request and for the variables and readings of the
 /// snapshot. It takes at most the steps of its longest path, which are at most its budget. This
-/// holds in a history whose snapshots found no program without a meaning.
+/// holds in a history if each program that a snapshot found has a meaning.
 pub fn held_tickets_have_a_meaning()
     ensures committed { (h : History) (k n : ℕ) (t : Ticket) → AllMean h → stage (seen h) k ≡ ToCommit n t → IsMeant t }
     ensures drawing { (h : History) (k : ℕ) (turn : Turn) (t : Ticket) → AllMean h

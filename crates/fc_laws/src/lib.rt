@@ -10,12 +10,12 @@
 //! For every history, from the definitions alone:
 //!
 //! - An event at a wrong stage changes nothing. A duplicate opens no exchange and makes no job. A
-//!   refused image changes no slot, and neither does a GET, nor a POST that is answered by an
-//!   error. No delivery changes a slot, its observers, a head word or a shard's time. An event of a
-//!   shard above 7 changes nothing.
+//!   refused image, a GET, and a POST that is answered by an error change no slot. No delivery
+//!   changes a slot, its observers, a head word or a shard's time. An event of a shard above 7
+//!   changes nothing.
 //! - A job takes at most eight tickets, is answered at most once, from its last snapshot, and
-//!   changes only its own slot, at most once. Each program in a slot is one that some image is
-//!   accepted as. Each ticket of a job has a meaning if each snapshot found a program with one.
+//!   changes only its own slot, at most once. For each program in a slot, some image is accepted as
+//!   that program. Each ticket of a job has a meaning if each snapshot found a program with one.
 //! - A job has the request of its message: it depends on the message's code, path and options, and
 //!   belongs to its endpoint, message ID and token. The laws state the first call that a job needs,
 //!   and each next one.
@@ -29,30 +29,31 @@
 //!   response.
 //! - A refusal leaves everything unchanged except the time, a drawn message ID and the stage of its
 //!   own job, with three exceptions.
-//! - An answer is sent to its client's endpoint, with its request's token. It is in the
-//!   acknowledgement of a confirmable request, with that request's message ID; otherwise it is in a
-//!   non-confirmable message with a message ID of the server. It is sent less than 247,000 ms after
-//!   its request was opened, or never, and the stored answer is the one that was sent.
-//! - Message IDs are in order. One is drawn exactly if one is available, and a request that isn't
-//!   confirmable is answered or a lease draws one.
+//! - An answer is sent to its client's endpoint, with its request's token. A confirmable request is
+//!   answered in its acknowledgement, with the request's message ID. Any other is answered in a
+//!   non-confirmable message with a message ID of the server. An answer is sent less than 247,000
+//!   ms after its request was opened, or never, and the stored answer is the one that was sent.
+//! - Message IDs are in order. One is drawn exactly if one is available and needed: to answer a
+//!   request that isn't confirmable, or by a lease.
 //! - A head word is raised to that of the slot's new state, and is the greatest to which jobs of
-//!   its slot raised it. A GET with an ETag that names it is answered 2.03.
-//! - A signal is for the observers of its shard's slots alone. A tick of a shard is for the first
-//!   of its slots that has a notification that has timed out, and retransmits it, at most four
+//!   its slot raised it. A GET with an ETag of that word is answered 2.03.
+//! - A signal is for the observers of its shard's slots alone. A tick of a shard is for its first
+//!   slot with a notification that has timed out. It retransmits that notification, at most four
 //!   times.
 //! - A lease is for the first slot that has an observer with a pending notification, and there for
-//!   the first such observer. It makes one job, and isn't active any more after it is released.
+//!   the first such observer. A lease makes one job, and isn't active any more after it is
+//!   released.
 //! - A lease draws the server's next message ID, unless that was drawn in the last 247,000 ms. Its
 //!   notification comes from the one ticket that it took, with the code, the reply and the serial
-//!   of the snapshot, or is a 4.04. It notifies exactly if it is still active, and once.
+//!   of the snapshot, or is a 4.04. A lease notifies exactly if it is still active, and once.
 //! - The serials that one observer is sent increase. Notifications are sent only to observers in
-//!   the list. An observer stays in it unless it cancels, resets, acknowledges nothing, or is sent
-//!   anything but a 2.05, which removes it.
+//!   the list. An observer stays in the list unless it cancels, resets, acknowledges nothing, or is
+//!   sent anything but a 2.05.
 //! - Only managers install and remove programs; a PUT or DELETE from another endpoint is refused by
-//!   4.03, and nothing else is. At each time at most as many exchanges are stored as the policy's
-//!   limit, and of an address at most its share. A request above a share changes nothing; below it,
-//!   a request finds space if a share of each address fits. By default each endpoint is a
-//!   manager's, and no address is above its share.
+//!   4.03, and no other request is. At each time the number of stored exchanges is at most the
+//!   policy's limit, and for each address at most its share. A request above a share changes
+//!   nothing; a request below it finds space if a share for each address fits. By default each
+//!   endpoint is a manager's, and no address is above its share.
 //! - A notification is confirmable exactly if the policy's time has passed since its observer's
 //!   registration or last confirmable one, by default 86,400,000 ms.
 //!

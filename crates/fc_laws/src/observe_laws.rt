@@ -71,9 +71,9 @@ pub fn signals_are_for_their_shard()
 
 /// A shard grants a lease to the first observer with a pending notification.
 ///
-/// It is the first such observer of the shard's first slot that has one, and no other. The lease
-/// makes one job, which runs the observer's request again. If no observer has a pending
-/// notification, there is no job.
+/// The lease goes to the first such observer of the shard's first slot that has one, and to no
+/// other. The lease makes one job, which runs the observer's request again. If no observer has a
+/// pending notification, there is no job.
 pub fn turns_are_for_the_first_that_is_due()
     ensures found { (s : Seen) (i at k : ℕ) → due_in s i at ≡ Some k
         → (is_due_at s i at k ≡ true) × ((j : ℕ) → j < k → is_due_at s i at j ≡ false) }

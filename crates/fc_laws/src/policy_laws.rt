@@ -29,9 +29,9 @@ ghost use Rattle.fc_laws.specs.ReplyLaws.{Refuses};
 
 /// A network has the addresses that begin with its bits.
 ///
-/// 192.0.2.0/25 contains 192.0.2.127 and doesn't contain 192.0.2.128, which 192.0.2.0/24 contains;
-/// that doesn't contain 193.0.2.0. 127.0.0.1/32 contains no other address, also with more than 32
-/// bits, and 0.0.0.0/0 contains each address.
+/// 192.0.2.0/25 contains 192.0.2.127, but not 192.0.2.128. 192.0.2.0/24 contains 192.0.2.128, but
+/// not 193.0.2.0. 127.0.0.1/32 contains no other address, also with more than 32 bits. 0.0.0.0/0
+/// contains each address.
 pub fn networks_are_prefixes()
     ensures last { is_in (192 ∷ 0 ∷ 2 ∷ 127 ∷ []) (record { ip = 192 ∷ 0 ∷ 2 ∷ 0 ∷ []; bits = 25 }) ≡ true }
     ensures next { is_in (192 ∷ 0 ∷ 2 ∷ 128 ∷ []) (record { ip = 192 ∷ 0 ∷ 2 ∷ 0 ∷ []; bits = 25 }) ≡ false }
@@ -109,8 +109,8 @@ pub fn shares_are_kept_free()
 /// A new request above its address's share changes nothing but the front's time.
 ///
 /// The request opens no exchange, draws no message ID, makes no job and adds no payload to a
-/// transfer. A confirmable one is answered 5.03 (Service Unavailable), whose byte is 163; any other
-/// gets no response.
+/// transfer. A confirmable request is answered 5.03 (Service Unavailable), whose byte is 163; any
+/// other gets no response.
 pub fn requests_above_a_share_change_nothing()
     ensures left { (r : Entry) (s : Seen) (m : Message) → ExceedsShare s r.event m → LeavesAll s (and_then r s) }
     ensures ids { (r : Entry) (s : Seen) (m : Message) → ExceedsShare s r.event m → (and_then r s).ids ≡ s.ids }

@@ -16,8 +16,8 @@ use coap_block::laws::blocks_leave_other_transfers;
 /// The time, a drawn message ID, and the stage of the job whose call was refused may change. The
 /// exceptions:
 ///
-/// - A request that a check refuses opens its exchange. One without space for it opens none, and is
-///   answered 5.03 (Service Unavailable).
+/// - A request that a check refuses opens its exchange. A request without space for its exchange
+///   opens none, and is answered 5.03 (Service Unavailable).
 /// - A refused block opens its exchange too, and the transfer of its endpoint and slot is removed.
 /// - A lease records that its snapshot found the slot empty.
 pub fn refusals_leave_all_else()

@@ -72,8 +72,8 @@ pub fn answers_go_to_their_clients()
 /// A signal, an ignored datagram and some non-confirmable requests get no response.
 ///
 /// An Acknowledgement or a Reset message is passed on with the message ID that it answers and with
-/// its type. No response follows it, an ignored datagram, or a non-confirmable request with an
-/// unrecognised critical option (RFC 7252, sections 4.2, 4.3 and 5.4.1).
+/// its type. No response follows such a message, an ignored datagram, or a non-confirmable request
+/// with an unrecognised critical option (RFC 7252, sections 4.2, 4.3 and 5.4.1).
 pub fn some_messages_get_no_answer()
     ensures handed_on { (f : FrontState) (to : Endpoint) (bytes : List ℕ) (m : Message) (reset : Bool) → reading_of bytes ≡ Ok m
         → verdict m ≡ IsSignal reset → delivered f to bytes ≡ Signal m.id reset }

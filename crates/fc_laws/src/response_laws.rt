@@ -40,8 +40,8 @@ pub fn some_answers_are_codes_alone()
 
 /// A refused image is answered by the first rule that it breaks, and the slot.
 ///
-/// The answer is a text without options. If only the typing is missing, it has a number from 20 to
-/// 28 and any slot (RFC 7252, section 5.5.2).
+/// The answer is a text without options. If only the typing refuses the image, the text has a
+/// number from 20 to 28 and any slot (RFC 7252, section 5.5.2).
 pub fn refused_images_are_told_why()
     ensures rejected { (j : Job) (rule : Rule) (slot : ℕ) (r : Response) → Says j (Rejected rule slot) r
         → (r.options ≡ []) × (r.payload ≡ fault_text (number_of rule) slot) }
@@ -70,7 +70,8 @@ pub fn descriptions_are_cut_as_asked()
 ///
 /// - 2.05 (Content), 69: it has the serial of the snapshot as its ETag, option 4. If its client
 ///   observes the slot, it has the lowest 24 bits of that serial as its sequence number, option 6.
-///   It has the requested block of the reply, with Block2, option 23, unless it is complete.
+///   It has the requested block of the reply, with Block2, option 23, unless the reply is sent
+///   complete.
 /// - 2.04 (Changed), 68: it consists of the bytes of its reply alone.
 /// - Any other code: it has neither options nor payload.
 pub fn runs_are_answered_with_their_reply()
@@ -94,8 +95,8 @@ pub fn runs_are_answered_with_their_reply()
 
 /// The texts of answers are plain.
 ///
-/// They are those of a receipt, of a refusal, and of the list of the slots that have a program,
-/// whose head words are odd.
+/// These are the texts of a receipt, of a refusal, and of the list of the slots that have a
+/// program, whose head words are odd.
 pub fn texts_are_plain()
     ensures receipt { receipt_text (record { version = 1; cost = 2; budget = 3; vars = 8 }) ≡ codes "version=1 cost=2 budget=3 vars=8" }
     ensures refusal { fault_text 16 0 ≡ codes "V16 slot 0" }

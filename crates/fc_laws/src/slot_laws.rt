@@ -87,7 +87,7 @@ pub fn updates_keep_variables()
 
 /// Keeping the variables doesn't change an install's answer.
 ///
-/// It doesn't change the calls on its observers either.
+/// It doesn't change the calls on the slot's observers either.
 pub fn kept_variables_change_no_answer()
     ensures answer { (k : ℕ) (memory : Bool) (x : Inputs) (image : ArrayVec ℕ) →
         (row (Install k memory) (inputs_installing image Kept x)).stage ≡ (row (Install k memory) (inputs_installing image Zeros x)).stage }
@@ -131,14 +131,14 @@ pub fn gets_and_errors_change_nothing()
 /// The commits of each slot are a chain.
 ///
 /// Each of them finds the state that the changes before it left, and leaves what its program means
-/// there.
+/// for that state.
 pub fn commits_are_a_chain()
     ensures { (h : History) (n : ℕ) → IsChain (new_slot (seen h).first_serial) ((seen h).changes n) }
 {}
 
 /// The head word of a slot is the greatest to which jobs of the slot raised it.
 ///
-/// It is 0 before that, and never decreases.
+/// The word is 0 before that, and never decreases.
 pub fn head_words_are_the_greatest_raised()
     ensures greatest { (h : History) (n : ℕ) → n < 64 → word_at (seen h).words n ≡ greatest (raises_of n h) }
     ensures rises { (h : History) (r : Entry) (n : ℕ) → n < 64 → word_at (seen h).words n ≤ word_at (seen (Then h r)).words n }
@@ -146,8 +146,8 @@ pub fn head_words_are_the_greatest_raised()
 
 /// A GET with an ETag of its slot's head word is answered 2.03 (Valid).
 ///
-/// The ETag is the serial of the head word, which has a program when the job reads it. The answer
-/// has that serial.
+/// The ETag is the serial of the head word, which has a program when the job reads the word. The
+/// answer has that serial.
 pub fn matching_etags_are_valid()
     ensures { (s : Seen) (k serial : ℕ) (o : Option Emission) → stage s k ≡ ToMatch
         → word_at s.words (slot_of s k) ≡ head_word serial true → HasSerial (job s k).etags.items serial

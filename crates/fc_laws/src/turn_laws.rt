@@ -22,9 +22,9 @@ ghost use Rattle.fc_core.specs.TurnStage.{ToNote};
 
 /// A lease notifies at most once.
 ///
-/// The job of a lease is at a stage of its own lease until it ends, and no request's job is at one.
-/// Once it has notified its observer (whether or not anything was sent), was released, or was lost,
-/// it has ended for ever.
+/// Until the job of a lease ends, it is at a stage of its own lease. No request's job is at such a
+/// stage. Once the job has notified its observer (whether or not anything was sent), was released,
+/// or was lost, it has ended for ever.
 pub fn turns_stand_apart()
     ensures turn { (h : History) (k number : ℕ) → (job (seen h) k).turn ≡ Some number
         → ((needs : TurnStage) × (stage (seen h) k ≡ ToTell (record { slot = slot_of (seen h) k; number = number }) needs))

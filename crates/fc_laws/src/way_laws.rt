@@ -46,7 +46,7 @@ pub fn jobs_begin_with_their_first_call()
 
 /// A job continues with its next call.
 ///
-/// - A head word that is none of the ETags leads to a snapshot.
+/// - A head word that matches none of the ETags leads to a snapshot.
 /// - A snapshot that gives a ticket leads to the commit of its run.
 /// - A commit that has nothing to write leads to the answer of the run.
 /// - A commit that may write leads to raising the slot's head word first, as an install and a

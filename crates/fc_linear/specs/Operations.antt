@@ -122,7 +122,8 @@ WordsDo (Logged (LooksAt slot word)) ws vs = (word ≡ word_at ws slot) × (vs �
 WordsDo (Logged (RaisesWord slot word)) ws vs = vs ≡ word_raised slot word ws
 WordsDo other ws vs = ⊥
 
--- it is an event: readings aren't, and a shard's index is below 8.
+-- the operation is an event: it isn't a call for readings, and its shard's index, if it names one,
+-- is below 8.
 abbrev pub IsEvent : Operation → Type 0
 IsEvent (Logged (GivesReadings readings)) = ⊥
 IsEvent (Logged (HandsSignal shard from id reset)) = shard < 8
@@ -137,13 +138,13 @@ abbrev pub job_in : Delivered → Option Job
 job_in (Brings job) = Some job
 job_in other = None
 
--- the new job that it produces, if any.
+-- the new job that the operation produces, if any.
 abbrev pub job_brought : Operation → Option Job
 job_brought (Logged (HandlesDatagram now from bytes brings)) = job_in brings
 job_brought (Logged (GivesTurn shard now turn)) = turn
 job_brought other = None
 
--- whether it is for a job that arrived before.
+-- whether the operation is for a job that arrived before.
 abbrev pub is_for_job : Operation → Bool
 is_for_job (Logged (HandlesDatagram now from bytes brings)) = false
 is_for_job (Logged (AdvancesFront now)) = false
@@ -154,7 +155,7 @@ is_for_job (Logged (AdvancesShard shard now ticked)) = false
 is_for_job (Logged (GivesTurn shard now turn)) = false
 is_for_job other = true
 
--- a receipt ends the job whose stage needs it, and doesn't change any other job.
+-- a receipt leads the job whose stage needs it to its answer, and doesn't change any other job.
 abbrev pub ReceiptMoves : Option Facts → Stage → Stage → Type 0
 ReceiptMoves receipt s t = ((s ≡ ToDescribe) × (t ≡ ToAnswer (told receipt))) ⊎ ((s ≡ ToDescribe → ⊥) × (t ≡ s))
 

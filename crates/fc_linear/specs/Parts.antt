@@ -28,7 +28,7 @@ of_shard i log = filter (λ e. is_shard i (part_of e.operation)) log
 abbrev pub of_words : List LogEntry → List LogEntry
 of_words log = filter (λ e. is_words (part_of e.operation)) log
 
--- whether it is for job k, or produces it.
+-- whether the operation is for job k, or produces that job.
 abbrev pub concerns : ℕ → LogEntry → Bool
 concerns k e = (is_for_job e.operation || is_some (job_brought e.operation)) && (e.job == k)
 
@@ -65,9 +65,9 @@ abbrev pub AllEvents : List LogEntry → Type 0
 AllEvents [] = Unit {0}
 AllEvents (e ∷ es) = IsEvent e.operation × AllEvents es
 
--- the log is right for each part and for each job, and leads a server with these jobs to another:
--- each part's operations lead it there, in order; the operations of an existing job follow its
--- stages; and those of a later job begin by producing it, with the next number.
+-- the log is right for each part and for each job, and leads a server with these jobs to another.
+-- Each part's operations lead that part there, in order. The operations of an existing job follow
+-- its stages. Those of a later job begin by producing it, with the next number.
 pub record RightByParts (end : ServerState) (s : ServerState) (tasks : List Task) (log : List LogEntry) : Type 0 where
   pub front : LeadInOrder FrontDoes (of_front log) s.front end.front
   pub shards : (i : ℕ) → i < 8 → LeadInOrder ShardDoes (of_shard i log) (shard_at s.shards i) (shard_at end.shards i)

@@ -50,7 +50,7 @@ observers slot confirm_after h = after_calls h (no_observers slot confirm_after)
 
 -- ---- the effect of a call on an entry
 
--- the entries that a call changes, other than by their removal.
+-- the entries that a call changes without removing them.
 abbrev pub may_change : ObserverCall → ObserverList → Entry → Bool
 may_change (NextDue now notify_serial) t o = gives_turn notify_serial (list_at_time now t) && is_due (max t.time now) notify_serial o
 may_change (MarkMissing turn) t o = is_out turn t o
@@ -60,7 +60,7 @@ may_change (Acknowledge to id) t o = has_last_id to id o
 may_change (Tick now) t o = is_overdue (max t.time now) o
 may_change other t o = false
 
--- these entries after the call.
+-- an entry that the call changes, after the call.
 abbrev pub changed_by : ObserverCall → ObserverList → Entry → Entry
 changed_by (NextDue now notify_serial) t o = with_turn t.turns (max t.time now) o
 changed_by (MarkMissing turn) t o = missed o
@@ -80,7 +80,7 @@ abbrev pub is_registration_of : Endpoint → List ℕ → ObserverCall → Bool
 is_registration_of to token (Register now from own request szx serial) = same_endpoint from to && pointwise nat_eq own.items token
 is_registration_of to token other = false
 
--- an entry after a call was there before it, and is unchanged or changed by the call, or the call
--- registered it.
+-- an entry after a call: the call registered it, or it was in the list before the call. In the
+-- second case the call changed it, or left it unchanged.
 abbrev pub ComesFrom : ObserverCall → ObserverList → Entry → Type 0
 ComesFrom c t o = IsRegisteredBy c t o ⊎ Any (λ before. (o ≡ before) ⊎ ((may_change c t before ≡ true) × (o ≡ changed_by c t before))) t.held

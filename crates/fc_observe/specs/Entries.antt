@@ -17,7 +17,7 @@ use Rattle.fc_observe.specs.declared.entry.Turn.{Turn}
 abbrev pub is_entry_of : Endpoint → List ℕ → Entry → Bool
 is_entry_of to token o = same_endpoint o.endpoint to && pointwise nat_eq o.token.items token
 
--- a message ID that was sent.
+-- the optional message ID is present, and is this one.
 abbrev pub is_id : ℕ → Option ℕ → Bool
 is_id id None = false
 is_id id (Some own) = own == id
@@ -33,7 +33,7 @@ changed_if false f o = o
 
 -- ---- leases
 
--- a lease is active for less than EXCHANGE_LIFETIME.
+-- the lease with this number was granted less than EXCHANGE_LIFETIME ago: it is active.
 abbrev pub is_out_in : ℕ → ℕ → Phase → Bool
 is_out_in now number (TurnOut own at missing) = (own == number) && within_window now at
 is_out_in now number other = false
@@ -51,16 +51,16 @@ has_missed_in other = false
 abbrev pub has_missed : Entry → Bool
 has_missed o = has_missed_in o.phase
 
--- no lease is active, no notification is outstanding, and the last lease was released earlier; one
--- that is active for EXCHANGE_LIFETIME is released at its end.
+-- no lease is active, no notification is outstanding, and the last lease was released before `now`.
+-- A lease that is active for EXCHANGE_LIFETIME is released at the end of that time.
 abbrev pub is_free : ℕ → Phase → Bool
 is_free now Idle = true
 is_free now (GivenUp at) = nat_lt at now
 is_free now (TurnOut number at missing) = nat_lt (at + window) now
 is_free now (Outstanding sent_at timeout retransmissions bytes) = false
 
--- the entry has a pending notification: the noticed revision is above the last one sent to it, and
--- its phase is free.
+-- the entry has a pending notification: the noticed revision is above the last revision sent to the
+-- entry, and the entry's phase is free.
 abbrev pub is_due : ℕ → ℕ → Entry → Bool
 is_due now notify_serial o = nat_lt o.serial notify_serial && is_free now o.phase
 
@@ -83,7 +83,8 @@ given_up now o = record o { phase = GivenUp now }
 
 -- ---- notifications
 
--- the next notification is confirmable: `confirm_after` ms passed since the last one that was.
+-- the next notification is confirmable: `confirm_after` ms have passed since the registration or
+-- the last confirmable notification.
 abbrev pub must_confirm : ℕ → ℕ → Entry → Bool
 must_confirm confirm_after now o = nat_le (o.confirmed + confirm_after) now
 
@@ -97,7 +98,8 @@ notified_by true now id serial random bytes o =
     record o { serial = serial; id = Some id; confirmed = now; phase = Outstanding now (first_timeout random) 0 bytes }
 notified_by false now id serial random bytes o = record o { serial = serial; id = Some id; phase = Idle }
 
--- confirmable if `confirm_after` ms passed since the last confirmable one (RFC 7641, section 4.5).
+-- the notification is confirmable if `confirm_after` ms have passed since the last confirmable one
+-- (RFC 7641, section 4.5).
 abbrev pub notified : ℕ → ℕ → ℕ → ℕ → ℕ → ArrayVec ℕ → Entry → Entry
 notified confirm_after now id serial random bytes o = notified_by (must_confirm confirm_after now o) now id serial random bytes o
 
@@ -155,7 +157,8 @@ timed_out now o = timed_out_by (retransmission o) now o
 
 -- ---- registration
 
--- an entry at its registration, which counts as confirmed; no notification was sent yet.
+-- an entry at its registration. The registration counts as a confirmable notification; no
+-- notification was sent yet.
 abbrev pub new_entry : ℕ → Endpoint → ArrayVec ℕ → Request → Option ℕ → ℕ → Entry
 new_entry now to token request szx serial = record {
   endpoint = to;

@@ -43,12 +43,12 @@ abbrev pub IsNotified : ObserverCall → ObserverList → Entry → ℕ → Type
 IsNotified (Notify now turn id sent random bytes) t o serial = (is_out turn (list_at_time now t) o ≡ true) × (serial ≡ sent)
 IsNotified other t o serial = ⊥
 
--- an entry after a call has the same observer, and its last revision is unchanged or that of the
--- call's notification.
+-- the observer of an entry is the same after a call. The entry's last revision is unchanged, or is
+-- that of the call's notification.
 abbrev pub KeepsSerial : ObserverCall → ObserverList → Entry → Entry → Type 0
 KeepsSerial c t o before = (interest_of o ≡ interest_of before) × ((o.serial ≡ before.serial) ⊎ IsNotified c t before o.serial)
 
--- the revision that a registration or a notification passes is at most `n`.
+-- if the call is a registration or a notification, its revision is at most `n`.
 abbrev pub HandsInUpTo : ℕ → ObserverCall → Type 0
 HandsInUpTo n (Register now to token request szx serial) = serial ≤ n
 HandsInUpTo n (Notify now turn id serial random bytes) = serial ≤ n
@@ -61,7 +61,8 @@ abbrev pub IsOutstanding : Phase → Type 0
 IsOutstanding (Outstanding sent_at timeout retransmissions bytes) = Unit {0}
 IsOutstanding other = ⊥
 
--- a lease was granted less than EXCHANGE_LIFETIME before, and neither ended nor released since.
+-- a lease was granted less than EXCHANGE_LIFETIME before `now`, and has neither ended nor been
+-- released.
 abbrev pub IsTurnOut : ℕ → Phase → Type 0
 IsTurnOut now (TurnOut number at missing) = now < at + window
 IsTurnOut now other = ⊥
@@ -72,7 +73,7 @@ IsGivenUpNow now (GivenUp at) = now ≤ at
 IsGivenUpNow now (TurnOut number at missing) = now ≡ at + window
 IsGivenUpNow now other = ⊥
 
--- its lease has this number, active or expired.
+-- the lease of the phase has this number, active or expired.
 abbrev pub has_number_in : ℕ → Phase → Bool
 has_number_in number (TurnOut own at missing) = own == number
 has_number_in number other = false
@@ -88,13 +89,13 @@ abbrev pub IsNewAt : ObserverCall → ObserverList → Entry → Type 0
 IsNewAt (Register now to token request szx serial) t o = (o.id ≡ None) × (o.confirmed ≡ max t.time now)
 IsNewAt other t o = ⊥
 
--- the time of the last confirmable notification after one at `now`: `now`, if `confirm_after` ms
--- have passed since `before`, else `before`.
+-- the time of the last confirmable notification once a notification is sent at `now`. It is `now`
+-- if `confirm_after` ms have passed since `before`, else `before`.
 abbrev pub confirmed_at : ℕ → ℕ → ℕ → ℕ
 confirmed_at confirm_after now before = if nat_le (before + confirm_after) now then now else before
 
--- an entry after a call has the same observer; its last notification is the one by the call, or is
--- unchanged.
+-- the observer of an entry is the same after a call. The entry's last notification is that of the
+-- call, or is unchanged.
 abbrev pub KeepsLast : ObserverCall → ObserverList → Entry → Entry → Type 0
 KeepsLast (Notify now turn id serial random bytes) t o before =
     (o ≡ before) ⊎ ((is_out turn (list_at_time now t) before ≡ true) × (interest_of o ≡ interest_of before) × (o.id ≡ Some id) × (o.confirmed ≡ confirmed_at t.confirm_after (max t.time now) before.confirmed))

@@ -13,8 +13,8 @@ use Rattle.fc_observe.specs.declared.observers.Ticked.{Ticked}
 use Rattle.fc_observe.specs.declared.observers.Ticked.TheVariants.{Resend, Removed, Quiet}
 use Rattle.fc_observe.specs.Entries.{acknowledged, changed_if, given_up, has_last_id, has_missed, has_turn, is_due, is_entry_of, is_overdue, missed, must_confirm, new_entry, notified, retransmission, timed_out, with_turn}
 
--- the slot, the interval of confirmable notifications in ms, the greatest time passed, how many
--- leases were granted, and the entries, in order of registration.
+-- the slot, the interval of confirmable notifications in ms, and the greatest time that was passed
+-- to the list. Then the number of leases granted, and the entries in order of registration.
 pub record ObserverList : Type 0 where
   pub slot : ℕ
   pub confirm_after : ℕ
@@ -40,18 +40,20 @@ with_held held t = record t { held = held }
 abbrev pub without_those : (Entry → Bool) → List Entry → List Entry
 without_those p held = filter (λ o. not (p o)) held
 
--- these entries replace the first that passes; the others don't change.
+-- the first entry that passes the test is replaced by the entries that `g` returns for it; the
+-- others don't change.
 abbrev pub at_first : (Entry → Bool) → (Entry → List Entry) → List Entry → List Entry
 at_first p g [] = []
 at_first p g (o ∷ os) = if p o then g o ++ os else o ∷ at_first p g os
 
--- f is applied to each entry that passes; the others don't change.
+-- f is applied to each entry that passes the test; the others don't change.
 abbrev pub at_each : (Entry → Bool) → (Entry → Entry) → List Entry → List Entry
 at_each p f held = map (λ o. changed_if (p o) f o) held
 
 -- ---- registration
 
--- the entry of the same endpoint and token is replaced; else there is room for 32.
+-- an entry of the same endpoint and token is replaced. Without one, the registration is entered if
+-- there are fewer than 32 entries, else refused.
 abbrev pub registration_by : Bool → ℕ → Registered
 registration_by true count = Replaced
 registration_by false count = if nat_lt count 32 then Entered else Full
@@ -80,7 +82,7 @@ cancelled to token t = with_held (without_those (is_entry_of to token) t.held) t
 abbrev pub gives_turn : ℕ → ObserverList → Bool
 gives_turn notify_serial t = nat_lt t.turns 18446744073709551615 && list_any (is_due t.time notify_serial) t.held
 
--- the next lease, numbered by how many were granted.
+-- the next lease; its number is the number of leases granted before.
 abbrev pub next_turn_by : Bool → ObserverList → Option Turn
 next_turn_by true t = Some (record { slot = t.slot; number = t.turns })
 next_turn_by false t = None

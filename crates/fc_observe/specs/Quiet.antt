@@ -8,10 +8,10 @@ use Rattle.fc_observe.specs.declared.entry.Entry.{Entry}
 abbrev pub IsIdle : ℕ → ℕ → Entry → Type 0
 IsIdle now notify_serial o = (is_overdue now o ≡ false) × (is_due now notify_serial o ≡ false)
 
--- this holds at every time before `until`.
+-- the entry is idle at every time before `until`.
 abbrev pub IsIdleUntil : ℕ → ℕ → Entry → Type 0
 IsIdleUntil until notify_serial o = (now : ℕ) → now < until → IsIdle now notify_serial o
 
--- this holds for each of these entries.
+-- each of these entries is idle at every time before `until`.
 abbrev pub AreIdleUntil : ℕ → ℕ → List Entry → Type 0
 AreIdleUntil until notify_serial held = All (IsIdleUntil until notify_serial) held

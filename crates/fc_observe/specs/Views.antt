@@ -1,4 +1,4 @@
--- The observation of an observer, as it is borrowed.
+-- The observation of an observer or of an entry.
 use Rattle.std.specs.Prelude.{ℕ, Option}
 use Rattle.arrayvec.specs.ArrayVec.{ArrayVec}
 use Rattle.coap_msg.specs.declared.types.Endpoint.{Endpoint}

@@ -46,7 +46,7 @@ pub struct Turn {
 pub enum Phase {
     /// No lease and no outstanding notification.
     Idle,
-    /// The same; the last lease was released at this time.
+    /// The same as `Idle`; the last lease was released at this time.
     GivenUp(u64),
     /// A granted lease. 247,000 ms after its grant it counts as released.
     TurnOut {
@@ -128,7 +128,7 @@ impl Entry {
         self.endpoint == endpoint && self.token.as_slice() == token.as_slice()
     }
 
-    // Returns whether its last notification went to this endpoint, with this message ID.
+    // Returns whether the entry's last notification went to this endpoint, with this message ID.
     pub(crate) fn has_last_id(&self, endpoint: Endpoint, id: u16) -> bool
         ensures { result ≡ has_last_id endpoint id self.now }
     {
@@ -148,7 +148,7 @@ impl Entry {
         }
     }
 
-    // Returns whether the snapshot of its lease, active or expired, found the slot empty.
+    // Returns whether the snapshot of the entry's lease, active or expired, found the slot empty.
     pub(crate) fn has_missed(&self) -> bool
         ensures { result ≡ has_missed self.now }
     {
@@ -165,15 +165,15 @@ impl Entry {
         self.serial < notify_serial && is_free(now, &self.phase)
     }
 
-    // Returns whether its next notification must be confirmable: `confirm_after` milliseconds have
-    // passed since its registration or last confirmable one.
+    // Returns whether the entry's next notification must be confirmable. It must if `confirm_after`
+    // milliseconds have passed since the registration or the last confirmable notification.
     pub(crate) fn must_confirm(&self, confirm_after: u64, now: u64) -> bool
         ensures { result ≡ must_confirm confirm_after now self.now }
     {
         self.confirmed <= now && now - self.confirmed >= confirm_after
     }
 
-    // Returns whether its notification is outstanding, and its timeout has passed.
+    // Returns whether the entry's notification is outstanding, and its timeout has passed.
     pub(crate) fn is_overdue(&self, now: u64) -> bool
         ensures { result ≡ is_overdue now self.now }
     {
@@ -201,7 +201,7 @@ impl Entry {
         }
     }
 
-    // Grants it the lease with this number.
+    // Grants the entry the lease with this number.
     pub(crate) fn take_turn(&mut self, number: u64, now: u64)
         ensures { self.new ≡ with_turn number now self.old }
     {
@@ -212,7 +212,7 @@ impl Entry {
         };
     }
 
-    // Records that the snapshot of its lease found the slot empty.
+    // Records that the snapshot of the entry's lease found the slot empty.
     pub(crate) fn mark_missing(&mut self)
         ensures { self.new ≡ missed self.old }
     {
@@ -221,15 +221,16 @@ impl Entry {
         }
     }
 
-    // Releases its lease.
+    // Releases the entry's lease.
     pub(crate) fn give_up(&mut self, now: u64)
         ensures { self.new ≡ given_up now self.old }
     {
         self.phase = Phase::GivenUp(now);
     }
 
-    // Records that a notification with this message ID, revision and bytes was sent to it, which
-    // ends its lease. A confirmable one is then outstanding; `random` determines its timeout.
+    // Records that the observer was sent a notification with this message ID, revision and bytes.
+    // The notification ends the entry's lease. A confirmable notification is then outstanding;
+    // `random` determines its timeout.
     pub(crate) fn notify(
         &mut self,
         confirm_after: u64,
@@ -257,7 +258,8 @@ impl Entry {
         }
     }
 
-    // Ends its wait for an acknowledgement, if this message is its last notification.
+    // Ends the entry's wait for an acknowledgement, if its last notification went to this endpoint
+    // with this message ID.
     pub(crate) fn acknowledge(&mut self, endpoint: Endpoint, id: u16)
         ensures { self.new ≡ changed_if (has_last_id endpoint id self.old) acknowledged self.old }
     {
@@ -268,8 +270,8 @@ impl Entry {
         }
     }
 
-    // Returns its outstanding notification for retransmission, or `None` if there is none or it was
-    // retransmitted four times.
+    // Returns the entry's outstanding notification for retransmission, or `None` if there is none
+    // or it was retransmitted four times.
     pub(crate) fn retransmit(&mut self, now: u64) -> Option<Emission>
         ensures sent { result ≡ retransmission self.old }
         ensures after { self.new

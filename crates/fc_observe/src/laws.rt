@@ -38,7 +38,7 @@ pub fn observers_are_due()
 
 /// A lease belongs to one observer, and ends once.
 ///
-/// Once its notification is sent, or it is ended or released, it is no longer active.
+/// Once its notification is sent, or the lease is ended or released, the lease is no longer active.
 pub fn turns_end_once()
     ensures one { (slot confirm_after number : ℕ) (h : List ObserverCall) →
         count_by (has_number number) (observers slot confirm_after h).held ≤ 1 }
@@ -53,7 +53,7 @@ pub fn turns_end_once()
 
 /// An active lease whose snapshot found the slot empty is marked as missing.
 ///
-/// A new lease isn't.
+/// A new lease isn't marked.
 pub fn turns_keep_what_they_missed()
     ensures missed { (turn : Turn) (t : ObserverList) → is_some (entry_out turn t) ≡ true →
         is_missing turn (observers_after (MarkMissing turn) t) ≡ true }
@@ -64,8 +64,8 @@ pub fn turns_keep_what_they_missed()
 
 /// The origin of each entry after a call.
 ///
-/// It was there before the call, and is unchanged or changed as the call says, or the call
-/// registered it.
+/// The call registered the entry, or the entry was in the list before the call. In the second case
+/// it is unchanged, or changed as that call changes entries.
 pub fn entries_come_from_entries()
     ensures { (c : ObserverCall) (t : ObserverList) →
         All (ComesFrom c t) (observers_after c t).held }
@@ -133,9 +133,9 @@ pub fn cancellations_remove_their_own()
 
 /// A removed observer gets no further notification.
 ///
-/// No entry has its endpoint and token before it registers again, and a lease that is no longer
-/// active stays so. Only stored entries have active leases, and only their notifications are
-/// retransmitted.
+/// Until the observer registers again, no entry has its endpoint and token. A lease that is no
+/// longer active stays inactive. Only stored entries have active leases, and only their
+/// notifications are retransmitted.
 pub fn removed_observers_receive_nothing()
     ensures gone { (to : Endpoint) (token : List ℕ) (h : List ObserverCall) (t : ObserverList) →
         RegistersNone to token h → list_any (is_entry_of to token) t.held ≡ false →
@@ -151,9 +151,9 @@ pub fn removed_observers_receive_nothing()
 
 /// The revisions sent to an observer increase if each is at least its lease's.
 ///
-/// If the revision of a notification is at least the noticed one for which its lease was granted,
-/// it is above the last revision sent to the lease's observer. In every other call an entry keeps
-/// its observer and its last sent revision.
+/// Suppose that a notification's revision is at least the noticed one for which its lease was
+/// granted. Then that revision is above the last one sent to the lease's observer. In every other
+/// call an entry keeps its observer and its last sent revision.
 pub fn serials_rise()
     ensures kept { (c : ObserverCall) (t : ObserverList) →
         All (λ (o : Entry). IsRegisteredBy c t o ⊎ Any (KeepsSerial c t o) t.held)
@@ -166,7 +166,8 @@ pub fn serials_rise()
 
 /// No observer was sent a revision above those passed to the calls.
 ///
-/// If none was sent more than `n`, none was after a call that passes no revision above `n`.
+/// If no observer was sent a revision above `n`, this still holds after a call that passes no
+/// revision above `n`.
 pub fn serials_stay_below()
     ensures { (n : ℕ) (c : ObserverCall) (t : ObserverList) → HandsInUpTo n c →
         All (λ (o : Entry). o.serial ≤ n) t.held →
@@ -185,9 +186,9 @@ pub fn the_first_due_gets_the_turn()
 
 /// An entry's message ID is that of its last notification.
 ///
-/// There is none before the first. A notification is confirmable exactly if `confirm_after` ms or
-/// more have passed since the entry's registration, or since its last confirmable notification if
-/// there was one. A list keeps its initial `confirm_after`.
+/// Before the first notification, the entry has no message ID. A notification is confirmable
+/// exactly if `confirm_after` ms or more have passed since the entry's registration, or since its
+/// last confirmable notification if there was one. A list keeps its initial `confirm_after`.
 pub fn entries_keep_their_last_notification()
     ensures kept { (c : ObserverCall) (t : ObserverList) →
         All (λ (o : Entry). IsNewAt c t o ⊎ Any (KeepsLast c t o) t.held) (observers_after c t).held }
@@ -209,8 +210,8 @@ pub fn acknowledgements_end_the_wait()
 
 /// A registration is entered if there is room, or its entry exists.
 ///
-/// There is room if fewer than 32 observe the slot. If 32 others do, the registration changes
-/// nothing.
+/// There is room if fewer than 32 observe the slot. If 32 others observe it, the registration
+/// changes nothing.
 pub fn registrations_are_entered()
     ensures room { (to : Endpoint) (token : ArrayVec ℕ) (request : Request) (szx : Option ℕ) (serial : ℕ) (t : ObserverList) →
         length t.held < 32 →
@@ -225,8 +226,8 @@ pub fn registrations_are_entered()
 
 /// A registration is the last entry.
 ///
-/// A new one is appended to all entries. A renewed one leaves its place and is appended to all
-/// others, which keep their order.
+/// A new one is appended to all entries. A renewed entry leaves its place and is appended to all
+/// others; they keep their order.
 pub fn registrations_stand_last()
     ensures new { (to : Endpoint) (token : ArrayVec ℕ) (request : Request) (szx : Option ℕ) (serial : ℕ) (t : ObserverList) →
         length t.held < 32 → list_any (is_entry_of to token.items) t.held ≡ false →

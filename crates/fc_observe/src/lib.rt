@@ -3,7 +3,7 @@
 //! [`Observers`] is the list of observers, in order of registration. The slot's *noticed revision*
 //! is that of its last change that requires notifications. After such a change, observers have
 //! pending notifications. Each of them gets a notification lease by [`Observers::next_due`], and
-//! its request is executed again. The lease records whether its snapshot of the slot found it empty
+//! its request is executed again. A lease records whether its snapshot found the slot empty
 //! ([`Observers::mark_missing`]).
 //!
 //! A lease ends with its notification ([`Observers::sent`]), with the removal of its observer
@@ -11,7 +11,7 @@
 //! notification until it is acknowledged.
 //!
 //! In contracts the list is the record of `specs/Observers`: the slot, `confirm_after`, the
-//! greatest time passed to it, how many leases were granted, and the entries. Times, in
+//! greatest time passed to the list, the number of leases granted, and the entries. Times, in
 //! milliseconds, and random words are arguments. Only `new` allocates memory.
 //!
 //! ```rust
@@ -63,27 +63,29 @@
 //!
 //! - A slot has at most 32 observers, and one per endpoint and token. A registration is new,
 //!   replaces the one of its endpoint and token, or is refused because of 32 others. If fewer than
-//!   32 observe the slot, it is entered.
-//! - The first observer with a pending notification gets the lease. An observer has one exactly if
-//!   these conditions hold: the last revision sent to it is below the slot's noticed one; none of
-//!   its confirmable notifications is outstanding; none of its leases is active, and none was
-//!   released at this time. So a change of readings alone makes no notification pending.
-//! - A lease belongs to one observer. It is no longer active once its notification is sent, its
-//!   observer is removed, or it is released, which happens at the latest after 247,000 ms. While it
-//!   is active, it keeps the mark that its snapshot found the slot empty.
-//! - Each entry after a call was there before it, and is unchanged or changed as the call says, or
-//!   the call registered it. Its message ID is that of its last notification.
+//!   32 observe the slot, the registration is entered.
+//! - The first observer with a pending notification gets the lease. An observer has a pending
+//!   notification exactly if these conditions hold: the last revision sent to it is below the
+//!   slot's noticed one; none of its confirmable notifications is outstanding; none of its leases
+//!   is active, and none was released at this time. So a change of readings alone makes no
+//!   notification pending.
+//! - A lease belongs to one observer. The lease is no longer active once its notification is sent,
+//!   its observer is removed, or the lease is released. It is released after 247,000 ms at the
+//!   latest. An active lease keeps the mark that its snapshot found the slot empty.
+//! - A call registered each entry of the list after it, or the entry was in the list before. In the
+//!   second case it is unchanged, or changed as that call changes entries. An entry's message ID is
+//!   that of its last notification.
 //! - A notification is confirmable exactly if the list's `confirm_after` has passed since its
-//!   observer's registration or last confirmable one. A confirmable one is retransmitted after t,
-//!   2t, 4t and 8t with the same bytes, where t is 2,000 to 3,000 ms. 16t later its observer is
-//!   removed. A tick retransmits the first that timed out.
+//!   observer's registration or last confirmable notification. A confirmable notification is
+//!   retransmitted after t, 2t, 4t and 8t with the same bytes, where t is 2,000 to 3,000 ms. 16t
+//!   later its observer is removed. A tick retransmits the first notification that timed out.
 //! - An Acknowledgement ends the wait of just the entries whose last notification it matches, and a
 //!   Reset removes just those. A removed observer gets nothing before it registers again.
 //! - The revisions sent to an observer increase, if each notification's is at least the noticed
 //!   revision of its lease.
 //! - `check_idle` returns `true` exactly if no notification has timed out, and no observer has a
-//!   pending one, whatever it cached before. Before the time that `idle_until` returns, that holds
-//!   unless the list is called.
+//!   pending one, whatever the list cached before. Before the time that `idle_until` returns, both
+//!   conditions hold unless the list is called.
 //!
 //! By the contracts of `Observers::register`, `next_due`, `check_idle`, `idle_until`, `out`,
 //! `mark_missing`, `sent`, `end`, `give_up`, `reset`, `acked`, `tick`, `laws`.

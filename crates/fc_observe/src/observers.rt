@@ -42,7 +42,7 @@ pub enum Ticked {
 
 /// The list of observers of a slot, in order of registration.
 ///
-/// Times are in milliseconds, and never decrease: an earlier one counts as the greatest passed so
+/// Times are in milliseconds, and never decrease: an earlier time counts as the greatest passed so
 /// far.
 #[derive(Drop)]
 pub struct Observers {
@@ -165,7 +165,8 @@ impl Observers {
     /// - None of its confirmable notifications is outstanding.
     /// - None of its leases is active, and none was released at this time.
     ///
-    /// Returns `None` if no observer has one, or if 2^64 - 1 leases were granted already.
+    /// Returns `None` if no observer has a pending notification, or if 2^64 - 1 leases were granted
+    /// already.
     pub fn next_due(&mut self, now: u64, notify_serial: u64) -> Option<Turn>
         ensures turn { result ≡ next_turn notify_serial (list_at_time now self.old) }
         ensures after { self.new ≡ turn_given notify_serial (list_at_time now self.old) }
@@ -256,8 +257,9 @@ impl Observers {
 
     /// Returns whether the notification of this lease must be confirmable.
     ///
-    /// It must if `confirm_after` or more passed since the registration or the last confirmable
-    /// notification (RFC 7641, section 4.5). Returns `false` if the lease isn't active.
+    /// It must if `confirm_after` milliseconds or more have passed since the registration or the
+    /// last confirmable notification (RFC 7641, section 4.5). Returns `false` if the lease isn't
+    /// active.
     pub fn must_confirm(&self, turn: Turn) -> bool
         ensures { result ≡ must_confirm_turn turn self.now }
     {
@@ -278,9 +280,9 @@ impl Observers {
 
     /// Ends an active lease with a notification.
     ///
-    /// The notification has this message ID, revision and bytes. A confirmable one is outstanding
-    /// from now on. `random` determines the timeout of its first transmission, 2,000 to 3,000 ms.
-    /// If the lease isn't active, only the clock advances.
+    /// The notification has this message ID, revision and bytes. A confirmable notification is
+    /// outstanding from now on. `random` determines the timeout of its first transmission, 2,000 to
+    /// 3,000 ms. If the lease isn't active, only the clock advances.
     pub fn sent(
         &mut self,
         now: u64,
@@ -302,8 +304,8 @@ impl Observers {
 
     /// Removes the observer that has this active lease.
     ///
-    /// A notification that isn't a success requires it (RFC 7641, section 4.2). If the lease isn't
-    /// active, nothing changes.
+    /// A notification that isn't a success requires this removal (RFC 7641, section 4.2). If the
+    /// lease isn't active, nothing changes.
     pub fn end(&mut self, turn: Turn)
         ensures { self.new ≡ turn_ended turn self.old }
     {
@@ -395,9 +397,9 @@ impl Observers {
             || (!self.is_overdue(now) && !self.is_due(now, notify_serial))
     }
 
-    /// Returns the result of `is_idle`, and caches until when it holds.
+    /// Returns the result of `is_idle`, and caches until when the list is idle.
     ///
-    /// So the next call is short.
+    /// The cached time makes the next call short.
     pub fn check_idle(&mut self, now: u64, notify_serial: u64) -> bool
         ensures idle { let w = list_at_time now self.old in
             result ≡ (is_none (overdue_entry w) && is_none (next_turn notify_serial w)) }
@@ -413,16 +415,16 @@ impl Observers {
 
     /// Returns a time before which the list is idle for revision `notify_serial`.
     ///
-    /// Before it no entry has timed out, and none has a pending notification. It needn't be the
-    /// latest such time. 2^64 - 1 means that neither is expected.
+    /// Before that time no entry has timed out, and none has a pending notification. It needn't be
+    /// the latest such time. 2^64 - 1 means that neither is expected.
     pub fn idle_until(&self, notify_serial: u64) -> u64
         ensures { AreIdleUntil result notify_serial self.now.held }
     {
         idle_until(&self.held, notify_serial)
     }
 
-    // Returns whether the cache shows, without a look at the entries, that no entry has timed out
-    // at `now`, and none has a pending notification about revision `notify_serial`.
+    // Returns whether the cache alone shows that the list is idle at `now`. Idle means that no
+    // entry has timed out, and none has a pending notification about revision `notify_serial`.
     fn is_at_rest(&self, now: u64, notify_serial: u64) -> bool
         ensures { result ≡ true → All (IsIdle (max self.now.time now) notify_serial) self.now.held }
     {

@@ -40,7 +40,7 @@ abbrev pub IsNote : List ℕ → List ℕ → Type 0
 IsNote payload note = (IsUtf8 payload × (note ≡ payload)) ⊎ ((IsUtf8 payload → ⊥) × (note ≡ []))
 
 -- the response in a datagram: the code and the payload of its message. A datagram that is no
--- message has none; a server sends no such datagram.
+-- message has no response; a server sends no such datagram.
 abbrev pub IsResponseIn : Result Message Bad → Option Coded → Type 0
 IsResponseIn (Ok message) response =
     (note : List ℕ) × IsNote message.payload note × (response ≡ Some (record { code = message.code; note = note }))

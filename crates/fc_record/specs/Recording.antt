@@ -1,4 +1,4 @@
--- The changes that are recorded: each answered one, once, and nothing else.
+-- The changes that are recorded: each change that is answered, once, and nothing else.
 use Rattle.std.specs.Prelude.{◌≡◌, ◌⊎◌, ℕ, List, Option}
 use Rattle.std.specs.Borrow.{Bor}
 use Rattle.coap_msg.specs.declared.types.Emission.{Emission}
@@ -51,8 +51,8 @@ pub record Recording : Type 0 where
   pub log : CallLog
 
 module _ (Recorded : Requested → CallLog → CallLog → Type 0) where
-  -- a datagram was received. Then the change that it asked for is recorded, if it produced such a
-  -- job.
+  -- a datagram was received. Then the change that the datagram asked for is recorded, if the
+  -- datagram produced such a job.
   abbrev pub HandlesRecorded : ℕ → Endpoint → Bor (List ℕ) → Recording → Recording → Handled → Emission → Type 0
   HandlesRecorded now from bytes old new handled reply =
       HandlesAlone now from bytes old.alone new.alone handled reply

@@ -29,7 +29,7 @@ impl<'a, C: Recorder> Model for RecordedAlone<'a, C> {
 }
 
 impl<'a, C: Recorder> RecordedAlone<'a, C> {
-    /// Wraps a server, whose changes `recorder` gets from now on.
+    /// Wraps a server; `recorder` gets the server's changes from now on.
     pub fn new(alone: SingleThread, recorder: &'a C) -> RecordedAlone<'a, C>
         ensures { result.alone ≡ alone }
     {

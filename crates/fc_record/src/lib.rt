@@ -5,7 +5,7 @@
 //! that workers answer, and [`RecordedAlone`] those of a single-threaded server.
 //!
 //! [`Report`] has counts of a server's datagrams and notifications, and a text. A [`Reporter`] gets
-//! one from time to time; `fc_service` says when.
+//! such a report from time to time; `fc_service` says when.
 //!
 //! # What is proved
 //!

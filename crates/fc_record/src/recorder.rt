@@ -87,7 +87,7 @@ impl<'a, C: Recorder> Model for ChangeLog<'a, C> {
 }
 
 impl<'a, C: Recorder> ChangeLog<'a, C> {
-    /// Creates the log of changes that `recorder` will get; it is empty.
+    /// Creates an empty log of the changes that `recorder` will get.
     pub fn new(recorder: &'a C) -> ChangeLog<'a, C> {
         ChangeLog {
             recorder,

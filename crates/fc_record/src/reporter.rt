@@ -17,7 +17,9 @@ pub trait Reporter {
     fn report(&self, report: &Report, log: &mut CallLog)
         ensures { reported report.now log.old log.new };
 
-    /// Counts a datagram that couldn't be sent. The next report may name their number.
+    /// Counts a datagram that couldn't be sent.
+    ///
+    /// A later report may give the number of those counted so far.
     fn count_failure(&self);
 }
 

@@ -83,7 +83,8 @@ fn image_in(ask: &Ask) -> Option<Option<&[u8]>>
     }
 }
 
-// Returns the code and the payload of a reply, or `None` if there is none or it is no message.
+// Returns the code and the payload of a reply, or `None` if there is no reply or the reply is no
+// message.
 fn response_by(has_reply: bool, reply: &Emission) -> Option<Response<'_>>
     ensures { IsResponseBy (emission_if has_reply reply.now) (option_map (λ s. record { code = s.code.byte; note = s.note.now }) result) }
 {

@@ -72,7 +72,7 @@ impl<'a> fmt::Display for NoteText<'a> {
 
 /// The SHA-256 digest of an image, in hex digits, after a space.
 ///
-/// It is nothing if there is no image.
+/// The text is empty if there is no image.
 #[derive(Clone, Copy)]
 pub(crate) struct DigestText<'a>(pub(crate) Option<&'a [u8]>);
 

@@ -1,5 +1,5 @@
--- The results of a shard's calls, and the changes that they make. Each call is decided by one
--- function of the slot that it finds.
+-- The results of a shard's calls, and the changes that they make. The slot that a call finds
+-- decides its result and its changes, by one function for each call.
 use Rattle.std.specs.Prelude.{◌≡◌, ℕ, ◌+◌, ◌/◌, ◌==◌, ◌&&◌, ◌<◌, ◌≤◌, Bool, true, false, if◌then◌else◌, nat_lt, List, [], ◌∷◌, ◌++◌, Option, Some, None, is_none, is_some, max}
 use Rattle.coap_msg.specs.Codes.{code}
 use Rattle.coap_opts.specs.Values.{Place}
@@ -37,7 +37,7 @@ use Rattle.fc_registry.specs.Watches.{watch_at, with_calls}
 
 -- ---- snapshots
 
--- the request that a job asks a program to answer; a job that requests no run has an empty one.
+-- the request that a job asks a program to answer; it is empty if the job requests no run.
 abbrev pub request_of : Ask → Request
 request_of (Run request) = request
 request_of other = no_request
@@ -46,7 +46,7 @@ request_of other = no_request
 abbrev pub ticket_of : Job → List ℕ → ℕ → Present → Ticket
 ticket_of job readings serial found = record { origin = job.origin; turn = job.turn; token = job.token; request = request_of job.ask; block = job.block; observe = job.observe; serial = serial; found = found; readings = readings }
 
--- the readings that a ticket keeps, if there is memory for one.
+-- the readings that a ticket keeps, if there is memory for a ticket.
 abbrev pub readings_if : Bool → List ℕ → Option (List ℕ)
 readings_if true readings = Some readings
 readings_if false readings = None
@@ -80,13 +80,13 @@ is_out_at turn at w = is_some (entry_out turn (list_at_time at w))
 abbrev pub turn_calls : Turn → ℕ → Option Present → ObserverList → List ObserverCall
 turn_calls turn at present w = mark_missing_calls (is_out_at turn at w) turn present ++ Advance at ∷ []
 
--- the snapshot of a slot with these observers, at a time: a request's, or that of the lease with a
+-- the snapshot of a slot with these observers, at a time, for a request or for the lease with this
 -- number.
 abbrev pub snapshot_by : Option ℕ → Option (List ℕ) → Job → Slot → ℕ → ObserverList → Taken
 snapshot_by None kept job slot at w = snapshot kept job slot.serial slot.present
 snapshot_by (Some number) kept job slot at w = turn_snapshot (is_out_at (turn_of job number) at w) kept job slot.serial slot.present
 
--- its calls on the observers, the newest first.
+-- the snapshot's calls on the observers, the newest first.
 abbrev pub snapshot_calls_by : Option ℕ → Job → Slot → ℕ → ObserverList → List ObserverCall
 snapshot_calls_by None job slot at w = []
 snapshot_calls_by (Some number) job slot at w = turn_calls (turn_of job number) at slot.present w
@@ -99,11 +99,11 @@ snapshot_at kept job slot at w = snapshot_by job.turn kept job slot at w
 abbrev pub snapshot_calls : Job → Slot → ℕ → ObserverList → List ObserverCall
 snapshot_calls job slot at w = snapshot_calls_by job.turn job slot at w
 
--- a job's snapshot of a slot: there was memory, or it was refused.
+-- the result of a job's snapshot of a slot, with memory for a ticket or without.
 abbrev pub IsFinding : Job → List ℕ → Slot → Taken → Type 0
 IsFinding job readings slot taken = (memory : Bool) × (taken ≡ snapshot (readings_if memory readings) job slot.serial slot.present)
 
--- the same for a lease, which is stale if it isn't active.
+-- the same for the snapshot of a lease; the result is stale if the lease isn't active.
 abbrev pub IsTurnSnapshot : Turn → ℕ → ObserverList → Job → List ℕ → Slot → Taken → Type 0
 IsTurnSnapshot turn at w job readings slot taken = (memory : Bool) × (taken ≡ turn_snapshot (is_out_at turn at w) (readings_if memory readings) job slot.serial slot.present)
 
@@ -115,7 +115,7 @@ IsSnapshot job readings slot at w taken = (memory : Bool) × (taken ≡ snapshot
 abbrev pub TakesAt : Job → List ℕ → Shard → Taken → Type 0
 TakesAt job readings shard taken = IsSnapshot job readings (slot_in shard job.origin.slot) shard.now (watch_at shard (job.origin.slot / 8)) taken
 
--- the shard after it.
+-- the shard after a job's snapshot.
 abbrev pub after_snapshot : Job → Shard → Shard
 after_snapshot job shard = with_calls (snapshot_calls job (slot_in shard job.origin.slot) shard.now (watch_at shard (job.origin.slot / 8))) job.origin.slot shard
 
@@ -126,13 +126,13 @@ pub record Called (A : Type 0) : Type 0 where
 
 -- ---- install
 
--- the variables that an install is requested to leave; another job installs nothing.
+-- the variables that an install is to leave; `Zeros` for any other action.
 abbrev pub initial_vars_of : Ask → InitialVars
 initial_vars_of (Install image initial) = initial
 initial_vars_of other = Zeros
 
--- below the last serial an install is a change; its result has the new serial, and whether the slot
--- was empty.
+-- an install changes a slot that is below the last serial. Its result has the new serial, and
+-- whether the slot was empty.
 abbrev pub put_by : Bool → Slot → Program → InitialVars → Called Made
 put_by true slot p initial = record { answer = Raised (slot.serial + 1) (is_none slot.present); changes = Installed p initial ∷ [] }
 put_by false slot p initial = record { answer = AtEnd; changes = [] }
@@ -143,8 +143,8 @@ install_in slot p initial = put_by (nat_lt slot.serial last_serial) slot p initi
 
 -- ---- remove
 
--- below the last serial the removal of a program is a change, and its result has the new serial; an
--- empty slot doesn't change.
+-- the removal of a program changes a slot that is below the last serial, and its result has the new
+-- serial. An empty slot doesn't change.
 abbrev pub clear_by : Bool → ℕ → Option Present → Called Removal
 clear_by below serial None = record { answer = removals.Absent; changes = [] }
 clear_by true serial (Some p) = record { answer = removals.Removed (serial + 1); changes = Removed ∷ [] }
@@ -225,7 +225,7 @@ observe_calls_by true cancel now t = Register now t.origin.endpoint t.token t.re
 observe_calls_by false true now t = Cancel t.origin.endpoint t.token.items ∷ []
 observe_calls_by false false now t = []
 
--- the calls of a run that has nothing to write on the observers of its slot, at a time.
+-- the calls on the observers of a slot, at a time, by a run that has nothing to write.
 abbrev pub observe_calls : ℕ → Ticket → List ObserverCall
 observe_calls now t = observe_calls_by (is_registration t) (is_cancellation t) now t
 
@@ -234,7 +234,7 @@ abbrev pub is_entered : Registered → Bool
 is_entered Full = false
 is_entered other = true
 
--- the client observes the slot, which has these observers, from now on.
+-- from now on the client observes the slot, whose observers are these.
 abbrev pub is_observed : Ticket → ObserverList → Bool
 is_observed t w = is_registration t && is_entered (registration t.origin.endpoint t.token.items w)
 
@@ -252,7 +252,7 @@ ComesTo t slot Overtakes = (wants t ≡ true) × (IsCurrent t slot → ⊥)
 ComesTo t slot Ends = (wants t ≡ true) × IsCurrent t slot × (last_serial ≤ slot.serial)
 ComesTo t slot Writes = (wants t ≡ true) × IsCurrent t slot × (slot.serial < last_serial)
 
--- the same by serials, which decide if the slot is the one that gave the ticket.
+-- the outcome by serials: they decide the outcome at a slot that gave the ticket.
 abbrev pub outcome_by : Bool → Bool → Bool → CommitOutcome
 outcome_by false current below = Keeps
 outcome_by true false below = Overtakes
@@ -263,8 +263,8 @@ outcome_by true true true = Writes
 abbrev pub outcome : Ticket → Slot → CommitOutcome
 outcome t slot = outcome_by (wants t) (slot.serial == t.serial) (nat_lt slot.serial last_serial)
 
--- the slot gave the ticket: its serial has not fallen since; if it is the ticket's, the slot holds
--- the program and the variables that the snapshot found.
+-- the slot gave the ticket. The slot's serial isn't below the ticket's. If both are equal, the slot
+-- has the program and the variables that the snapshot found.
 pub record HasGiven (slot : Slot) (t : Ticket) : Type 0 where
   pub serial : t.serial ≤ slot.serial
   pub present : t.serial ≡ slot.serial → slot.present ≡ Some t.found
@@ -273,7 +273,8 @@ pub record HasGiven (slot : Slot) (t : Ticket) : Type 0 where
 abbrev pub mark_of : Ticket → ℕ → Bool → Bool → Mark
 mark_of t serial changed observed = record { origin = t.origin; found = t.serial; serial = serial; changed = changed; observed = observed }
 
--- a commit that writes leaves just the variables of the run's meaning, and has its notify flag.
+-- a commit that writes leaves just the variables of the run's meaning, and has that meaning's
+-- notify flag.
 abbrev pub commit_of : Ticket → Commit
 commit_of t = record { request = t.request; readings = t.readings; before = t.found.vars; after = (meaning_at t).vars; notice = (meaning_at t).notice }
 
@@ -284,14 +285,14 @@ commits Keeps t serial w = record { answer = Done (mark_of t serial false (is_ob
 commits Overtakes t serial w = record { answer = Overtaken; changes = [] }
 commits Ends t serial w = record { answer = Ended; changes = [] }
 
--- its calls on the observers at a time: one that is done and changed nothing registers or removes a
--- GET's client.
+-- a commit's calls on the observers, at a time. A commit that is done and changed nothing may
+-- register or remove a GET's client.
 abbrev pub commit_calls : Committed → ℕ → Ticket → List ObserverCall
 commit_calls (Done m) now t = if m.changed then [] else observe_calls now t
 commit_calls other now t = []
 
--- the outcome is of the ticket's program, request, variables and readings, and the ticket's serial
--- isn't above the slot's.
+-- the outcome is that of a run of the ticket's program, with the ticket's request, variables and
+-- readings. The ticket's serial isn't above the slot's.
 pub record IsRunOf (ran : Ran) (t : Ticket) (serial : ℕ) : Type 0 where
   pub program : ran.program ≡ t.found.program
   pub request : ran.input.request ≡ t.request
@@ -299,12 +300,12 @@ pub record IsRunOf (ran : Ran) (t : Ticket) (serial : ℕ) : Type 0 where
   pub readings : ran.input.readings ≡ t.readings
   pub found : t.serial ≤ serial
 
--- the ticket is of no lease, and the outcome is of it.
+-- the ticket isn't a lease's, and the outcome is that of the ticket's run.
 pub record IsOwn (ran : Ran) (t : Ticket) (slot : Slot) : Type 0 where
   pub asked : t.turn ≡ None
   pub run : IsRunOf ran t slot.serial
 
--- the commit of an outcome that is the ticket's.
+-- the commit of an outcome that belongs to the ticket.
 pub record IsCommitOf (t : Ticket) (slot : Slot) (w : ObserverList) (c : Committed) (after : Slot) : Type 0 where
   pub comes_to : CommitOutcome
   pub is : ComesTo t slot comes_to
@@ -316,12 +317,12 @@ pub record IsCommitOf (t : Ticket) (slot : Slot) (w : ObserverList) (c : Committ
 abbrev pub WouldWrite : Ran → Ticket → Slot → Type 0
 WouldWrite ran t slot = (wants_by ran ≡ true) × IsOwn ran t slot × ComesTo t slot Writes
 
--- an outcome that isn't the ticket's changes nothing.
+-- an outcome that doesn't belong to the ticket changes nothing.
 pub record IsStranger (ran : Ran) (t : Ticket) (slot : Slot) (after : Slot) : Type 0 where
   pub stranger : IsOwn ran t slot → ⊥
   pub after_is : after ≡ slot
 
--- an outcome that is the ticket's, and its commit.
+-- an outcome that belongs to the ticket, and its commit.
 abbrev pub IsOwnCommit : Ran → Ticket → Slot → ObserverList → Committed → Slot → Type 0
 IsOwnCommit ran t slot w c after = IsOwn ran t slot × IsCommitOf t slot w c after
 
@@ -330,7 +331,8 @@ abbrev pub IsCommit : Ran → Ticket → Slot → ObserverList → Committed →
 IsCommit ran t slot w Stranger after = IsStranger ran t slot after
 IsCommit ran t slot w c after = IsOwnCommit ran t slot w c after
 
--- a commit at a time, to the ticket's slot and its observers alone.
+-- a commit at a time: it changes only the shard's time, the ticket's slot, and that slot's
+-- observers.
 pub record CommitsTo (ran : Ran) (t : Ticket) (old : Shard) (now : ℕ) (c : Committed) (new : Shard) : Type 0 where
   pub after : Slot
   pub commit : IsCommit ran t (slot_in old t.origin.slot) (watch_at old (t.origin.slot / 8)) c after

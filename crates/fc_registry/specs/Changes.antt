@@ -40,8 +40,8 @@ is_noticed (Installed program initial) = true
 is_noticed (Committed commit) = commit.notice
 is_noticed Removed = true
 
--- a program's variables after its install over these: zeros, or the same bytes if they are kept and
--- have the program's size.
+-- a program's variables after its install in a slot with these variables. They are the same bytes
+-- if the install keeps them and they have the program's size; otherwise zeros.
 abbrev pub vars_installed : InitialVars → Program → List ℕ → List ℕ
 vars_installed Zeros program before = replicate program.vars_size 0
 vars_installed Kept program before = if length before == program.vars_size then before else replicate program.vars_size 0
@@ -56,7 +56,7 @@ changed slot (Installed program initial) = record { serial = slot.serial + 1; no
 changed slot (Committed commit) = record { serial = slot.serial + 1; notify_serial = if commit.notice then slot.serial + 1 else slot.notify_serial; present = with_vars commit.after slot.present; ring = keep_last 8 (slot.ring ++ entry_of (slot.serial + 1) commit ∷ []) }
 changed slot Removed = record { serial = slot.serial + 1; notify_serial = slot.serial + 1; present = None; ring = [] }
 
--- the slot that these changes, the newest first, leave of another.
+-- the slot after these changes, the newest first.
 abbrev pub after_changes : Slot → List Change → Slot
 after_changes slot [] = slot
 after_changes slot (c ∷ cs) = changed (after_changes slot cs) c

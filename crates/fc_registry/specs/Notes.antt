@@ -55,7 +55,7 @@ abbrev pub note_kind : Bool → MessageType
 note_kind true = Confirmable
 note_kind false = NonConfirmable
 
--- its header, with a message ID, and the token of the observer's registration.
+-- the header of a notification, with this message ID and the token of the observer's registration.
 abbrev pub note_envelope : ℕ → Bool → Interest → Envelope
 note_envelope id confirmable o = record { to = o.endpoint; kind = note_kind confirmable; id = id; token = o.token.items }
 
@@ -63,7 +63,7 @@ note_envelope id confirmable o = record { to = o.endpoint; kind = note_kind conf
 abbrev pub note_to : ℕ → Bool → Option Ticket → Interest → Emission
 note_to id confirmable found o = sent_in (note_envelope id confirmable o) (note_response found)
 
--- the notification of a lease, if it may be notified, once the observers have the time.
+-- the notification of a lease, if one may be sent, at the observers' own time.
 abbrev pub note_in : Turn → ℕ → Option Ticket → ObserverList → Option Emission
 note_in turn id found w = option_map (note_to id (must_confirm_turn turn w) found) (observer_told found turn w)
 
@@ -106,12 +106,12 @@ noted_as outcomes.Sent emission = Send emission
 noted_as outcomes.Stale emission = Stale
 noted_as outcomes.Stranger emission = Stranger
 
--- a notification that isn't sent leaves that message unchanged.
+-- a notification that isn't sent leaves the old message unchanged.
 abbrev pub IsKeptUnlessSent : NoteOutcome → Emission → Emission → Type 0
 IsKeptUnlessSent outcomes.Sent old new = Unit {0}
 IsKeptUnlessSent other old new = new ≡ old
 
--- the ticket is this lease's, and the outcome is of it, at this serial of the slot.
+-- the ticket is this lease's, and the outcome is of that ticket, at this serial of the slot.
 pub record IsRunOfTurn (turn : Turn) (ran : Ran) (t : Ticket) (serial : ℕ) : Type 0 where
   pub slot : t.origin.slot ≡ turn.slot
   pub number : t.turn ≡ Some turn.number
@@ -122,13 +122,13 @@ abbrev pub IsOfTurn : Turn → ℕ → Notification → Type 0
 IsOfTurn turn serial (tells.Ran outcome ticket) = IsRunOfTurn turn outcome.now ticket.now serial
 IsOfTurn turn serial tells.Gone = Unit {0}
 
--- it isn't a stranger.
+-- the result isn't `Stranger`.
 abbrev pub IsSentOrStale : Noted → Type 0
 IsSentOrStale Stranger = ⊥
 IsSentOrStale other = Unit {0}
 
--- first whether the lease may be notified, then whether the notification belongs to it; once the
--- observers have the time.
+-- the result of a notification, at the observers' own time. The first test is whether the lease may
+-- be notified, the second whether the notification belongs to the lease.
 abbrev pub IsNotedIn : Notification → Turn → ℕ → ℕ → ObserverList → Noted → Type 0
 IsNotedIn told turn id serial w Stale = observer_told (ticket_told told) turn w ≡ None
 IsNotedIn told turn id serial w Stranger = (is_some (observer_told (ticket_told told) turn w) ≡ true) × (IsOfTurn turn serial told → ⊥)
@@ -138,7 +138,8 @@ IsNotedIn told turn id serial w (Send emission) = IsOfTurn turn serial told × (
 abbrev pub IsNoted : Notification → Turn → ℕ → ℕ → ℕ → ObserverList → Noted → Type 0
 IsNoted told turn id at serial w noted = IsNotedIn told turn id serial (list_at_time at w) noted
 
--- a notification at a time, of the observers of the lease's slot alone.
+-- a notification at a time: it changes only the shard's time, and the observers of the lease's
+-- slot.
 pub record NotesTo (told : Notification) (turn : Turn) (id random : ℕ) (old : Shard) (now : ℕ) (noted : Noted) (new : Shard) : Type 0 where
   pub is : IsNoted told turn id (max old.now now) (slot_in old turn.slot).serial (watch_at old (turn.slot / 8)) noted
   pub after : new ≡ with_calls (note_calls turn id random (max old.now now) (ticket_told told) (sent_of noted)) turn.slot (at_time old now)

@@ -53,8 +53,8 @@ IsStoredOf slot k = (k.serial ≡ slot.serial) × IsStoredProgram slot.present k
 
 -- ---- restoring
 
--- a state that changes may leave for this program: it was installed at a serial above 0 and up to
--- this one, and its variables have its size.
+-- a state that changes can leave for this program: its version is above 0 and at most this serial,
+-- and its variables have the program's size.
 abbrev pub IsProgramState : ℕ → StoredProgram → Program → Type 0
 IsProgramState serial k p = (0 < k.version) × (k.version ≤ serial) × (length k.vars ≡ p.vars_size)
 

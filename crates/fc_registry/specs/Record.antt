@@ -10,8 +10,9 @@ use Rattle.fc_registry.specs.Changes.{Change, Installed, Committed, Removed, Com
 abbrev pub code_class : ℕ → ℕ
 code_class code = code / 32
 
--- a commit found the program and the variables that the slot then held, and left just the variables
--- that the program means there, with its notify flag. It answered a POST, with a code of class 2.
+-- a commit found the program and the variables that the slot had. It left just the variables of the
+-- program's meaning for its input, and has the notify flag of that meaning. The commit answered a
+-- POST, with a code of class 2.
 pub record IsLink (slot : Slot) (c : Commit) : Type 0 where
   pub found : Present
   pub present : slot.present ≡ Some found
@@ -29,9 +30,9 @@ IsChain first (Committed c ∷ cs) = IsLink (after_changes first cs) c × IsChai
 IsChain first (Installed p initial ∷ cs) = IsChain first cs
 IsChain first (Removed ∷ cs) = IsChain first cs
 
--- an entry of the ring of a slot with this program: it is of this serial, begins with these
--- variables, and left just the variables that the program means there. It answered a POST, with a
--- code of class 2.
+-- an entry of the ring of a slot with this program: it has this serial, and begins with these
+-- variables. It left just the variables of the program's meaning for them. The entry's commit
+-- answered a POST, with a code of class 2.
 pub record IsEntry (p : Program) (serial : ℕ) (vars : List ℕ) (e : Entry) : Type 0 where
   pub serial_is : e.serial ≡ serial
   pub before : e.before ≡ vars
@@ -61,7 +62,7 @@ pub record HasRingSince (since serial : ℕ) (first : List ℕ) (p : Present) (r
   pub vars : p.vars ≡ left_by found ring
   pub begins : length ring ≡ serial - since → found ≡ first
 
--- such a ring, if the variables at that serial were as many as the program has.
+-- such a ring, if the number of variables at that serial was the program's.
 abbrev pub HasRingFrom : ℕ → ℕ → Present → List Entry → Type 0
 HasRingFrom since serial p ring = (first : List ℕ) × HasRingSince since serial first p ring × (length first ≡ p.program.vars_size)
 

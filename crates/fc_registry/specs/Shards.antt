@@ -22,7 +22,7 @@ pub record AreShards (shards : List Shard) : Type 0 where
 abbrev pub slot_in_shards : List Shard → ℕ → Slot
 slot_in_shards shards n = slot_in (shard_at shards (n % 8)) n
 
--- the shards with another state of the shard that owns slot n.
+-- the shards after the one that owns slot n is replaced.
 abbrev pub with_owner : List Shard → ℕ → Shard → List Shard
 with_owner shards n shard = slice_set shards (n % 8) shard
 

@@ -19,7 +19,7 @@ abbrev pub version_in : Option Present → Option ℕ
 version_in None = None
 version_in (Some p) = Some p.version
 
--- its variables; none if the slot is empty.
+-- the variables of the present program; none if the slot is empty.
 abbrev pub vars_in : Option Present → List ℕ
 vars_in None = []
 vars_in (Some p) = p.vars
@@ -41,15 +41,15 @@ last_serial = 9223372036854775807
 abbrev pub new_slot : ℕ → Slot
 new_slot serial = record { serial = serial; notify_serial = serial; present = None; ring = [] }
 
--- a shard: the greatest time passed to it, and its slots and their observers. Those of slot n are
--- at place n / 8.
+-- a shard: the greatest time passed to it, and its slots and their observers. Slot n and its
+-- observers are at place n / 8.
 pub record Shard : Type 0 where
   pub index : ℕ
   pub now : ℕ
   pub slots : List Slot
   pub watches : List ObserverList
 
--- the shard of index n mod 8 owns slot n, of 64 slots.
+-- the shard owns slot n: n is below 64, and the shard's index is n mod 8.
 pub record IsOwned (shard : Shard) (n : ℕ) : Type 0 where
   pub slot : n < 64
   pub index : n % 8 ≡ shard.index
@@ -63,8 +63,8 @@ abbrev pub with_slot : Shard → ℕ → Slot → Shard
 with_slot shard n slot = record shard { slots = slice_set shard.slots (n / 8) slot }
 
 -- a ticket: the slot's serial, its program with version and variables, and the readings, as a
--- snapshot found them. It also has the request with its token, the response block that it asks for,
--- and its Observe value. That of a lease has the lease's number.
+-- snapshot found them. It also has the request with its token, the response block that the request
+-- asks for, and the request's Observe value. The ticket of a lease has the lease's number.
 pub record Ticket : Type 0 where
   pub origin : Origin
   pub turn : Option ℕ

@@ -18,8 +18,8 @@ pub data Taken : Type 0 where
   -- memory for another handle of the program can't be allocated.
   Refused : Taken
 
--- the data that a snapshot writes: a ticket without its program, whose handle is the snapshot's
--- result.
+-- the data that a snapshot writes: a ticket without its program; the program's handle is the
+-- snapshot's result.
 pub record SlotSnapshot : Type 0 where
   pub origin : Origin
   pub turn : Option ℕ
@@ -46,6 +46,6 @@ ticket_with p f = record {
   readings = f.readings;
 }
 
--- the variables are as many as the program has.
+-- the number of variables is the program's.
 abbrev pub IsSized : Program → SlotSnapshot → Type 0
 IsSized p f = length f.vars ≡ p.vars_size

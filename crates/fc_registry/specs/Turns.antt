@@ -12,12 +12,12 @@ use Rattle.fc_registry.specs.declared.job.Job.{Job}
 use Rattle.fc_registry.specs.Slots.{Shard}
 use Rattle.fc_registry.specs.Watches.{noticed_at, watch_at}
 
--- the first block of the size with this exponent, which has three bits.
+-- the first block of the size with this exponent; three bits of the exponent count.
 abbrev pub first_block : Option ℕ → Option Place
 first_block None = None
 first_block (Some szx) = Some (record { number = 0; more = false; szx = szx % 8 })
 
--- the job of the lease with this number of slot n, which has no exchange.
+-- the job of the lease with this number in slot n; the job has no exchange.
 abbrev pub turn_job : ℕ → ℕ → Interest → Job
 turn_job n number o = record {
   origin = record { opening = record { number = 0; at = 0 }; endpoint = o.endpoint; id = 0; slot = n };

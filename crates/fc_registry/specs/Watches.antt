@@ -41,7 +41,7 @@ watches_called (c ∷ cs) k watches = slice_set watches k (after_calls (c ∷ cs
 abbrev pub with_calls : List ObserverCall → ℕ → Shard → Shard
 with_calls cs n shard = record shard { watches = watches_called cs (n / 8) shard.watches }
 
--- the first of n places, from k on, that passes.
+-- the first place that passes the test, of the n places from k on.
 abbrev pub place_from : (ℕ → Bool) → ℕ → ℕ → Option ℕ
 place_from p zero k = None
 place_from p (suc n) k = if p k then Some k else place_from p n (k + 1)
@@ -61,7 +61,7 @@ abbrev pub ticked_in : Option ℕ → Shard → Ticked
 ticked_in None shard = Quiet
 ticked_in (Some k) shard = ticked (list_at_time shard.now (watch_at shard k))
 
--- the shard after it.
+-- the shard after that tick.
 abbrev pub shard_after_tick : Option ℕ → Shard → Shard
 shard_after_tick None shard = shard
 shard_after_tick (Some k) shard = watch_called (Tick shard.now) k shard
@@ -81,11 +81,11 @@ abbrev pub is_idle_at : Shard → ℕ → Bool
 is_idle_at shard k =
     is_none (overdue_entry (list_at_time shard.now (watch_at shard k))) && is_none (next_turn (noticed_at shard k) (list_at_time shard.now (watch_at shard k)))
 
--- nor at any other place: the shard is idle.
+-- the shard is idle: no notification in it has timed out, and no observer has a pending one.
 abbrev pub is_idle : Shard → Bool
 is_idle shard = is_none (overdue_place shard) && is_none (due_place shard)
 
--- the shard after a lease was granted there.
+-- the shard after a lease was granted at this place; without a place, it is unchanged.
 abbrev pub after_due : Option ℕ → Shard → Shard
 after_due None shard = shard
 after_due (Some k) shard = watch_called (NextDue shard.now (noticed_at shard k)) k shard
@@ -101,7 +101,7 @@ abbrev pub signal_call : Bool → Endpoint → ℕ → ObserverCall
 signal_call true to id = Reset to id
 signal_call false to id = Acknowledge to id
 
--- it is for the observers of every slot.
+-- a signal is a call on the observers of every slot.
 abbrev pub signalled : ObserverCall → Shard → Shard
 signalled c shard = record shard { watches = map (observers_after c) shard.watches }
 

@@ -4,16 +4,16 @@ use crate::ticket::Mark;
 /// The outcome of a commit of a ticket's run, at its slot.
 #[derive(Clone, Copy, PartialEq, Eq)]
 pub enum CommitOutcome {
-    /// It writes.
+    /// The commit writes.
     ///
     /// The run answered a POST with a code of class 2, nothing has changed since the ticket's
     /// snapshot, and the slot is below its last serial.
     Writes,
-    /// It has nothing to write.
+    /// The run has nothing to write.
     Keeps,
-    /// A conflict: it has something to write, and the slot has changed since.
+    /// A conflict: the run wants to write, but the slot has changed since the snapshot.
     Overtakes,
-    /// It has something to write, and the slot is at its last serial.
+    /// The run wants to write, and the slot is at its last serial.
     Ends,
 }
 
@@ -26,13 +26,13 @@ pub enum Committed {
     ///
     /// A response consumes the mark.
     Done(Mark),
-    /// A conflict: the run wanted to write, and the slot has changed since.
+    /// A conflict: the run wanted to write, but the slot changed since the snapshot.
     Overtaken,
     /// The run wanted to write, and the slot is at its last serial.
     Ended,
     /// The outcome or the ticket doesn't belong to this commit.
     ///
     /// The outcome isn't of the ticket's program, request, variables and readings, or the ticket is
-    /// a lease's, or its serial is above the slot's.
+    /// a lease's, or the ticket's serial is above the slot's.
     Stranger,
 }

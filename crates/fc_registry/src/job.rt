@@ -35,7 +35,7 @@ pub struct Origin {
 pub enum InitialVars {
     /// Zeros.
     Zeros,
-    /// The previous program's, if they have the new program's size; else zeros.
+    /// The previous program's variables if they have the new one's size, else zeros.
     Kept,
 }
 

@@ -59,9 +59,9 @@ pub fn versions_are_installs()
 /// An install keeps the variables, or sets them to zeros.
 ///
 /// An install that keeps the variables leaves them byte for byte if they are as many as the new
-/// program has. They are zeros if they aren't, if the slot was empty, and after every other
-/// install. So a program always has the number of variables that it declares. Everything else is
-/// the same after either install, and so is its result.
+/// program has. The variables are zeros if their number differs from the new program's, if the slot
+/// was empty, and after every other install. So a program always has the number of variables that
+/// it declares. Everything else is the same after either install, and so is its result.
 pub fn installs_keep_or_zero_variables()
     ensures kept { (slot : Slot) (found : Present) (p : Program) → slot.present ≡ Some found → length found.vars ≡ p.vars_size →
         vars_in (changed slot (Installed p Kept)).present ≡ found.vars }
@@ -89,15 +89,15 @@ pub fn entries_are_of_their_commits()
 /// The ticket's serial decides the outcome of its commit.
 ///
 /// This holds at the slot that gave the ticket. The slot has changed since the snapshot exactly if
-/// its serial is another.
+/// its serial isn't the ticket's.
 pub fn serials_decide()
     ensures { (t : Ticket) (slot : Slot) (o : CommitOutcome) → HasGiven slot t → ComesTo t slot o → o ≡ outcome t slot }
 {}
 
 /// An idle shard has nothing to do.
 ///
-/// At its time a tick sends nothing, no observer has a pending notification, and neither call
-/// changes the shard.
+/// At the shard's time a tick sends nothing, no observer has a pending notification, and neither
+/// `tick` nor `next_due` changes the shard.
 pub fn idle_shards_do_nothing()
     ensures tick { (shard : Shard) → is_idle shard ≡ true →
         (ticked_in (overdue_place shard) shard ≡ Quiet) × (shard_after_tick (overdue_place shard) shard ≡ shard) }
@@ -107,8 +107,8 @@ pub fn idle_shards_do_nothing()
 
 /// A ticket has the data of its job.
 ///
-/// These are the token, the block and the Observe value of its request, its client and its lease,
-/// and the request that the slot's program is to answer.
+/// These are the token, the block and the Observe value of the job's request, the job's client and
+/// lease, and the request that the slot's program is to answer.
 pub fn tickets_are_of_their_jobs()
     ensures { (job : Job) (readings : List ℕ) (slot : Slot) (at : ℕ) (w : ObserverList) (t : Ticket) →
         IsSnapshot job readings slot at w (Given t) → IsTicketOfJob job t }
@@ -141,9 +141,10 @@ pub fn turns_ask_what_was_registered()
         observe_calls now t ≡ Register now t.origin.endpoint t.token t.request (Some block.szx) t.serial ∷ [] }
 {}
 
-/// The update of a change leads to the stored state of the changed slot.
+/// The update of a change makes the stored state that of the changed slot.
 ///
-/// It starts from the slot's stored state, and has an image of the change's program.
+/// This holds if it is applied to the slot's stored state, and has an image of the change's
+/// program.
 pub fn plans_keep_what_changes_make()
     ensures { (slot : Slot) (k : StoredSlot) (n : ℕ) (c : Change) (s : SlotUpdate) → IsStoredOf slot k → IsPlanned slot n c s → SavesImage c s.program
         → IsStoredOf (changed slot c) (slot_after s k) }
@@ -151,8 +152,8 @@ pub fn plans_keep_what_changes_make()
 
 /// The ring of a slot that was new has the commits since its last install.
 ///
-/// It has the last eight of them. If it has all of them, the first found the variables that the
-/// install left. An install that keeps no variables left zeros.
+/// It has the last eight of them. If the ring has all of them, the first commit found the variables
+/// that the install left. An install that keeps no variables left zeros.
 pub fn new_slots_have_full_rings()
     ensures ring { (serial : ℕ) (cs : List Change) → IsChain (new_slot serial) cs → IsRing (after_changes (new_slot serial) cs) }
     ensures begins { (serial : ℕ) (cs : List Change) → IsChain (new_slot serial) cs →

@@ -1,8 +1,9 @@
 //! Slots in shards: jobs, snapshots, commits, installs, rings and observers.
 //!
-//! Shard `n mod 8` owns slot `n`. A job takes a snapshot of its slot, its ticket, and runs the
-//! ticket's program. The commit of the run writes only if nothing has changed since. No call waits.
-//! Once a shard is made, only a snapshot, for a handle, and [`Shard::restore`] allocate memory.
+//! Shard `n mod 8` owns slot `n`. A job takes a snapshot of its slot, which is the job's ticket,
+//! and runs the ticket's program. The commit of the run writes only if nothing has changed since.
+//! No call waits. Once a shard is made, only snapshots (for a handle of the program) and
+//! [`Shard::restore`] allocate memory.
 //!
 //! ```rust
 //! ghost use Rattle.fc_registry.specs.Slots.{IsOwned};
@@ -31,28 +32,29 @@
 //! - A run with readings other than its ticket's doesn't match the ticket (`Stranger`). A commit
 //!   writes the variables of the program's meaning, to its slot alone, if nothing has changed since
 //!   the snapshot.
-//! - An install raises the serial by one, and sets the variables to zeros. If it keeps the
-//!   variables, they don't change if they have the new program's size.
-//! - The removal of a program leaves none, and raises the serial too.
+//! - An install raises the serial by one, and sets the variables to zeros. An install that keeps
+//!   the variables doesn't change them if they have the new program's size.
+//! - A removal leaves the slot without a program, and raises the serial by one.
 //! - A receipt is that of the present program, with the serial of its install.
 //! - Serials count changes. A slot's notify serial is that of its last install, removal, or commit
 //!   whose run set the notify flag.
 //! - A slot's ring holds the last eight commits of its program since its install, or since the slot
-//!   was restored. Each begins with the variables that the one before it left. Each left the
-//!   variables that the program means for its request and its readings, which are its ticket's.
+//!   was restored. Each of these commits begins with the variables that the one before it left.
+//!   Each left the variables that the program means for the request and the readings of the
+//!   commit's ticket.
 //! - A lease goes to the first observer with a pending notification. Its job answers the observer's
 //!   request again, and requests blocks of the size that was registered.
 //! - A tick concerns the first notification that has timed out, by slot and then by registration. A
 //!   signal goes to the observers of every slot.
-//! - A commit of a GET registers its client or removes it, if the request asks for that. Its mark
-//!   has whether the client was registered; there may be no room.
+//! - A commit of a GET registers its client or removes it, if the request asks for that. The
+//!   commit's mark has whether the client was registered; there may be no room.
 //! - The notification of an active lease has the meaning of its ticket's run, or 4.04 if its
-//!   snapshot found the slot empty. It ends the lease. A response that isn't 2.05 (Content) has no
-//!   sequence number, and removes the observer.
+//!   snapshot found the slot empty. The notification ends the lease. A response that isn't 2.05
+//!   (Content) has no sequence number, and removes the observer.
 //! - A lease that isn't active sends nothing. The ticket of another lease is refused.
 //! - No observer was sent a serial above its slot's. An idle shard has no retransmission to send,
-//!   and no observer with a pending notification. Unless it is called, it has none before the time
-//!   that `idle_until` returns.
+//!   and no observer with a pending notification. Unless the shard is called, it has neither before
+//!   the time that `idle_until` returns.
 //! - Before a change is made, its update is known: the slot's next serial, and the variables that
 //!   the change leaves. A store that applies the update, with an image of the program, has the
 //!   state of the changed slot.

@@ -16,16 +16,16 @@ use fc_observe::{Observer, Observers, Turn};
 /// The content of a lease's notification.
 #[derive(Drop)]
 pub enum Notification<'a> {
-    /// The response of a run of its ticket.
+    /// The response of a run of the lease's ticket.
     Ran(&'a Outcome<'a>, &'a Ticket<'a>),
-    /// 4.04: its snapshot found the slot empty.
+    /// 4.04: the lease's snapshot found the slot empty.
     Gone,
 }
 
 /// The result of a notification.
 #[derive(Drop)]
 pub enum Noted {
-    /// It is sent, and the lease is over.
+    /// The notification is sent, and the lease is over.
     Send(Emission),
     /// The lease isn't active, or its snapshot didn't find the slot empty.
     ///
@@ -40,7 +40,7 @@ pub enum Noted {
 /// The result of a notification written over the caller's emission.
 #[derive(Clone, Copy, PartialEq, Eq)]
 pub enum NoteOutcome {
-    /// It is to be sent, and the lease is over.
+    /// The notification is to be sent, and the lease is over.
     Sent,
     /// See [`Noted::Stale`]. The emission is unchanged.
     Stale,
@@ -93,8 +93,9 @@ pub(crate) fn note(
     }
 }
 
-// Ends a lease whose notification was written as `bytes`. After a 2.05 (Content) the observer
-// stays, with what it was sent; after any other code it is removed.
+// Ends a lease whose notification was written as `bytes`. After a 2.05 (Content) response the
+// observer stays, and the list records the notification; after any other code, the observer is
+// removed.
 fn end_turn(
     watch: &mut Observers,
     now: u64,

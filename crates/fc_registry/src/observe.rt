@@ -26,8 +26,8 @@ pub fn has_observe(value: u32, observe: Option<u32>) -> bool
     }
 }
 
-// Registers the client of a run that has nothing to write, or removes its entry, if its request
-// asks for that. Returns whether the client observes the slot from now on.
+// Registers the client of a run that has nothing to write, or removes the client's entry, if the
+// request asks for that. Returns whether the client observes the slot from now on.
 pub(crate) fn observe(
     watch: &mut Observers,
     now: u64,

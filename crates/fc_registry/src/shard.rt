@@ -1,6 +1,7 @@
 //! Shards of slots, each with its observers and its clock.
 //!
-//! A single-threaded server calls a shard itself, a worker while it holds the shard's lock.
+//! A single-threaded server calls a shard itself. A worker calls a shard while the worker holds the
+//! shard's lock.
 ghost use Rattle.std.specs.Prelude.{◌≡◌, ◌↔◌, IsTrue, if◌then◌else◌, ℕ, ◌/◌, ◌<◌, ◌≤◌, false, length, map, IfErr, IfOk, IfSome, OnErr, OnOk};
 ghost use Rattle.fc_registry.specs.Shards.{empty_shard};
 ghost use Rattle.fc_registry.specs.Slots.{IsOwned, slot_in, with_slot, last_serial, version_in, vars_in};
@@ -268,8 +269,8 @@ impl Shard {
     /// Installs a program.
     ///
     /// Its variables are zeros. If `initial` is `Kept` and the previous program's variables have
-    /// its size, it has those instead. At the last serial nothing changes, and the result is
-    /// `AtEnd`.
+    /// the new program's size, the new program has those instead. At the last serial nothing
+    /// changes, and the result is `AtEnd`.
     pub fn install(
         &mut self,
         slot: SlotNumber,
@@ -299,7 +300,7 @@ impl Shard {
         clear(state)
     }
 
-    /// Returns the receipt of the program in a slot, or `None` if it is empty.
+    /// Returns the receipt of the program in a slot, or `None` if the slot is empty.
     pub fn receipt(&self, slot: SlotNumber) -> Option<Receipt>
         ensures { result ≡ receipt_at (slot_in self.entry.now slot).present }
     {
@@ -320,7 +321,7 @@ impl Shard {
     /// Returns the notify serial of a slot of this shard.
     ///
     /// It is the serial of the last change that observers are notified of: an install, a removal,
-    /// or a commit whose run set the notify flag. Before any, it is the first serial.
+    /// or a commit whose run set the notify flag. Before any such change, it is the first serial.
     pub fn notify_serial(&self, slot: SlotNumber) -> u64
         ensures { result ≡ (slot_in self.entry.now slot).notify_serial }
     {
@@ -328,7 +329,7 @@ impl Shard {
         noticed_of(state)
     }
 
-    /// Returns the version of the program in a slot, or `None` if it is empty.
+    /// Returns the version of the program in a slot, or `None` if the slot is empty.
     pub fn version(&self, slot: SlotNumber) -> Option<u64>
         ensures { result ≡ version_in (slot_in self.entry.now slot).present }
     {
@@ -352,7 +353,7 @@ impl Shard {
         vars_installed(state, program, initial)
     }
 
-    /// Returns the variables of the program in a slot, or no bytes if it is empty.
+    /// Returns the variables of a slot's program, or no bytes if the slot is empty.
     pub fn vars(&self, slot: SlotNumber) -> &[u8]
         ensures { result.now ≡ vars_in (slot_in self.entry.now slot).present }
     {
@@ -404,8 +405,8 @@ impl Shard {
     /// observer.
     ///
     /// The notification is confirmable if the shard's `confirm_after` has passed since the
-    /// registration or the last confirmable one (RFC 7641, section 4.5). Then it waits for an
-    /// acknowledgement, with a timeout that `random` determines.
+    /// registration or the last confirmable one (RFC 7641, section 4.5). A confirmable notification
+    /// waits for an acknowledgement, with a timeout that `random` determines.
     ///
     /// `Stale` is tested before `Stranger`. Neither changes an observer.
     pub fn note(
@@ -468,7 +469,7 @@ impl Shard {
 
     /// Passes an Acknowledgement or a Reset message to the observers of every slot.
     ///
-    /// It is a Reset message if `reset`. It has the message ID `id`.
+    /// The message is a Reset if `reset`, and has the message ID `id`.
     pub fn signal(&mut self, endpoint: Endpoint, id: u16, reset: bool)
         ensures { self.new ≡ signalled (signal_call reset endpoint id) self.old }
     {
@@ -478,7 +479,8 @@ impl Shard {
     /// Retransmits the first notification that has timed out, or removes its observer.
     ///
     /// Notifications are in the order of their slots, and then of their observers' registrations.
-    /// The time is in milliseconds. Returns which of the two, or `Quiet` if none has timed out.
+    /// The time is in milliseconds. Returns which of the two happened, or `Quiet` if no
+    /// notification has timed out.
     pub fn tick(&mut self, now: u64) -> Ticked
         ensures answer { result ≡ ticked_in (overdue_place (at_time self.old now)) (at_time self.old now) }
         ensures after { self.new ≡ shard_after_tick (overdue_place (at_time self.old now)) (at_time self.old now) }
@@ -518,8 +520,9 @@ impl Shard {
 
     /// Returns a time before which the shard stays idle, unless it is called.
     ///
-    /// Before it no notification has timed out, and no observer has a pending one. It needn't be
-    /// the latest such time. It is in milliseconds; 2^64 - 1 means that neither is expected.
+    /// Before that time no notification has timed out, and no observer has a pending one. It
+    /// needn't be the latest such time. It is in milliseconds; 2^64 - 1 means that neither is
+    /// expected.
     pub fn idle_until(&self) -> u64
         ensures { StaysIdleUntil result self.entry.now }
     {
@@ -541,8 +544,8 @@ impl Shard {
         self.watches[place].idle_until(self.noticed_at(place))
     }
 
-    // Returns whether the shard is idle at a time. If it is, looks again whether there are
-    // observers: with none, later calls need not look at each place.
+    // Returns whether the shard is idle at a time. If it is idle, checks again whether the shard
+    // has observers. Without observers, later calls needn't look at each place.
     fn check_idle(&mut self, now: u64) -> bool
         ensures idle { result ≡ is_idle (record self.old { now = now }) }
         ensures after { self.new ≡ self.old }
@@ -559,8 +562,8 @@ impl Shard {
         true
     }
 
-    // Returns whether no notification at a place has timed out at a time, and no observer there has
-    // a pending one.
+    // Returns whether the observers at `place` are idle at `now`: none has a notification that has
+    // timed out, and none has a pending one.
     fn check_idle_at(&mut self, now: u64, place: usize) -> bool
         requires { place < 8 }
         ensures idle { result ≡ is_idle_at (record self.old { now = now }) place }
@@ -607,8 +610,8 @@ impl Shard {
     /// The ring of each slot is a chain, after any calls in any order.
     ///
     /// Its entries are the last commits of the present program since its install, or since the slot
-    /// was restored. Each begins with the variables that the one before it left. The last left the
-    /// present variables. The call does nothing: its contract states this of every shard.
+    /// was restored. Each begins with the variables that the one before it left. The last entry
+    /// left the present variables. The call does nothing: its contract states this of every shard.
     pub fn rings_are_chains(&self)
         ensures { (n : ℕ) → IsOwned self.entry.now n → IsRecord (slot_in self.entry.now n) }
     {
@@ -617,8 +620,8 @@ impl Shard {
 
     /// No observer of a slot was sent a serial above the slot's.
     ///
-    /// This holds after any calls in any order. The serial that an observer was last sent, by the
-    /// response to its registration or by a notification, is of no state that is yet to come. The
+    /// This holds after any calls in any order. The serial last sent to an observer, by the
+    /// response to its registration or by a notification, isn't that of a state yet to come. The
     /// call does nothing: its contract states this of every shard.
     pub fn no_observer_is_ahead(&self)
         ensures { (n : ℕ) → IsOwned self.entry.now n → IsSentUpTo (slot_in self.entry.now n).serial (watch_at self.entry.now (n / 8)) }
@@ -639,8 +642,8 @@ fn make_watches(alloc: Global, index: u8, confirm_after: u64) -> Result<Vec<Obse
     Ok(watches)
 }
 
-// Returns whether a slot has an observer. The clause says only that none has one if the result is
-// `false`.
+// Returns whether a slot has an observer. The contract says only that no slot has an observer if
+// the result is `false`.
 fn have_observers(watches: &[Observers]) -> bool
     ensures { AreWatched result watches.now }
 {

@@ -1,4 +1,4 @@
-//! Slots: the snapshots of their jobs, and the changes that they make.
+//! Slots: the snapshots that jobs take of them, and the changes that jobs make.
 //!
 //! A shard calls these functions on one of its slots, with the slot's observers (`watch`).
 ghost use Rattle.std.specs.Prelude.{◌≡◌, ◌+◌, ◌<◌, ◌≤◌, ◌↔◌, [], ◌∷◌, true, false, length, replicate, IfErr, IfOk, IsTrue, OnErr, OnOk};
@@ -249,8 +249,9 @@ pub(crate) fn receipt_in(slot: &SlotState) -> Option<Receipt>
     }
 }
 
-// Returns whether the ticket is of no lease, the outcome is of its program, request, variables and
-// readings, and its serial isn't above the slot's. A commit of any other is `Stranger`.
+// Returns whether the ticket isn't a lease's, the outcome is of the ticket's program, request,
+// variables and readings, and the ticket's serial isn't above the slot's. A commit of any other is
+// `Stranger`.
 fn is_own(outcome: &Outcome<'_>, ticket: &Ticket<'_>, slot: &SlotState) -> bool
     ensures own { IsTrue result ↔ IsOwn outcome.now ticket.now (as_seen slot.now) }
     ensures run { IsTrue result → outcome.now ≡ run_of ticket.now }
@@ -288,8 +289,8 @@ fn is_current(ticket: &Ticket<'_>, slot: &SlotState) -> bool
     }
 }
 
-// Returns the outcome of the commit of a ticket's run. A run that has nothing to write compares
-// nothing.
+// Returns the outcome of the commit of a ticket's run. For a run that has nothing to write, the
+// ticket and the slot aren't compared.
 fn outcome_of(outcome: &Outcome<'_>, ticket: &Ticket<'_>, slot: &SlotState) -> CommitOutcome
     requires { IsOwn outcome.now ticket.now (as_seen slot.now) }
     ensures { ComesTo ticket.now (as_seen slot.now) result }
@@ -328,8 +329,8 @@ pub(crate) fn committed(
     }
 }
 
-// Returns whether a commit of the run would write. A run that has nothing to write compares
-// nothing.
+// Returns whether a commit of the run would write. For a run that has nothing to write, the ticket
+// and the slot aren't compared.
 pub(crate) fn would_write(outcome: &Outcome<'_>, ticket: &Ticket<'_>, slot: &SlotState) -> bool
     ensures { IsTrue result ↔ WouldWrite outcome.now ticket.now (as_seen slot.now) }
 {
@@ -355,8 +356,8 @@ fn keep(
     mark(ticket, slot.serial, false, observed)
 }
 
-// Writes the variables that a run left to its slot, at the next serial, and adds the commit to the
-// ring. If the run set the notify flag, the new serial is the notify serial. Returns the mark.
+// Writes a run's final variables to its slot, at the next serial, and adds the commit to the ring.
+// If the run set the notify flag, the new serial is the notify serial. Returns the mark.
 fn write(slot: &mut SlotState, outcome: &Outcome<'_>, ticket: &Ticket<'_>) -> Mark
     requires own { IsOwn outcome.now ticket.now (as_seen slot.old) }
     requires current { IsCurrent ticket.now (as_seen slot.old) }
@@ -386,7 +387,7 @@ fn vars_after(outcome: &Outcome<'_>) -> Vars
     ensures vars { result ≡ (meaning_of outcome.now).vars }
     ensures size { length result ≡ outcome.now.program.vars_size }
 {
-    // The checker learns their greatest number of bytes from this call.
+    // From this call the checker learns the greatest number of bytes of the variables.
     let _size = outcome.program().vars_size();
     Vars::of(outcome.after())
 }

@@ -12,10 +12,10 @@ use fc_machine::Outcome;
 use fc_verify::Verified;
 use std::marker::Model;
 
-/// The data that a snapshot writes: its job's, and that of the slot.
+/// The data that a snapshot writes: data of its job, and of the slot.
 ///
-/// With the handle of the program, which is the snapshot's result, it is a ticket. It is written
-/// over the data of the last snapshot. Later installs and commits don't change it.
+/// Together with the handle of the program, which is the snapshot's result, this data is a ticket.
+/// It is written over the data of the last snapshot. Later installs and commits don't change it.
 #[derive(Drop)]
 pub struct SlotSnapshot {
     origin: Origin,
@@ -66,8 +66,8 @@ impl SlotSnapshot {
         }
     }
 
-    // Writes the data of a job, and of a slot at this serial, whose program has this version and
-    // these variables.
+    // Writes the data of a job, and of a slot with this serial and with a program of this version
+    // and these variables.
     pub(crate) fn write(
         &mut self,
         job: &Job,
@@ -114,9 +114,9 @@ fn write_request(ask: &Ask, request: &mut Request)
 
 /// A ticket: a view of a program, and of the data of a snapshot.
 ///
-/// If one snapshot gave both, it is the slot's state that the snapshot found, for a job. A commit
-/// compares its program, version, variables and serial with the slot's. Later installs and commits
-/// don't change it.
+/// If one snapshot gave both, the ticket is the slot's state that the snapshot found, for the
+/// snapshot's job. A commit compares the ticket's program, version, variables and serial with the
+/// slot's. Later installs and commits don't change the ticket.
 #[derive(Drop)]
 pub struct Ticket<'a> {
     program: &'a Verified,
@@ -249,8 +249,8 @@ pub(crate) fn is_run_of(outcome: &Outcome<'_>, ticket: &Ticket<'_>, serial: u64)
 
 /// The mark of a commit: a token that the response of its run consumes.
 ///
-/// No such response is made without its commit. Only a commit makes a mark, a mark can't be copied,
-/// and only `into_serial` consumes it.
+/// The response of a run isn't made without the run's commit. Only a commit makes a mark, a mark
+/// can't be copied, and only `into_serial` consumes it.
 #[must_use]
 pub struct Mark {
     pub(crate) origin: Origin,
@@ -269,7 +269,7 @@ impl Model for Mark {
 }
 
 impl Mark {
-    /// Returns the origin of the job whose commit made it.
+    /// Returns the origin of the job whose commit made the mark.
     pub fn origin(&self) -> Origin
         ensures { result ≡ self.now.origin }
     {

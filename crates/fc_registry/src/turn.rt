@@ -79,7 +79,8 @@ fn write_token(token: &Token, over: &mut Token)
     let _fits = over.try_extend_from_slice(token.as_slice());
 }
 
-// Sets a job's action to answering this request, which is written over an earlier one if there is.
+// Sets a job's action to answering this request; the request is written over an earlier one if
+// there is one.
 fn ask_anew(request: &Request, ask: &mut Ask)
     ensures { ask.new ≡ Run request.now }
 {

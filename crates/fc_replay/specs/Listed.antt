@@ -72,8 +72,8 @@ pub record HasData (words : List Bytes) (bytes : List ℕ) : Type 0 where
   pub part : HasPart words (codes "data") digits
   pub bytes_are : decode_of digits ≡ Ok bytes
 
--- in addition to a snapshot's job and memory, one part is `readings=hex`, with 128 hex digits; or
--- there is none, and the readings are zeros.
+-- in addition to a snapshot's job and memory, one part is `readings=hex`, with 128 hex digits.
+-- Without such a part the readings are zeros.
 pub record AreEncoded (parts : List Bytes) (readings : List ℕ) : Type 0 where
   pub digits : Bytes
   pub part : HasPart parts (codes "readings") digits
@@ -139,7 +139,7 @@ pub record SaysPolicy (parts : List Bytes) (policy : Policy) : Type 0 where
   pub managers : HasPart parts (codes "managers") networks
   pub limits : HasLimits parts (slice_split (λ b. b == comma) networks) policy
 
--- or there are two parts, and it is the default policy.
+-- the parts are a policy's, or there are two parts and the policy is the default one.
 abbrev pub HasPolicy : List Bytes → Policy → Type 0
 HasPolicy parts policy = SaysPolicy parts policy ⊎ ((length parts ≡ 2) × (policy ≡ default_policy))
 

@@ -48,7 +48,7 @@ AreEvents lines events = ⊥
 abbrev pub told_of : ℕ → Slot → List ℕ
 told_of number slot = if slot.serial == 0 then [] else line_at number slot.serial (version_in slot.present) (vars_in slot.present)
 
--- for each slot below a number, in increasing order.
+-- output for each slot below a number, in increasing order.
 abbrev pub told_below : ℕ → List Shard → List ℕ
 told_below zero shards = []
 told_below (suc n) shards = told_below n shards ++ told_of n (slot_in_shards shards n)

@@ -2,7 +2,7 @@
 //!
 //! # What is proved
 //!
-//! - Each line of a list has the form of its event, except for a first one with the server's
+//! - Each line of a list has the form of its event, except for a first line with the server's
 //!   initial state.
 //! - The events are executed in their order on one server. Exactly their emissions are printed, a
 //!   line each, and then the state of each slot that was changed.

@@ -40,7 +40,7 @@ impl<'a> Model for ListedEvent<'a> {
 }
 
 impl<'a> ListedEvent<'a> {
-    /// Reads a line, whose words are separated by single spaces.
+    /// Reads a line; its words are separated by single spaces.
     ///
     /// # Errors
     /// Returns `Bad` if the line is no event or its data aren't hex digits, and `NoMemory` if
@@ -57,7 +57,7 @@ impl<'a> ListedEvent<'a> {
         Ok(listed)
     }
 
-    /// Returns the event of the line, or `None` if the line is none.
+    /// Returns the event of the line, or `None` if the line is no event.
     pub fn event(&self) -> Option<Event<'_>>
         ensures { IfSome result (AreOfEvent self.now.words) }
     {
@@ -77,9 +77,9 @@ impl<'a> ListedEvent<'a> {
 /// Parses a server's initial state from `Begin serial=S id=I`, in any order.
 ///
 /// Three more parts may give its policy: `managers=A.B.C.D/BITS`, up to four of these separated by
-/// commas, `exchanges=N` and `share=N`. A fourth one may give the seconds until a notification is
-/// confirmable: `confirm-after=N`, by default 86,400. Returns `None` if the line has none of these
-/// forms.
+/// commas, `exchanges=N` and `share=N`. A fourth such part may give the seconds until a
+/// notification is confirmable: `confirm-after=N`, by default 86,400. Returns `None` if the line
+/// has none of these forms.
 ///
 /// # Errors
 /// Returns `AllocError` if memory can't be allocated.
@@ -93,7 +93,7 @@ pub fn begin_in(alloc: Global, line: &[u8]) -> Result<Option<Begin>, AllocError>
     }
 }
 
-// Returns the initial state of a line's words, or `None` if they are none. See `begin_in`.
+// Returns the initial state of a line's words, or `None` if the words give none. See `begin_in`.
 fn begin_of(alloc: Global, words: &[&str]) -> Result<Option<Begin>, AllocError>
     ensures { IfOk result (λ found. IfSome found (SaysBegin (texts words.now))) }
 {
@@ -122,8 +122,8 @@ fn begin_with(name: &str, parts: &[&str], policy: Policy) -> Option<Begin>
     }
 }
 
-// Returns the policy: the default if there are two parts, and that of the other three or four if
-// there are five or six. It is `None` for any other parts.
+// Returns the default policy if there are two parts, and the policy of the other three or four
+// parts if there are five or six. Returns `None` for any other parts.
 fn policy_of(alloc: Global, parts: &[&str]) -> Result<Option<Policy>, AllocError>
     ensures { IfOk result (λ found. IfSome found (HasPolicy (texts parts.now))) }
 {
@@ -137,7 +137,7 @@ fn policy_of(alloc: Global, parts: &[&str]) -> Result<Option<Policy>, AllocError
 }
 
 // Returns the seconds after which a notification is confirmable: the default if there are five
-// parts, and the sixth part's if there are six. They are `None` for any other parts.
+// parts, and the sixth part's if there are six. Returns `None` for any other parts.
 fn seconds(parts: &[&str]) -> Option<u64>
     ensures { IfSome result (HasSeconds (texts parts.now)) }
 {

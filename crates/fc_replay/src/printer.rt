@@ -49,7 +49,7 @@ pub fn print_emitted<W: Write>(out: &mut W, emitted: &Option<Emission>) -> io::R
     }
 }
 
-/// Prints a line for a slot that was changed; nothing for one whose serial is 0.
+/// Prints a line for a slot that was changed; nothing for a slot at serial 0.
 ///
 /// # Errors
 /// Returns the writer's error, or that memory for the variables' digits couldn't be allocated.

@@ -24,7 +24,7 @@ use std::io::{Read, Write};
 ///
 /// The server begins with empty slots at serial 0. A first line `Begin serial=S id=I` gives another
 /// serial, 0 to 2^63 - 1, and the first message ID that the server draws. The output has a line for
-/// each event, `none` or its emission as `peer hex`, and then one for each slot whose serial is
+/// each event, `none` or its emission as `peer hex`, and then a line for each slot whose serial is
 /// above 0. The result is:
 ///
 /// - `Done` if everything is printed;
@@ -44,8 +44,8 @@ pub fn replay<R: Read, W: Write, E: Write>(
     }
 }
 
-// Replays the list in `input`, and prints the results to `out`. The error is the reason why that
-// stopped.
+// Replays the list in `input`, and prints the results to `out`. The error is the reason why the
+// replay stopped.
 fn replay_list<R: Read, W: Write>(alloc: Global, input: &mut R, out: &mut W) -> Result<(), Stop>
     ensures { OnOk result (IsReplayed (R.remaining input.old) (W.contents out.old) (W.contents out.new)) }
 {
@@ -135,7 +135,7 @@ fn print_emissions<W: Write>(out: &mut W, emissions: &[Option<Emission>]) -> Res
 }
 
 // Returns the lines of a list, each of which is an event. They follow `before` lines. The error is
-// the number of the first line that is none, or that memory can't be allocated.
+// the number of the first line that is no event, or that memory can't be allocated.
 fn lines(alloc: Global, list: &[u8], before: u64) -> Result<Vec<ListedEvent<'_>>, Stop>
     ensures { IfOk result (λ v. map (λ l. l.words) v.items ≡ map line_words (listed_lines list.now)) }
 {

@@ -30,8 +30,8 @@ sent_in_steps (step ∷ steps) = sent_in_steps steps ++ option_to_list (sent_in_
 
 -- ---- when it ends
 
--- no notification of a shard has timed out any more; no observer of it has a pending notification
--- any more.
+-- no notification of a shard has timed out any more; or no observer of the shard has a pending
+-- notification any more.
 pub data Finding : Type 0 where
   NothingOverdue : (shard : ℕ) → Finding
   NobodyDue : (shard : ℕ) → Finding
@@ -67,14 +67,15 @@ is_starved other = false
 abbrev pub most_steps : ℕ
 most_steps = 8192
 
--- each step looks for the next finding, and no step follows one that was starved.
+-- each step looks for the next finding, and no step follows a starved step.
 abbrev pub AreStepsInOrder : List FlushingStep → Type 0
 AreStepsInOrder [] = Unit {0}
 AreStepsInOrder (step ∷ steps) =
     AreStepsInOrder steps × (list_any is_starved steps ≡ false) × ((rest : List Finding) × (found_in_steps steps ++ (sought_in_step step ∷ rest) ≡ found_below 8))
 
--- in order, until no shard has a notification that has timed out or an observer with a pending one;
--- or no message ID was available; or the greatest number of steps was taken.
+-- the steps are in order, and end in one of three ways. No shard has a notification that has timed
+-- out or an observer with a pending one; no message ID was available; or the greatest number of
+-- steps was taken.
 abbrev pub AreFlushed : List FlushingStep → Type 0
 AreFlushed steps = AreStepsInOrder steps × ((found_in_steps steps ≡ found_below 8) ⊎ ((list_any is_starved steps ≡ true) ⊎ (most_steps ≤ length steps)))
 
@@ -125,7 +126,7 @@ module _ {S : Type 0} (calls : IngressCalls S) where
 
 -- ---- how long each shard is idle
 
--- times until which the first shards are idle, the last shard's first.
+-- times until which the first shards are idle; the list begins with the last shard's time.
 abbrev pub AreTold : (ℕ → ℕ → Type 0) → List ℕ → Type 0
 AreTold StaysIdle [] = ⊤
 AreTold StaysIdle (until ∷ before) = StaysIdle (length before) until × AreTold StaysIdle before

@@ -29,8 +29,8 @@ use Rattle.fc_server.specs.Steps.{shard_turn}
 abbrev pub with_tasks : ServerState → List Task → Parts
 with_tasks s tasks = record { front = s.front; shards = s.shards; words = s.words; tasks = tasks }
 
--- this history leaves the server with these jobs: each event emitted only permitted datagrams, each
--- snapshot that found a program has a meaning, and the front, slots, head words and jobs are those
+-- this history leaves the server with these jobs. Each event emitted only permitted datagrams, and
+-- each snapshot that found a program has a meaning. The front, slots, head words and jobs are those
 -- of the history.
 pub record Serves (h : History) (s : ServerState) (tasks : List Task) : Type 0 where
   pub legal : IsLegal h
@@ -45,7 +45,7 @@ abbrev pub peeked_below : ℕ → ℕ → History → History
 peeked_below k zero h = h
 peeked_below k (suc n) h = next (peeked_below k n h) (Peek k n) None
 
--- events of a run, whose snapshot gets these readings.
+-- events of a run; the run's snapshot gets these readings.
 abbrev pub run_through : List ℕ → ℕ → Bool → ℕ → Option Emission → History → History
 run_through readings k memory now out h = next (next (next (next h (Take k memory readings) None) (Commit k now) None) (Raise k) None) (Answer k now) out
 
@@ -81,19 +81,19 @@ pub record Signalled (h : History) (to : Endpoint) (id : ℕ) (reset : Bool) (ne
   pub tasks : List Task
   pub serves : Serves (signalled_below to id reset 8 h) new tasks
 
--- for every history so far.
+-- the same, for every history so far.
 abbrev pub IsSignalled : Endpoint → ℕ → Bool → ServerState → ServerState → Type 0
 IsSignalled to id reset old new = (h : History) → (tasks : List Task) → Serves h old tasks → Serves (signalled_below to id reset 8 h) new tasks
 
--- a datagram that produces a job: it is delivered, and then the job runs; one that is a signal: it
--- is delivered, and then each shard gets the signal; any other datagram: it is delivered.
+-- a datagram that produces a job is delivered, and then the job runs. A signal is delivered, and
+-- then each shard gets the signal. Any other datagram is delivered.
 abbrev pub Handled : List ℕ → History → ℕ → ℕ → Endpoint → Bor (List ℕ) → Delivered → ServerState → Option Emission → Type 0
 Handled readings h k now to bytes (Brings job) new out =
     Worked readings (next h (Deliver now to bytes) None) k (first_stage job) job.origin.slot now new out
 Handled readings h k now to bytes (Signals id reset) new out = (out ≡ None) × Signalled (next h (Deliver now to bytes) None) to id reset new
 Handled readings h k now to bytes other new out = Delivers h (Deliver now to bytes) new out
 
--- for every history so far; the job gets the next number.
+-- the same, for every history so far; the job gets the next number.
 abbrev pub Handles : List ℕ → ℕ → Endpoint → Bor (List ℕ) → Delivered → ServerState → ServerState → Option Emission → Type 0
 Handles readings now to bytes brings old new out = (h : History) → (tasks : List Task) → Serves h old tasks → Handled readings h (length tasks) now to bytes brings new out
 
@@ -126,8 +126,8 @@ abbrev pub TurnGiven : Bool → List ℕ → History → ℕ → ℕ → ℕ →
 TurnGiven false readings h k now random new out = (out ≡ None) × Reaches h new
 TurnGiven true readings h k now random new out = Turned readings h k now random new out
 
--- it granted one exactly if it has an observer with a pending notification; for every history so
--- far, the lease gets the next number.
+-- the shard granted a lease exactly if it has an observer with a pending notification. For every
+-- history so far, the lease gets the next number.
 pub record AsksForTurn (readings : List ℕ) (shard now random : ℕ) (old new : ServerState) (given : Bool) (out : Option Emission) : Type 0 where
   pub is_due : given ≡ is_some (shard_turn now (shard_at old.shards shard))
   pub asked : (h : History) (tasks : List Task) → Serves h old tasks → TurnGiven given readings (next h (Due shard now) None) (length tasks) now random new out
@@ -145,7 +145,7 @@ abbrev pub WorksOff : List ℕ → Stage → ℕ → ServerState → Task → Se
 WorksOff readings stage now old task new out = (h : History) → (rest : List Task) → Serves h old (rest ++ task ∷ [])
     → Worked readings h (length rest) stage task.job.origin.slot now new out
 
--- for any readings: no snapshot is taken.
+-- the same for any readings, since no snapshot is taken.
 abbrev pub WorksOffUnread : Stage → ℕ → ServerState → Task → ServerState → Option Emission → Type 0
 WorksOffUnread stage now old task new out = (readings : List ℕ) → WorksOff readings stage now old task new out
 
@@ -160,7 +160,8 @@ pub record IsReachable (s : ServerState) : Type 0 where
   pub tasks : List Task
   pub serves : Serves history s tasks
 
--- a lease that needs a snapshot and is out in its slot's shard, whose clock has reached this time.
+-- a lease that needs a snapshot and is out in its slot's shard; that shard's clock has reached this
+-- time.
 pub record IsOutToTake (now : ℕ) (s : ServerState) (task : Task) : Type 0 where
   pub turn : Turn
   pub stage : task.stage ≡ ToTell turn turns.ToTake

@@ -61,7 +61,8 @@ pub record Does (e : Event) (old : ServerState) (task : Task) (new : ServerState
   pub safe : AllSafe (row e (inputs_in old task)).changes
   pub emits : emitted ≡ sends e (inputs_in old task)
 
--- the front after an answer with this content, if there is one, that sent this datagram.
+-- the front after an answer with this content that sent this datagram; without a content the front
+-- is unchanged.
 abbrev pub front_after : Option Content → Job → Option Emission → FrontState → ℕ → FrontState
 front_after None job emitted f now = f
 front_after (Some content) job emitted f now = after_answered job emitted (advanced f now)

@@ -96,7 +96,7 @@ shard_by (Signals i to id reset) shards = shard_changed (nat_lt i 8) i (signalle
 shard_by (Ticks i now) shards = shard_changed (nat_lt i 8) i (shard_ticked now) shards
 shard_by Calm shards = shards
 
--- jobs that it produces.
+-- jobs that an event produces at its own shard.
 abbrev pub turns_at : AtShard → List Shard → List Task
 turns_at (AsksTurn i now) shards = map new_task (option_to_list (turn_if (nat_lt i 8) (shard_turn now (shard_at shards i))))
 turns_at other shards = []

@@ -136,7 +136,7 @@ impl Engine {
     /// Advances a shard, 0 to 7, to `now` in milliseconds: the event `ShardTick`.
     ///
     /// The shard retransmits the first notification that has timed out, or removes its observer.
-    /// Returns which of these, or that no notification has timed out.
+    /// Returns which of the two happened, or that no notification has timed out.
     pub fn resend(&mut self, shard: u8, now: u64) -> Ticked
         requires { shard < 8 }
         ensures told { result ≡ shard_told now (shard_at self.old.shards shard) }
@@ -148,8 +148,8 @@ impl Engine {
     /// Advances a shard, 0 to 7, to `now` in milliseconds if it is idle then.
     ///
     /// It is idle if no notification has timed out by then and no observer has a pending
-    /// notification. Then the effect is the event `ShardTick`, after which `Due` would do nothing.
-    /// Returns whether the shard was advanced.
+    /// notification. If it is idle, the effect is the event `ShardTick`, after which `Due` would do
+    /// nothing. Returns whether the shard was advanced.
     pub fn advance_if_idle(&mut self, shard: u8, now: u64) -> bool
         requires { shard < 8 }
         ensures idle { result ≡ is_idle (at_time (shard_at self.old.shards shard) now) }
@@ -160,8 +160,8 @@ impl Engine {
 
     /// Returns a time before which a shard, 0 to 7, is idle if nothing is called.
     ///
-    /// Before it no notification times out and no observer has a pending one. It needn't be the
-    /// latest such time. It is in milliseconds; 2^64 - 1 means that neither is expected.
+    /// Before that time no notification times out and no observer has a pending one. It needn't be
+    /// the latest such time. It is in milliseconds; 2^64 - 1 means that neither is expected.
     pub fn idle_until(&self, shard: u8) -> u64
         requires { shard < 8 }
         ensures { StaysIdleUntil result (shard_at self.now.shards shard) }
@@ -208,7 +208,8 @@ pub enum NotifyOutcome {
     /// A lease was granted, and nothing is written.
     ///
     /// A worker has the lease, or has sent its notification; or the lease was released, since the
-    /// snapshot needed memory that couldn't be allocated. The snapshot of an empty slot needs none.
+    /// snapshot needed memory that couldn't be allocated. The snapshot of an empty slot needs no
+    /// memory.
     Unsent,
     /// A lease was granted and released, since no message ID was available.
     Starved,
@@ -226,8 +227,8 @@ fn signal(server: &mut Server, endpoint: Endpoint, id: u16, reset: bool)
     }
 }
 
-// Runs a lease that a shard has just granted, and releases it unless its notification has ended it.
-// The datagram to send, if there is one, is written over `emission`.
+// Runs a lease that a shard has just granted, and releases the lease unless the notification has
+// ended it. The datagram to send, if there is one, is written over `emission`.
 fn tell(
     server: &mut Server,
     now: u64,
@@ -270,8 +271,8 @@ fn told(sent: bool, starved: bool) -> NotifyOutcome
 }
 
 // Runs the job that the front has just produced, by its first stage. Returns whether there is a
-// datagram to send, which is written over `reply`. So does each of the functions below, one for
-// each first stage.
+// datagram to send, which is written over `reply`. The functions below, one for each first stage,
+// return the same.
 fn work_off(
     server: &mut Server,
     alloc: Global,
@@ -361,7 +362,7 @@ fn remove(server: &mut Server, now: u64, task: &mut Task, reply: &mut Emission) 
     server.respond(now, task, reply)
 }
 
-// Answers a job with the receipt of the program in its slot.
+// Answers a job with the receipt of its slot's program, or with 4.04 if the slot is empty.
 fn describe(server: &mut Server, now: u64, task: &mut Task, reply: &mut Emission) -> bool
     requires { IsBegun server.old task.old }
     ensures works { WorksOffUnread Stage.ToDescribe now server.old task.old server.new (emission_if result reply.new) }

@@ -19,13 +19,13 @@ use fc_registry::SHARDS;
 /// More steps than there can be at one time.
 ///
 /// Each of 32 observers of each of 64 slots gets at most one retransmission and one notification.
-/// Each shard reports once for each of these two that nothing is left.
+/// For each of the two, each shard reports once that nothing is left.
 pub const STEPS: u16 = 8192;
 
 /// The position of a server in the remaining work at one time.
 ///
 /// At each shard, notifications that have timed out are retransmitted first, until there is none.
-/// Then its observers are notified, until none has a pending notification.
+/// Then the shard's observers are notified, until none has a pending notification.
 #[derive(Drop)]
 pub struct Flushing {
     shard: u8,
@@ -50,7 +50,7 @@ impl Flushing {
         flushing
     }
 
-    /// Returns whether nothing is left.
+    /// Returns whether no work is left.
     pub fn is_at_end(&self) -> bool
         ensures { IsTrue result ↔ 8 ≤ self.now.shard }
     {
@@ -60,7 +60,7 @@ impl Flushing {
     /// Takes a step at the current shard.
     ///
     /// The datagram to send, if there is one, is written over `emission`. Returns whether there is
-    /// one. If no message ID is available, nothing is left.
+    /// one. If no message ID is available, no work is left.
     #[inline(never)]
     pub fn step<N: Ingress>(&mut self, ingress: &mut N, now: u64, emission: &mut Emission) -> bool
         requires { self.old.shard < 8 }

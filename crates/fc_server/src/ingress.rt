@@ -47,8 +47,8 @@ pub trait Ingress {
 
     /// Returns a time before which a shard, 0 to 7, is idle without a datagram.
     ///
-    /// Before it no notification times out and no observer has a pending one. It needn't be the
-    /// latest such time. It is in milliseconds; 2^64 - 1 means that neither is expected.
+    /// Before that time no notification times out and no observer has a pending one. It needn't be
+    /// the latest such time. It is in milliseconds; 2^64 - 1 means that neither is expected.
     fn idle_until(&self, shard: u8) -> u64
         ensures { calls.stays_idle shard self.now result };
 

@@ -47,8 +47,8 @@
 //!   a slot that has a program.
 //! - Before the time that a shard returns, no notification times out there and no observer has a
 //!   pending one, unless the server is called.
-//! - **Flushing** goes over the shards in order: at each, first until no notification has timed
-//!   out, then until no observer has a pending one. At its end each shard was found so, or no
+//! - **Flushing** goes over the shards in order. It stays at each, first until no notification has
+//!   timed out, then until no observer has a pending one. At its end each shard was found so, or no
 //!   message ID was available. The time that `flush::idle_until` returns is the earliest of those
 //!   that the shards return.
 //!

@@ -136,7 +136,7 @@ impl Server {
     /// Advances a shard to `now`, in milliseconds.
     ///
     /// The shard retransmits the first notification that has timed out, or removes its observer.
-    /// Returns which of these, or that no notification has timed out.
+    /// Returns which of the two happened, or that no notification has timed out.
     pub fn tick_shard(&mut self, shard: u8, now: u64) -> Ticked
         requires { shard < length self.old.shards }
         ensures told { result ≡ shard_told now (shard_at self.old.shards shard) }
@@ -165,8 +165,8 @@ impl Server {
 
     /// Returns a time before which a shard is idle unless the server is called.
     ///
-    /// Before it no notification times out and no observer has a pending one. It needn't be the
-    /// latest such time. It is in milliseconds; 2^64 - 1 means that neither is expected.
+    /// Before that time no notification times out and no observer has a pending one. It needn't be
+    /// the latest such time. It is in milliseconds; 2^64 - 1 means that neither is expected.
     pub fn idle_until(&self, shard: u8) -> u64
         requires { shard < length self.now.shards }
         ensures { StaysIdleUntil result (shard_at self.now.shards shard) }
@@ -279,7 +279,8 @@ impl Server {
     }
 
     // Takes a snapshot of a task's slot with these readings. If `memory` is false, records that
-    // memory couldn't be allocated. The error is that it couldn't be although `memory` is true.
+    // memory couldn't be allocated. The error is that memory couldn't be allocated although
+    // `memory` is true.
     fn take_if(
         &mut self,
         memory: bool,
@@ -323,7 +324,8 @@ impl Server {
     }
 
     // Verifies a task's image and installs the program. If `memory` is false, records that memory
-    // couldn't be allocated. The error is that it couldn't be although `memory` is true.
+    // couldn't be allocated. The error is that memory couldn't be allocated although `memory` is
+    // true.
     fn install_if(&mut self, alloc: Global, memory: bool, task: &mut Task) -> Result<(), AllocError>
         requires { AtWork self.old task.old }
         ensures { OnOk result ((k : ℕ) → Does (Event.Install k memory) self.old task.old self.new task.new None) }

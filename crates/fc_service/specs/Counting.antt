@@ -8,7 +8,7 @@ use Rattle.fc_service.specs.declared.replies.Replies.{Replies}
 abbrev pub no_replies : Replies
 no_replies = record { sent = 0; failed = 0 }
 
--- the replies of both; each count stops at its maximum.
+-- the sums of two counts of replies; each count stops at its maximum.
 abbrev pub both_replies : Replies → Replies → Replies
 both_replies a b = record { sent = saturated (a.sent + b.sent); failed = saturated (a.failed + b.failed) }
 

@@ -21,7 +21,7 @@ texts_of f = texts_by (option_map raw_values (matched_of f (codes "every")))
 abbrev pub colon : ℕ
 colon = 58
 
--- a period in milliseconds, from 1 to those of a day, and a slot, 0 to 63, such as `1000:7`.
+-- a period in milliseconds, from 1 ms to a day, and a slot, 0 to 63, such as `1000:7`.
 pub record IsTimerText (text : List ℕ) (t : Timer) : Type 0 where
   pub period : List ℕ
   pub digits : List ℕ
@@ -41,13 +41,13 @@ pub record IsNoTimerText (text : List ℕ) : Type 0 where
 abbrev pub AreTimers : List (List ℕ) → List Timer → Type 0
 AreTimers texts ts = AllZip IsTimerText texts ts
 
--- the most requests of a timer that are held at a time, if each comes at its beat: each for 247,000
--- ms.
+-- the most requests of a timer that are held at a time, if each comes at its beat. Each is held for
+-- 247,000 ms.
 abbrev pub held_by : Timer → ℕ
 held_by t = 247000 / t.every + 1
 
--- the timer of a text is the new last one, and the exchanges that its requests hold are subtracted
--- from those left.
+-- the timer of a text is appended, and the exchanges that its requests hold are subtracted from
+-- those left.
 pub record Pushes (text : List ℕ) (left : ℕ) (old new : List Timer) (less : ℕ) : Type 0 where
   pub timer : Timer
   pub is : IsTimerText text timer
@@ -58,21 +58,22 @@ pub record Pushes (text : List ℕ) (left : ℕ) (old new : List Timer) (less : 
 abbrev pub timers_hold : List Timer → ℕ
 timers_hold ts = sum_by held_by ts
 
--- the most exchanges that they may hold: half of all, and no more than the share of an address.
+-- the most exchanges that the requests of timers may hold: half of all, and no more than the share
+-- of an address.
 abbrev pub most_held : Limits → ℕ
 most_held limits = min (limits.exchanges / 2) limits.share
 
 -- ---- which texts are refused
 
--- a text is refused: it is that of no timer; or the requests of its timer hold more exchanges than
--- are left of this many; or memory couldn't be allocated.
+-- a text is refused. It is that of no timer, or the requests of its timer hold more exchanges than
+-- are left of this many, or memory couldn't be allocated.
 abbrev pub IsRefusedBy : (text : List ℕ) (left most : ℕ) → BadTimer → Type 0
 IsRefusedBy text left most Form = IsNoTimerText text
 IsRefusedBy text left most (TooMany n) = (n ≡ most) × (t : Timer) × IsTimerText text t × left < held_by t
 IsRefusedBy text left most (Memory refused) = ⊤
 
--- texts are refused by the error of the first that is refused: those before it are the texts of
--- timers, whose requests hold the rest of the exchanges.
+-- texts are refused by the error of the first text that is refused. The texts before it are those
+-- of timers, whose requests hold the rest of the exchanges.
 pub record AreRefusedBy (texts : List (List ℕ)) (most : ℕ) (error : BadTimer) : Type 0 where
   pub before : List (List ℕ)
   pub text : List ℕ

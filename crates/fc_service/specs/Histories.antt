@@ -29,9 +29,9 @@ arrived_by (Deliver now from bytes) = record { now = now; came = Some (record { 
 arrived_by (Tick now) = record { now = now; came = None } ∷ []
 arrived_by other = []
 
--- these are events of a server from its initial state, and each emitted a permitted emission. They
--- leave this server. Exactly these datagrams were delivered, and time passed if none came, each at
--- its time. These are the emissions, the oldest first.
+-- there are events of a server from its initial state, each with a permitted emission. They leave
+-- this server. Exactly these datagrams were delivered, and time passed if none came, each at its
+-- time. These are the emissions, the oldest first.
 pub record IsOneHistory (begin : Begin) (arrived : List Arrival) (emitted : List Emission) (s : ServerState) : Type 0 where
   pub entries : List Entry
   pub tasks : List Task

@@ -12,11 +12,11 @@ use Rattle.fc_service.specs.declared.logging.LogOptions.{LogOptions}
 abbrev pub log_texts : Found → List (List ℕ)
 log_texts f = texts_by (option_map raw_values (matched_of f (codes "log")))
 
--- one of these texts is this one.
+-- one of these texts is `text`.
 abbrev pub has_text : List (List ℕ) → List ℕ → Bool
 has_text texts text = list_any (λ t. bytes_eq t text) texts
 
--- a period of 1 to 86,400 seconds, as `report:60`; in milliseconds.
+-- the text of a period of 1 to 86,400 seconds, as `report:60`; the period is in milliseconds.
 pub record IsReportText (text : List ℕ) (period : ℕ) : Type 0 where
   pub digits : List ℕ
   pub seconds : ℕ
@@ -26,7 +26,7 @@ pub record IsReportText (text : List ℕ) (period : ℕ) : Type 0 where
   pub most : seconds ≤ 86400
   pub period_is : period ≡ 1000 * seconds
 
--- a text is about other records, which leaves the period as it is, or it gives the period.
+-- a text is about other records, and the period stays as it is; or the text gives the period.
 abbrev pub IsPeriodAfter : List ℕ → Option ℕ → Option ℕ → Type 0
 IsPeriodAfter text before after =
     (((text ≡ codes "off") ⊎ ((text ≡ codes "info") ⊎ (text ≡ codes "changes"))) × (after ≡ before)) ⊎ ((period : ℕ) × IsReportText text period × (after ≡ Some period))

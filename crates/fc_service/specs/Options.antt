@@ -9,7 +9,7 @@ use Rattle.fc_service.specs.Logs.{AreLogsIn}
 use Rattle.fc_service.specs.Policies.{IsPolicyIn}
 use Rattle.fc_service.specs.declared.options.ServeOptions.{ServeOptions}
 
--- an option has a value, which is the decimal number.
+-- an option has a value, and the value is this number in decimal.
 abbrev pub HasNumber : Option (List ℕ) → ℕ → Type 0
 HasNumber None n = ⊥
 HasNumber (Some text) n = IsNumber text n

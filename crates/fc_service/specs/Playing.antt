@@ -40,7 +40,7 @@ pub record PlayedLine : Type 0 where
   pub sent : Option Emission
   pub steps : List FlushingStep
 
--- the text that it printed.
+-- the text that a played line printed.
 abbrev pub output_by : PlayedLine → List ℕ
 output_by p = output_of p.sent ++ printed_steps p.steps
 
@@ -56,12 +56,12 @@ time_of (Device now readings) = now
 
 -- ---- the reader
 
--- a text is the bytes before the first line feed of those that a reader had, if they are known; it
--- and the line feed were read.
+-- a text is the bytes that a reader had before the first line feed, if the reader's bytes are
+-- known. The text and the line feed were read.
 abbrev pub IsNextText : List ℕ → Option (List ℕ) → Option (List ℕ) → Type 0
 IsNextText text had left = IfSome had (λ bytes. (0 < length bytes) × (text ≡ first_piece 10 bytes)) × DropsThrough had left 10
 
--- the texts of the lines are those that a reader had, up to the bytes that it has left.
+-- the texts of the lines are those that a reader had, up to the bytes that the reader has left.
 abbrev pub AreRead : List PlayedLine → Option (List ℕ) → Option (List ℕ) → Type 0
 AreRead [] had left = left ≡ had
 AreRead (p ∷ ps) had left = (mid : Option (List ℕ)) × AreRead ps had mid × IsNextText p.text mid left
@@ -79,8 +79,8 @@ module _ {S : Type 0} (Hands : List ℕ → S → S → Type 0) (calls : Ingress
   IsCarriedOutBy (Tick now) old sent new = calls.passes now old new × (sent ≡ None)
   IsCarriedOutBy (Device now readings) old sent new = calls.passes now old new × (sent ≡ None)
 
-  -- the text has the meaning of the line, which was executed. Then notifications that had timed out
-  -- were retransmitted, and observers were notified, until no notification was left.
+  -- the text has the meaning of the line, and the line was executed. Then notifications that had
+  -- timed out were retransmitted, and observers were notified, until no notification was left.
   pub record IsPlayedBy (p : PlayedLine) (old new : S) : Type 0 where
     pub says : IsLine p.text p.line
     pub handed : S
@@ -112,8 +112,8 @@ module _ {S : Type 0} (Hands : List ℕ → S → S → Type 0) (calls : Ingress
 
 -- ---- a server on one thread
 
--- all lines of a reader were played on one thread, on a server with this initial state, whose jobs
--- first got zeros.
+-- all lines of a reader were played on one thread, on a server with this initial state; the
+-- server's jobs first got zeros.
 pub record IsPlayedOut (begin : Begin) (had before after : Option (List ℕ)) : Type 0 where
   pub first : SingleThread
   pub last : SingleThread
@@ -143,8 +143,8 @@ pub record IsFedByLines {S : Type 0} (calls : IngressCalls S) (had : Option (Lis
   pub played : HasPlayed (λ readings old new. new ≡ old) (waited_calls calls) first last had left before after
   pub end : IsAtEnd left
 
--- all lines of a reader were played in this way by a new dispatcher with this number of workers,
--- whose server has this initial state. It has sent the emissions of its jobs, and the
+-- all lines of a reader were played in this way by a new dispatcher with this number of workers;
+-- the dispatcher's server has this initial state. It has sent the emissions of its jobs, and the
 -- readings of its device are those of the lines; nothing is known of either. No change is recorded.
 abbrev pub IsPlayedBeside : Begin → Offload → ℕ → Option (List ℕ) → Replies → Type 0
 IsPlayedBeside begin offload workers had replies =

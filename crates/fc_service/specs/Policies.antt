@@ -6,7 +6,7 @@ use Rattle.fc_core.specs.declared.policy.Policy.{Policy}
 use Rattle.fc_lines.specs.Fields.{IsNoNumber, IsNumber}
 use Rattle.fc_lines.specs.Policies.{IsPolicyOf}
 
--- the decimal number of an option's value, or this one if the option isn't given.
+-- the decimal number of an option's value, or the default if the option isn't given.
 abbrev pub IsValueOr : ℕ → Option (List ℕ) → ℕ → Type 0
 IsValueOr default None n = n ≡ default
 IsValueOr default (Some text) n = IsNumber text n
@@ -28,6 +28,6 @@ pub record IsPolicyIn (f : Found) (p : Policy) : Type 0 where
   pub confirm_after : IsValueOr 86400 (first_value f (codes "confirm-after")) seconds
   pub policy : IsPolicyOf texts p.limits.exchanges p.limits.share seconds p
 
--- they are the values of no policy whose share is below 2^64, as each `usize` is.
+-- the options' values are those of no policy whose share is below 2^64, as each `usize` is.
 pub record IsNoPolicyIn (f : Found) : Type 0 where
   pub none : (p : Policy) → p.limits.share < 2 ^ 64 → IsPolicyIn f p → ⊥

@@ -95,14 +95,15 @@ module _ {T : Type 0} (s : WorkerView T) where
     pub drives : Drives pooled_calls driver first last given
     pub own_is : own ≡ last.done.share
 
-  -- the driver fed it in this way, and the workers of its channel have these shares in the end.
+  -- the driver fed the dispatcher in this way, and the workers of its channel have these shares in
+  -- the end.
   pub record IsFed {F X : Type 0} (Drives : IngressCalls (PooledIngress T) → F → PooledIngress T → PooledIngress T → X → Type 0) (offload : Offload) (driver : F) (given : X) (own : Share T) (shares : List (Share T)) : Type 0 where
     pub channel : Channel
     pub fed : DrivesTo Drives channel offload driver given own
     pub shares_are : AreSharesAt channel shares
 
-  -- the driver fed it in this way, with this number of workers. The replies are those of the
-  -- dispatcher's own jobs and of the workers'.
+  -- the driver fed the dispatcher in this way, with this number of workers. The replies are those
+  -- of the dispatcher's own jobs and of the workers'.
   pub record IsFedBeside {F X : Type 0} (Drives : IngressCalls (PooledIngress T) → F → PooledIngress T → PooledIngress T → X → Type 0) (offload : Offload) (workers : ℕ) (driver : F) (given : X) (replies : Replies) : Type 0 where
     pub own : Share T
     pub shares : List (Share T)

@@ -31,8 +31,8 @@ module _ {S : Type 0} (Reported : Report → CallLog → CallLog → Type 0) (ca
   abbrev pub ReportsIfDue : ℕ → Reporting S → Reporting S → Type 0
   ReportsIfDue now old new = MatchBool (nat_lt now old.due) (new ≡ old) (MakesReport now old new)
 
-  -- the calls of a server, each counted by its result. A report is made if it is due when a
-  -- datagram comes, or when time passes, before that. A server is idle for no longer than until its
+  -- the calls of a server, each counted by its result. If a report is due when a datagram comes, or
+  -- when time passes, the report is made before that. A server is idle for no longer than until its
   -- next report is due.
   abbrev pub reported_calls : IngressCalls (Reporting S)
   reported_calls = record {

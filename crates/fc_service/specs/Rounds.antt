@@ -62,18 +62,19 @@ sendings_in (r ∷ rs) = sendings_in rs ++ r.sendings
 
 -- ---- how long a receive waits, by the times until which the shards are idle
 
--- how long a receive waits, from now until a time: at least 100 ms, and without limit if that isn't
--- a time.
+-- how long a receive waits, from now until a time: at least 100 ms, and without limit if the time
+-- is 2^64 - 1.
 abbrev pub wait_until : ℕ → ℕ → Option ℕ
 wait_until now time = if nat_lt time 18446744073709551615 then Some (max (time - now) 100) else None
 
--- after a round that received a datagram, the next receive waits 100 ms; after an idle round, until
--- the earliest time at which there may be work.
+-- after a round that received a datagram, the next receive waits 100 ms. After an idle round, it
+-- waits until the earliest time at which there may be work.
 abbrev pub EndsInTime : (ℕ → ℕ → Type 0) → ℕ → Bool → Option ℕ → Type 0
 EndsInTime StaysIdle now false wait = wait ≡ Some 100
 EndsInTime StaysIdle now true wait = (time : ℕ) × AreIdleUntil StaysIdle time × (wait ≡ wait_until now time)
 
--- how long the first receive waits, and the one after rounds that left a server in this state.
+-- how long the first receive waits, and how long a receive waits after rounds that left a server in
+-- this state.
 abbrev pub WaitsAfter : {S : Type 0} → IngressCalls S → List Round → S → Option ℕ → Type 0
 WaitsAfter calls [] left wait = wait ≡ Some 100
 WaitsAfter calls (r ∷ rs) left wait = EndsInTime (λ shard until. calls.stays_idle shard left until) r.now (is_none r.received) wait
@@ -113,7 +114,7 @@ module _ {S : Type 0} (Readies : ℕ → S → S → Type 0) (calls : IngressCal
 
   -- the server was prepared, and a received datagram was handled. Then notifications that had timed
   -- out were retransmitted, and observers were notified, until no notification was left. Exactly
-  -- the emissions of this were passed to the sink, in order.
+  -- the emissions of this work were passed to the sink, in order.
   pub record IsRoundBy (r : Round) (old new : S) : Type 0 where
     pub ready : S
     pub readied : Readies r.now old ready
@@ -150,13 +151,14 @@ module _ {S : Type 0} (Readies : ℕ → S → S → Type 0) (calls : IngressCal
 -- ---- with reports, or without
 
 -- a server has run in this way from a state, and its counts were reported with this period, in
--- milliseconds. The state that it was left in isn't stated.
+-- milliseconds. The state after that isn't stated.
 pub record HasRunReported {S : Type 0} (every : ℕ) (Reported : Report → CallLog → CallLog → Type 0) (Readies : ℕ → S → S → Type 0) (calls : IngressCalls S) (e : RoundCalls) (limit : ℕ) (before after : Option (List Receive)) (first : S) (replies : Replies) : Type 0 where
   pub log : CallLog
   pub last : Reporting S
   pub run : HasRun (readies_through Readies) (reported_calls Reported calls) e limit before after (reporting_from every log first) last replies
 
--- with a period of reports, in milliseconds, the counts were reported; without one nothing was.
+-- with a period of reports, in milliseconds, the counts were reported; without a period nothing was
+-- reported.
 abbrev pub HasReceivedBy : {S : Type 0} → Option ℕ → (Report → CallLog → CallLog → Type 0) → (ℕ → S → S → Type 0) → IngressCalls S → RoundCalls → ℕ → Option (List Receive) → Option (List Receive) → S → S → Replies → Type 0
 HasReceivedBy None Reported Readies c e limit before after first last replies = HasRun Readies c e limit before after first last replies
 HasReceivedBy (Some every) Reported Readies c e limit before after first last replies = HasRunReported every Reported Readies c e limit before after first replies
@@ -178,7 +180,7 @@ pub record HasServedReported (every : ℕ) (Reported : Report → CallLog → Ca
   pub begins : Serves (begin_of begin) first.alone.engine []
   pub run : HasRunReported every Reported (ReadiesRecorded sensors) (recorded_calls Recorded) e limit before after first replies
 
--- with a period of reports, in milliseconds, or without one.
+-- the same with a period of reports, in milliseconds, or without one.
 abbrev pub HasServedBy : Option ℕ → (Report → CallLog → CallLog → Type 0) → (List ℕ → Type 0) → RoundCalls → (Requested → CallLog → CallLog → Type 0) → ℕ → Begin → Option (List Receive) → Option (List Receive) → Replies → Type 0
 HasServedBy None Reported sensors e Recorded limit begin before after replies = HasServed sensors e Recorded limit begin before after replies
 HasServedBy (Some every) Reported sensors e Recorded limit begin before after replies = HasServedReported every Reported sensors e Recorded limit begin before after replies

@@ -2,8 +2,8 @@
 use Rattle.std.specs.Prelude.{◌+◌, ◌-◌, ◌*◌, ◌/◌, ◌<◌, ◌⊎◌, ℕ, min}
 
 -- the first serial of the slots of a server that starts this many milliseconds after the beginning
--- of 1970: 32 for each millisecond, and 2^24 for each whole second. It rises no further at 2^48 ms,
--- in the year 10889.
+-- of 1970: 32 for each millisecond, and 2^24 for each whole second. From 2^48 ms on, in the year
+-- 10889, it rises no further.
 abbrev pub serial_of_start : ℕ → ℕ
 serial_of_start ms =
     let passed = min ms 281474976710656 in

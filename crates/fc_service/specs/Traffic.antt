@@ -12,8 +12,8 @@ pub record Sending : Type 0 where
   pub emission : Emission
   pub out : Bool
 
--- these were passed to a sink one after the other, the oldest first: the caller's log has no other
--- call, from one state to the other.
+-- these emissions were passed to a sink one after the other, the oldest first. From one state to
+-- the other, the caller's log has no other call.
 abbrev pub AreHanded : (Emission → Bool → CallLog → CallLog → Type 0) → List Sending → CallLog → CallLog → Type 0
 AreHanded Went [] before after = after ≡ before
 AreHanded Went (s ∷ ss) before after = (next : CallLog) × Went s.emission s.out before next × AreHanded Went ss next after
@@ -30,7 +30,7 @@ Sends Went emissions before after =
     (sendings : List Sending) × AreHanded Went sendings before.log after.log × (map (λ s. s.emission) sendings ≡ emissions)
     × (after.replies ≡ counted_each sendings before.replies)
 
--- how many of them were sent, and how many failed; each count stops at its maximum.
+-- how many of these were sent, and how many failed; each count stops at its maximum.
 abbrev pub replies_to : List Sending → Replies
 replies_to sendings = record {
   sent = saturated (count_by (λ s. s.out) sendings);

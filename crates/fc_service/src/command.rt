@@ -221,7 +221,7 @@ fn log<'a>(alloc: Global) -> Arg<'a> {
     .default_value("off")
 }
 
-// Makes the option for the number of workers of `fcd serve`, which run long programs.
+// Makes the option for the number of workers of `fcd serve`; workers run long programs.
 fn expensive_workers<'a>(alloc: Global) -> Arg<'a> {
     option(
         alloc,

@@ -38,7 +38,8 @@ pub enum BadTimer {
 /// Returns the error of the first value that is refused:
 ///
 /// - `Form`: it is no period of 1 to 86,400,000 ms, a colon, and a slot of 0 to 63.
-/// - `TooMany`: the requests of its timer and of those before it hold more exchanges than that.
+/// - `TooMany`: the requests of its timer and of the timers before it hold more exchanges than all
+///   timers may.
 /// - `Memory`: memory for the timers can't be allocated.
 pub fn timers_in(
     alloc: Global,
@@ -62,8 +63,8 @@ fn most_held(limits: Limits) -> u64
     (limits.exchanges / 2).min(limits.share) as u64
 }
 
-// Reads the timers of `texts`, which may hold `most` exchanges. Returns the error of the first text
-// that is refused, as `timers_in` does.
+// Reads the timers of `texts`; their requests may hold `most` exchanges. Returns the error of the
+// first text that is refused, as `timers_in` does.
 fn timers_of(alloc: Global, texts: &[&str], most: u64) -> Result<Vec<Timer>, BadTimer>
     ensures timers { IfOk result (λ v. AreTimers (map (λ text. text.now) texts.now) v.items) }
     ensures few { IfOk result (λ v. timers_hold v.items ≤ most) }
@@ -77,8 +78,9 @@ fn timers_of(alloc: Global, texts: &[&str], most: u64) -> Result<Vec<Timer>, Bad
     Ok(timers)
 }
 
-// Reads the timer of `text`, and adds it to `timers`. Returns how many of the `left` exchanges its
-// requests leave. Returns the error of a text that is refused; `TooMany` has the number `most`.
+// Reads the timer of `text`, and adds it to `timers`. Returns how many of the `left` exchanges the
+// timer's requests leave. Returns the error of a text that is refused; `TooMany` has the number
+// `most`.
 fn push_timer(text: &str, left: u64, most: u64, timers: &mut Vec<Timer>) -> Result<u64, BadTimer>
     ensures { MatchResult result (Pushes text.now left timers.old.items timers.new.items) (IsRefusedBy text.now left most) }
 {

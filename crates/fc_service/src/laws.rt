@@ -191,7 +191,8 @@ pub fn reports_come_in_time<N: Ingress, Q: Reporter>()
 
 /// The texts of `--log` that give a period of reports.
 ///
-/// `report:60` is each minute, and the longest period is a day. The last one counts.
+/// `report:60` is each minute, and the longest period is a day. Of several texts, the last one
+/// counts.
 pub fn reports_have_their_periods()
     ensures minute { IsReportText (codes "report:60") 60000 }
     ensures day { (text : List ℕ) (period : ℕ) → IsReportText text period → period ≤ 24 * 60 * 60 * 1000 }

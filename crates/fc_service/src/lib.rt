@@ -19,11 +19,12 @@
 //!
 //! # What is proved
 //!
-//! - **Lines**: the lines of a reader are read one after the other; all of them are, if its bytes
-//!   are known. Each is executed once, in order, on one server. The server handles the line's
-//!   event, and then its shards retransmit or notify observers. Exactly the datagrams that they
-//!   send are printed, in that order. A snapshot has the readings of the last line that gave some,
-//!   its own line included, or zeros. The same holds for the lines before a bad one (`play`).
+//! - **Lines**: the lines of a reader are read one after the other. All of them are read, if the
+//!   reader's bytes are known. Each is executed once, in order, on one server. The server handles
+//!   the line's event, and then its shards retransmit or notify observers. Exactly the datagrams
+//!   that they send are printed, in that order. A snapshot has the readings of the last line that
+//!   gave some, its own line included, or zeros. The same holds for the lines before a bad one
+//!   (`play`).
 //! - **Lines by workers**: a new dispatcher handles each line, once, in order, before the next is
 //!   read. Its front began with the given policy. A line's output is its immediate response; for a
 //!   job it is some emission, or nothing (`play_by_workers`, by `IsPlayedBeside`). The contract
@@ -44,7 +45,7 @@
 //! - **Waits**: the first receive waits 100 ms, and so does each receive after a datagram. After an
 //!   idle round the wait lasts until the earliest time that the shards returned, and at least 100
 //!   ms. It is unlimited if they returned none (`run_rounds`, by `WaitsAfter`). A test shows that
-//!   no job of a server with workers is running when it calls them.
+//!   no job of a server with workers is running when the server calls the shards.
 //! - **The options of `fcd serve`** are the values that the command line gives (`serve_options`, by
 //!   `AreServeOptions`). Their defaults are tested.
 //! - **A server that returns its source has run that loop**, with one worker or more. A limit was
@@ -56,12 +57,13 @@
 //!   of the given start and at the given message ID. A round's list has its datagram, or its time,
 //!   and the calls of its shards. A shard's result is true: that no notification has timed out,
 //!   that an observer was removed, or that no observer has a pending notification (`laws`). The
-//!   readings are each round's time and the sensor readings. The contract doesn't say that with
-//!   `--readings` these are the file's; without it they are zeros (`serve_alone`, by `HasServed`).
+//!   readings are each round's time and the sensor readings. The contract doesn't say that these
+//!   are the file's with `--readings`. Without `--readings` they are zeros (`serve_alone`, by
+//!   `HasServed`).
 //! - **One history**: all rounds of a server on one thread, or all lines that it plays, are one
 //!   history of events. Exactly the datagrams that came are delivered, in order. Exactly the
-//!   emissions of its events were passed to the sink, or are printed, in that order. Each datagram
-//!   is delivered at the time of its round or line. If none came, time passes at this time
+//!   emissions of the history's events were passed to the sink, or are printed, in that order. Each
+//!   datagram is delivered at the time of its round or line. If none came, time passes at this time
 //!   (`laws`).
 //! - **With more workers** a dispatcher handles each datagram, in order, and each lease that some
 //!   shard gave. Nothing else in a round changes the dispatched jobs (`serve_at`, by
@@ -85,14 +87,14 @@
 //! - **Each request to change a program that a job answers is recorded once**, after its response
 //!   is made. Nothing else is recorded (`serve_at`, by `HasServed` and `HasServedPooled`, whose
 //!   calls are `recorded_calls` and `IsRecordedCall` of `fc_record`). A test shows that a logger
-//!   writes it.
+//!   writes the record.
 //! - **The first serial** of a server rises with the time of its start: by 32 for each millisecond,
 //!   and by 2^24 for each second. So the numbers of Observe keep their order if a server is started
-//!   again (`serials::serial_of_start`, `laws`). That a server with workers begins at this serial,
-//!   and that the time is the system clock's, is tested.
-//! - **Reports**: with a period, a report is made at the first round whose time is that of the due
-//!   one or later, before its datagram is handled. It is made once, of the counts up to then, and the
-//!   next is due one period later. The counts are those of the calls' results, in both kinds of
+//!   again (`serials::serial_of_start`, `laws`). Tests show that a server with workers begins at
+//!   this serial, and that the time is the system clock's.
+//! - **Reports**: with a period, a report is made at the first round at or after the report's due
+//!   time, before the round's datagram is handled. It is made once, of the counts up to then, and
+//!   the next is due one period later. The counts are those of the calls' results, in both kinds of
 //!   servers. Each wait ends when a report is due, or up to 100 ms later (`serve_at`, by
 //!   `HasRunReported`, whose calls are `reported_calls`). The contract doesn't say how such a run
 //!   left the server, and no law says that its rounds are one history. Without a period, the server

@@ -36,8 +36,8 @@ pub(crate) trait LineIngress: Ingress {
 /// Reads lines, executes each of them, and prints the datagrams that it sends.
 ///
 /// For `fcd play`: on one thread, or with workers, waited for after each line. A line's output is
-/// printed before the next line is read. It has the response to the line's datagram, then the
-/// retransmissions and the notifications at the line's time.
+/// printed before the next line is read. The output has the response to the line's datagram, then
+/// the retransmissions and the notifications at the line's time.
 ///
 /// # Errors
 /// Returns `BadLine` if a line is bad. Then the lines before it were played, and exactly their
@@ -66,8 +66,8 @@ pub(crate) fn play_lines<N: LineIngress, R: BufRead + Drop, W: Write>(
     Ok(())
 }
 
-// Reads the line with this number, executes it, and prints its output. Returns `BadLine` if it is
-// bad; then nothing is executed or printed. The other errors are those of `play_lines`.
+// Reads the line with this number, executes it, and prints its output. Returns `BadLine` if the
+// line is bad; then nothing is executed or printed. The other errors are those of `play_lines`.
 fn play_line<N: LineIngress, W: Write>(
     alloc: Global,
     ingress: &mut N,
@@ -108,7 +108,7 @@ fn hand<N: LineIngress>(ingress: &mut N, line: &Line)
     }
 }
 
-// Executes a line, and prints its immediate response, if there is one, which is written over
+// Executes a line, and prints its immediate response, if there is one. The response is written over
 // `reply`. Returns an error if printing fails.
 fn carry_out<N: LineIngress, W: Write>(
     ingress: &mut N,

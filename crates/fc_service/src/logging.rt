@@ -16,7 +16,7 @@ pub const LONGEST_REPORT: u64 = 86_400;
 /// The records that a server logs.
 #[derive(Clone, Copy, Debug, PartialEq, Eq)]
 pub struct LogOptions {
-    /// The listening address, and the number of replies sent, at the server's end.
+    /// The listening address, and, at the server's end, the number of replies sent.
     pub info: bool,
     /// Each request to change a program that a job answers.
     pub changes: bool,

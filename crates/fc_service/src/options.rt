@@ -35,8 +35,8 @@ pub enum BadOption {
     Bind,
     /// A value of `--managers` isn't a network, or there are more than four.
     ///
-    /// It is also the reason if `--exchanges`, `--share` or `--confirm-after` is out of its range,
-    /// which the command line's parser refuses earlier.
+    /// It is also the reason if `--exchanges`, `--share` or `--confirm-after` is out of its range.
+    /// The command line's parser refuses that earlier.
     #[error("error: `--managers` takes an address and a number of bits, for example 192.0.2.0/24, at most four times")]
     Managers,
     /// A value of `--log` names no record, or its seconds aren't 1 to 86,400.

@@ -116,7 +116,7 @@ impl<'a, 'b, R: Wait, B: Bench, G: Gate, W: Wire, M: TimeSource> Ingress
         self.dispatcher.advance_if_idle(self.rt, shard, now)
     }
 
-    // Returns 0 while a job waits or is running, since it may change a slot or register an
+    // Returns 0 while a job waits or is running, since the job may change a slot or register an
     // observer. The count of ended jobs is read before the shard is called.
     fn idle_until(&self, shard: u8) -> u64 {
         if self.ended.load(Ordering::SeqCst) == self.begun {

@@ -38,7 +38,7 @@ impl<'a, N: Ingress, Q: Reporter> Model for Reporting<'a, N, Q> {
 impl<'a, N: Ingress, Q: Reporter> Reporting<'a, N, Q> {
     /// Begins to report the counts of a server, with a period of `every` milliseconds.
     ///
-    /// The first report is due at that time.
+    /// The first report is due at `every` milliseconds.
     pub(crate) fn new(ingress: &'a mut N, every: u64, reporter: &'a Q) -> Reporting<'a, N, Q>
         ensures { result ≡ reporting_from every result.log ingress.old }
     {

@@ -42,13 +42,14 @@ impl<N: Ingress> Preparation<N> for Unprepared {
     }
 }
 
-/// Receives `limit` datagrams, or never ends if that is 0. Counts the replies.
+/// Receives `limit` datagrams, or never ends if `limit` is 0. Counts the replies.
 ///
 /// Each datagram is handled in order, before the next is received, and answered unless it needs a
 /// worker. After each datagram, and after each receive without one, notifications that have
 /// timed out are retransmitted. Then observers with pending notifications are notified. A receive
-/// waits 100 ms. After a round without one, the next waits until the earliest time at which there
-/// may be work, or without limit. The result counts the replies passed to the sink, once each.
+/// waits 100 ms. After a round without a datagram, the next waits until the earliest time at which
+/// there may be work, or without limit. The result counts the replies passed to the sink, once
+/// each.
 pub(crate) fn run_rounds<R: Wait, N: Ingress, P: Preparation<N>, S: Source, K: Sink, M: TimeSource>(
     rt: &R,
     ingress: &mut N,
@@ -125,7 +126,7 @@ fn handle<N: Ingress, K: Sink>(
 
 // Retransmits the notifications that have timed out at `now`, in milliseconds, and notifies
 // observers, until no notification is left, no message ID is available, or 8,192 steps were taken.
-// Each is written over `emission`, and counted in `replied` if this thread sends it.
+// Each datagram is written over `emission`, and counted in `replied` if this thread sends it.
 fn flush<N: Ingress, K: Sink>(
     ingress: &mut N,
     now: u64,

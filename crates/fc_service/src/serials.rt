@@ -1,6 +1,6 @@
 //! The first serial of a server, by the time of its start.
 //!
-//! It is to be higher than any that an earlier server reached. See [`serial_of_start`].
+//! The serial is to be higher than any that an earlier server reached. See [`serial_of_start`].
 ghost use Rattle.std.specs.Prelude.{◌≡◌, ◌≤◌, ◌/◌, min};
 ghost use Rattle.std.specs.Time.{system_time_nanos};
 ghost use Rattle.fc_registry.specs.Slots.{last_serial};
@@ -19,7 +19,7 @@ const LAST_START: u64 = 0x1_0000_0000_0000;
 /// So the 24 bits of Observe rise by less than 2^23 in 256 s (RFC 7641, section 3.4).
 const OF_MILLISECOND: u64 = 32;
 
-/// The further serials of a whole second.
+/// The additional serials of a whole second.
 ///
 /// They are a multiple of 2^24, which leaves the 24 bits of Observe.
 const OF_SECOND: u64 = 0x100_0000;
@@ -48,7 +48,7 @@ fn milliseconds_of(time: SystemTime) -> u64
 /// Returns the first serial of the slots of a server, by the time of its start.
 ///
 /// The time is in milliseconds since the beginning of 1970. A later start begins at a higher serial
-/// than any that a server reached in between. It may not if the clock was set back, or if a slot
+/// than any that a server reached in between. This may fail if the clock was set back, or if a slot
 /// changed more than 32 times a millisecond in a run of less than a second.
 pub fn serial_of_start(milliseconds: u64) -> u64
     ensures value { result ≡ serial_of_start milliseconds }

@@ -33,7 +33,7 @@ use std::thread::Threads;
 use std::time::Clock;
 use thiserror::Error;
 
-/// The least cost of a run, in instructions, that is dispatched to a worker.
+/// The least cost, in instructions, of a run that is dispatched to a worker.
 ///
 /// Dispatching a job wakes a thread, which costs about 14 us of processor time. A program executes
 /// some thousand instructions in this time. A cheaper job runs on the thread that received it.
@@ -177,14 +177,14 @@ fn done_if(done: bool) -> Status
 ///
 /// The server ends once it has received `extent.limit` datagrams. Programs read the milliseconds
 /// since the start, and the sensor readings. This thread answers a datagram with a cheap job before
-/// it receives the next. Workers run a job whose program may run long, each on its own thread. If
-/// there is one worker, it is this thread, for all jobs. The same holds if no thread can be created
-/// for a worker, and this is written to `err`.
+/// it receives the next. Workers, each on its own thread, run the jobs whose programs may run long.
+/// If there is one worker, it is this thread, for all jobs. The same holds if no thread can be
+/// created for a worker, and this is written to `err`.
 ///
 /// After each datagram notifications that have timed out are retransmitted, and observers with
 /// pending notifications are notified. If no datagram comes in time, time passes. A receive waits
-/// 100 ms. Then it waits without limit while no job is running, no notification waits for an
-/// acknowledgement, and no observer has a pending notification.
+/// 100 ms. After a round without a datagram, it waits without limit while no job is running, no
+/// notification waits for an acknowledgement, and no observer has a pending notification.
 ///
 /// At the end the workers run the remaining jobs. The logger of the end gets the numbers of replies
 /// that were passed to the sink and that couldn't be sent: a record `sent 2 failed 0` of level

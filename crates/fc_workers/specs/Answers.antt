@@ -1,5 +1,5 @@
--- The results of calls at some slot, and their counts. Which slot a call meets isn't stated:
--- between two calls of a job, others change the slots.
+-- The results of calls at some slot, and their counts. The definitions don't state which slot a
+-- call meets: other jobs change the slots between two calls of a job.
 use Rattle.std.specs.Prelude.{◌≡◌, ℕ, ◌+◌, ◌%◌, ◌<◌, ◌==◌, if◌then◌else◌, Bool, List, Option, max, min}
 use Rattle.coap_msg.specs.declared.types.Emission.{Emission}
 use Rattle.coap_msg.specs.declared.types.Endpoint.{Endpoint}
@@ -85,7 +85,7 @@ pub record IsSomeIdle (now : ℕ) (idle : Bool) : Type 0 where
   pub idle_is : idle ≡ is_idle (at_time shard now)
 
 -- the result of a notification for a lease with this message ID, at some serial of its slot, to
--- some observers. It is at this time or a later one that was passed to its shard.
+-- some observers. The notification is at this time, or at a later one that was passed to its shard.
 pub record IsSomeNote (now : ℕ) (told : Notification) (turn : Turn) (id : ℕ) (noted : Noted) : Type 0 where
   pub before : ℕ
   pub serial : ℕ

@@ -1,5 +1,6 @@
--- Contracts of the calls of a server with locks: the effect of each, on the shard of which index or
--- on the front. The state before a call isn't stated, since others change it between two calls.
+-- Contracts of the calls of a server with locks: the effect of each call, on the front or on the
+-- shard of an index. The state before a call isn't stated, since other threads change it between
+-- two calls.
 use Rattle.std.specs.Prelude.{◌≡◌, ℕ, ◌%◌, ◌<◌, true, false, List, replicate}
 use Rattle.fc_core.specs.Exchanges.{FrontState}
 use Rattle.fc_workers.specs.Fronts.{BeganAt, Beginning}

@@ -34,7 +34,7 @@ unsent = 18446744073709551615
 abbrev pub logged_at : {T : Type 0} → TrackedLog → Dispatched T → Dispatched T
 logged_at log done = record done { share = record done.share { log = log } }
 
--- it has only made calls.
+-- the dispatcher has only made calls: nothing but its log differs.
 abbrev pub HasCalled : {T : Type 0} → Dispatched T → Dispatched T → Type 0
 HasCalled before after = after ≡ logged_at after.share.log before
 
@@ -51,7 +51,7 @@ module _ {T : Type 0} (s : WorkerView T) where
   abbrev pub IsPriced : Job → TrackedLog → TrackedLog → Type 0
   IsPriced job before after = (after ≡ before) ⊎ ((receipt : Option Receipt) × s.logged (TellsReceipt job receipt) before after)
 
-  -- a request's job of a run was looked up here, or wasn't, and took one snapshot. The snapshot's
+  -- a request's job of a run took one snapshot here, after a look-up or without one. The snapshot's
   -- program has this cost or more. The log has no other call.
   pub record IsFoundExpensive (least : ℕ) (job : Job) (before after : Share T) : Type 0 where
     pub asks : AsksRun job.ask
@@ -73,7 +73,7 @@ module _ {T : Type 0} (s : WorkerView T) where
     pub sent : after.sent ≡ with_sent before.sent job
     pub may_go : MayGo offload job before.share after.share
 
-  -- a job was run here and ended, after its slot's receipt was returned, if it was requested. Its
+  -- a job was run here and ended, after its slot's receipt was returned, if that was requested. Its
   -- reply is sent and counted.
   pub record IsWorkedHere (job : Job) (before after : Dispatched T) : Type 0 where
     pub sent : after.sent ≡ before.sent
@@ -82,7 +82,7 @@ module _ {T : Type 0} (s : WorkerView T) where
     pub worked : IsReplied s unsent job (record before.share { log = log }) after.share
     pub ends : s.ended after.share.tallies ≡ saturated (s.ended before.share.tallies + 1)
 
-  -- the job went to the workers, which the policy allows, or was run here.
+  -- the job went to the workers, as the policy allows, or was run here.
   abbrev pub IsDispatched : Offload → Job → Dispatched T → Dispatched T → Type 0
   IsDispatched offload job before after = IsHandedOver offload job before after ⊎ IsWorkedHere job before after
 
@@ -98,7 +98,7 @@ module _ {T : Type 0} (s : WorkerView T) where
   IsDone offload from (Signal id reset) before after = AreSignalled 8 from id reset before.share.log after.share.log × HasCalled before after
   IsDone offload from other before after = after ≡ before
 
-  -- the result of a delivery at this time is that of some front, and it is processed.
+  -- the result of a delivery at this time is that of some front, and the result is processed.
   pub record IsTakenIn (offload : Offload) (now : ℕ) (from : Endpoint) (bytes : List ℕ) (result : Handled) (reply : Emission)
       (before after : Dispatched T) : Type 0 where
     pub job : Job
@@ -112,7 +112,7 @@ module _ {T : Type 0} (s : WorkerView T) where
   IsTurnDone offload (Some job) given before after = (given ≡ true) × IsDispatched offload job before after
   IsTurnDone offload None given before after = (given ≡ false) × (after ≡ before)
 
-  -- a shard granted this lease at this time, or none, as some shard does, and its job is
+  -- a shard granted this lease at this time, or none, as some shard does. The job of the lease is
   -- dispatched.
   pub record IsTurnAsked (offload : Offload) (shard now : ℕ) (given : Bool) (before after : Dispatched T) : Type 0 where
     pub turn : Option Job

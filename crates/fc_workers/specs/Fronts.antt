@@ -27,8 +27,8 @@ pub data FrontCall (before after : FrontState) : Type 0 where
   Draws : (now : ℕ) (id : Option ℕ) → DrawsAt now id before after → FrontCall before after
   Answers : (now : ℕ) (job : Job) (content : Content) (sent : Option Emission) → AnswersAt now job content sent before after → FrontCall before after
 
--- each front in the list but the first results from a call of the one before it, and so does the
--- last front. The first is the given one. The newest is the head of the list.
+-- each front in the list except the first results from a call of the front before it, and so does
+-- the last front. The first is the given one. The newest is the head of the list.
 abbrev pub AreFrontsFrom : FrontState → List FrontState → FrontState → Type 0
 AreFrontsFrom first [] front = front ≡ first
 AreFrontsFrom first (before ∷ earlier) front = AreFrontsFrom first earlier before × FrontCall before front

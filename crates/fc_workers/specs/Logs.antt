@@ -13,8 +13,8 @@ pub record TrackedLog : Type 0 where
   pub who : ℕ
   pub tracks : BookView FiledEntry
 
--- a worker with these tracks may file each call of the front: the first track is that of its jobs,
--- and its own is among them. It begins no other.
+-- a worker with these tracks may file each call of the front: the first track is that of the
+-- worker's jobs, and the worker's own track is among them. The worker begins no other track.
 pub record MayFileAll (first_job who : ℕ) (v : BookView FiledEntry) : Type 0 where
   pub thread : HasOwnTrack first_job who v
   pub job : HasJobFirst first_job v
@@ -25,6 +25,6 @@ pub record MayFileAll (first_job who : ℕ) (v : BookView FiledEntry) : Type 0 w
 abbrev pub with_filed_call : LoggedCall → TrackedLog → TrackedLog
 with_filed_call call log = record log { tracks = did_by log.who (Logged call) log.tracks }
 
--- a call that led the log of the worker's calls on, and is not filed.
+-- a call that led the log of the worker's calls from one state to the next, and is not filed.
 abbrev pub IsUnfiled : (CallLog → CallLog → Type 0) → TrackedLog → TrackedLog → Type 0
 IsUnfiled Leads before after = Leads before.calls after.calls × (after ≡ record before { calls = after.calls })

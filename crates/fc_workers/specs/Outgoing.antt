@@ -25,8 +25,8 @@ with_reply out share = if out then record share { sent = saturated (share.sent +
 module _ {T : Type 0} (s : WorkerView T) where
   -- ---- requests
 
-  -- the time was requested, and then some front answered the job at it, and this is to be sent, or
-  -- nothing.
+  -- the time was requested, and then some front answered the job at that time. This reply, or
+  -- nothing, is to be sent.
   pub record GivesAnswer (job : Job) (content : Content) (reply : Option Emission) (before after : TrackedLog) : Type 0 where
     pub now : ℕ
     pub asked : TrackedLog
@@ -36,8 +36,8 @@ module _ {T : Type 0} (s : WorkerView T) where
 
   -- ---- leases
 
-  -- the time was requested, and then the lease's observer was notified of this at it, with this
-  -- message ID. The reply is to be sent, or nothing.
+  -- the time was requested, and then the lease's observer was notified of this content at that
+  -- time, with this message ID. This reply, or nothing, is to be sent.
   pub record IsNoteSent (told : Notification) (turn : Turn) (id : ℕ) (reply : Option Emission) (before after : TrackedLog) : Type 0 where
     pub now : ℕ
     pub asked : TrackedLog
@@ -49,8 +49,8 @@ module _ {T : Type 0} (s : WorkerView T) where
     pub note : IsSomeNote now told turn id noted
     pub reply_is : reply ≡ sent_of noted
 
-  -- the time was requested, a message ID was drawn at it, and the observer was notified of the
-  -- snapshot with this message ID.
+  -- the time was requested, a message ID was drawn at that time, and the observer was notified of
+  -- the snapshot with this message ID.
   pub record IsNotification (turn : Turn) (found : Option Ticket) (reply : Option Emission) (before after : TrackedLog) : Type 0 where
     pub drawn : ℕ
     pub asked : TrackedLog
@@ -63,7 +63,7 @@ module _ {T : Type 0} (s : WorkerView T) where
     pub tells : SaysFound told found
     pub noted : IsNoteSent told turn id reply log after
 
-  -- the time was requested, and then the lease was released at it. Nothing is sent.
+  -- the time was requested, and then the lease was released at that time. Nothing is sent.
   pub record IsGivenUp (turn : Turn) (reply : Option Emission) (before after : TrackedLog) : Type 0 where
     pub now : ℕ
     pub asked : TrackedLog

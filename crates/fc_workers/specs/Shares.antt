@@ -13,7 +13,7 @@ use Rattle.fc_workers.specs.Work.{IsReplied}
 abbrev pub new_share : {T : Type 0} → Got → T → TrackedLog → Share T
 new_share got tallies log = record { tallies = tallies; log = log; got = got; sent = 0; failed = 0; refusals = 0; overtakings = 0 }
 
--- a worker seed for each of these tallies, whose worker has received nothing yet.
+-- a worker seed for each of these tallies; its worker has received nothing yet.
 pub record AreNewSeats {T : Type 0} (channel : Channel) (tallies : List T) (seats : List (WorkerSeed T)) : Type 0 where
   pub got : All (λ (s : WorkerSeed T). s.got ≡ nothing_got channel) seats
   pub tallies_are : map (λ (s : WorkerSeed T). s.tallies) seats ≡ tallies
@@ -37,7 +37,8 @@ module _ {T : Type 0} (s : WorkerView T) where
     pub got : after.got ≡ record before.got { got = before.got.got ++ reverse jobs }
     pub count : HasRisen (s.ended before.tallies) (length jobs) (s.ended after.tallies)
 
-  -- the statistics of the worker with this initial state, whose log goes on from that state's.
+  -- the statistics of the worker with this initial state; the worker's log goes on from that
+  -- state's.
   pub record IsShareOf (seat : WorkerSeed T) (share : Share T) : Type 0 where
     pub ended : HasEnded (new_share seat.got seat.tallies seat.log) share
 

@@ -14,13 +14,13 @@ use Rattle.fc_calls.specs.Logged.{LoggedCall, LooksAt}
 use Rattle.fc_workers.specs.Called.{WorkerView}
 use Rattle.fc_workers.specs.Work.{AreCalls, HasCounted, IsCallAt, stage_after, snapshots_made, total}
 
--- it requests a run.
+-- the job requests a run.
 abbrev pub AsksRun : Ask → Type 0
 AsksRun (Run request) = Unit {0}
 AsksRun other = ⊥
 
--- a job before a snapshot may take one more. A ticket belongs to its job, and so does an answer. A
--- job that lists head words has at least one left to read.
+-- a job whose next step is a snapshot may take one more. A ticket belongs to its job, and so does
+-- an answer. A job that lists head words has at least one left to read.
 abbrev pub IsReady : Job → Stage → Type 0
 IsReady job (ToTake n) = n < snapshots
 IsReady job (ToCommit n t) = (n ≤ snapshots) × (t.origin ≡ job.origin)
@@ -77,23 +77,23 @@ pub record Walked {T : Type 0} (s : WorkerView T) (number : ℕ) (job : Job) (st
   pub few : total snapshots_made calls ≤ taken_at stage
   pub counted : HasCounted s job.origin.slot calls before now
 
--- its next step is a snapshot.
+-- the job's next step is a snapshot.
 abbrev pub IsToTake : Stage → Type 0
 IsToTake (ToTake n) = Unit {0}
 IsToTake other = ⊥
 
--- its next step is a commit.
+-- the job's next step is a commit.
 abbrev pub IsToCommit : Stage → Type 0
 IsToCommit (ToCommit n t) = Unit {0}
 IsToCommit other = ⊥
 
--- its next step is an answer that belongs to the job.
+-- the job's next step is an answer that belongs to the job.
 abbrev pub IsToAnswer : Job → Stage → Type 0
 IsToAnswer job (ToAnswer content) = IsOf job content
 IsToAnswer job other = ⊥
 
--- the stage of a job that has taken no snapshot yet. It is the first snapshot only if the job
--- requests a run, and it is no commit.
+-- the stage of a job that has taken no snapshot yet. If a snapshot is next, it is the first one and
+-- the job requests a run. A commit isn't next.
 abbrev pub IsUntaken : Job → Stage → Type 0
 IsUntaken job (ToTake n) = (n ≡ 0) × AsksRun job.ask
 IsUntaken job (ToCommit n t) = ⊥
@@ -105,7 +105,7 @@ abbrev pub AreSeen : (LoggedCall → TrackedLog → TrackedLog → Type 0) → �
 AreSeen Logged n [] before after = after ≡ before
 AreSeen Logged n (word ∷ words) before after = (next : TrackedLog) × Logged (LooksAt n word) before next × AreSeen Logged (n + 1) words next after
 
--- the head words of all slots, of which these were read before, but not all.
+-- the head words of all slots: these were read before, and at least one was not.
 pub record ListsOn (Logged : LoggedCall → TrackedLog → TrackedLog → Type 0) (seen words : List ℕ) (before after : TrackedLog) : Type 0 where
   pub more : List ℕ
   pub looks : AreSeen Logged (length seen) more before after

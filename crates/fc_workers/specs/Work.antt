@@ -1,6 +1,6 @@
--- The effect of a job on a server that others change too. It is a list of calls, the newest first.
--- Each is made at the stage that needs it, with the result of its shard at some slot. Each leads
--- the worker's log on from the state where the call before it left it, so the log has no other
+-- The effect of a job on a server that other jobs change too. It is a list of calls, the newest
+-- first. Each is made at the stage that needs it, with the result of its shard at some slot. Each
+-- leads the worker's log on from the log's state after the call before it, so the log has no other
 -- calls.
 use Rattle.std.specs.Prelude.{◌≡◌, ℕ, ◌+◌, ◌<◌, ◌≤◌, List, [], ◌∷◌, length, Option, Some, None}
 use Rattle.coap_msg.specs.declared.types.Emission.{Emission}
@@ -66,7 +66,7 @@ module _ {T : Type 0} (s : WorkerView T) where
   -- ---- calls
 
   -- the gate let the job with this number through, then the time was requested, and then the run of
-  -- the ticket was committed at it.
+  -- the ticket was committed at that time.
   pub record IsCommitted (number : ℕ) (t : Ticket) (committed : Committed) (before after : TrackedLog) : Type 0 where
     pub passed : TrackedLog
     pub gate : s.gate number before passed
@@ -77,10 +77,10 @@ module _ {T : Type 0} (s : WorkerView T) where
     pub commit : IsSomeCommit (run_of t) t committed
 
   -- a call for the job with this number, by the logs before and after it. A match reads the head
-  -- word of the job's slot, and its client has the responses of the job's serials. A list reads the
-  -- head word of the next slot. A raise has the word of the job's stage. A rejection and a refused
-  -- allocation are those of the job's image. The result of any other call is that of some slot. An
-  -- answer, a loss and the calls of a lease are in no request's list.
+  -- word of the job's slot, and the job's client has the responses of the job's serials. A list
+  -- reads the head word of the next slot. A raise has the word of the job's stage. A rejection and
+  -- a refused allocation are those of the job's image. The result of any other call is that of some
+  -- slot. An answer, a loss and the calls of a lease are in no request's list.
   abbrev pub IsCallOf : ℕ → Job → Call → TrackedLog → TrackedLog → Type 0
   IsCallOf number job (Matches serials word) before after = (serials ≡ job.etags.items) × s.logged (LooksAt job.origin.slot word) before after
   IsCallOf number job (Lists seen word) before after = s.logged (LooksAt (length seen.items) word) before after
@@ -100,8 +100,8 @@ module _ {T : Type 0} (s : WorkerView T) where
   abbrev pub IsCallAt : ℕ → Job → Stage → Call → TrackedLog → TrackedLog → Type 0
   IsCallAt number job stage call before after = (stage ≡ called_at call) × IsCallOf number job call before after
 
-  -- each is the call that is needed at the stage after the calls before it. The log has only these,
-  -- from one state to the other.
+  -- each call is the one that is needed at the stage after the calls before it. From one state to
+  -- the other, the log has only these calls.
   unfoldable pub AreCalls : ℕ → Job → List Call → TrackedLog → TrackedLog → Type 0
   AreCalls number job [] before after = after ≡ before
   AreCalls number job (call ∷ calls) before after =
@@ -127,7 +127,7 @@ module _ {T : Type 0} (s : WorkerView T) where
     pub own : IsOf job content
     pub counted : HasCounted job.origin.slot calls before after
 
-  -- it was run up to this stage, which is its answer.
+  -- the job was run up to this stage, and is to be answered next.
   abbrev pub IsWorkedTo : ℕ → Job → Stage → Share T → Share T → Type 0
   IsWorkedTo number job stage before after = (content : Content) × (stage ≡ ToAnswer content) × IsWorkedOff number job content before after
 
@@ -139,16 +139,16 @@ module _ {T : Type 0} (s : WorkerView T) where
     pub sent : after.sent ≡ before.sent
     pub failed : after.failed ≡ before.failed
 
-  -- a request's job was run to some answer, and then answered once with it. The reply is to be sent
-  -- for it, or nothing.
+  -- a request's job was run to some answer, and then answered once with that answer. This reply, or
+  -- nothing, is to be sent for the job.
   pub record IsRequestWorked (number : ℕ) (job : Job) (before after : Share T) (reply : Option Emission) : Type 0 where
     pub content : Content
     pub log : TrackedLog
     pub worked : IsWorkedOff number job content before (record after { log = log })
     pub answered : GivesAnswer s job content reply log after.log
 
-  -- a lease's job took one snapshot, and then its observer was notified of it once. The reply is to
-  -- be sent for it, or nothing. The job changes no slot.
+  -- a lease's job took one snapshot, and then the lease's observer was notified of the snapshot
+  -- once. This reply, or nothing, is to be sent for the job. The job changes no slot.
   pub record IsTurnWorked (job : Job) (turn : Turn) (before after : Share T) (reply : Option Emission) : Type 0 where
     pub taken : Taken
     pub log : TrackedLog
@@ -171,7 +171,7 @@ module _ {T : Type 0} (s : WorkerView T) where
     pub sent : IsSent s number reply before (record after { log = log })
     pub over : s.wire (EndsJob number) log after.log
 
-  -- it was run, and then finished with its reply, if it has one. The log has no other call.
+  -- the job was run, and then finished with its reply, if it has one. The log has no other call.
   pub record IsReplied (number : ℕ) (job : Job) (before after : Share T) : Type 0 where
     pub reply : Option Emission
     pub share : Share T

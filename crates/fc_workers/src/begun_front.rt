@@ -47,7 +47,8 @@ impl<B: Books> BegunFront<B> {
 
     /// Handles a datagram, and files the call. See [`Front::handle`].
     ///
-    /// A job is written over `job`, a response over `reply`. The result says which was, if any.
+    /// A job is written over `job`, a response over `reply`. The result says which of the two was
+    /// written, if either was.
     pub(crate) fn handle(
         &mut self,
         book: &ServerBook<ServerOf<B>>,

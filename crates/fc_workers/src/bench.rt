@@ -38,14 +38,14 @@ use std::sync::{Arc, Wait};
 ///
 /// Any number of workers may call at a time. A server guards these parts with its locks, and each
 /// call may wait for one. The result of a call is that of the shard at some slot. No clause here
-/// relates the slots of two calls, since others may change them in between. An implementation
-/// states the effects of its calls.
+/// relates the slots of two calls, since other threads may change them in between. An
+/// implementation states the effects of its calls.
 ///
 /// Each worker passes tallies of its own. They count the changes of each shard that the results of
-/// its calls report, and the jobs that it ended. It passes its log to each call that may change
-/// something, or whose result is soon out of date. So a clause can state which of these calls it
-/// made, and in which order. The log has the worker's tracks in the server's book, on which an
-/// implementation files the calls of its front.
+/// the worker's calls report, and the jobs that the worker ended. A worker passes its log to each
+/// call that may change something, or whose result is soon out of date. So a clause can state which
+/// of these calls the worker made, and in which order. The log has the worker's tracks in the
+/// server's book, on which an implementation files the calls of its front.
 pub trait Bench {
     /// The counts of one worker's changes, and of the jobs that it ended.
     type Tallies: Drop;
@@ -72,8 +72,8 @@ pub trait Bench {
 
     /// Handles a datagram, at a time in milliseconds.
     ///
-    /// A job is written over `job`, a response over `reply`. The result says which was, if any. See
-    /// [`Front::handle`](fc_core::Front::handle).
+    /// A job is written over `job`, a response over `reply`. The result says which of the two was
+    /// written, if either was. See [`Front::handle`](fc_core::Front::handle).
     fn handle<R: Wait>(
         &self,
         rt: &R,
@@ -107,7 +107,7 @@ pub trait Bench {
     /// Takes a snapshot of a job's slot, with these readings.
     ///
     /// The snapshot is written over `found`, except its program, which is in the result. `Stale`
-    /// ends the job of a lease: `tallies` count it. See
+    /// ends the job of a lease: `tallies` count that job. See
     /// [`Shard::take_into`](fc_registry::Shard::take_into).
     fn take<R: Wait>(
         &self,
@@ -316,8 +316,8 @@ pub trait Bench {
 
     /// Answers a job, at a time in milliseconds, and ends it.
     ///
-    /// The response is written over `reply`. Returns `false` if none is to be sent: the request's
-    /// lifetime has passed, or no message ID is available. See
+    /// The response is written over `reply`. Returns `false` if no response is to be sent: the
+    /// request's lifetime has passed, or no message ID is available. See
     /// [`Front::respond`](fc_core::Front::respond).
     fn respond<R: Wait>(
         &self,

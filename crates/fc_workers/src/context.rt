@@ -22,7 +22,7 @@ pub trait Gate {
     // returned, and between which states of the caller's log.
     ghost passed: { ℕ → Log → Log → Type 0 } = { λ number before after. ⊤ };
 
-    /// Is called with a job's number before each of its runs.
+    /// Is called with a job's number before each run of the job.
     ///
     /// The call is after the snapshot, and before the commit.
     fn between<R: Wait>(&self, rt: &R, number: u64, log: &mut CallLog)

@@ -102,7 +102,7 @@ impl<L: Ledger> Counted<L> {
         answer
     }
 
-    /// Commits a run, at a time in milliseconds. The tally counts it if it writes.
+    /// Commits a run, at a time in milliseconds. The tally counts a commit that writes.
     ///
     /// See [`Shard::commit`].
     pub fn commit(

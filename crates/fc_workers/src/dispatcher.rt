@@ -28,7 +28,7 @@ use std::sync::Wait;
 
 /// The number of a job that isn't sent to the workers.
 ///
-/// No job that is sent has it.
+/// No job that is sent has this number.
 pub const UNSENT: u64 = u64::MAX;
 
 /// The policy that decides which jobs go to workers.
@@ -43,7 +43,7 @@ pub enum Offload {
     /// A program is expensive if it may run for this many instructions or more. It is the program
     /// that the job's slot has when the job arrives.
     Expensive(u32),
-    /// None.
+    /// No jobs.
     Never,
 }
 
@@ -200,7 +200,7 @@ impl<'a, B: Bench, G: Gate, W: Wire, M: TimeSource> Dispatcher<'a, B, G, W, M> {
     /// Asks a shard, 0 to 7, for its next lease, and dispatches the lease's job.
     ///
     /// The lease is that of the first observer with a pending notification at a time in
-    /// milliseconds. Returns whether there was one.
+    /// milliseconds. Returns whether there was such an observer.
     pub fn notify<R: Wait>(&mut self, rt: &R, shard: u8, now: u64) -> bool
         ensures asked { IsTurnAsked (worker_view B.changes B.ended B.called B.logged M.is_time M.is_random G.passed W.called)
             self.old.offload shard now result self.old.done self.new.done }
@@ -217,8 +217,8 @@ impl<'a, B: Bench, G: Gate, W: Wire, M: TimeSource> Dispatcher<'a, B, G, W, M> {
         given
     }
 
-    // Sends the dispatcher's job to the workers, if the policy allows it, or runs it here. If the
-    // policy depends on the cost of a run, a request's job is begun first.
+    // Sends the dispatcher's job to the workers, if the policy allows that, or runs the job here.
+    // If the policy depends on the cost of a run, a request's job is begun first.
     fn dispatch<R: Wait>(&mut self, rt: &R)
         ensures dispatched { IsDispatched (worker_view B.changes B.ended B.called B.logged M.is_time M.is_random G.passed W.called)
             self.old.offload self.old.job self.old.done self.new.done }
@@ -232,7 +232,8 @@ impl<'a, B: Bench, G: Gate, W: Wire, M: TimeSource> Dispatcher<'a, B, G, W, M> {
         }
     }
 
-    // Sends the job as it arrived to the workers, if the policy allows it, or runs it here.
+    // Sends the job to the workers without beginning it, if the policy allows it and it can be
+    // sent; otherwise runs it here.
     fn dispatch_whole<R: Wait>(&mut self, rt: &R)
         ensures dispatched { IsDispatched (worker_view B.changes B.ended B.called B.logged M.is_time M.is_random G.passed W.called)
             self.old.offload self.old.job self.old.done self.new.done }
@@ -245,9 +246,9 @@ impl<'a, B: Bench, G: Gate, W: Wire, M: TimeSource> Dispatcher<'a, B, G, W, M> {
         }
     }
 
-    // Begins a request's job. If its snapshot is of a program of cost `least` or more, sends the
-    // job to the workers, which begin it again. Otherwise, or if it can't be sent, continues it
-    // here.
+    // Begins a request's job. If the job's snapshot is of a program of cost `least` or more, sends
+    // the job to the workers, which begin it again. Otherwise, or if the job can't be sent,
+    // continues it here.
     fn dispatch_request<R: Wait>(&mut self, rt: &R, least: u32)
         requires { self.old.job.turn ≡ None }
         ensures dispatched { IsDispatched (worker_view B.changes B.ended B.called B.logged M.is_time M.is_random G.passed W.called)
@@ -308,8 +309,8 @@ impl<'a, B: Bench, G: Gate, W: Wire, M: TimeSource> Dispatcher<'a, B, G, W, M> {
         }
     }
 
-    // Runs the dispatcher's job here, and ends it. `log` is any earlier state of its log since
-    // which the log has at most the request for the receipt of the job's slot.
+    // Runs the dispatcher's job here, and ends it. `log` is any earlier state of the dispatcher's
+    // log, if the log has had at most the request for the receipt of the job's slot since.
     fn work<R: Wait>(&mut self, rt: &R)
         ensures worked { (log : Log)
             → IsPriced (worker_view B.changes B.ended B.called B.logged M.is_time M.is_random G.passed W.called) self.old.job log self.old.done.share.log

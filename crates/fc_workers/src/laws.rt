@@ -39,8 +39,8 @@ pub fn signals_reach_eight_shards<B: Bench, G: Gate, W: Wire, M: TimeSource>()
 /// A server with locks uses the confirmation time of its initial policy.
 ///
 /// A logged notification is that of some observers whose notifications are confirmable after this
-/// time in milliseconds. It is at the time of the call or a later one. By default the confirmation
-/// time is 86,400,000 ms, 24 hours (RFC 7641, section 4.5).
+/// time in milliseconds. The notification is at the time of the call or a later one. By default the
+/// confirmation time is 86,400,000 ms, 24 hours (RFC 7641, section 4.5).
 pub fn locked_shards_confirm_in_time<B: Books, D: Device>()
     ensures default { (id : ℕ) → (beginning default_policy id).confirm_after ≡ 86400000 }
     ensures noted { (turn : Turn) (id now random : ℕ) (told : Notification) (noted : Noted) (before after : Log)

@@ -12,11 +12,11 @@
 //! its `Got` gained, and its tallies have risen by the changes that the results of its calls
 //! report. Each call that may change something, or whose result is soon out of date, gets the
 //! worker's log. So contracts state that these calls were made in this order, and no others with
-//! this log. A [`TrackLog`] has the worker's tracks in the server's book besides, on which the
-//! server files the calls of its front. Gates, transmitters and clocks get its [`CallLog`] alone.
+//! this log. A [`TrackLog`] also has the worker's tracks in the server's book, on which the server
+//! files the calls of its front. Gates, transmitters and clocks get its [`CallLog`] alone.
 //!
-//! The contracts don't say which slot a call meets: that a backend takes a snapshot of the job's
-//! own slot is up to its implementation. They don't say either that a call returns, or when.
+//! The contracts don't say which slot a call meets: a backend's implementation has to take the
+//! snapshot of the job's own slot. Nor do they say that a call returns, or when.
 //!
 //! ```rust
 //! ghost use Rattle.std.specs.Prelude.{◌≡◌, vec_len};
@@ -53,12 +53,13 @@
 //!
 //! # What is proved
 //!
-//! - **A worker's calls**: each logged call leads the log on from the state where the call before
-//!   it left it. So with this log no call was made twice, out of order, or in addition. A bench's
+//! - **A worker's calls**: each logged call leads the log on from the log's state after the call
+//!   before it. So with this log no call was made twice, out of order, or in addition. A bench's
 //!   calls have no other log: only `Locked::new` makes a `TrackLog`, one for each thread of the
-//!   server's book. That gates, transmitters and clocks get no other `CallLog` is seen from the code.
-//!   Calls without a log change nothing: random words, the time until which a shard stays idle, and
-//!   that it isn't idle now. One such call can stand for a later one with the same result.
+//!   server's book. The code shows that gates, transmitters and clocks get no other `CallLog`.
+//!   Calls without a log change nothing. They return random words, the time until which a shard
+//!   stays idle, or that a shard isn't idle now. One such call can stand for a later one with the
+//!   same result.
 //! - **A request's job** reaches its answer by a list of calls from its first stage. Each is the
 //!   call that its stage needs, with the result of its shard at some slot. At most eight take a
 //!   snapshot. A look reads the head word of the job's slot, or, for a list, of each slot in order.
@@ -66,23 +67,23 @@
 //! - Right before each snapshot the backend is asked for readings, once, and the snapshot gets
 //!   these. A worker whose snapshot has zeros of its own, or an earlier snapshot's readings, has
 //!   no proof.
-//! - Each run is committed after the gate let the job through, once for each, at the time that is
-//!   requested next. Then some front answers the job, once, at a time that is requested right
-//!   before, by a datagram or by none.
+//! - Each run is committed after the gate let the job through, once for each run, at the time that
+//!   is requested next. Then some front answers the job, once, at a time that is requested right
+//!   before, with a datagram or with none.
 //! - **A lease's job** takes one snapshot and changes no slot. If the snapshot is a ticket or an
 //!   empty slot, and a message ID is available, some shard notifies the lease's observer of it,
 //!   once. The message ID is drawn from some front, and the random word is a requested one. A
 //!   datagram or none results. If the snapshot is stale, there is no datagram. If no ID is
-//!   available, or memory is refused, there is none, and the lease is released at a time that was
-//!   requested.
+//!   available, or memory is refused, there is no datagram, and the lease is released at a time
+//!   that was requested.
 //! - **The transmitter**: if a job results in a datagram, the transmitter gets it once, under the
 //!   job's number. One more reply is counted as sent or as failed, by the result of that call. The
 //!   last call reports to the transmitter, once, that the job has ended. A datagram that the
 //!   transmitter gets is the answer of some front to some job, or the notification of some shard to
 //!   some observer.
-//! - **A worker's statistics**: it has ended as many jobs as it received, up to 2^64 - 1. Its
-//!   tallies have risen by the changes that the results of its calls report. The result for each
-//!   worker seed of a pool is its statistics.
+//! - **A worker's statistics**: the worker has ended as many jobs as it received, up to 2^64 - 1.
+//!   Its tallies have risen by the changes that the results of its calls report. The result for
+//!   each worker seed of a pool is its statistics.
 //! - **A dispatcher** has each datagram handled once. If a delivery or a lease results in a job, it
 //!   sends the job to the workers under the next number, or runs the job and ends it. It sends the
 //!   job only if its policy allows that. Without a job it does neither.
@@ -90,10 +91,10 @@
 //!   given shard once, and advances the front to the given time once. Its calls are in the log of
 //!   its statistics, as a worker's are.
 //! - An expensive job is a run of at least a given cost, found in one of two ways. Either it is a
-//!   request's, which was looked up here or not, and took one snapshot, with a program of such a
-//!   cost; or its slot's receipt has such a cost. The log has no other call of it. A request that
-//!   took a snapshot here and isn't sent is run from there, with at most eight snapshots in all.
-//!   The receipt is requested at most once, right before the job is sent or run.
+//!   request's job that took one snapshot here, after a look-up or without one, with a program of
+//!   such a cost. Or the receipt of its slot has such a cost. The log has no other call of the job.
+//!   A request that took a snapshot here and isn't sent is run from there, with at most eight
+//!   snapshots in all. The receipt is requested at most once, right before the job is sent or run.
 //! - **A server with nine locks** calls a front that began with the server's policy and first
 //!   message ID, and has been changed only by calls since. Each shard that a call meets has the
 //!   policy's time for confirmable notifications.
@@ -101,9 +102,9 @@
 //!   the job's slot, in some state. A notification has the result of a shard with the index of the
 //!   lease's slot, for the given lease, message ID, time and content.
 //! - A delivery, a draw of a message ID, a lease, a tick, a notification and an answer have the
-//!   result of some front or shard. Its time is the given one or a later one. Each change of a slot
-//!   is counted on the worker's tally. Once the server is closed, the serials of each shard have
-//!   risen by exactly what was counted.
+//!   result of some front or shard. The time of the result is the given one or a later one. Each
+//!   change of a slot is counted on the worker's tally. Once the server is closed, the serials of
+//!   each shard have risen by exactly what was counted.
 //! - Each call of the front is filed in the server's book, once, by its caller, with its arguments
 //!   and its result. It is then the last entry on the tracks of the front and of the caller, and the
 //!   front's entries lead from the server's first front to the one under the lock. No other call is

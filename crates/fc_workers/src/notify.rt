@@ -111,8 +111,8 @@ impl<'a, B: Bench, G: Gate, W: Wire, M: TimeSource> Context<'a, B, G, W, M> {
         }
     }
 
-    // Notifies the observer of a lease of `told`, with message ID `id`, at the current time.
-    // Returns whether a message, in `reply`, is to be sent.
+    // Notifies the observer of a lease, with the content `told` and message ID `id`, at the current
+    // time. Returns whether a message, in `reply`, is to be sent.
     fn note<R: Wait>(
         &self,
         rt: &R,

@@ -21,8 +21,8 @@ use std::thread::{Promise, Threads};
 
 /// Makes a channel of jobs, and a worker seed for each of `tallies`.
 ///
-/// Each worker seed has one of `logs`, of which there are as many. Returns the channel, its sending
-/// end and the worker seeds.
+/// Each worker seed has one of `logs`; there are as many logs as tallies. Returns the channel, its
+/// sending end and the worker seeds.
 ///
 /// # Errors
 /// Returns `AllocError` if memory can't be allocated.
@@ -74,8 +74,8 @@ fn seats_at<T: Drop, J: ServerName>(
 /// another. Returns the statistics of each, in the order of the worker seeds.
 ///
 /// # Errors
-/// Returns `AllocError` if memory for the list of statistics can't be allocated. Then they are
-/// lost, and some worker seeds may have had no worker.
+/// Returns `AllocError` if memory for the list of statistics can't be allocated. Then the
+/// statistics are lost, and some worker seeds may have had no worker.
 pub fn run_workers<
     B: Bench + Sync,
     G: Gate + Sync,
@@ -127,8 +127,8 @@ impl<B: Bench, G: Gate, W: Wire, M: TimeSource> Promise<
 ///
 /// The driver sends the jobs, and owns the sending end of the channel. Once the driver drops it,
 /// the channel is closed, and the workers end. The driver's argument says whether workers were
-/// started; the clause doesn't say that. If no thread can be made for them, they run after the
-/// driver.
+/// started; the clause doesn't say that. If no thread can be made for the workers, they run after
+/// the driver.
 ///
 /// # Errors
 /// The statistics are an error if those of `run_workers` are. If memory is refused for every worker

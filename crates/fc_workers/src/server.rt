@@ -122,8 +122,8 @@ struct FrontParts<B: Books> {
     logs: Vec<TrackLog<ServerOf<B>>>,
 }
 
-// Makes a front with this policy, and begins the tracks of its book: those of the front and the
-// shards, and those of each thread, which become its log.
+// Makes a front with this policy, and begins the tracks of its book. They are those of the front
+// and the shards, and those of each thread, which become the thread's log.
 fn begin_front<B: Books>(
     alloc: Global,
     policy: &Policy,

@@ -76,7 +76,8 @@ impl<B: Books> Tallies<B> {
         self.ended = self.ended.saturating_add(1);
     }
 
-    // Counts one more ended job if the snapshot of a lease's job is stale: that job ends so.
+    // Counts one more ended job if the snapshot of a lease's job is stale: such a snapshot ends the
+    // job.
     pub(crate) fn end_snapshot(&mut self, taken: &Taken)
         ensures { (found : SlotSnapshot) → self.new ≡ record self.old { ended = ended_by (taken_with taken.now found) self.old.ended } }
     {

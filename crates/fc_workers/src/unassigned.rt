@@ -16,8 +16,8 @@ use std::marker::Model;
 /// The tallies of the parts that aren't assigned to a worker.
 ///
 /// There are equally many parts of each of the eight books. A clause sees their number, and the
-/// changes of shards 0 to 7 that were counted on them. It also sees the number of jobs that the
-/// workers ended whose tallies were merged into it, up to 2^64 - 1.
+/// changes of shards 0 to 7 that were counted on them. It also sees how many jobs were ended by the
+/// workers whose tallies were merged into it, up to 2^64 - 1.
 #[derive(Drop)]
 pub struct Unassigned<B: Books> {
     pub(crate) tally0: Tally<BookOf<B, 0>>,
@@ -97,7 +97,7 @@ impl<B: Books> Unassigned<B> {
         Ok(each)
     }
 
-    /// Merges the tallies of a worker, whose part is unassigned again.
+    /// Merges the tallies of a worker; the worker's part is unassigned again.
     pub fn merge(&mut self, worker: Tallies<B>)
         ensures { self.new ≡ record {
           parts = self.old.parts + 1;
@@ -129,7 +129,7 @@ impl<B: Books> Unassigned<B> {
 
     /// Merges the tallies of all these workers.
     ///
-    /// The clause counts the parts. It doesn't say which changes and jobs they add.
+    /// The clause counts the parts. It doesn't say which changes and jobs the tallies add.
     pub fn merge_each<L: Drop>(&mut self, mut workers: Vec<Share<Tallies<B>, L>>)
         ensures { self.new.parts ≡ self.old.parts + vec_len workers }
     {

@@ -61,8 +61,8 @@ impl<'a, B: Bench, G: Gate, W: Wire, M: TimeSource> Context<'a, B, G, W, M> {
 
     /// Runs a request's job from its present stage, as `work_off` does.
     ///
-    /// If calls led from its first stage to this one, the job is run by these calls and further
-    /// ones.
+    /// If calls led the job from its first stage to the present one, the job is run by these calls
+    /// and further ones.
     pub(crate) fn work_on<R: Wait>(
         &self,
         rt: &R,
@@ -121,7 +121,8 @@ impl<'a, B: Bench, G: Gate, W: Wire, M: TimeSource> Context<'a, B, G, W, M> {
     /// Begins a request's job: a run takes a snapshot.
     ///
     /// It takes none if the slot's head word answers the request by one of its ETags. The job's
-    /// stage is a commit only after that one snapshot. From it the dispatcher knows a run's cost.
+    /// stage is a commit only after that one snapshot. From that snapshot the dispatcher knows a
+    /// run's cost.
     pub(crate) fn begin<R: Wait>(
         &self,
         rt: &R,
@@ -233,7 +234,8 @@ impl<'a, B: Bench, G: Gate, W: Wire, M: TimeSource> Context<'a, B, G, W, M> {
     }
 
     // Runs the ticket's program, commits the run once the gate lets the job through, and sets the
-    // next stage. After a conflict that is another snapshot, if the job may take one more.
+    // next stage. After a conflict the next stage is another snapshot, if the job may take one
+    // more.
     fn commit<R: Wait>(
         &self,
         rt: &R,
@@ -271,7 +273,7 @@ impl<'a, B: Bench, G: Gate, W: Wire, M: TimeSource> Context<'a, B, G, W, M> {
     }
 
     // Verifies the job's image, installs the program, and sets the next stage. If a rule or a lack
-    // of memory refuses the image, that is the answer, and no shard is called.
+    // of memory refuses the image, the answer says so, and no shard is called.
     #[inline(never)]
     fn install<R: Wait>(
         &self,

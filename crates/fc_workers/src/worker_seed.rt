@@ -112,8 +112,8 @@ impl<'a, B: Bench, G: Gate, W: Wire, M: TimeSource> Context<'a, B, G, W, M> {
     /// Runs a request's job from its present stage, and then answers it.
     ///
     /// For the dispatcher, which began the job. The reply is sent and the job is ended, as `work`
-    /// does. If calls led from the first stage to this one, the job is run by these calls and
-    /// further ones.
+    /// does. The stage is that of `scratch`. If calls led the job from its first stage to this one,
+    /// those calls and the ones made here are together its one run, as `work` would make it.
     pub(crate) fn work_begun<R: Wait>(
         &self,
         rt: &R,

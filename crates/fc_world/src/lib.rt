@@ -30,10 +30,10 @@
 //!
 //! - For every list of events: each emission is legal, and there is one entry for each event.
 //! - Each of the 64 slots and of the eight shards' times is that of the history. A slot's commits
-//!   are a chain, whose newest are in the slot's ring.
+//!   are a chain; the newest of them are in the slot's ring.
 //! - Each snapshot that found a program has a meaning within its longest path, which is within its
-//!   budget. A job with several snapshots runs with the readings of the last one, and its answer
-//!   comes from them.
+//!   budget. A job with several snapshots runs with the readings of the last one, and the job's
+//!   answer comes from these readings.
 //! - `run_world_from` guarantees the same for a server that begins at another serial and message
 //!   ID.
 //!

@@ -29,10 +29,10 @@ pub struct World {
 ///
 /// - There is an entry for each event: its emission, or none.
 /// - Each emission is legal by the history of the events before it.
-/// - Each of the 64 slots is that of the history. Its commits are a chain, whose newest are in its
-///   ring. If the ring has all commits since the last install, the first found the variables that
-///   this install left.
-/// - Each shard's time is the latest that it was passed.
+/// - Each of the 64 slots is that of the history. Its commits are a chain; the newest of them are
+///   in its ring. If the ring has all commits since the last install, the first found the variables
+///   that this install left.
+/// - Each shard's time is the latest time passed to it.
 /// - Each snapshot that found a program has a meaning: the run reaches its exit within the steps of
 ///   its longest path, which are within its budget.
 ///

@@ -52,7 +52,7 @@ static EXAMPLES: [Example; 3] = [
     },
 ];
 
-// Returns the program's command line, for `parse`.
+// Returns the description of the program's command line, for `parse`.
 fn command<'a>(alloc: Global) -> Result<Command<'a>, Error> {
     let folder = Arg::new(alloc, "folder").value_name("FOLDER").help(
         "Where the texts of the programs lie; the current folder where it isn't given",
@@ -65,7 +65,7 @@ fn command<'a>(alloc: Global) -> Result<Command<'a>, Error> {
     )
 }
 
-// Runs the program by the words of its command line. If one isn't UTF-8, the status is `Bad`.
+// Runs the program by the words of its command line. If a word isn't UTF-8, the status is `Bad`.
 fn run<E: Write>(rt: &HostRuntime, err: &mut E) -> anyhow::Result<Status> {
     match words(rt, err)? {
         Some(words) => obey(rt, err, words),
@@ -98,7 +98,7 @@ fn show_all<E: Write>(rt: &HostRuntime, err: &mut E, folder: &str) -> anyhow::Re
 }
 
 // Prints the verdict on a program, the lines that install it and send it requests, and their
-// output. Returns the status of the verdict unless that is `Done`, or else of the requests.
+// output. Returns the status of the verdict, or, if that is `Done`, the status of the requests.
 fn show<R: Files + AllocGlobal, W: Write, E: Write>(
     rt: &R,
     out: &mut W,

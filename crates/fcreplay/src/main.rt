@@ -31,7 +31,7 @@ without events nothing is printed.
 Exit status: 0 where all is printed; 2 where a line or the command line is bad, and nothing
 is carried out; 3 where reading or writing failed, or memory was refused.";
 
-// Returns the program's command line, for `parse`.
+// Returns the description of the program's command line, for `parse`.
 fn command<'a>(alloc: Global) -> Command<'a> {
     Command::new(alloc, "fcreplay")
         .version(VERSION)
@@ -39,7 +39,7 @@ fn command<'a>(alloc: Global) -> Command<'a> {
         .after_help(EVENTS)
 }
 
-// Runs the program by the words of its command line. If one isn't UTF-8, the status is `Bad`.
+// Runs the program by the words of its command line. If a word isn't UTF-8, the status is `Bad`.
 fn run<R: Runtime + AllocGlobal, E: Write>(rt: &R, err: &mut E) -> anyhow::Result<Status> {
     match words(rt, err)? {
         Some(words) => obey(rt, err, words),

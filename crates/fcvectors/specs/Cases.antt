@@ -49,8 +49,8 @@ pub record IsVectorOf (lines : List CaseLine) (vector : Vector) : Type 0 where
 abbrev pub dots : List ℕ
 dots = 46 ∷ 46 ∷ 10 ∷ []
 
--- standard error is the vector's, or begins with the text before its last line `..`; or the vector
--- has none, and then there is output exactly if the status isn't `Done`.
+-- standard error is the vector's, or begins with the text before the vector's last line `..`. If
+-- the vector has none, there is output exactly if the status isn't `Done`.
 abbrev pub AllowsTold : Status → List ℕ → List ℕ → Type 0
 AllowsTold status said told =
     ((said ≡ []) × ((told ≡ []) ↔ (status ≡ Done)))

@@ -55,7 +55,7 @@ IsCounted counted count text =
     ((digits : List ℕ) × (counted ≡ star ∷ (digits ++ (star ∷ text))) × IsNumber digits count)
     ⊎ ((counted ≡ text) × (count ≡ 1) × ((rest : List ℕ) → text ≡ star ∷ rest → ⊥))
 
--- a piece that ends with a backslash has no line feed after each copy.
+-- a line feed follows each copy, unless the piece ends with a backslash.
 abbrev pub IsPiece : List ℕ → Copies → Type 0
 IsPiece piece copies =
     ((counted : List ℕ) × (piece ≡ counted ++ (backslash ∷ [])) × IsCounted counted copies.count copies.text.now × (copies.ends_line ≡ false))

@@ -78,7 +78,7 @@ pub(crate) fn is_vector(lines: &[CaseLine<'_>]) -> bool {
 
 /// Returns the vector of these lines.
 ///
-/// Its command is that of the first line, or `command` if that has none.
+/// Its command is that of the first line, or `command` if that line has none.
 ///
 /// # Errors
 /// Returns `AllocError` if memory can't be allocated.
@@ -153,8 +153,8 @@ impl Output {
     ///
     /// The other output has the same status and the same bytes on standard output. On standard
     /// error it has the same bytes, or begins with those before `..` if that is the last expected
-    /// line. If none are expected there, it has some exactly if the status isn't `Done`. The clause
-    /// says this of `true` alone.
+    /// line. If none are expected there, the other output has some exactly if the status isn't
+    /// `Done`. The clause says this of `true` alone.
     pub(crate) fn allows(&self, other: &Output) -> bool
         ensures { IsTrue result → Allows self.now other.now }
     {

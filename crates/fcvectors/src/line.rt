@@ -70,8 +70,8 @@ impl Copies<'_> {
 /// - `= refused`, `= bad` or `= failed`: the status at the end.
 /// - Any other line: a piece of standard input.
 ///
-/// A piece is a text, or `*N*TEXT`, which is N copies of it. If it ends with `\`, no line feed
-/// follows each copy. Returns `None` if the line is malformed.
+/// A piece is a text, or `*N*TEXT`, which is N copies of the text. A line feed follows each copy,
+/// unless the piece ends with `\`. Returns `None` if the line is malformed.
 pub(crate) fn parse(line: &[u8]) -> Option<CaseLine<'_>>
     ensures { IfSome result (IsCaseLine line.now) }
 {

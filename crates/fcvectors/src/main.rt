@@ -35,7 +35,7 @@ use std::sync::Wait;
 use std::thread::Threads;
 use std::{fs, io};
 
-// Returns the program's command line, for `parse`.
+// Returns the description of the program's command line, for `parse`.
 fn command<'a>(alloc: Global) -> Result<Command<'a>, Error> {
     let cases = Arg::new(alloc, "case")
         .value_name("CASE")
@@ -49,7 +49,7 @@ fn command<'a>(alloc: Global) -> Result<Command<'a>, Error> {
     )
 }
 
-// Runs the program by the words of its command line. If one isn't UTF-8, the status is `Bad`.
+// Runs the program by the words of its command line. If a word isn't UTF-8, the status is `Bad`.
 fn run<R: Runtime + AllocGlobal + Threads + Wait + Sync, E: Write>(
     rt: &R,
     err: &mut E,

@@ -46,8 +46,8 @@ pub(crate) fn check_case<'a, R: AllocGlobal + Threads + Wait + Sync>(
     Ok(None)
 }
 
-// Executes the vector at this line; one that plays is executed by each of the players. Returns the
-// first difference, or `None` if there is none.
+// Executes the vector at this line; a vector that plays lines is executed by each of the players.
+// Returns the first difference, or `None` if there is none.
 fn check_vector<R: AllocGlobal + Threads + Wait + Sync>(
     rt: &R,
     vector: &Vector<'_>,

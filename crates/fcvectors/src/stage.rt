@@ -236,8 +236,8 @@ fn run_asked(
     }
 }
 
-// Returns the request to a program in the options, which are those of `fcasm run`, or the error
-// that `fcasm run` reports. It is `None` if the method is unknown.
+// Returns the request that the options describe, or the error that `fcasm run` reports. The options
+// are those of `fcasm run`. Returns `None` if the method is unknown.
 fn asked_by(alloc: Global, options: &str) -> Option<Result<Asked, AskedError>> {
     let method = match option(options, "--method") {
         None | Some("get") => Method::Get,

@@ -10,7 +10,7 @@ use Rattle.numzela.specs.declared.config.Subnet.{Subnet}
 abbrev pub is_prefix : Subnet → Bool
 is_prefix s = nat_le s.prefix 32
 
--- each of them has at most 32 bits.
+-- each prefix has at most 32 bits.
 abbrev pub are_prefixes : List Subnet → Bool
 are_prefixes [] = true
 are_prefixes (s ∷ []) = is_prefix s
@@ -22,7 +22,7 @@ is_valid c =
     nat_le c.manager_count 4 && nat_le c.exchanges 65536 && nat_le c.confirm_after 86400000 && nat_le c.first_serial 9223372036854775807
     && are_prefixes c.managers
 
--- 0 is the default.
+-- the default if the value is 0.
 abbrev pub or_default : ℕ → ℕ → ℕ
 or_default value default = if value == 0 then default else value
 
@@ -30,8 +30,8 @@ or_default value default = if value == 0 then default else value
 abbrev pub network_for : Subnet → Network
 network_for s = record { ip = s.address; bits = s.prefix }
 
--- with no managers any address may change programs; the last one given is repeated for those that
--- are missing.
+-- if no manager is given, any address may change programs. Otherwise the last manager given is
+-- repeated for those that are missing.
 abbrev pub four_of : ℕ → Network → Network → Network → Network → List Network
 four_of count a b c d =
     if count == 0 then any_address ∷ any_address ∷ any_address ∷ any_address ∷ []

@@ -35,7 +35,7 @@ verdict_for p = record { version = number_in p.version; cost = p.cost; budget = 
 abbrev pub refusal_for : Fault → Verdict
 refusal_for f = record { version = 0; cost = 0; budget = 0; vars_size = 0; rule = number_of f.rule; slot = min f.slot 4294967295 }
 
--- the image is acceptable, the handle holds its program, and the verdict is the program's.
+-- the image is accepted, the handle holds its program, and the verdict is the program's.
 pub record HasLoaded (image : List ℕ) (new : Option Program) (verdict : Verdict) : Type 0 where
   pub program : Program
   pub holds : new ≡ Some program
@@ -65,7 +65,7 @@ abbrev pub request_for : RequestHead → List ℕ → List ℕ → Request
 request_for head query payload = request_with (method_for head.is_post) head.slot (format_for head.has_format head.format) query payload
 
 -- the lengths are in their ranges: the variables are of the program's size, and the reply has room
--- for the longest one.
+-- for the longest reply.
 pub record FitsRun (program : Program) (head : RequestHead) (query payload vars reply : List ℕ) : Type 0 where
   pub query_fits : length query ≤ 64
   pub payload_fits : length payload ≤ 1024

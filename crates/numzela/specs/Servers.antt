@@ -35,7 +35,7 @@ pub record IsWritten (emission : Emission) (out : Datagram) : Type 0 where
   pub size : out.size ≡ length emission.bytes.items
   pub bytes : take out.size out.bytes ≡ emission.bytes.items
 
--- the status is SEND, and the emission was written; or it is OK, and there is none.
+-- the status is SEND, and the emission was written; or the status is OK, and there is no emission.
 abbrev pub Writes : ℕ → Option Emission → Datagram → Type 0
 Writes status None out = status ≡ 0
 Writes status (Some emission) out = (status ≡ 1) × IsWritten emission out
@@ -66,7 +66,7 @@ pub record HasFlushed (now : ℕ) (old new : SingleThread) (status : ℕ) (out :
       ((status ≡ 0) × AreFlushed steps × (sent_in_steps steps ≡ []))
       ⊎ ((status ≡ 1) × ((emission : Emission) × (sent_in_steps steps ≡ emission ∷ []) × IsWritten emission out))
 
--- its jobs got these readings and this random word, and the pending steps were taken.
+-- the server's jobs got these readings and this random word, and the pending steps were taken.
 pub record HasPolled (readings : List ℕ) (now random : ℕ) (old new : SingleThread) (status : ℕ) (out : Datagram) : Type 0 where
   pub handed : SingleThread
   pub same : handed.engine ≡ old.engine

@@ -72,7 +72,7 @@ impl Frame {
         Frame::hold(Loose::of(machine))
     }
 
-    // Returns the frame that the handle holds, or `None` if it is empty.
+    // Returns the frame that the handle holds, or `None` if the handle is empty.
     fn into_box(self, alloc: Global) -> Option<Box<fc_machine::Frame>>
         ensures { boxed result ≡ self.value }
     {
@@ -82,8 +82,8 @@ impl Frame {
         }
     }
 
-    // Takes the frame out of the handle, which is then empty, or returns `None` if it was. A call
-    // that uses the frame puts it back.
+    // Takes the frame out of the handle, which is then empty, or returns `None` if the handle was
+    // empty. A call that uses the frame puts it back.
     pub(crate) fn take(&mut self, alloc: Global) -> Option<Box<fc_machine::Frame>>
         ensures held { boxed result ≡ self.old.value }
         ensures now { self.new.value ≡ None }
@@ -101,7 +101,7 @@ impl Frame {
 
 /// Makes a frame in an empty handle.
 ///
-/// Returns `OK`, `NO_MEMORY` or `IN_USE`. Unless it is `OK`, the handle is unchanged.
+/// Returns `OK`, `NO_MEMORY` or `IN_USE`. Unless the result is `OK`, the handle is unchanged.
 #[unsafe(no_mangle)]
 pub extern "C" fn numzela_frame_new(alloc: Global, frame: &mut Frame) -> u32
     ensures ok { result ≡ OK → is_some frame.new.value ≡ true }

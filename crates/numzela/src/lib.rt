@@ -21,7 +21,7 @@
 //!   history so far. Just the emission that this sends is written.
 //! - **Polling**: the steps are those of `fc_server`'s `Flushing`. `NUMZELA_SEND` guarantees that
 //!   one step sent just the written datagram, and the others nothing. `NUMZELA_OK` guarantees that
-//!   nothing was sent. It also guarantees that nothing is left, no message ID was available, or
+//!   nothing was sent. It also guarantees that no work is left, no message ID was available, or
 //!   8,192 steps were taken (`AreFlushed`).
 //! - **A deadline** is a time before which the shards have nothing to do. No contract says that it
 //!   is the latest one, so 0 would do. The script of `tests/c-library` checks that it is later than
@@ -32,8 +32,8 @@
 //!   header's numbers.
 //! - **Ownership**: a handle owns the box at its pointer, or nothing, before and after each call.
 //!   So nothing is freed twice, or used after it was freed.
-//! - Not proved, since C isn't: that a caller passes pointers as the header says, and leaves the
-//!   fields of a handle alone.
+//! - Not proved, since C code isn't: that a caller passes pointers as the header says, and leaves
+//!   the fields of a handle alone.
 //!
 //! By the contracts of `numzela_program_load`, `numzela_frame_new`, `numzela_program_run`,
 //! `numzela_server_new`, `numzela_server_receive`, `numzela_server_poll`, `numzela_server_advance`,

@@ -83,7 +83,7 @@ impl Program {
         Program::hold(Loose::of(verified))
     }
 
-    // Returns the program that the handle holds, or `None` if it is empty.
+    // Returns the program that the handle holds, or `None` if the handle is empty.
     fn into_box(self, alloc: Global) -> Option<Box<Verified>>
         ensures { boxed result ≡ self.value }
     {
@@ -93,8 +93,8 @@ impl Program {
         }
     }
 
-    // Takes the program out of the handle, which is then empty, or returns `None` if it was. A call
-    // that uses the program puts it back.
+    // Takes the program out of the handle, which is then empty, or returns `None` if the handle was
+    // empty. A call that uses the program puts it back.
     fn take(&mut self, alloc: Global) -> Option<Box<Verified>>
         ensures held { boxed result ≡ self.old.value }
         ensures now { self.new.value ≡ None }
@@ -112,8 +112,8 @@ impl Program {
 
 /// The verdict on an image.
 ///
-/// For an accepted image it has its version, cost, budget and size of variables. For a refused
-/// image it has the rule that the image breaks, and the slot. The other numbers are 0.
+/// For an accepted image it has the program's version, cost, budget and size of variables. For a
+/// refused image it has the rule that the image breaks, and the slot. The other numbers are 0.
 #[repr(C)]
 #[derive(Clone, Copy)]
 pub struct Verdict {
@@ -140,7 +140,7 @@ pub struct RequestHead {
 
 /// A response without its bytes.
 ///
-/// It has its code, whether the program set the notify flag, the number of bytes written to the
+/// It has the code, whether the program set the notify flag, the number of bytes written to the
 /// reply, and the steps of the run.
 #[repr(C)]
 #[derive(Clone, Copy)]
@@ -153,8 +153,8 @@ pub struct ResponseHead {
 
 /// Verifies an image, and loads its program into an empty handle.
 ///
-/// Returns `OK`, `REFUSED`, `NO_MEMORY` or `IN_USE`. Unless it is `OK`, the handle is unchanged.
-/// The verdict is written if it is `OK` or `REFUSED`.
+/// Returns `OK`, `REFUSED`, `NO_MEMORY` or `IN_USE`. Unless the result is `OK`, the handle is
+/// unchanged. The verdict is written if the result is `OK` or `REFUSED`.
 #[unsafe(no_mangle)]
 pub extern "C" fn numzela_program_load(
     alloc: Global,
@@ -241,8 +241,10 @@ fn refused(fault: &Fault) -> Verdict
 
 /// Runs a program in a frame on a request, sensor input and variables.
 ///
-/// Both handles keep their contents. Returns `OK`, `EMPTY` or `OUT_OF_RANGE`. Unless it is `OK`,
-/// nothing is written.
+/// Both handles keep their contents. Writes the variables after the run, the reply and the
+/// response, and returns `OK`. Returns `EMPTY` if a handle is empty. Returns `OUT_OF_RANGE` if the
+/// query has more than 64 bytes, the payload more than 1,024, `vars` isn't of the program's size,
+/// or `reply` has no room for the longest reply. Unless the result is `OK`, nothing is written.
 #[unsafe(no_mangle)]
 pub extern "C" fn numzela_program_run(
     alloc: Global,
@@ -277,7 +279,7 @@ pub extern "C" fn numzela_program_run(
     status
 }
 
-// Runs a program in the frame of a handle. Returns `EMPTY` if the handle holds none.
+// Runs a program in the frame of a handle. Returns `EMPTY` if the handle holds no frame.
 fn run_held(
     alloc: Global,
     frame: &mut Frame,

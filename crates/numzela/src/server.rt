@@ -93,7 +93,7 @@ impl Server {
         Server::hold(Loose::of(serving))
     }
 
-    // Returns the server that the handle holds, or `None` if it is empty.
+    // Returns the server that the handle holds, or `None` if the handle is empty.
     fn into_box(self, alloc: Global) -> Option<Box<Serving>>
         ensures { boxed result ≡ self.value }
     {
@@ -103,8 +103,8 @@ impl Server {
         }
     }
 
-    // Takes the server out of the handle, which is then empty, or returns `None` if it was. A call
-    // that uses the server puts it back.
+    // Takes the server out of the handle, which is then empty, or returns `None` if the handle was
+    // empty. A call that uses the server puts it back.
     fn take(&mut self, alloc: Global) -> Option<Box<Serving>>
         ensures held { boxed result ≡ self.old.value }
         ensures now { self.new.value ≡ None }
@@ -141,7 +141,7 @@ pub struct Datagram {
 
 /// Makes a server of empty slots in an empty handle.
 ///
-/// Returns `OK`, `OUT_OF_RANGE`, `NO_MEMORY` or `IN_USE`. Unless it is `OK`, the handle is
+/// Returns `OK`, `OUT_OF_RANGE`, `NO_MEMORY` or `IN_USE`. Unless the result is `OK`, the handle is
 /// unchanged.
 #[unsafe(no_mangle)]
 pub extern "C" fn numzela_server_new(alloc: Global, server: &mut Server, config: &Config) -> u32
@@ -184,8 +184,8 @@ fn make_serving(alloc: Global, begin: &Begin) -> Result<Box<Serving>, AllocError
 /// Receives a datagram, handles it, and writes the response if there is one.
 ///
 /// The time is in milliseconds, and `readings` is the sensor input. Returns `SEND` if a response
-/// was written, `OK` if there is none, and `EMPTY` if the handle is empty. Unless it is `SEND`,
-/// `out` is unchanged.
+/// was written, `OK` if there is none, and `EMPTY` if the handle is empty. Unless the result is
+/// `SEND`, `out` is unchanged.
 #[unsafe(no_mangle)]
 pub extern "C" fn numzela_server_receive(
     alloc: Global,
@@ -213,7 +213,7 @@ pub extern "C" fn numzela_server_receive(
 ///
 /// The datagram, a retransmission or a notification, is written. The time is in milliseconds.
 /// Returns `SEND` if a datagram was written, else `OK`, or `EMPTY` if the handle is empty. Unless
-/// it is `SEND`, `out` is unchanged. The caller polls again after each `SEND`.
+/// the result is `SEND`, `out` is unchanged. The caller polls again after each `SEND`.
 #[unsafe(no_mangle)]
 pub extern "C" fn numzela_server_poll(
     alloc: Global,
@@ -318,7 +318,8 @@ impl Serving {
     }
 
     // Takes the pending steps at a time, up to the first that sends. Returns `SEND` if a datagram
-    // was written over `out`, otherwise `OK`: nothing is left, or `STEPS` steps were taken.
+    // was written over `out`. Otherwise returns `OK`: no work is left, no message ID was available,
+    // or `STEPS` steps were taken.
     fn flush(&mut self, now: u64, out: &mut Datagram) -> u32
         ensures flushed { HasFlushed now self.old.alone self.new.alone result out.new }
         ensures status { result ≤ 1 }
