@@ -1,5 +1,5 @@
 -- The further blocks of a state, one after the other.
-use Rattle.std.proofs.Common.{◌≡◌, ◌⊎◌, ℕ, zero, suc, max, inl, inr, List, [], ◌∷◌, ◌++◌, Option, Ok, refl, sym, ap, subst, ◌∙◌}
+use Rattle.std.proofs.Common.{◌≡◌, ◌⊎◌, ℕ, suc, max, inl, inr, List, [], ◌∷◌, ◌++◌, Option, Ok, refl, sym, ap, subst, ◌∙◌}
 use Rattle.coap_msg.specs.Reading.{reading_of}
 use Rattle.coap_msg.specs.Wire.{Message}
 use Rattle.coap_client.specs.declared.fetcher.FetchFault.{FetchFault}
@@ -8,10 +8,9 @@ use Rattle.coap_client.specs.declared.joining.Joining.{Joining}
 use Rattle.coap_client.specs.declared.observing.Observer.{Observer}
 use Rattle.coap_client.specs.declared.watch.Observation.{Observation}
 use Rattle.coap_client.specs.Fetching.{State, after_reply}
-use Rattle.coap_client.specs.Notes.{HasOwnResponse}
 use Rattle.coap_client.specs.Notices.{IsOwnResponse, notice_after}
 use Rattle.coap_client.specs.PeerCalls.{Adds, PeerCall, PeerError, Reads}
-use Rattle.coap_client.specs.Representations.{AnswersBlock, AreFollowingSteps, HasBlocks, IsBlockAnswer, IsBlockRejection, IsBlockTransmission, IsFollowing, IsFollowingFault, IsFollowingStep, IsGrownBy, IsNoteFault, ReadsAtMost, begun, joined, state_of}
+use Rattle.coap_client.specs.Representations.{AnswersBlock, HasBlocks, IsBlockAnswer, IsBlockRejection, IsBlockTransmission, IsFollowing, IsFollowingFault, IsFollowingStep, IsGrownBy, IsNoteFault, ReadsAtMost, begun, state_of}
 use Rattle.coap_client.specs.Transmissions.{MakesCalls}
 use Rattle.coap_client.proofs.Failing.{unfit_came}
 use Rattle.coap_client.proofs.Transmitting.{Calls, does, does_both, does_nothing}

@@ -162,11 +162,11 @@ next_shown_as w n x is other fits =
 noted : (went came : List ℕ → Type 0) (told : ℕ → Type 0) (token : List ℕ) (id : ℕ) (latest : Note) (older : List Note) (bytes : List ℕ) (time : ℕ) (old new : Observation) (last : Bool) →
     IsWatching went came told token id latest older old → (x : IsNextNote went came told token bytes time old new last) →
     can_be_shown x.message ≡ true → IsNoteOf went came told token id (record { message = x.message; at = max old.at time })
-noted went came told token id latest older bytes time old new last watching x whole = record {
+noted went came told token id latest older bytes time old new last watching x fit = record {
   bytes = bytes;
   handled = x.handled;
   own = inr x.own;
-  whole = whole;
+  fit = fit;
   time = told_later told old.at time (subst told (sym watching.time) watching.are.1.time) x.told_is;
 }
 
@@ -226,7 +226,7 @@ first_note went came told o bytes w m at registered read time state same marks =
           bytes = bytes;
           handled = subst (IsHandledFrom went came bytes) spelled registered.handled;
           own = subst (IsResponseWith o.token o.id) spelled registered.own;
-          whole = shown_as m (State w.sequence) state (λ e. cc e);
+          fit = shown_as m (State w.sequence) state (λ e. cc e);
           time = time;
         },
         tt,
@@ -249,7 +249,7 @@ only_note went came told o bytes m at registered read time last =
         bytes = bytes;
         handled = subst (IsHandledFrom went came bytes) spelled registered.handled;
         own = subst (IsResponseWith o.token o.id) spelled registered.own;
-        whole = shown_as m Last last (λ e. cc e);
+        fit = shown_as m Last last (λ e. cc e);
         time = time;
       },
       tt,

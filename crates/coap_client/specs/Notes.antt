@@ -99,7 +99,7 @@ pub record IsNoteOf (went came : List ℕ → Type 0) (told : ℕ → Type 0) (t
   pub bytes : List ℕ
   pub handled : IsHandledFrom went came bytes n.message
   pub own : IsResponseWith token id n.message
-  pub whole : can_be_shown n.message ≡ true
+  pub fit : can_be_shown n.message ≡ true
   pub time : told n.at
 
 -- a state is newer than one of this sequence number and time (RFC 7641, section 3.4).

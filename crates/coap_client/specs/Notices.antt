@@ -79,10 +79,16 @@ abbrev pub is_first_part : Next → Bool
 is_first_part (next.Ask part) = true
 is_first_part other = false
 
+-- the first of several blocks of a state: a success with a sequence number (RFC 7641, section 3.4;
+-- RFC 7959, section 2.6).
+abbrev pub begins_state : Message → Bool
+begins_state m = is_understood m && (is_first_part (next_of_answer 0 largest_szx m) && (is_success m.code && is_some (sequence_of m)))
+
 -- the message can be shown. No critical option is unknown, and it is whole by itself, like the
--- response to the first request of a fetch (RFC 7959, section 2.4).
+-- response to the first request of a fetch; or it begins a state, whose other blocks can be
+-- requested (RFC 7959, sections 2.4 and 2.6).
 abbrev pub can_be_shown : Message → Bool
-can_be_shown m = is_understood m && is_last_part (next_of_answer 0 largest_szx m)
+can_be_shown m = (is_understood m && is_last_part (next_of_answer 0 largest_szx m)) || begins_state m
 
 -- a success without a sequence number that is the first of several blocks: the server doesn't notify
 -- (RFC 7641, section 4.1; RFC 7959, section 2.6).

@@ -1,6 +1,7 @@
 -- The representation of an observed resource in a notification of several blocks: its further blocks
 -- are requested without Observe (RFC 7959, sections 2.6 and 3.4).
-use Rattle.std.specs.Prelude.{◌≡◌, ℕ, zero, suc, ◌≤◌, ◌⊎◌, max, Bool, true, false, List, [], ◌∷◌, ◌++◌, length, take, Option, Some, None}
+use Rattle.std.specs.Prelude.{◌≡◌, ℕ, zero, suc, ◌≤◌, ◌⊎◌, max, true, false, List, [], ◌∷◌, ◌++◌, length, take, Option, Some, None, codes}
+use Rattle.coap_msg.specs.Codes.{code_text}
 use Rattle.coap_msg.specs.Wire.{Message, message_bytes}
 use Rattle.coap_client.specs.declared.fetcher.FetchFault.{FetchFault}
 use Rattle.coap_client.specs.declared.fetcher.FetchFault.TheVariants as fault
@@ -11,6 +12,8 @@ use Rattle.coap_client.specs.declared.joining.BlockHandled.TheVariants as handle
 use Rattle.coap_client.specs.declared.joining.Completion.{Completion}
 use Rattle.coap_client.specs.declared.joining.Completion.TheVariants as completion
 use Rattle.coap_client.specs.declared.joining.Joining.{Joining}
+use Rattle.coap_client.specs.declared.joining.Unfetched.{Unfetched}
+use Rattle.coap_client.specs.declared.joining.Unfetched.TheVariants as unfetched
 use Rattle.coap_client.specs.declared.notice.NotificationClass.{NotificationClass}
 use Rattle.coap_client.specs.declared.notice.NotificationClass.TheVariants as notice
 use Rattle.coap_client.specs.declared.observing.DatedMessage.{DatedMessage}
@@ -140,6 +143,14 @@ abbrev pub ReadsAtMost : List PeerCall → Type 0
 ReadsAtMost calls = (calls ≡ []) ⊎ ((time : ℕ) × (calls ≡ Reads time ∷ []))
 
 -- ---- a whole state
+
+-- the text of the reason why the further blocks can't be fetched.
+abbrev pub unfetched_text : Unfetched → List ℕ
+unfetched_text unfetched.Silence = codes "no answer to a request for a further block"
+unfetched_text unfetched.Rejected = codes "a request for a further block was rejected"
+unfetched_text (unfetched.Refused code) = codes "a further block was refused by " ++ code_text code.byte
+unfetched_text unfetched.Changed = codes "it changed while its blocks were fetched"
+unfetched_text unfetched.Malformed = codes "a further block doesn't fit the request"
 
 -- the result of the requests for the further blocks: the body; or a newer notification arrived; or
 -- they can't be fetched. Only a newer notification changes the watch.

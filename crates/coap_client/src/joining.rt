@@ -18,7 +18,7 @@ use crate::reply::{Next, etag_of, next_of_answer, next_of_block};
 use crate::watch::Observation;
 use coap_msg::{Code, Message, read};
 use std::alloc::{AllocError, Global};
-use thiserror::Error;
+use std::fmt;
 
 /// Class of the success codes (RFC 7252, section 5.9.1).
 const SUCCESS: u8 = 2;
@@ -39,23 +39,36 @@ pub struct Joining {
 }
 
 /// The reason why the further blocks of a state can't be fetched.
-#[derive(Clone, Copy, Debug, PartialEq, Eq, Error)]
+#[derive(Clone, Copy, Debug, PartialEq, Eq)]
 pub enum Unfetched {
     /// No response arrived, not even to the last transmission of a request.
-    #[error("no answer to a request for a further block")]
     Silence,
     /// The server rejected a request by a Reset message.
-    #[error("a request for a further block was rejected")]
     Rejected,
     /// The server has an error of this code.
-    #[error("a further block was refused by {0}")]
     Refused(Code),
     /// A further block is of another version.
-    #[error("it changed while its blocks were fetched")]
     Changed,
     /// A response isn't the requested block, or has an unknown critical option.
-    #[error("a further block doesn't fit the request")]
     Malformed,
+}
+
+/// The text of a reason, such as `a further block was refused by 4.04`.
+impl fmt::Display for Unfetched {
+    ghost use Rattle.std.specs.Prelude.{Some};
+    ghost use Rattle.coap_client.specs.Representations.{unfetched_text};
+
+    ghost output = { λ cause. Some (unfetched_text cause) };
+
+    fn fmt<W: fmt::Write>(&self, f: &mut fmt::Formatter<W>) -> fmt::Result {
+        match self {
+            Unfetched::Silence => write!(f, "no answer to a request for a further block"),
+            Unfetched::Rejected => write!(f, "a request for a further block was rejected"),
+            Unfetched::Refused(code) => write!(f, "a further block was refused by {code}"),
+            Unfetched::Changed => write!(f, "it changed while its blocks were fetched"),
+            Unfetched::Malformed => write!(f, "a further block doesn't fit the request"),
+        }
+    }
 }
 
 /// The result of the requests for the further blocks of a state.

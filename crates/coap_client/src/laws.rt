@@ -11,7 +11,7 @@ ghost use Rattle.coap_client.specs.declared.part.Part.TheVariants.{Answer, Body,
 ghost use Rattle.coap_client.specs.Pings.{IsPinged, IsPingedInVain, own_calls, ping_bytes};
 ghost use Rattle.coap_client.specs.Clocks.{is_transient};
 ghost use Rattle.std.specs.declared.io.ErrorKind.TheVariants.{ConnectionRefused, Interrupted, NetworkDown, TimedOut, WouldBlock};
-ghost use Rattle.coap_client.specs.declared.notice.NotificationClass.TheVariants.{Last, State};
+ghost use Rattle.coap_client.specs.declared.notice.NotificationClass.TheVariants.{Last, Malformed, State};
 ghost use Rattle.coap_client.specs.declared.notice.ObserveOption.TheVariants.{Deregister, Register};
 ghost use Rattle.coap_client.specs.declared.observing.Observer.{Observer};
 ghost use Rattle.coap_client.specs.Handled.{Tells};
@@ -26,7 +26,9 @@ ghost use Rattle.coap_client.specs.Transmissions.{AreInVain, IsLastSending, IsTr
 ghost use Rattle.coap_client.specs.Fetching.{Ended, Out, after_reply, state_after};
 ghost use Rattle.coap_client.specs.Joined.{IsOneAnswer, SaysTaken};
 ghost use Rattle.coap_client.specs.Replies.{first_or_none, is_success, is_understood, next_of_answer};
-ghost use Rattle.coap_client.specs.Representations.{joined};
+ghost use Rattle.coap_client.specs.Representations.{joined, unfetched_text};
+ghost use Rattle.coap_client.specs.declared.joining.Unfetched.TheVariants as unfetched;
+ghost use Rattle.coap_msg.specs.declared.code.Code.{Code};
 ghost use Rattle.coap_client.specs.Requests.{block_request};
 ghost use Rattle.coap_client.specs.Paths.{slices_in};
 ghost use Rattle.coap_client.specs.declared.reply.Next.TheVariants as next;
@@ -132,6 +134,26 @@ pub fn several_blocks_without_observe_are_unobserved()
     ensures unobserved { (m : Message) → is_understood m ≡ true → m.code ≡ 69 → length m.payload ≡ 1024 → first_or_none (values_in 23 m.options) ≡ Some (14 ∷ [])
         → first_or_none (values_in 6 m.options) ≡ None → is_unobserved m ≡ true }
     ensures unshown { (m : Message) → is_unobserved m ≡ true → can_be_shown m ≡ false }
+{}
+
+/// The first of several blocks of a state is a state itself.
+///
+/// It is a success with 1,024 bytes, an Observe of 7, and a Block2 that names block 0 of 1,024 bytes
+/// and says that more follow (14). With block 1 (30) it can't be shown (RFC 7959, section 2.6).
+pub fn the_first_block_of_a_state_is_a_state()
+    ensures first { (m : Message) → is_understood m ≡ true → m.code ≡ 69 → length m.payload ≡ 1024 → first_or_none (values_in 23 m.options) ≡ Some (14 ∷ [])
+        → first_or_none (values_in 6 m.options) ≡ Some (7 ∷ []) → notice_of m ≡ State 7 }
+    ensures second { (m : Message) → is_understood m ≡ true → m.code ≡ 69 → length m.payload ≡ 1024 → first_or_none (values_in 23 m.options) ≡ Some (30 ∷ [])
+        → first_or_none (values_in 6 m.options) ≡ Some (7 ∷ []) → notice_of m ≡ Malformed }
+{}
+
+/// The text of each reason why the blocks of a state can't be fetched.
+pub fn unfetched_blocks_have_a_reason()
+    ensures silence { unfetched_text unfetched.Silence ≡ codes "no answer to a request for a further block" }
+    ensures rejected { unfetched_text unfetched.Rejected ≡ codes "a request for a further block was rejected" }
+    ensures refused { (code : Code) → code.byte ≡ 132 → unfetched_text (unfetched.Refused code) ≡ codes "a further block was refused by 4.04" }
+    ensures changed { unfetched_text unfetched.Changed ≡ codes "it changed while its blocks were fetched" }
+    ensures malformed { unfetched_text unfetched.Malformed ≡ codes "a further block doesn't fit the request" }
 {}
 
 /// A success that can be shown and has an Observe of three bytes is a state.

@@ -54,7 +54,7 @@ pub enum NotificationClass {
     Last,
     /// A response that can't be shown.
     ///
-    /// It has an unknown critical option, or more of it follows in further blocks.
+    /// It has an unknown critical option, or it is neither whole nor the first block of a state.
     Malformed,
 }
 
@@ -104,7 +104,7 @@ pub fn is_newer(first: u32, first_at: u64, second: u32, second_at: u64) -> bool
 pub fn notice_of(message: &Message<'_>) -> NotificationClass
     ensures { result ≡ spec.notice_of message.now }
 {
-    if !(is_understood(message) && is_whole(message)) {
+    if !can_be_shown(message) {
         return NotificationClass::Malformed;
     }
     if message.code().class() != SUCCESS {
@@ -116,7 +116,27 @@ pub fn notice_of(message: &Message<'_>) -> NotificationClass
     }
 }
 
-/// Returns whether a response is a success of several blocks without Observe.
+/// Returns whether a response is the first of several blocks of a state.
+///
+/// It is a success with a sequence number. Its other blocks are requested without Observe
+/// (RFC 7959, section 2.6).
+pub fn begins_state(message: &Message<'_>) -> bool
+    ensures { result ≡ spec.begins_state message.now }
+{
+    is_understood(message)
+        && matches!(next_of_answer(0, LARGEST_SZX, message), Next::Ask(_))
+        && message.code().class() == SUCCESS
+        && sequence_of(message).is_some()
+}
+
+// Returns whether a response is whole, or begins a state.
+fn can_be_shown(message: &Message<'_>) -> bool
+    ensures { result ≡ spec.can_be_shown message.now }
+{
+    (is_understood(message) && is_whole(message)) || begins_state(message)
+}
+
+/// Returns whether a response is a success of several blocks, without a sequence number.
 ///
 /// An Observe of more than three bytes counts as none. The server that sent it doesn't notify of
 /// changes, or has no place for another observer (RFC 7641, section 4.1).

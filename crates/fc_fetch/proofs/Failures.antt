@@ -1,28 +1,31 @@
 -- Failures of an observer.
-use Rattle.std.proofs.Common.{◌≡◌, ◌⊎◌, ℕ, Bool, false, true, List, Option, Some, None, Result, Ok, Err, IfErr, OnErr, OnOk, is_some, inl, inr, refl, ap, sym, subst, ◌∙◌, if◌then◌else◌}
+use Rattle.std.proofs.Common.{◌≡◌, ◌⊎◌, ◌+◌, ◌++◌, ℕ, Bool, false, true, List, [], Option, Some, None, Result, Ok, Err, IfErr, OnErr, OnOk, is_some, inl, inr, refl, ap, sym, subst, ◌∙◌, append_assoc, if◌then◌else◌}
 use Rattle.coap_client.specs.Faults.{EndsOnNotification, IsLeavingFault, IsNewState, IsNotificationFault, IsOfPeer, IsRegistrationFault, UnfitCame, deregistration_of}
 use Rattle.coap_client.specs.ObserverCalls.{IsDatedRegistration, IsDeregistration}
-use Rattle.coap_client.specs.Notes.{IsRegistered, IsResponseWith}
+use Rattle.coap_client.specs.Notes.{IsRegistered, IsResponseWith, IsWatching, Note}
 use Rattle.coap_client.specs.Notices.{by_sequence, by_success, can_be_shown, is_unobserved, notice_of, sequence_of}
 use Rattle.coap_client.specs.Replies.{is_success}
 use Rattle.coap_client.specs.PeerCalls.{PeerCall, PeerError}
-use Rattle.coap_client.specs.Transmissions.{MakesCalls}
+use Rattle.coap_client.specs.Representations.{IsFollowingFault}
+use Rattle.coap_client.specs.Transmissions.{AreBehind, MakesCalls}
 use Rattle.coap_client.specs.declared.fetcher.FetchFault.{FetchFault}
 use Rattle.coap_client.specs.declared.fetcher.FetchFault.TheVariants as fault
 use Rattle.coap_client.specs.declared.notice.NotificationClass.{NotificationClass}
 use Rattle.coap_client.specs.declared.notice.NotificationClass.TheVariants as notice
+use Rattle.coap_client.specs.declared.observing.NotedMessage.{NotedMessage}
 use Rattle.coap_client.specs.declared.observing.Observer.{Observer}
 use Rattle.coap_client.specs.declared.watch.Observation.{Observation}
 use Rattle.coap_client.proofs.Failing.{unfit_notice}
-use Rattle.coap_client.proofs.Transmitting.{Calls, both, does_of}
+use Rattle.coap_client.proofs.Transmitting.{Calls, both, does_both, does_of}
 use Rattle.coap_msg.specs.Reading.{reading_of}
 use Rattle.coap_msg.specs.Wire.{Message}
 use Rattle.fc_fetch.specs.declared.observer.NotesError.{NotesError}
 use Rattle.fc_fetch.specs.declared.observer.NotesError.TheVariants as notes_error
 use Rattle.fc_fetch.specs.declared.observer.ObservationEnd.{ObservationEnd}
 use Rattle.fc_fetch.specs.declared.printer.Shown.{Shown}
-use Rattle.fc_fetch.specs.Observing.{AwaitsNote, AwaitsUntil, IsAwaitFault, IsFirstFault, IsLaterFault, IsLeftInVain, IsNotesFault, IsShowing, IsState, IsStoppedByFirst, IsTimedObservation, LeavesAtFault, may_notify, unfit_error}
-use Rattle.fc_fetch.proofs.Timing.{HasAwaited, HasObserved, observed_until}
+use Rattle.fc_fetch.specs.Observing.{AreTurns, AwaitsNote, AwaitsUntil, IsAwaitFault, IsFirstFault, IsJoining, IsLaterFault, IsLeftInVain, IsNotesFault, IsObservedSoFar, IsReady, IsRenderFault, IsState, IsStoppedByFirst, IsStoppedWaiting, IsTimedObservation, LeavesAtFault, may_notify, unfit_error}
+use Rattle.fc_fetch.specs.Rendering.{Written, notes_of}
+use Rattle.fc_fetch.proofs.Timing.{HasAwaited, HasObserved, HasTurned, awaiting_turn, observed_so_far, observed_until, turned, turned_line, turns_joining}
 
 -- the registration failed
 pub unanswered : (came : List ℕ → Type 0) (is_error : PeerError → Type 0) (Makes : (List PeerCall → Type 0) → Type 0) (o : Observer) (f : FetchFault) → IsRegistrationFault is_error Makes o f
@@ -47,15 +50,25 @@ undated came is_error Makes o (fault.Socket error) h = h
 undated came is_error Makes o (fault.Memory error) h = absurd h
 
 -- or a wait can't begin
-pub unbegun : (went came : List ℕ → Type 0) (told : ℕ → Type 0) (is_error : PeerError → Type 0) (Makes : (List PeerCall → Type 0) → Type 0) (o : Observer) (seconds : Option ℕ) (f : FetchFault)
-    → IsOfPeer is_error ⊥ f → IsLaterFault went came told is_error Makes o seconds (notes_error.Fault f)
-unbegun went came told is_error Makes o seconds fault.Silence h = absurd h
-unbegun went came told is_error Makes o seconds fault.Rejected h = absurd h
-unbegun went came told is_error Makes o seconds fault.Malformed h = absurd h
-unbegun went came told is_error Makes o seconds fault.Changed h = absurd h
-unbegun went came told is_error Makes o seconds fault.Part h = absurd h
-unbegun went came told is_error Makes o seconds (fault.Socket error) h = h
-unbegun went came told is_error Makes o seconds (fault.Memory error) h = absurd h
+pub unbegun : {S : Type 0} (went came : List ℕ → Type 0) (told : ℕ → Type 0) (is_error : PeerError → Type 0) (called : S → List PeerCall → Type 0) (before after : S) (o : Observer)
+    (SoFar : List PeerCall → Type 0) (f : FetchFault) → IsOfPeer is_error ⊥ f → IsLaterFault went came told is_error called before after o SoFar (notes_error.Fault f)
+unbegun went came told is_error called before after o SoFar fault.Silence h = absurd h
+unbegun went came told is_error called before after o SoFar fault.Rejected h = absurd h
+unbegun went came told is_error called before after o SoFar fault.Malformed h = absurd h
+unbegun went came told is_error called before after o SoFar fault.Changed h = absurd h
+unbegun went came told is_error called before after o SoFar fault.Part h = absurd h
+unbegun went came told is_error called before after o SoFar (fault.Socket error) h = inl h
+unbegun went came told is_error called before after o SoFar (fault.Memory error) h = absurd h
+
+-- the rest of the time can't begin
+pub unrested : (came : List ℕ → Type 0) (is_error : PeerError → Type 0) (token : List ℕ) (f : FetchFault) → IsOfPeer is_error ⊥ f → IsFollowingFault came is_error token f
+unrested came is_error token fault.Silence h = absurd h
+unrested came is_error token fault.Rejected h = absurd h
+unrested came is_error token fault.Malformed h = absurd h
+unrested came is_error token fault.Changed h = absurd h
+unrested came is_error token fault.Part h = absurd h
+unrested came is_error token (fault.Socket error) h = h
+unrested came is_error token (fault.Memory error) h = absurd h
 
 pub of_peer : (came : List ℕ → Type 0) (told : ℕ → Type 0) (is_error : PeerError → Type 0) (Makes : (List PeerCall → Type 0) → Type 0) (o : Observer) (ends : Bool) (w : Observation) (f : FetchFault)
     → IsOfPeer is_error ⊥ f → IsAwaitFault came told is_error Makes o ends w f
@@ -86,20 +99,99 @@ no_note came told is_error before between after o ends n w fault.Part one h = (h
 no_note came told is_error before between after o ends n w (fault.Socket error) one h = h
 no_note came told is_error before between after o ends n w (fault.Memory error) one h = until told o.token ends n w IsNewState before between after one h
 
--- it fails after these notes
-pub stopped : (went came : List ℕ → Type 0) (told : ℕ → Type 0) (is_error : PeerError → Type 0) (before between after : Calls) (o : Observer) (shown : Shown) (out now : Option (List ℕ))
-    (lines : ℕ) (seconds : Option ℕ) (ends : Bool) (w : Observation) (f : FetchFault) → ends ≡ is_some seconds → IsShowing went came told o shown out now lines w
-    → MakesCalls before between (HasObserved o seconds) → IsAwaitFault came told is_error (MakesCalls between after) o ends w f
-    → IsLaterFault went came told is_error (MakesCalls before after) o seconds (notes_error.Fault f)
-stopped went came told is_error before between after o shown out now lines seconds ends w fault.Silence is s one h = h
-stopped went came told is_error before between after o shown out now lines seconds ends w fault.Rejected is s one h = h
-stopped went came told is_error before between after o shown out now lines seconds ends w fault.Malformed is s one h = h
-stopped went came told is_error before between after o shown out now lines seconds ends w fault.Changed is s one h = h
-stopped went came told is_error before between after o shown out now lines seconds ends w fault.Part is s one h =
-    (h.0, record { latest = s.latest; older = s.older; w = w; watching = s.watching; called = observed_until told o seconds ends w (λ x. x ≡ notice.Malformed) before between after is one h.1 })
-stopped went came told is_error before between after o shown out now lines seconds ends w (fault.Socket error) is s one h = h
-stopped went came told is_error before between after o shown out now lines seconds ends w (fault.Memory error) is s one h =
-    record { latest = s.latest; older = s.older; w = w; watching = s.watching; called = observed_until told o seconds ends w IsNewState before between after is one h }
+-- it fails while the next note is awaited
+until_turn : (told : ℕ → Type 0) (o : Observer) (seconds : Option ℕ) (start n : ℕ) (ends : Bool) (w : Observation) (P : NotificationClass → Type 0) (before between after : Calls) → ends ≡ is_some seconds
+    → MakesCalls before between (HasTurned o seconds start n) → MakesCalls between after (AwaitsUntil told o.token ends w P)
+    → MakesCalls before after (AreBehind (AreTurns o seconds start) (EndsOnNotification told o.token w P))
+until_turn told o seconds start n ends w P before between after is one other =
+    does_both before between after (HasTurned o seconds start n) (AwaitsUntil told o.token ends w P) (AreBehind (AreTurns o seconds start) (EndsOnNotification told o.token w P)) one other
+    (λ older newer a b. record {
+      older = b.older ++ older;
+      first = awaiting_turn o seconds start n ends older b.older is a b.first;
+      newer = b.newer;
+      then = b.then;
+      is = ap (λ (x : List PeerCall). x ++ older) b.is ∙ append_assoc b.newer b.older older;
+    })
+
+pub stopped_waiting : (went came : List ℕ → Type 0) (told : ℕ → Type 0) (is_error : PeerError → Type 0) (before between after : Calls) (o : Observer) (latest : Note) (older : List Note)
+    (seconds : Option ℕ) (start n : ℕ) (ends : Bool) (w : Observation) (f : FetchFault) → ends ≡ is_some seconds → IsWatching went came told o.token o.id latest older w
+    → MakesCalls before between (HasTurned o seconds start n) → IsAwaitFault came told is_error (MakesCalls between after) o ends w f
+    → IsStoppedWaiting went came told is_error (MakesCalls before after) o (AreTurns o seconds start) f
+stopped_waiting went came told is_error before between after o latest older seconds start n ends w fault.Silence is s one h = h
+stopped_waiting went came told is_error before between after o latest older seconds start n ends w fault.Rejected is s one h = h
+stopped_waiting went came told is_error before between after o latest older seconds start n ends w fault.Malformed is s one h = h
+stopped_waiting went came told is_error before between after o latest older seconds start n ends w fault.Changed is s one h = h
+stopped_waiting went came told is_error before between after o latest older seconds start n ends w fault.Part is s one h =
+    (h.0, record { latest = latest; older = older; w = w; watching = s; called = until_turn told o seconds start n ends w (λ x. x ≡ notice.Malformed) before between after is one h.1 })
+stopped_waiting went came told is_error before between after o latest older seconds start n ends w (fault.Socket error) is s one h = h
+stopped_waiting went came told is_error before between after o latest older seconds start n ends w (fault.Memory error) is s one h =
+    record { latest = latest; older = older; w = w; watching = s; called = until_turn told o seconds start n ends w IsNewState before between after is one h }
+
+-- a wait that hasn't begun doesn't fail
+pub no_wait_fails : (went came : List ℕ → Type 0) (told : ℕ → Type 0) (is_error : PeerError → Type 0) (before between after : Calls) (o : Observer) (shown : Shown) (first now : Written) (lines : ℕ)
+    (buffer : List ℕ) (next : Option NotedMessage) (seconds : Option ℕ) (start n : ℕ) (ends : Bool) (w : Observation) (f : FetchFault) → ends ≡ is_some seconds
+    → IsReady went came told o shown first now lines w buffer next → MakesCalls before between (HasTurned o seconds start n)
+    → IsAwaitFault came told is_error (MakesCalls between after) o ends w f → next ≡ None → IsStoppedWaiting went came told is_error (MakesCalls before after) o (AreTurns o seconds start) f
+no_wait_fails went came told is_error before between after o shown first now lines buffer None seconds start n ends w f is s one h none =
+    stopped_waiting went came told is_error before between after o s.latest.note (notes_of s.older) seconds start n ends w f is s.watching one h
+no_wait_fails went came told is_error before between after o shown first now lines buffer (Some noted) seconds start n ends w f is s one h none = absurd (cc none)
+
+-- the rendering of a note fails
+pub unrendered : {S : Type 0} (went came : List ℕ → Type 0) (told : ℕ → Type 0) (is_error : PeerError → Type 0) (called : S → List PeerCall → Type 0) (before between after : S) (o : Observer)
+    (note : Note) (older : List Note) (w : Observation) (seconds : Option ℕ) (start n : ℕ) (e : NotesError) → IsWatching went came told o.token o.id note older w
+    → MakesCalls (called before) (called between) (HasTurned o seconds start n) → IsRenderFault came is_error (MakesCalls (called between) (called after)) o seconds start note.message e
+    → IsLaterFault went came told is_error called before after o (AreTurns o seconds start) e
+unrendered went came told is_error called before between after o note older w seconds start n (notes_error.Fault f) watching one h = inr (record {
+  at = between;
+  latest = note;
+  older = older;
+  w = w;
+  watching = watching;
+  further = h.0;
+  called_is = turned o seconds start n (called before) (called between) one;
+  fails = h.1;
+})
+unrendered went came told is_error called before between after o note older w seconds start n notes_error.Unobserved watching one h = h
+unrendered went came told is_error called before between after o note older w seconds start n (notes_error.Print error) watching one h =
+    turned_line o seconds start n (called before) (called between) (called after) one h
+unrendered went came told is_error called before between after o note older w seconds start n (notes_error.Report error) watching one h =
+    turned o seconds start (n + 1) (called before) (called after) (turns_joining o seconds start n (called before) (called between) (called after) one h)
+unrendered went came told is_error called before between after o note older w seconds start n (notes_error.Memory error) watching one h =
+    turned_line o seconds start n (called before) (called between) (called after) one (does_of (called between) (called after) (λ calls. calls ≡ []) (λ calls. (calls ≡ []) ⊎ IsJoining o seconds start calls) h (λ calls none. inl none))
+
+-- the same since the registration
+stopped_since : (went came : List ℕ → Type 0) (told : ℕ → Type 0) (is_error : PeerError → Type 0) (before between after : Calls) (o : Observer) (seconds : Option ℕ) (start : ℕ) (f : FetchFault)
+    → MakesCalls before between (HasObserved o seconds start) → IsStoppedWaiting went came told is_error (MakesCalls between after) o (AreTurns o seconds start) f
+    → IsStoppedWaiting went came told is_error (MakesCalls before after) o (IsObservedSoFar o seconds) f
+stopped_since went came told is_error before between after o seconds start fault.Silence one h = h
+stopped_since went came told is_error before between after o seconds start fault.Rejected one h = h
+stopped_since went came told is_error before between after o seconds start fault.Malformed one h = h
+stopped_since went came told is_error before between after o seconds start fault.Changed one h = h
+stopped_since went came told is_error before between after o seconds start fault.Part one h =
+    (h.0, record { latest = h.1.latest; older = h.1.older; w = h.1.w; watching = h.1.watching; called = observed_until told o seconds start h.1.w (λ x. x ≡ notice.Malformed) before between after one h.1.called })
+stopped_since went came told is_error before between after o seconds start (fault.Socket error) one h = h
+stopped_since went came told is_error before between after o seconds start (fault.Memory error) one h =
+    record { latest = h.latest; older = h.older; w = h.w; watching = h.watching; called = observed_until told o seconds start h.w IsNewState before between after one h.called }
+
+pub failed_since : {S : Type 0} (went came : List ℕ → Type 0) (told : ℕ → Type 0) (is_error : PeerError → Type 0) (called : S → List PeerCall → Type 0) (before between after : S) (o : Observer)
+    (seconds : Option ℕ) (start : ℕ) (e : NotesError) → MakesCalls (called before) (called between) (HasObserved o seconds start)
+    → IsLaterFault went came told is_error called between after o (AreTurns o seconds start) e → IsLaterFault went came told is_error called before after o (IsObservedSoFar o seconds) e
+failed_since went came told is_error called before between after o seconds start (notes_error.Fault f) one (inl h) =
+    inl (stopped_since went came told is_error (called before) (called between) (called after) o seconds start f one h)
+failed_since went came told is_error called before between after o seconds start (notes_error.Fault f) one (inr h) = inr (record {
+  at = h.at;
+  latest = h.latest;
+  older = h.older;
+  w = h.w;
+  watching = h.watching;
+  further = h.further;
+  called_is = observed_so_far o seconds start (called before) (called between) (called h.at) one h.called_is;
+  fails = h.fails;
+})
+failed_since went came told is_error called before between after o seconds start notes_error.Unobserved one h = h
+failed_since went came told is_error called before between after o seconds start (notes_error.Print error) one h = observed_so_far o seconds start (called before) (called between) (called after) one h
+failed_since went came told is_error called before between after o seconds start (notes_error.Report error) one h = observed_so_far o seconds start (called before) (called between) (called after) one h
+failed_since went came told is_error called before between after o seconds start (notes_error.Memory error) one h = observed_so_far o seconds start (called before) (called between) (called after) one h
 
 -- no response is older by itself
 no_sequence_is_older : (o : Option ℕ) → by_sequence o ≡ notice.Older → ⊥
@@ -157,21 +249,35 @@ unmarked went came before after o bytes m v registered read is one =
       called = one;
     }
 
+-- no later note fails by a silence or a rejection
+later_notifies : {S : Type 0} (went came : List ℕ → Type 0) (told : ℕ → Type 0) (is_error : PeerError → Type 0) (called : S → List PeerCall → Type 0) (before after : S) (o : Observer)
+    (SoFar : List PeerCall → Type 0) (f : FetchFault) → may_notify (notes_error.Fault f) ≡ false → IsLaterFault went came told is_error called before after o SoFar (notes_error.Fault f) → ⊥
+later_notifies went came told is_error called before after o SoFar fault.Silence is (inl h) = h
+later_notifies went came told is_error called before after o SoFar fault.Silence is (inr h) = h.fails
+later_notifies went came told is_error called before after o SoFar fault.Rejected is (inl h) = h
+later_notifies went came told is_error called before after o SoFar fault.Rejected is (inr h) = h.fails
+later_notifies went came told is_error called before after o SoFar fault.Malformed is h = cc is
+later_notifies went came told is_error called before after o SoFar fault.Changed is h = cc is
+later_notifies went came told is_error called before after o SoFar fault.Part is h = cc is
+later_notifies went came told is_error called before after o SoFar (fault.Socket error) is h = cc is
+later_notifies went came told is_error called before after o SoFar (fault.Memory error) is h = cc is
+
 -- the server doesn't have the observer
 pub unregistered : {S : Type 0} (called : S → List PeerCall → Type 0) (tried went came : List ℕ → Type 0) (told : ℕ → Type 0) (is_error : PeerError → Type 0) (before after : S) (o : Observer)
-    (seconds : Option ℕ) (e : NotesError) → may_notify e ≡ false → IsNotesFault went came told is_error (MakesCalls (called before) (called after)) o seconds e
+    (seconds : Option ℕ) (e : NotesError) → may_notify e ≡ false → IsNotesFault went came told is_error called before after o seconds e
     → LeavesAtFault called is_error tried before after o
 unregistered called tried went came told is_error before after o seconds (notes_error.Fault fault.Silence) is (inl h) = inr (inr (inr h))
-unregistered called tried went came told is_error before after o seconds (notes_error.Fault fault.Silence) is (inr h) = absurd h
 unregistered called tried went came told is_error before after o seconds (notes_error.Fault fault.Rejected) is (inl h) = inr (inr (inl h))
-unregistered called tried went came told is_error before after o seconds (notes_error.Fault fault.Rejected) is (inr h) = absurd h
-unregistered called tried went came told is_error before after o seconds (notes_error.Fault fault.Malformed) is h = absurd (cc is)
-unregistered called tried went came told is_error before after o seconds (notes_error.Fault fault.Changed) is h = absurd (cc is)
-unregistered called tried went came told is_error before after o seconds (notes_error.Fault fault.Part) is h = absurd (cc is)
-unregistered called tried went came told is_error before after o seconds (notes_error.Fault (fault.Socket error)) is h = absurd (cc is)
-unregistered called tried went came told is_error before after o seconds (notes_error.Fault (fault.Memory error)) is h = absurd (cc is)
+unregistered called tried went came told is_error before after o seconds (notes_error.Fault fault.Malformed) is (inl h) = absurd (cc is)
+unregistered called tried went came told is_error before after o seconds (notes_error.Fault fault.Changed) is (inl h) = absurd (cc is)
+unregistered called tried went came told is_error before after o seconds (notes_error.Fault fault.Part) is (inl h) = absurd (cc is)
+unregistered called tried went came told is_error before after o seconds (notes_error.Fault (fault.Socket error)) is (inl h) = absurd (cc is)
+unregistered called tried went came told is_error before after o seconds (notes_error.Fault (fault.Memory error)) is (inl h) = absurd (cc is)
+unregistered called tried went came told is_error before after o seconds (notes_error.Fault f) is (inr h) =
+    absurd (later_notifies went came told is_error called before after o (IsObservedSoFar o seconds) f is h)
 unregistered called tried went came told is_error before after o seconds notes_error.Unobserved is h = absurd (cc is)
 unregistered called tried went came told is_error before after o seconds (notes_error.Print error) is h = absurd (cc is)
+unregistered called tried went came told is_error before after o seconds (notes_error.Report error) is h = absurd (cc is)
 unregistered called tried went came told is_error before after o seconds (notes_error.Memory error) is h = absurd (cc is)
 
 -- it deregistered, successfully or not

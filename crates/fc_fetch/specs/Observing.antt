@@ -1,20 +1,22 @@
 -- The output of an observer, and its status.
-use Rattle.std.specs.Prelude.{◌≡◌, ℕ, ◌+◌, ◌/◌, ◌<◌, ◌≤◌, ◌^◌, ◌⊎◌, ◌++◌, max, Bool, true, false, List, [], ◌∷◌, length, Option, Some, None, is_some, if◌then◌else◌, codes}
+use Rattle.std.specs.Prelude.{◌≡◌, ℕ, zero, suc, ◌+◌, ◌-◌, ◌*◌, ◌/◌, ◌<◌, ◌≤◌, ◌^◌, ◌⊎◌, ◌++◌, max, Bool, true, false, List, [], ◌∷◌, length, take, Ok, Option, Some, None, is_some, if◌then◌else◌}
 use Rattle.std.specs.List.{All}
 use Rattle.std.specs.Io.KnownBytes.{Appends}
 use Rattle.coap_client.specs.Faults.{EndsOnNotification, IsLeavingFault, IsNewState, IsRegistrationFault, IsRejection, IsSilence, UnfitCame, deregistration_of, registration_of}
-use Rattle.coap_client.specs.Notes.{AreNotes, HasArrived, HasDeregistered, IsResponseWith, IsWatching, Note, TellsObserver}
+use Rattle.coap_client.specs.Notes.{AreNotes, HasArrived, HasDeregistered, IsNextNote, IsResponseWith, IsWatching, Note, TellsObserver}
 use Rattle.coap_client.specs.Notices.{is_unobserved, notice_of, observe_request}
 use Rattle.coap_client.specs.ObserverCalls.{IsDatedRegistration, IsDeregistration, IsObserving}
-use Rattle.coap_client.specs.PeerCalls.{PeerCall, PeerError, Receives, Waits}
+use Rattle.coap_client.specs.PeerCalls.{PeerCall, PeerError, Reads, Receives, Waits}
+use Rattle.coap_client.specs.Representations.{IsFollowing, IsFollowingFault}
 use Rattle.coap_client.specs.Schedules.{schedule}
 use Rattle.coap_client.specs.Transmissions.{AreBehind}
 use Rattle.coap_client.specs.declared.notice.ObserveOption.TheVariants.{Register}
 use Rattle.coap_client.specs.declared.notice.NotificationClass.{NotificationClass}
 use Rattle.coap_client.specs.declared.notice.NotificationClass.TheVariants as notice
+use Rattle.coap_client.specs.declared.observing.NotedMessage.{NotedMessage}
 use Rattle.coap_client.specs.declared.observing.Observer.{Observer}
 use Rattle.coap_client.specs.declared.watch.Observation.{Observation}
-use Rattle.coap_msg.specs.Codes.{code_text}
+use Rattle.coap_msg.specs.Reading.{reading_of}
 use Rattle.coap_msg.specs.Wire.{Message, message_bytes}
 use Rattle.fc_cli.specs.declared.status.Status.{Status}
 use Rattle.fc_cli.specs.declared.status.Status.TheVariants.{Done, Refused, Failed}
@@ -40,18 +42,10 @@ use Rattle.fc_fetch.specs.declared.observer.ObservationEnd.TheVariants.{Counted,
 use Rattle.fc_fetch.specs.declared.observer.First.{First}
 use Rattle.fc_fetch.specs.declared.observer.First.TheVariants.{State, Only}
 use Rattle.fc_fetch.specs.declared.printer.Shown.{Shown}
-use Rattle.fc_fetch.specs.Fetching.{HasResource, HasStopped, IsTargetStop, IsUnconnected, ended_line}
-use Rattle.fc_fetch.specs.Printing.{line_bytes}
-
--- the code and, if there are bytes, a space and the bytes.
-abbrev pub note_text : Shown → ℕ → List ℕ → List ℕ
-note_text shown code [] = ended_line (code_text code)
-note_text shown code (b ∷ payload) = ended_line (code_text code ++ (codes " " ++ line_bytes shown (b ∷ payload)))
-
--- a line for each, the oldest first.
-abbrev pub notes_text : Shown → List Note → List ℕ
-notes_text shown [] = []
-notes_text shown (n ∷ ns) = notes_text shown ns ++ note_text shown n.message.code n.message.payload
+use Rattle.fc_fetch.specs.declared.rendering.Rendered.{Rendered}
+use Rattle.fc_fetch.specs.declared.rendering.Rendered.TheVariants as rendered
+use Rattle.fc_fetch.specs.Fetching.{HasResource, HasStopped, IsTargetStop, IsUnconnected}
+use Rattle.fc_fetch.specs.Rendering.{AreRendered, IsRendering, RenderedNote, Rendering, Whole, Written, errors_text, has_further, has_line, lines_in, note_text, notes_of, notes_text, rendered_error, rendered_text}
 
 -- the maximum number of lines: as many as are wanted, and one if none is.
 abbrev pub lines_wanted : Option ℕ → ℕ
@@ -62,13 +56,14 @@ abbrev pub IsState : NotificationClass → Type 0
 IsState (notice.State sequence) = Unit {0}
 IsState other = ⊥
 
--- the way in which the observation ends. Either as many lines were printed as are wanted, or the
--- time is over before that, and the latest is a state; or the latest has this code, and none
--- follows it.
-abbrev pub IsEnd : ℕ → ObservationEnd → Note → List Note → Type 0
-IsEnd limit Counted latest older = (length (latest ∷ older) ≡ limit) × IsState (notice_of latest.message)
-IsEnd limit Over latest older = (length (latest ∷ older) < limit) × IsState (notice_of latest.message)
-IsEnd limit (Last code) latest older = (length (latest ∷ older) ≤ limit) × (latest.message.code ≡ code.byte) × (notice_of latest.message ≡ notice.Last)
+-- the way in which the observation ends. Either as many lines were printed as are wanted, the last of
+-- them for the latest state; or the time is over before that; or the latest has this code, it was
+-- printed, and none follows it.
+abbrev pub IsEnd : ℕ → ObservationEnd → RenderedNote → List RenderedNote → Type 0
+IsEnd limit Counted latest older = (lines_in (latest ∷ older) ≡ limit) × (IsState (notice_of latest.note.message) × (has_line latest.rendering ≡ true))
+IsEnd limit Over latest older = (lines_in (latest ∷ older) < limit) × IsState (notice_of latest.note.message)
+IsEnd limit (Last code) latest older =
+    (lines_in (latest ∷ older) ≤ limit) × ((latest.note.message.code ≡ code.byte) × ((notice_of latest.note.message ≡ notice.Last) × (latest.rendering ≡ Whole)))
 
 -- ---- waits
 
@@ -86,10 +81,55 @@ abbrev pub IsAwaitedIn : Bool → List PeerCall → Type 0
 IsAwaitedIn true calls = schedule calls ≡ []
 IsAwaitedIn false calls = All is_day (schedule calls)
 
--- the first wait is begun, and no other except such days.
-pub record IsWaitedFor (seconds : Option ℕ) (calls : List PeerCall) : Type 0 where
+-- the length of a wait that begins again at this time, in seconds: what is left of the seconds since
+-- the start, rounded up. Times are in milliseconds.
+abbrev pub rest_wait : Option ℕ → ℕ → ℕ → ℕ
+rest_wait None start now = 86400
+rest_wait (Some seconds) start now = ((seconds * 1000 - (now - start)) + 999) / 1000
+
+-- the clock is read, and the rest of the time begins again.
+abbrev pub IsRest : Option ℕ → ℕ → ℕ → List PeerCall → Type 0
+IsRest seconds start rest calls = (now : ℕ) × (rest ≡ rest_wait seconds start now) × (calls ≡ Waits rest ∷ Reads now ∷ [])
+
+-- notifications are awaited, and no wait is begun except such days.
+pub record IsAwaiting (token : List ℕ) (ends : Bool) (calls : List PeerCall) : Type 0 where
+  pub observing : IsObserving token calls
+  pub awaited : IsAwaitedIn ends calls
+
+-- the further blocks of a state are requested, and then the rest of the time begins again.
+pub record IsJoined (o : Observer) (seconds : Option ℕ) (start rest : ℕ) (calls : List PeerCall) : Type 0 where
+  pub following : List PeerCall
+  pub requested : IsFollowing o following
+  pub now : ℕ
+  pub rest_is : rest ≡ rest_wait seconds start now
+  pub is : calls ≡ Waits rest ∷ Reads now ∷ following
+
+abbrev pub IsJoining : Observer → Option ℕ → ℕ → List PeerCall → Type 0
+IsJoining o seconds start calls = (rest : ℕ) × IsJoined o seconds start rest calls
+
+-- after these calls the further blocks of one more state are requested, and then notifications are
+-- awaited.
+pub record IsOneMoreJoined (Before : List PeerCall → Type 0) (o : Observer) (seconds : Option ℕ) (start : ℕ) (calls : List PeerCall) : Type 0 where
+  pub older : List PeerCall
+  pub before : Before older
+  pub joining : List PeerCall
+  pub joined : IsJoining o seconds start joining
   pub handled : List PeerCall
-  pub awaited : IsAwaitedIn (is_some seconds) handled
+  pub awaited : IsAwaiting o.token (is_some seconds) handled
+  pub is : calls ≡ handled ++ (joining ++ older)
+
+-- notifications are awaited, and in between the further blocks of n states are requested.
+abbrev pub AreJoined : Observer → Option ℕ → ℕ → ℕ → List PeerCall → Type 0
+AreJoined o seconds start zero calls = IsAwaiting o.token (is_some seconds) calls
+AreJoined o seconds start (suc n) calls = IsOneMoreJoined (AreJoined o seconds start n) o seconds start calls
+
+abbrev pub AreTurns : Observer → Option ℕ → ℕ → List PeerCall → Type 0
+AreTurns o seconds start calls = (n : ℕ) × AreJoined o seconds start n calls
+
+-- the first wait is begun, and then notifications are awaited.
+pub record IsWaitedFor (o : Observer) (seconds : Option ℕ) (start : ℕ) (calls : List PeerCall) : Type 0 where
+  pub handled : List PeerCall
+  pub turns : AreTurns o seconds start handled
   pub is : calls ≡ handled ++ Waits (first_wait seconds) ∷ []
 
 -- the wait is over: the last receive returned nothing, or 2^64 - 1 datagrams came, after which no
@@ -97,9 +137,13 @@ pub record IsWaitedFor (seconds : Option ℕ) (calls : List PeerCall) : Type 0 w
 abbrev pub IsOverAtLast : List PeerCall → Type 0
 IsOverAtLast calls = ((older : List PeerCall) × (calls ≡ Receives None ∷ older)) ⊎ (2 ^ 64 ≤ length calls + 1)
 
--- the time is over: the wait is over, or 2^64 - 1 days are if it has no end.
+-- no time is left after the further blocks of a state were requested.
+abbrev pub IsOverAtRest : List PeerCall → Type 0
+IsOverAtRest calls = (now : ℕ) × (older : List PeerCall) × (calls ≡ Waits 0 ∷ Reads now ∷ older)
+
+-- the time is over: the wait is over, or 2^64 - 1 waits are if it has no end.
 abbrev pub IsTimeOver : Option ℕ → List PeerCall → Type 0
-IsTimeOver (Some seconds) calls = IsOverAtLast calls
+IsTimeOver (Some seconds) calls = IsOverAtLast calls ⊎ IsOverAtRest calls
 IsTimeOver None calls = 2 ^ 64 ≤ length (schedule calls) + 1
 
 abbrev pub EndsInTime : Option ℕ → ObservationEnd → List PeerCall → Type 0
@@ -112,8 +156,7 @@ pub record IsTimedObservation (o : Observer) (seconds : Option ℕ) (end : Obser
   pub older : List PeerCall
   pub registered : IsDatedRegistration o older
   pub newer : List PeerCall
-  pub observing : IsObserving o.token newer
-  pub waited : (newer ≡ []) ⊎ IsWaitedFor seconds newer
+  pub waited : (newer ≡ []) ⊎ IsWaitedFor o seconds registered.time newer
   pub ends : EndsInTime seconds end newer
   pub is : calls ≡ newer ++ older
 
@@ -130,14 +173,20 @@ IsLeaving o other calls = IsDeregistration o calls
 abbrev pub ObservesToEnd : Observer → Option ℕ → ObservationEnd → List PeerCall → Type 0
 ObservesToEnd o seconds end calls = AreBehind (IsTimedObservation o seconds end) (IsLeaving o end) calls
 
--- the registration was sent. Its response and the notifications were printed, one line each: each
--- came, is newer than the one before it, and was printed once.
-pub record HasShown (went came : List ℕ → Type 0) (told : ℕ → Type 0) (o : Observer) (shown : Shown) (limit : ℕ) (before after : Option (List ℕ)) (end : ObservationEnd) : Type 0 where
+-- the registration was sent, and these notes came, newest first. Each is newer than the one before it,
+-- and is rendered once.
+pub record HasRendered (went came : List ℕ → Type 0) (told : ℕ → Type 0) (o : Observer) (shown : Shown) (before after : Written) (rs : List RenderedNote) : Type 0 where
   pub asked : went (message_bytes (observe_request o.client_request.now Register o.token o.id))
-  pub latest : Note
-  pub older : List Note
-  pub are : AreNotes went came told o.token o.id (latest ∷ older)
-  pub printed : Appends before after (notes_text shown (latest ∷ older))
+  pub are : AreNotes went came told o.token o.id (notes_of rs)
+  pub rendered : AreRendered went came o rs
+  pub printed : Appends before.out after.out (notes_text shown rs)
+  pub reported : Appends before.err after.err (errors_text rs)
+
+-- the response to the registration and the notifications after it were rendered, to this end.
+pub record HasShown (went came : List ℕ → Type 0) (told : ℕ → Type 0) (o : Observer) (shown : Shown) (limit : ℕ) (before after : Written) (end : ObservationEnd) : Type 0 where
+  pub latest : RenderedNote
+  pub older : List RenderedNote
+  pub so_far : HasRendered went came told o shown before after (latest ∷ older)
   pub ends : IsEnd limit end latest older
 
 -- an error, or a response without notifications, isn't a success. The latter is reported on
@@ -151,7 +200,7 @@ IsToldEnd other status = status ≡ Done
 -- an observer of a client request observed at the server of this address, and ended in this way.
 -- Its token and message ID were drawn, and the client connected to that server.
 pub record IsObservedAt {S : Type 0} (connected : S → SocketAddrV4 → Type 0) (drawn went came : List ℕ → Type 0) (told : ℕ → Type 0) (called : S → List PeerCall → Type 0) (observing : Observing)
-    (e : ClientRequest) (server : SocketAddrV4) (before after : Option (List ℕ)) (end : ObservationEnd) : Type 0 where
+    (e : ClientRequest) (server : SocketAddrV4) (before after : Written) (end : ObservationEnd) : Type 0 where
   pub observer : Observer
   pub client_request_is : observer.client_request.now ≡ e
   pub token_is : drawn observer.token
@@ -165,7 +214,7 @@ pub record IsObservedAt {S : Type 0} (connected : S → SocketAddrV4 → Type 0)
 
 -- the target's resource was observed in this way.
 pub record IsObservedIn {S : Type 0} (connected : S → SocketAddrV4 → Type 0) (drawn went came : List ℕ → Type 0) (told : ℕ → Type 0) (called : S → List PeerCall → Type 0) (observing : Observing)
-    (before after : Option (List ℕ)) (end : ObservationEnd) : Type 0 where
+    (before after : Written) (end : ObservationEnd) : Type 0 where
   pub address : Address
   pub address_is : IsAddress observing.target.now observing.port address
   pub client_request : ClientRequest
@@ -177,6 +226,12 @@ pub record HasObservedTo (Ends : ObservationEnd → Type 0) (status : Status) : 
   pub end : ObservationEnd
   pub ends : Ends end
   pub status_is : IsToldEnd end status
+
+-- the bytes that standard error got before its last line, if it has one, aren't named.
+abbrev pub IsObserved : {S : Type 0} → (S → SocketAddrV4 → Type 0) → (List ℕ → Type 0) → (List ℕ → Type 0) → (List ℕ → Type 0) → (ℕ → Type 0) → (S → List PeerCall → Type 0) → Observing
+    → Written → Option (List ℕ) → ObservationEnd → Type 0
+IsObserved connected drawn went came told called observing before out end =
+    (err : Option (List ℕ)) × IsObservedIn connected drawn went came told called observing before (record { out = out; err = err }) end
 
 -- or it stops for such a reason.
 abbrev pub HasEnded : (ObservationEnd → Type 0) → (FetchStop → Type 0) → Status → Type 0
@@ -234,13 +289,13 @@ IsAwaitFault came told is_error Makes o ends w (fault.Memory error) = Makes (Awa
 IsAwaitFault came told is_error Makes o ends w (fault.Socket error) = is_error error
 IsAwaitFault came told is_error Makes o ends w other = ⊥
 
--- the notes so far came, and then a notification came last that has this classification.
-pub record IsStoppedBy (went came : List ℕ → Type 0) (told : ℕ → Type 0) (Makes : (List PeerCall → Type 0) → Type 0) (o : Observer) (seconds : Option ℕ) (P : NotificationClass → Type 0) : Type 0 where
+-- the notes so far came with such calls, and then a notification came last that has this classification.
+pub record IsStoppedBy (went came : List ℕ → Type 0) (told : ℕ → Type 0) (Makes : (List PeerCall → Type 0) → Type 0) (o : Observer) (SoFar : List PeerCall → Type 0) (P : NotificationClass → Type 0) : Type 0 where
   pub latest : Note
   pub older : List Note
   pub w : Observation
   pub watching : IsWatching went came told o.token o.id latest older w
-  pub called : Makes (AreBehind (IsObservedSoFar o seconds) (EndsOnNotification told o.token w P))
+  pub called : Makes (AreBehind SoFar (EndsOnNotification told o.token w P))
 
 -- the response to the registration came last, and it is a state.
 pub record IsStoppedByFirst (came : List ℕ → Type 0) (Makes : (List PeerCall → Type 0) → Type 0) (o : Observer) : Type 0 where
@@ -267,21 +322,43 @@ IsFirstFault came is_error Makes o (notes_error.Fault fault.Part) = IsStoppedByU
 IsFirstFault came is_error Makes o (notes_error.Fault f) = IsRegistrationFault is_error Makes o f
 IsFirstFault came is_error Makes o notes_error.Unobserved = IsStoppedByUnfit came Makes o notes_error.Unobserved
 IsFirstFault came is_error Makes o (notes_error.Print error) = Makes (IsDatedRegistration o)
+IsFirstFault came is_error Makes o (notes_error.Report error) = ⊥
 IsFirstFault came is_error Makes o (notes_error.Memory error) = IsStoppedByFirst came Makes o
 
--- a later line failed: a notification can't be shown, memory for its mark can't be allocated, its
--- line can't be printed, or the peer returned an error.
-abbrev pub IsLaterFault : (List ℕ → Type 0) → (List ℕ → Type 0) → (ℕ → Type 0) → (PeerError → Type 0) → ((List PeerCall → Type 0) → Type 0) → Observer → Option ℕ → NotesError → Type 0
-IsLaterFault went came told is_error Makes o seconds (notes_error.Fault fault.Part) = UnfitCame came o.token o.id × IsStoppedBy went came told Makes o seconds (λ n. n ≡ notice.Malformed)
-IsLaterFault went came told is_error Makes o seconds (notes_error.Fault (fault.Memory error)) = IsStoppedBy went came told Makes o seconds IsNewState
-IsLaterFault went came told is_error Makes o seconds (notes_error.Fault (fault.Socket error)) = is_error error
-IsLaterFault went came told is_error Makes o seconds (notes_error.Fault other) = ⊥
-IsLaterFault went came told is_error Makes o seconds notes_error.Unobserved = ⊥
-IsLaterFault went came told is_error Makes o seconds (notes_error.Print error) = Makes (IsObservedSoFar o seconds)
-IsLaterFault went came told is_error Makes o seconds (notes_error.Memory error) = ⊥
+-- the wait for a note failed: a notification can't be shown, memory for its mark can't be allocated, or
+-- the peer returned an error.
+abbrev pub IsStoppedWaiting : (List ℕ → Type 0) → (List ℕ → Type 0) → (ℕ → Type 0) → (PeerError → Type 0) → ((List PeerCall → Type 0) → Type 0) → Observer → (List PeerCall → Type 0) → FetchFault → Type 0
+IsStoppedWaiting went came told is_error Makes o SoFar fault.Part = UnfitCame came o.token o.id × IsStoppedBy went came told Makes o SoFar (λ n. n ≡ notice.Malformed)
+IsStoppedWaiting went came told is_error Makes o SoFar (fault.Memory error) = IsStoppedBy went came told Makes o SoFar IsNewState
+IsStoppedWaiting went came told is_error Makes o SoFar (fault.Socket error) = is_error error
+IsStoppedWaiting went came told is_error Makes o SoFar other = ⊥
 
-abbrev pub IsNotesFault : (List ℕ → Type 0) → (List ℕ → Type 0) → (ℕ → Type 0) → (PeerError → Type 0) → ((List PeerCall → Type 0) → Type 0) → Observer → Option ℕ → NotesError → Type 0
-IsNotesFault went came told is_error Makes o seconds e = IsFirstFault came is_error Makes o e ⊎ IsLaterFault went came told is_error Makes o seconds e
+-- the requests for the further blocks of the latest note failed. They were begun in some state of the
+-- peer, after such calls.
+pub record IsStoppedJoining {S : Type 0} (went came : List ℕ → Type 0) (told : ℕ → Type 0) (is_error : PeerError → Type 0) (called : S → List PeerCall → Type 0) (before : S) (o : Observer)
+    (SoFar : List PeerCall → Type 0) (f : FetchFault) : Type 0 where
+  pub at : S
+  pub latest : Note
+  pub older : List Note
+  pub w : Observation
+  pub watching : IsWatching went came told o.token o.id latest older w
+  pub further : has_further latest.message ≡ true
+  pub called_is : MakesCalls (called before) (called at) SoFar
+  pub fails : IsFollowingFault came is_error o.token f
+
+-- a later note failed, after such calls: the wait for it or the requests for its further blocks failed,
+-- memory for its first block can't be allocated, or a line can't be written.
+abbrev pub IsLaterFault : {S : Type 0} → (List ℕ → Type 0) → (List ℕ → Type 0) → (ℕ → Type 0) → (PeerError → Type 0) → (S → List PeerCall → Type 0) → S → S → Observer → (List PeerCall → Type 0) → NotesError → Type 0
+IsLaterFault went came told is_error called before after o SoFar (notes_error.Fault f) =
+    IsStoppedWaiting went came told is_error (MakesCalls (called before) (called after)) o SoFar f ⊎ IsStoppedJoining went came told is_error called before o SoFar f
+IsLaterFault went came told is_error called before after o SoFar notes_error.Unobserved = ⊥
+IsLaterFault went came told is_error called before after o SoFar (notes_error.Print error) = MakesCalls (called before) (called after) SoFar
+IsLaterFault went came told is_error called before after o SoFar (notes_error.Report error) = MakesCalls (called before) (called after) SoFar
+IsLaterFault went came told is_error called before after o SoFar (notes_error.Memory error) = MakesCalls (called before) (called after) SoFar
+
+abbrev pub IsNotesFault : {S : Type 0} → (List ℕ → Type 0) → (List ℕ → Type 0) → (ℕ → Type 0) → (PeerError → Type 0) → (S → List PeerCall → Type 0) → S → S → Observer → Option ℕ → NotesError → Type 0
+IsNotesFault went came told is_error called before after o seconds e =
+    IsFirstFault came is_error (MakesCalls (called before) (called after)) o e ⊎ IsLaterFault went came told is_error called before after o (IsObservedSoFar o seconds) e
 
 -- the observation ended, and its deregistration failed with this fault.
 pub record IsLeftInVain (is_error : PeerError → Type 0) (Makes : (List PeerCall → Type 0) → Type 0) (o : Observer) (seconds : Option ℕ) (f : FetchFault) : Type 0 where
@@ -292,7 +369,7 @@ pub record IsLeftInVain (is_error : PeerError → Type 0) (Makes : (List PeerCal
 pub record IsFailedIn {S : Type 0} (went came : List ℕ → Type 0) (told : ℕ → Type 0) (is_error : PeerError → Type 0) (called : S → List PeerCall → Type 0) (before : S) (o : Observer)
     (seconds : Option ℕ) (e : NotesError) : Type 0 where
   pub at : S
-  pub fails : IsNotesFault went came told is_error (MakesCalls (called before) (called at)) o seconds e
+  pub fails : IsNotesFault went came told is_error called before at o seconds e
 
 -- memory for the deregistration, which is written first, can't be allocated, and nothing was called;
 -- or the deregistration failed.
@@ -301,6 +378,7 @@ IsLeavingError is_error Makes o seconds (notes_error.Fault f) = IsLeftInVain is_
 IsLeavingError is_error Makes o seconds (notes_error.Memory error) = Makes (λ calls. calls ≡ [])
 IsLeavingError is_error Makes o seconds notes_error.Unobserved = ⊥
 IsLeavingError is_error Makes o seconds (notes_error.Print error) = ⊥
+IsLeavingError is_error Makes o seconds (notes_error.Report error) = ⊥
 
 abbrev pub IsEndFault : {S : Type 0} → (List ℕ → Type 0) → (List ℕ → Type 0) → (ℕ → Type 0) → (PeerError → Type 0) → (S → List PeerCall → Type 0) → S → S → Observer → Option ℕ → NotesError → Type 0
 IsEndFault went came told is_error called before after o seconds e =
@@ -355,16 +433,104 @@ IsObserveStop connected drawn went came tried told is_error called observing oth
 
 -- ---- steps
 
--- the notes so far were printed, with this number of lines, and the watch has them.
-pub record IsShowing (went came : List ℕ → Type 0) (told : ℕ → Type 0) (o : Observer) (shown : Shown) (before now : Option (List ℕ)) (lines : ℕ) (w : Observation) : Type 0 where
-  pub asked : went (message_bytes (observe_request o.client_request.now Register o.token o.id))
-  pub latest : Note
-  pub older : List Note
-  pub watching : IsWatching went came told o.token o.id latest older w
-  pub printed : Appends before now (notes_text shown (latest ∷ older))
-  pub count : length (latest ∷ older) ≡ lines
+-- the notes so far were rendered, with this number of lines, and the watch has them.
+pub record IsShowing (went came : List ℕ → Type 0) (told : ℕ → Type 0) (o : Observer) (shown : Shown) (before now : Written) (lines : ℕ) (w : Observation) : Type 0 where
+  pub latest : RenderedNote
+  pub older : List RenderedNote
+  pub so_far : HasRendered went came told o shown before now (latest ∷ older)
+  pub watching : IsWatching went came told o.token o.id latest.note (notes_of older) w
+  pub count : lines_in (latest ∷ older) ≡ lines
 
--- the response to the registration was printed: a state, or the last one.
-abbrev pub IsFirstShown : (List ℕ → Type 0) → (List ℕ → Type 0) → (ℕ → Type 0) → Observer → Shown → Option (List ℕ) → Option (List ℕ) → First → Type 0
-IsFirstShown went came told o shown before after (State w) = IsShowing went came told o shown before after 1 w
-IsFirstShown went came told o shown before after (Only code) = (limit : ℕ) → 1 ≤ limit → HasShown went came told o shown limit before after (Last code)
+-- a note that isn't rendered yet is the last one, or a state that the watch has.
+abbrev pub IsPendingAs : (List ℕ → Type 0) → (List ℕ → Type 0) → (ℕ → Type 0) → Observer → Note → List Note → Observation → Bool → Type 0
+IsPendingAs went came told o note older w true = notice_of note.message ≡ notice.Last
+IsPendingAs went came told o note older w false = IsWatching went came told o.token o.id note older w
+
+-- the notes so far were rendered, and the next one is at the start of the buffer.
+pub record IsPending (went came : List ℕ → Type 0) (told : ℕ → Type 0) (o : Observer) (shown : Shown) (before now : Written) (lines : ℕ) (w : Observation) (buffer : List ℕ) (noted : NotedMessage) : Type 0 where
+  pub note : Note
+  pub older : List RenderedNote
+  pub are : AreNotes went came told o.token o.id (note ∷ notes_of older)
+  pub so_far : HasRendered went came told o shown before now older
+  pub count : lines_in older ≡ lines
+  pub within : noted.count ≤ length buffer
+  pub read_is : reading_of (take noted.count buffer) ≡ Ok note.message
+  pub pending : IsPendingAs went came told o note (notes_of older) w noted.last
+
+-- the next note has arrived, or hasn't.
+abbrev pub IsReady : (List ℕ → Type 0) → (List ℕ → Type 0) → (ℕ → Type 0) → Observer → Shown → Written → Written → ℕ → Observation → List ℕ → Option NotedMessage → Type 0
+IsReady went came told o shown before now lines w buffer None = IsShowing went came told o shown before now lines w
+IsReady went came told o shown before now lines w buffer (Some noted) = IsPending went came told o shown before now lines w buffer noted
+
+-- a message is at the start of the buffer.
+abbrev pub HasMessage : List ℕ → NotedMessage → Type 0
+HasMessage buffer noted = (noted.count ≤ length buffer) × ((m : Message) × (reading_of (take noted.count buffer) ≡ Ok m))
+
+abbrev pub HasNewer : List ℕ → Rendered → Type 0
+HasNewer buffer (rendered.Newer noted) = HasMessage buffer noted
+HasNewer buffer other = Unit {0}
+
+-- the effect of a rendering: a line, or none and perhaps a newer notification. Only that changes the
+-- watch.
+abbrev pub IsEffect : (List ℕ → Type 0) → (List ℕ → Type 0) → (ℕ → Type 0) → List ℕ → Observation → Observation → List ℕ → Rendering → Rendered → Type 0
+IsEffect went came told token old new buffer r rendered.Line = (has_line r ≡ true) × (new ≡ old)
+IsEffect went came told token old new buffer r rendered.Missing = (has_line r ≡ false) × (new ≡ old)
+IsEffect went came told token old new buffer r (rendered.Newer noted) =
+    (has_line r ≡ false) × ((noted.count ≤ length buffer) × IsNextNote went came told token (take noted.count buffer) noted.time old new noted.last)
+IsEffect went came told token old new buffer r rendered.Over = has_line r ≡ false
+
+-- a message was rendered, with this effect.
+pub record IsRenderedAs (went came : List ℕ → Type 0) (told : ℕ → Type 0) (o : Observer) (shown : Shown) (m : Message) (before after : Written) (old new : Observation) (buffer : List ℕ) (effect : Rendered) : Type 0 where
+  pub rendering : Rendering
+  pub is : IsRendering went came o m rendering
+  pub text : Appends before.out after.out (rendered_text shown m rendering)
+  pub error : Appends before.err after.err (rendered_error rendering)
+  pub effect_is : IsEffect went came told o.token old new buffer rendering effect
+
+-- the calls for that: none, or its further blocks are requested.
+abbrev pub IsRenderedBy : Observer → Option ℕ → ℕ → Rendered → List PeerCall → Type 0
+IsRenderedBy o seconds start rendered.Line calls = (calls ≡ []) ⊎ IsJoining o seconds start calls
+IsRenderedBy o seconds start rendered.Over calls = IsJoined o seconds start 0 calls
+IsRenderedBy o seconds start other calls = IsJoining o seconds start calls
+
+-- the errors of that.
+abbrev pub IsRenderFault : (List ℕ → Type 0) → (PeerError → Type 0) → ((List PeerCall → Type 0) → Type 0) → Observer → Option ℕ → ℕ → Message → NotesError → Type 0
+IsRenderFault came is_error Makes o seconds start m (notes_error.Fault f) = (has_further m ≡ true) × IsFollowingFault came is_error o.token f
+IsRenderFault came is_error Makes o seconds start m notes_error.Unobserved = ⊥
+IsRenderFault came is_error Makes o seconds start m (notes_error.Print error) = Makes (IsRenderedBy o seconds start rendered.Line)
+IsRenderFault came is_error Makes o seconds start m (notes_error.Report error) = Makes (IsJoining o seconds start)
+IsRenderFault came is_error Makes o seconds start m (notes_error.Memory error) = Makes (λ calls. calls ≡ [])
+
+-- the last note was printed.
+abbrev pub IsLastPrinted : Shown → Message → Option (List ℕ) → Option (List ℕ) → ObservationEnd → Type 0
+IsLastPrinted shown m before after (Last code) = (m.code ≡ code.byte) × Appends before after (note_text shown m.code m.payload)
+IsLastPrinted shown m before after other = ⊥
+
+-- one more line was printed; or the observation ended.
+abbrev pub IsTurn : (List ℕ → Type 0) → (List ℕ → Type 0) → (ℕ → Type 0) → Observer → Shown → Written → Written → ℕ → Observation → Option ObservationEnd → Type 0
+IsTurn went came told o shown before now lines w None = (s : IsShowing went came told o shown before now (lines + 1) w) × (has_line s.latest.rendering ≡ true)
+IsTurn went came told o shown before now lines w (Some end) = (limit : ℕ) → lines < limit → HasShown went came told o shown limit before now end
+
+-- the calls for that.
+abbrev pub IsLineBy : Observer → Option ℕ → ℕ → Option ObservationEnd → List PeerCall → Type 0
+IsLineBy o seconds start None calls = AreTurns o seconds start calls
+IsLineBy o seconds start (Some end) calls = AreTurns o seconds start calls × EndsInTime seconds end calls
+
+-- the response to the registration is a state, and is at the start of the buffer.
+pub record IsFirstState (went came : List ℕ → Type 0) (told : ℕ → Type 0) (o : Observer) (buffer : List ℕ) (count : ℕ) (w : Observation) : Type 0 where
+  pub asked : went (message_bytes (observe_request o.client_request.now Register o.token o.id))
+  pub note : Note
+  pub within : count ≤ length buffer
+  pub read_is : reading_of (take count buffer) ≡ Ok note.message
+  pub watching : IsWatching went came told o.token o.id note [] w
+
+-- the response to the registration: a state, or the last one, which was printed.
+abbrev pub IsFirstShown : (List ℕ → Type 0) → (List ℕ → Type 0) → (ℕ → Type 0) → Observer → Shown → Option (List ℕ) → Option (List ℕ) → List ℕ → First → Type 0
+IsFirstShown went came told o shown before after buffer (State w count) = IsFirstState went came told o buffer count w × (after ≡ before)
+IsFirstShown went came told o shown before after buffer (Only code) =
+    (limit : ℕ) (err : Option (List ℕ)) → 1 ≤ limit → HasShown went came told o shown limit (record { out = before; err = err }) (record { out = after; err = err }) (Last code)
+
+-- the calls for it: the watch has the time that the clock returned.
+abbrev pub IsFirstBy : Observer → First → List PeerCall → Type 0
+IsFirstBy o (State w count) calls = (d : IsDatedRegistration o calls) × (d.time ≡ w.at)
+IsFirstBy o (Only code) calls = IsDatedRegistration o calls

@@ -1,7 +1,7 @@
 //! Laws about the definitions.
 //!
 //! Each law is the contract of an empty function.
-ghost use Rattle.std.specs.Prelude.{◌≡◌, ◌⊎◌, ◌+◌, ◌<◌, ◌≤◌, ◌^◌, ℕ, [], ◌∷◌, List, None, Some, codes, false, length, true};
+ghost use Rattle.std.specs.Prelude.{◌≡◌, ◌⊎◌, ◌+◌, ◌++◌, ◌<◌, ◌≤◌, ◌^◌, ℕ, [], ◌∷◌, List, None, Some, codes, false, length, true};
 ghost use Rattle.std.specs.List.{All, after_first, before_first};
 ghost use Rattle.std.specs.Net.Addr.{ipv4_octets};
 ghost use Rattle.std.specs.Net.Socket.{v4_ip, v4_port};
@@ -23,7 +23,10 @@ ghost use Rattle.coap_client.specs.Notes.{Note};
 ghost use Rattle.coap_msg.specs.declared.code.Code.{Code};
 ghost use Rattle.fc_cli.specs.declared.status.Status.TheVariants.{Done, Refused};
 ghost use Rattle.fc_fetch.specs.Fetching.{ending_of};
-ghost use Rattle.fc_fetch.specs.Observing.{IsEnd, IsTimedObservation, lines_wanted};
+ghost use Rattle.fc_fetch.specs.Observing.{IsEnd, IsTimedObservation, IsWaitedFor, lines_wanted, rest_wait};
+ghost use Rattle.fc_fetch.specs.Rendering.{Joined, Missing, RenderedNote, Superseded, Whole, errors_text, lines_in, notes_text};
+ghost use Rattle.fc_fetch.specs.declared.printer.Shown.TheVariants.{Text};
+ghost use Rattle.coap_client.specs.declared.joining.Unfetched.TheVariants.{Changed};
 ghost use Rattle.fc_fetch.specs.declared.observer.ObservationEnd.{ObservationEnd};
 ghost use Rattle.fc_fetch.specs.declared.observer.ObservationEnd.TheVariants.{Counted, Last, Over};
 ghost use Rattle.fc_fetch.specs.declared.address.Address.{Address};
@@ -53,13 +56,16 @@ pub fn a_path_has_a_port_and_a_uri_has_none()
 /// The waits of an observation, with and without `--seconds`.
 ///
 /// With `--seconds 5` it begins one wait after the registration, of 5 seconds, and sends no request
-/// during that wait. Without it, each wait is of 86,400 seconds, and the time is over only after
-/// 2^64 - 1 of these waits. Nothing is called if the first response is the last.
+/// during that wait, unless it requests the further blocks of a state. Then what is left begins
+/// again: 3 seconds after 2,200 ms, and none after 5,001 ms. Without it, each wait is of 86,400
+/// seconds, and the time is over only after 2^64 - 1 waits. Nothing is called if the first response
+/// is the last.
 pub fn an_observation_lasts_so_many_seconds()
-    ensures seconds { (o : Observer) (end : ObservationEnd) (calls : List PeerCall) (t : IsTimedObservation o (Some 5) end calls)
-        → (t.newer ≡ []) ⊎ (schedule t.newer ≡ Waits 5 ∷ []) }
-    ensures days { (o : Observer) (end : ObservationEnd) (calls : List PeerCall) (t : IsTimedObservation o None end calls)
-        → All (λ c. c ≡ Waits 86400) (schedule t.newer) }
+    ensures seconds { (o : Observer) (start : ℕ) (calls : List PeerCall) (w : IsWaitedFor o (Some 5) start calls) → w.turns.0 ≡ 0 → schedule calls ≡ Waits 5 ∷ [] }
+    ensures days { (o : Observer) (start : ℕ) (calls : List PeerCall) (w : IsWaitedFor o None start calls) → w.turns.0 ≡ 0 → All (λ c. c ≡ Waits 86400) (schedule calls) }
+    ensures rest { (rest_wait (Some 5) 1000 3200 ≡ 3) × ((rest_wait (Some 5) 1000 6001 ≡ 0) × (rest_wait None 1000 3200 ≡ 86400)) }
+    ensures last { (o : Observer) (end : ObservationEnd) (calls : List PeerCall) (t : IsTimedObservation o (Some 5) end calls)
+        → (t.newer ≡ []) ⊎ IsWaitedFor o (Some 5) t.registered.time t.newer }
     ensures over { (o : Observer) (calls : List PeerCall) (t : IsTimedObservation o None Over calls) → 2 ^ 64 ≤ length (schedule t.newer) + 1 }
 {}
 
@@ -69,10 +75,23 @@ pub fn an_observation_lasts_so_many_seconds()
 /// time has printed fewer. One that ends by an error or without a sequence number has printed at
 /// most 3. With `--count 0`, which no command line gives, the number of lines is one.
 pub fn an_observation_prints_so_many_lines()
-    ensures counted { (latest : Note) (older : List Note) → IsEnd (lines_wanted (Some 3)) Counted latest older → length (latest ∷ older) ≡ 3 }
-    ensures over { (latest : Note) (older : List Note) → IsEnd (lines_wanted (Some 3)) Over latest older → length (latest ∷ older) < 3 }
-    ensures last { (latest : Note) (older : List Note) (code : Code) → IsEnd (lines_wanted (Some 3)) (Last code) latest older → length (latest ∷ older) ≤ 3 }
+    ensures counted { (latest : RenderedNote) (older : List RenderedNote) → IsEnd (lines_wanted (Some 3)) Counted latest older → lines_in (latest ∷ older) ≡ 3 }
+    ensures over { (latest : RenderedNote) (older : List RenderedNote) → IsEnd (lines_wanted (Some 3)) Over latest older → lines_in (latest ∷ older) < 3 }
+    ensures last { (latest : RenderedNote) (older : List RenderedNote) (code : Code) → IsEnd (lines_wanted (Some 3)) (Last code) latest older → lines_in (latest ∷ older) ≤ 3 }
     ensures none { lines_wanted (Some 0) ≡ 1 }
+{}
+
+/// The lines of four notes.
+///
+/// A whole message and joined blocks have a line each. A state that a newer one superseded has none,
+/// nor has one whose further blocks can't be fetched: standard error gets a line for that.
+pub fn each_note_is_rendered_once()
+    ensures whole { (n : Note) → n.message.code ≡ 69 → n.message.payload ≡ codes "19" → notes_text Text (record { note = n; rendering = Whole } ∷ []) ≡ codes "2.05 19" ++ (10 ∷ []) }
+    ensures joined { (n : Note) → notes_text Text (record { note = n; rendering = Joined 69 (codes "1234") } ∷ []) ≡ codes "2.05 1234" ++ (10 ∷ []) }
+    ensures superseded { (n : Note) → let r : RenderedNote = record { note = n; rendering = Superseded } in
+        (notes_text Text (r ∷ []) ≡ []) × ((errors_text (r ∷ []) ≡ []) × (lines_in (r ∷ []) ≡ 0)) }
+    ensures missing { (n : Note) → let r : RenderedNote = record { note = n; rendering = Missing Changed } in
+        (notes_text Text (r ∷ []) ≡ []) × ((errors_text (r ∷ []) ≡ codes "a state isn't printed: it changed while its blocks were fetched" ++ (10 ∷ [])) × (lines_in (r ∷ []) ≡ 0)) }
 {}
 
 /// In a path at a port, the path ends before the first `?`.

@@ -80,7 +80,9 @@ pub mod observer;
 pub mod operation;
 pub mod ping;
 pub mod printer;
+pub mod rendering;
 pub mod resource;
+pub mod waits;
 
 pub use client::{FetchOptions, fetch, fetch_to};
 pub use connector::{Connector, System};

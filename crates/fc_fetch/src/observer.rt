@@ -2,19 +2,18 @@
 //!
 //! It prints one line for each (RFC 7641). `fcreq observe` calls [`observe`], which uses the
 //! system's sockets. [`observe_by`] uses any [`Connector`], and has the contract.
-ghost use Rattle.std.specs.Prelude.{◌≡◌, ◌≤◌, ◌⊎◌, [], ◌∷◌, IfErr, IfOk, OnErr, OnOk, is_none};
-ghost use Rattle.coap_client.specs.Faults.{IsLeavingFault, IsOfPeer, deregistration_of};
-ghost use Rattle.coap_client.specs.Notes.{Watches};
-ghost use Rattle.coap_client.specs.ObserverCalls.{IsDatedRegistration};
-ghost use Rattle.coap_client.specs.PeerCalls.{Adds, Reads, Waits};
+ghost use Rattle.std.specs.Prelude.{◌≡◌, ◌≤◌, IfErr, IfOk, OnErr, OnOk};
+ghost use Rattle.coap_client.specs.Faults.{IsLeavingFault, deregistration_of};
 ghost use Rattle.coap_client.specs.Transmissions.{MakesCalls};
-ghost use Rattle.fc_fetch.specs.Observing.{AwaitsNote, HasEnded, HasLeft, HasShown, IsAwaitFault, IsEndFault, IsClientRequestStop, IsFirstFault, IsFirstShown, IsLeaving, IsNotesFault, IsObserveStop, IsObservedAt, IsObservedIn, IsTimedObservation, IsToldEnd, LeavesAtFault, ObservesToEnd, first_wait, lines_wanted, unfit_error};
+ghost use Rattle.fc_fetch.specs.Observing.{HasEnded, HasLeft, HasShown, IsEndFault, IsClientRequestStop, IsFirstBy, IsFirstFault, IsFirstShown, IsLeaving, IsNotesFault, IsObserveStop, IsObserved, IsObservedAt, IsObservedIn, IsTimedObservation, IsToldEnd, LeavesAtFault, ObservesToEnd, lines_wanted, unfit_error};
 ghost use Rattle.fc_fetch.specs.Observing as spec;
 ghost use Rattle.fc_fetch.specs.declared.observer.NotesError.TheVariants as notes_error;
 
 use crate::client::{FetchStop, address_of, connect, first_id, resource_at};
 use crate::connector::{Connector, System};
 use crate::printer::{PrintError, Shown, write_note};
+use crate::rendering::print_line;
+use crate::waits::{TimeLimit, begin_wait, first_wait, time};
 use coap_client::notice::{is_unobserved, notice_of};
 use coap_client::observing::TOKEN;
 use coap_client::peer::{BUFFER, Buffer};
@@ -25,6 +24,7 @@ use coap_msg::{Code, Datagram, Message, read};
 use coap_opts::Method;
 use fc_cli::status::{Status, tell};
 use std::alloc::{AllocError, Global};
+use std::io;
 use std::io::Write;
 use std::net::{Net, SocketAddrV4};
 use std::random::RandomSource;
@@ -33,9 +33,6 @@ use thiserror::Error;
 
 /// Class of the codes of success (RFC 7252, section 5.9.1).
 const SUCCESS: u8 = 2;
-
-/// Length of each wait of an observation without a time limit, in seconds: a day.
-const DAY: u64 = 86_400;
 
 /// The target of an observation, its printed form, and its extent.
 #[derive(Clone, Copy)]
@@ -81,6 +78,9 @@ pub enum NotesError {
     /// A line can't be printed.
     #[error("{0}")]
     Print(#[source] PrintError),
+    /// A line on standard error can't be written.
+    #[error("standard error: {0}")]
+    Report(#[source] io::Error),
     /// Memory can't be allocated.
     #[error("{0}")]
     Memory(#[source] AllocError),
@@ -143,11 +143,11 @@ pub fn observe_by<C: Connector, W: Write, E: Write>(
     err: &mut E,
     observing: &Observing<'_>,
 ) -> Status
-    ensures { HasEnded (IsObservedIn C.connected C.drawn C.Server.went C.Server.came C.Server.is_time C.Server.called observing.now
-        (W.contents out.old) (W.contents out.new))
+    ensures { HasEnded (IsObserved C.connected C.drawn C.Server.went C.Server.came C.Server.is_time C.Server.called observing.now
+        (record { out = W.contents out.old; err = E.contents err.old }) (W.contents out.new))
         (IsObserveStop C.connected C.drawn C.Server.went C.Server.came C.Server.tried C.Server.is_time C.Server.is_error C.Server.called observing.now) result }
 {
-    match observe_to_end(connector, alloc, out, observing) {
+    match observe_to_end(connector, alloc, out, err, observing) {
         Ok(end) => finish(err, end),
         Err(stop) => tell(err, &stop, stop.status()),
     }
@@ -170,14 +170,15 @@ fn finish<E: Write>(err: &mut E, end: ObservationEnd) -> Status
 }
 
 // Observes the target, to the observation's end. Returns the reason if it fails.
-fn observe_to_end<'a, C: Connector, W: Write>(
+fn observe_to_end<'a, C: Connector, W: Write, E: Write>(
     connector: &C,
     alloc: Global,
     out: &mut W,
+    err: &mut E,
     observing: &Observing<'a>,
 ) -> Result<ObservationEnd, FetchStop<'a>>
     ensures ended { IfOk result (IsObservedIn C.connected C.drawn C.Server.went C.Server.came C.Server.is_time C.Server.called observing.now
-        (W.contents out.old) (W.contents out.new)) }
+        (record { out = W.contents out.old; err = E.contents err.old }) (record { out = W.contents out.new; err = E.contents err.new })) }
     ensures stop { IfErr result (IsObserveStop C.connected C.drawn C.Server.went C.Server.came C.Server.tried C.Server.is_time C.Server.is_error C.Server.called observing.now) }
 {
     let address = address_of(alloc, observing.target, observing.port)?;
@@ -187,6 +188,7 @@ fn observe_to_end<'a, C: Connector, W: Write>(
             connector,
             alloc,
             out,
+            err,
             observing,
             &client_request,
             address.server,
@@ -197,16 +199,17 @@ fn observe_to_end<'a, C: Connector, W: Write>(
 
 // Observes the client request's resource at the server of this address, with a random token and
 // message ID.
-fn observe_client_request<'a, C: Connector, W: Write>(
+fn observe_client_request<'a, C: Connector, W: Write, E: Write>(
     connector: &C,
     alloc: Global,
     out: &mut W,
+    err: &mut E,
     observing: &Observing<'a>,
     client_request: &ClientRequest<'_>,
     address: SocketAddrV4,
 ) -> Result<ObservationEnd, FetchStop<'a>>
     ensures ended { IfOk result (IsObservedAt C.connected C.drawn C.Server.went C.Server.came C.Server.is_time C.Server.called observing.now
-        client_request.now address (W.contents out.old) (W.contents out.new)) }
+        client_request.now address (record { out = W.contents out.old; err = E.contents err.old }) (record { out = W.contents out.new; err = E.contents err.new })) }
     ensures stop { IfErr result (IsClientRequestStop C.connected C.drawn C.Server.went C.Server.came C.Server.tried C.Server.is_time C.Server.is_error C.Server.called observing.now
         client_request.now address) }
 {
@@ -226,6 +229,7 @@ fn observe_client_request<'a, C: Connector, W: Write>(
         alloc,
         &mut server,
         out,
+        err,
         &observer,
         shown,
         extent,
@@ -243,17 +247,18 @@ fn observe_client_request<'a, C: Connector, W: Write>(
 ///
 /// # Errors
 /// Returns the reason as a [`NotesError`]. Some lines may have been printed.
-pub fn print_to_end<P: Peer, W: Write>(
+pub fn print_to_end<P: Peer, W: Write, E: Write>(
     alloc: Global,
     peer: &mut P,
     out: &mut W,
+    err: &mut E,
     observer: &Observer<'_>,
     shown: Shown,
     extent: ObservationExtent,
     buffer: &mut Buffer,
 ) -> Result<ObservationEnd, NotesError>
-    ensures shown { IfOk result (HasShown P.went P.came P.is_time observer.now shown
-        (lines_wanted extent.count) (W.contents out.old) (W.contents out.new)) }
+    ensures shown { IfOk result (HasShown P.went P.came P.is_time observer.now shown (lines_wanted extent.count)
+        (record { out = W.contents out.old; err = E.contents err.old }) (record { out = W.contents out.new; err = E.contents err.new })) }
     ensures left { IfOk result (HasLeft P.went P.came observer.now) }
     ensures called { IfOk result (λ end. MakesCalls (P.called peer.old) (P.called peer.new)
         (ObservesToEnd observer.now extent.seconds end)) }
@@ -262,7 +267,7 @@ pub fn print_to_end<P: Peer, W: Write>(
     ensures leaves { OnErr result (LeavesAtFault P.called P.is_error P.tried peer.old peer.new observer.now) }
 {
     let leaving = observer.deregistration(alloc)?;
-    match print_notes(alloc, peer, out, observer, shown, extent, buffer) {
+    match print_notes(alloc, peer, out, err, observer, shown, extent, buffer) {
         Ok(end) => {
             leave(peer, observer, &leaving, end, buffer)?;
             Ok(end)
@@ -313,43 +318,52 @@ fn may_notify(error: &NotesError) -> bool
 /// Registers, and prints the response and later notifications, one line each.
 ///
 /// It ends when as many lines were printed as are wanted, when the time is over, or when no further
-/// notification comes. Each printed message came, each state is newer than the one before it
-/// (RFC 7641, section 3.4), and none is printed twice.
+/// notification comes. Each note came, each state is newer than the one before it (RFC 7641, section
+/// 3.4), and none is printed twice. The blocks of a state of several blocks are joined. If a newer
+/// notification arrives meanwhile, the state isn't printed. If its further blocks can't be fetched,
+/// a line on `err` reports this.
 ///
 /// # Errors
 /// Returns the reason as a [`NotesError`]. Some lines may have been printed.
-pub fn print_notes<P: Peer, W: Write>(
+pub fn print_notes<P: Peer, W: Write, E: Write>(
     alloc: Global,
     peer: &mut P,
     out: &mut W,
+    err: &mut E,
     observer: &Observer<'_>,
     shown: Shown,
     extent: ObservationExtent,
     buffer: &mut Buffer,
 ) -> Result<ObservationEnd, NotesError>
-    ensures shown { IfOk result (HasShown P.went P.came P.is_time observer.now shown
-        (lines_wanted extent.count) (W.contents out.old) (W.contents out.new)) }
+    ensures shown { IfOk result (HasShown P.went P.came P.is_time observer.now shown (lines_wanted extent.count)
+        (record { out = W.contents out.old; err = E.contents err.old }) (record { out = W.contents out.new; err = E.contents err.new })) }
     ensures called { IfOk result (λ end. MakesCalls (P.called peer.old) (P.called peer.new)
         (IsTimedObservation observer.now extent.seconds end)) }
-    ensures fault { IfErr result (IsNotesFault P.went P.came P.is_time P.is_error (MakesCalls (P.called peer.old) (P.called peer.new))
+    ensures fault { IfErr result (IsNotesFault P.went P.came P.is_time P.is_error P.called peer.old peer.new
         observer.now extent.seconds) }
 {
-    let mut watch = match print_first(alloc, peer, out, observer, shown, buffer)? {
-        First::State(watch) => watch,
+    let (mut watch, count) = match print_first(alloc, peer, out, observer, shown, buffer)? {
+        First::State(watch, count) => (watch, count),
         First::Only(code) => return Ok(ObservationEnd::Last(code)),
     };
     begin_wait(peer, first_wait(extent.seconds))?;
-    for _ in 1..lines_wanted(extent.count) {
-        let ends = extent.seconds.is_some();
-        let Some(noted) = await_note(peer, observer, &mut watch, ends, buffer)? else {
-            return Ok(ObservationEnd::Over);
-        };
-        let Ok(message) = read(&buffer[..noted.count]) else {
-            unreachable!();
-        };
-        write_note(alloc, out, shown, &message)?;
-        if noted.last {
-            return Ok(ObservationEnd::Last(message.code()));
+    let limit = TimeLimit {
+        seconds: extent.seconds,
+        start: watch.at,
+    };
+    let mut ids = observer.id.wrapping_add(2);
+    let mut next = Some(NotedMessage {
+        count,
+        time: limit.start,
+        last: false,
+    });
+    for _ in 0..lines_wanted(extent.count) {
+        let ended = print_line(
+            alloc, peer, out, err, observer, shown, limit, &mut watch, &mut ids, next, buffer,
+        )?;
+        match ended {
+            None => next = None,
+            Some(end) => return Ok(end),
         }
     }
     Ok(ObservationEnd::Counted)
@@ -366,26 +380,15 @@ fn lines_wanted(count: Option<u32>) -> u64
     }
 }
 
-// Returns the length of the first or only wait, in seconds: a day without a limit.
-fn first_wait(seconds: Option<u32>) -> u64
-    ensures { result ≡ first_wait seconds }
-{
-    match seconds {
-        Some(seconds) => u64::from(seconds),
-        None => DAY,
-    }
-}
-
-// The response to a registration: a state, which notifications follow, or the last one, of this
-// code.
+// The response to a registration: a state, which notifications follow, with the number of its bytes
+// at the start of the buffer; or the last response, of this code, which was printed.
 #[derive(Drop)]
 enum First {
-    State(Observation),
+    State(Observation, usize),
     Only(Code),
 }
 
-// Registers, and prints the response. Returns the observation that it begins, or the code of a
-// response after which no notification comes.
+// Registers, and prints the response if it is the last.
 fn print_first<P: Peer, W: Write>(
     alloc: Global,
     peer: &mut P,
@@ -394,8 +397,8 @@ fn print_first<P: Peer, W: Write>(
     shown: Shown,
     buffer: &mut Buffer,
 ) -> Result<First, NotesError>
-    ensures shown { IfOk result (IsFirstShown P.went P.came P.is_time observer.now shown (W.contents out.old) (W.contents out.new)) }
-    ensures called { OnOk result (MakesCalls (P.called peer.old) (P.called peer.new) (IsDatedRegistration observer.now)) }
+    ensures shown { IfOk result (IsFirstShown P.went P.came P.is_time observer.now shown (W.contents out.old) (W.contents out.new) buffer.new) }
+    ensures called { IfOk result (λ first. MakesCalls (P.called peer.old) (P.called peer.new) (IsFirstBy observer.now first)) }
     ensures fault { IfErr result (IsFirstFault P.came P.is_error (MakesCalls (P.called peer.old) (P.called peer.new)) observer.now) }
 {
     let count = observer.register(alloc, peer, buffer)?;
@@ -403,15 +406,17 @@ fn print_first<P: Peer, W: Write>(
         unreachable!();
     };
     let at = time(peer)?;
-    let first = match notice_of(&message) {
-        NotificationClass::State(sequence) => First::State(Observation::first(
-            alloc, sequence, at, &message,
-        )?),
-        NotificationClass::Last => First::Only(message.code()),
-        NotificationClass::Older | NotificationClass::Malformed => return Err(unfit(&message)),
-    };
-    write_note(alloc, out, shown, &message)?;
-    Ok(first)
+    match notice_of(&message) {
+        NotificationClass::State(sequence) => {
+            let watch = Observation::first(alloc, sequence, at, &message)?;
+            Ok(First::State(watch, count))
+        }
+        NotificationClass::Last => {
+            write_note(alloc, out, shown, message.code(), message.payload())?;
+            Ok(First::Only(message.code()))
+        }
+        NotificationClass::Older | NotificationClass::Malformed => Err(unfit(&message)),
+    }
 }
 
 // Returns the error for a response to the registration that can't be shown.
@@ -423,46 +428,4 @@ fn unfit(message: &Message<'_>) -> NotesError
     } else {
         NotesError::Fault(FetchFault::Part)
     }
-}
-
-// Reads the peer's clock, and returns its time in milliseconds.
-fn time<P: Peer>(peer: &mut P) -> Result<u64, FetchFault>
-    ensures time { IfOk result P.is_time }
-    ensures called { IfOk result (λ time. Adds (P.called peer.old) (P.called peer.new) (Reads time ∷ [])) }
-    ensures fault { IfErr result (IsOfPeer P.is_error ⊥) }
-{
-    Ok(peer.now()?)
-}
-
-// Begins a wait of the peer, of `seconds` seconds.
-fn begin_wait<P: Peer>(peer: &mut P, seconds: u64) -> Result<(), FetchFault>
-    ensures called { OnOk result (Adds (P.called peer.old) (P.called peer.new) (Waits seconds ∷ [])) }
-    ensures fault { IfErr result (IsOfPeer P.is_error ⊥) }
-{
-    Ok(peer.begin_wait(seconds)?)
-}
-
-// Waits for the next notification to show, and records a state in `watch`. If `ends`, returns
-// `None` once the wait that was begun is over. Otherwise begins another wait then, of a day.
-fn await_note<P: Peer>(
-    peer: &mut P,
-    observer: &Observer<'_>,
-    watch: &mut Observation,
-    ends: bool,
-    buffer: &mut Buffer,
-) -> Result<Option<NotedMessage>, FetchFault>
-    ensures watched { IfOk result (Watches P.went P.came P.is_time observer.now.token buffer.new watch.old watch.new) }
-    ensures called { IfOk result (λ noted. MakesCalls (P.called peer.old) (P.called peer.new)
-        (AwaitsNote observer.now.token ends (is_none noted))) }
-    ensures fault { IfErr result (IsAwaitFault P.came P.is_time P.is_error (MakesCalls (P.called peer.old) (P.called peer.new))
-        observer.now ends watch.old) }
-{
-    for _ in 0..u64::MAX {
-        match watch.next(peer, &observer.token, buffer)? {
-            Some(noted) => return Ok(Some(noted)),
-            None if ends => return Ok(None),
-            None => peer.begin_wait(DAY)?,
-        }
-    }
-    Ok(None)
 }

@@ -5,11 +5,11 @@ ghost use Rattle.std.specs.Str.{chars};
 ghost use Rattle.std.specs.Io.KnownBytes.{Appends};
 ghost use Rattle.coap_msg.specs.Codes.{code_text};
 ghost use Rattle.fc_fetch.specs.Fetching.{answer_text, ended_line};
-ghost use Rattle.fc_fetch.specs.Observing.{note_text};
+ghost use Rattle.fc_fetch.specs.Rendering.{note_text};
 ghost use Rattle.fc_fetch.specs.Printing as spec;
 
 use coap_client::Fetched;
-use coap_msg::{Code, Message};
+use coap_msg::Code;
 use std::alloc::{AllocError, Global};
 use std::io;
 use std::io::Write;
@@ -88,7 +88,7 @@ pub fn write_bytes<W: Write>(out: &mut W, bytes: &[u8]) -> io::Result<()>
     out.flush()
 }
 
-/// Writes a response to an observer on one line.
+/// Writes a state on one line.
 ///
 /// The line has the code and, if there are bytes, a space and the bytes. They are text only if they
 /// have no line feed.
@@ -99,13 +99,11 @@ pub fn write_note<W: Write>(
     alloc: Global,
     out: &mut W,
     shown: Shown,
-    message: &Message<'_>,
+    code: Code,
+    payload: &[u8],
 ) -> Result<(), PrintError>
-    ensures { OnOk result (Appends (W.contents out.old) (W.contents out.new)
-        (note_text shown message.now.code message.now.payload)) }
+    ensures { OnOk result (Appends (W.contents out.old) (W.contents out.new) (note_text shown code.byte payload.now)) }
 {
-    let code = message.code();
-    let payload = message.payload();
     if payload.is_empty() {
         writeln!(out, "{code}")?;
     } else {

@@ -1,4 +1,4 @@
-use Rattle.std.proofs.Common.{◌≡◌, ◌&&◌, Bool, true, false, is_some, not, refl}
+use Rattle.std.proofs.Common.{◌≡◌, ◌&&◌, ◌||◌, Bool, true, false, is_some, not, refl, ap, ◌∙◌}
 use Rattle.coap_client.specs.declared.reply.Next.{Next}
 use Rattle.coap_client.specs.declared.reply.Next.TheVariants as next
 use Rattle.coap_client.specs.Notices.{is_first_part, is_last_part, sequence_of}
@@ -13,13 +13,20 @@ unlast next.Refused h = refl
 unlast next.Stale h = refl
 unlast next.Malformed h = refl
 
-unshown : (known : Bool) (n : Next) (rest : Bool) → (known && (is_first_part n && rest)) ≡ true → (known && is_last_part n) ≡ false
-unshown false n rest h = refl
-unshown true n rest h = by (is_first_part n) refl h
+-- without a sequence number it isn't the first block of a state either.
+unshown : (known : Bool) (n : Next) (success some : Bool) → (known && (is_first_part n && (success && not some))) ≡ true
+    → ((known && is_last_part n) || (known && (is_first_part n && (success && some)))) ≡ false
+unshown false n success some h = refl
+unshown true n success some h = by (is_first_part n) refl h
   where
-    by : (b : Bool) → is_first_part n ≡ b → (b && rest) ≡ true → is_last_part n ≡ false
-    by true is x = unlast n is
+    by_some : (a b : Bool) → (a && not b) ≡ true → (a && b) ≡ false
+    by_some false b x = refl
+    by_some true false x = refl
+    by_some true true x = absurd (cc x)
+
+    by : (b : Bool) → is_first_part n ≡ b → (b && (success && not some)) ≡ true → (is_last_part n || (b && (success && some))) ≡ false
+    by true is x = ap (λ (y : Bool). y || (success && some)) (unlast n is) ∙ by_some success some x
     by false is x = absurd (cc x)
 
 pub returns-clause-unshown : goal.returns-clause-unshown
-returns-clause-unshown c = λ m h. unshown (is_understood m) (next_of_answer 0 6 m) (is_success m.code && not (is_some (sequence_of m))) h
+returns-clause-unshown c = λ m h. unshown (is_understood m) (next_of_answer 0 6 m) (is_success m.code) (is_some (sequence_of m)) h

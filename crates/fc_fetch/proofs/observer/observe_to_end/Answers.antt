@@ -11,9 +11,11 @@ returns-in-Some-clause-ended g c =
     let client_request = c.in-Some.client_request in
     ok_of c.observe_client_request.result
     (IsObservedAt g.C.Connector.connected g.C.Connector.drawn g.C.Server.Peer.went g.C.Server.Peer.came g.C.Server.Peer.is_time g.C.Server.Peer.called c.args.observing.now client_request address.server
-    (g.W.Write.contents c.args.out.now) (g.W.Write.contents c.observe_client_request.new.out))
+    (record { out = g.W.Write.contents c.args.out.now; err = g.E.Write.contents c.args.err.now })
+    (record { out = g.W.Write.contents c.observe_client_request.new.out; err = g.E.Write.contents c.observe_client_request.new.err }))
     (IsObservedIn g.C.Connector.connected g.C.Connector.drawn g.C.Server.Peer.went g.C.Server.Peer.came g.C.Server.Peer.is_time g.C.Server.Peer.called c.args.observing.now
-    (g.W.Write.contents c.args.out.now) (g.W.Write.contents c.observe_client_request.new.out))
+    (record { out = g.W.Write.contents c.args.out.now; err = g.E.Write.contents c.args.err.now })
+    (record { out = g.W.Write.contents c.observe_client_request.new.out; err = g.E.Write.contents c.observe_client_request.new.err }))
     (λ end h. record {
       address = address;
       address_is = c.in_ok-address.ensures.address;

@@ -1,95 +1,102 @@
-use Rattle.std.proofs.Common.{◌≡◌, ◌<◌, ℕ, inr, is_none, subst, sym, ◌∙◌, arith}
-use Rattle.coap_client.specs.Notes.{Watches}
-use Rattle.coap_client.specs.Transmissions.{MakesCalls}
+use Rattle.std.proofs.Common.{ℕ, false, ◌<◌, ◌≡◌, inr, refl, subst, sym, Option, List, arith}
 use Rattle.coap_client.proofs.Failing.{raised}
-use Rattle.fc_fetch.specs.declared.observer.NotesError.TheVariants as notes_error
-use Rattle.fc_fetch.specs.Observing.{AwaitsNote, IsFirstShown, IsNotesFault, lines_wanted}
-use Rattle.fc_fetch.proofs.Failures.{stopped}
-use Rattle.fc_fetch.specs.declared.observer.ObservationEnd.TheVariants.{Counted, Last}
-use Rattle.fc_fetch.proofs.Timing.{ends_at_first, ends_in_time, ends_over, observes_on, waits_first}
-use Rattle.fc_fetch.proofs.Lines.{all_shown, last_shown, next_shown, over_shown, some_line}
+use Rattle.coap_client.specs.Transmissions.{MakesCalls}
+use Rattle.fc_fetch.specs.Observing.{IsFirstBy, IsFirstShown, IsLineBy, IsNotesFault, IsPending, IsTurn, lines_wanted}
+use Rattle.fc_fetch.specs.Rendering.{Written}
+use Rattle.fc_fetch.proofs.Failures.{failed_since}
+use Rattle.fc_fetch.proofs.Lines.{between_ready, first_ready}
+use Rattle.fc_fetch.proofs.Timing.{ends_counted, ends_so, observes_on, waits_first}
 use Rattle.fc_fetch.proofs.observer.print_notes.Goals as goal
 
 below : (n end limit : ℕ) → n < end → end ≡ limit → n < limit
 below n end limit less is = omega (arith, less, is)
 
-pub returns-in-Only-clause-shown : goal.returns-in-Only-clause-shown
-returns-in-Only-clause-shown g c =
-    subst (IsFirstShown g.P.Peer.went g.P.Peer.came g.P.Peer.is_time c.args.observer.now c.args.shown (g.W.Write.contents c.args.out.now) (g.W.Write.contents c.print_first.new.out))
-    c.in-Only.is c.in_ok-watch.ensures.shown (lines_wanted c.args.extent.count) (some_line c.args.extent.count)
+pub loop-init : goal.loop-init
+loop-init g c =
+    let went = g.P.Peer.went in
+    let came = g.P.Peer.came in
+    let told = g.P.Peer.is_time in
+    let o = c.args.observer.now in
+    let before = g.P.Peer.called c.args.peer.now in
+    let between = g.P.Peer.called c.print_first.new.peer in
+    let watch = c.in-State.watch in
+    let first : Written = record { out = g.W.Write.contents c.args.out.now; err = g.E.Write.contents c.args.err.now } in
+    let f = subst (IsFirstShown went came told o c.args.shown (g.W.Write.contents c.args.out.now) (g.W.Write.contents c.print_first.new.out) c.print_first.new.buffer) c.in-State.is
+    c.in_ok-watch.ensures.shown in (
+      (f.0.within, (f.0.note.message, f.0.read_is)),
+      (
+        (
+          refl,
+          subst
+              (λ (out : Option (List ℕ)).
+              IsPending went came told o c.args.shown first (record { out = out; err = g.E.Write.contents c.args.err.now }) 0 watch c.print_first.new.buffer
+              (record { count = c.in-State.count; time = watch.at; last = false })) (sym f.1)
+              (first_ready went came told o c.args.shown first c.print_first.new.buffer c.in-State.count watch.at watch f.0),
+        ),
+        waits_first o c.args.extent.seconds watch.at c.first_wait.result before between (g.P.Peer.called c.begin_wait.new.peer) c.first_wait.ensures
+            (subst (λ x. MakesCalls before between (IsFirstBy o x)) c.in-State.is c.in_ok-watch.ensures.called) c.in_ok-begin_wait.ensures.called,
+      ),
+    )
 
-pub returns-then-noted-clause-shown : goal.returns-then-noted-clause-shown
-returns-then-noted-clause-shown g c =
-    let noted = subst (Watches g.P.Peer.went g.P.Peer.came g.P.Peer.is_time c.args.observer.now.token c.await_note.new.buffer c.loop.watch c.await_note.new.watch) c.in-Some.is c.in_ok-noted.ensures.watched in
-    last_shown _ _ _ _ _ _ _ _ _ _ _ _ _ _ _ _ c.code.result c.loop.invariant.0 noted.1 c.if-noted.true (sym c.read.ensures.function ∙ c.in-Ok.is) c.code.ensures c.in_ok-write_note.ensures (below c.loop.counter _ _ c.loop-test.true c.lines_wanted-end.ensures.wanted)
+pub returns-in_err-ended-clause-fault : goal.returns-in_err-ended-clause-fault
+returns-in_err-ended-clause-fault g c =
+    let went = g.P.Peer.went in
+    let came = g.P.Peer.came in
+    let told = g.P.Peer.is_time in
+    let o = c.args.observer.now in
+    let first : Written = record { out = g.W.Write.contents c.args.out.now; err = g.E.Write.contents c.args.err.now } in
+    let now : Written = record { out = g.W.Write.contents c.loop.out; err = g.E.Write.contents c.loop.err } in
+    raised c.from_residual-in_err-ended.result c.in_err-ended.field-0.0
+    (IsNotesFault went came told g.P.Peer.is_error g.P.Peer.called c.args.peer.now c.print_line.new.peer o c.args.extent.seconds) c.from_residual-in_err-ended.ensures.1
+    (inr (failed_since went came told g.P.Peer.is_error g.P.Peer.called c.args.peer.now c.loop.peer c.print_line.new.peer o c.args.extent.seconds c.in-State.watch.at c.in_err-ended.field-0.0
+    c.loop.invariant.1.1
+    (c.in_err-ended.ensures.fault first c.loop.counter (between_ready went came told o c.args.shown first now c.loop.counter c.loop.watch c.loop.buffer c.loop.next c.loop.invariant.1.0))))
 
-pub returns-in_default-clause-shown : goal.returns-in_default-clause-shown
-returns-in_default-clause-shown g c = over_shown _ _ _ _ _ _ _ _ _ _ c.loop.invariant.0 (below c.loop.counter _ _ c.loop-test.true c.lines_wanted-end.ensures.wanted)
+pub returns-in-Some-clause-shown : goal.returns-in-Some-clause-shown
+returns-in-Some-clause-shown g c =
+    let went = g.P.Peer.went in
+    let came = g.P.Peer.came in
+    let told = g.P.Peer.is_time in
+    let o = c.args.observer.now in
+    let first : Written = record { out = g.W.Write.contents c.args.out.now; err = g.E.Write.contents c.args.err.now } in
+    let now : Written = record { out = g.W.Write.contents c.loop.out; err = g.E.Write.contents c.loop.err } in
+    let after : Written = record { out = g.W.Write.contents c.print_line.new.out; err = g.E.Write.contents c.print_line.new.err } in
+    subst (IsTurn went came told o c.args.shown first after c.loop.counter c.print_line.new.watch) c.in-Some.is
+    (c.in_ok-ended.ensures.turn first c.loop.counter (between_ready went came told o c.args.shown first now c.loop.counter c.loop.watch c.loop.buffer c.loop.next c.loop.invariant.1.0))
+    (lines_wanted c.args.extent.count) (below c.loop.counter c.lines_wanted-end.result (lines_wanted c.args.extent.count) c.loop-test.true c.lines_wanted-end.ensures.wanted)
+
+pub returns-in-Some-clause-called : goal.returns-in-Some-clause-called
+returns-in-Some-clause-called g c =
+    let o = c.args.observer.now in
+    let seconds = c.args.extent.seconds in
+    let start = c.in-State.watch.at in
+    let between = g.P.Peer.called c.loop.peer in
+    let after = g.P.Peer.called c.print_line.new.peer in
+    ends_so o seconds start c.in-Some.end (g.P.Peer.called c.args.peer.now) between after c.loop.invariant.1.1
+    (subst (λ x. MakesCalls between after (IsLineBy o seconds start x)) c.in-Some.is c.in_ok-ended.ensures.called)
 
 pub loop-preserved : goal.loop-preserved
 loop-preserved g c =
-    let noted = subst (Watches g.P.Peer.went g.P.Peer.came g.P.Peer.is_time c.args.observer.now.token c.await_note.new.buffer c.loop.watch c.await_note.new.watch) c.in-Some.is c.in_ok-noted.ensures.watched in (
-      next_shown _ _ _ _ _ _ _ _ _ _ _ _ _ _ _ c.loop.invariant.0 noted.1 c.if-noted.false (sym c.read.ensures.function ∙ c.in-Ok.is) c.in_ok-write_note.ensures,
-      observes_on c.args.observer.now c.args.extent.seconds c.is_some-ends.result _ (g.P.Peer.called c.args.peer.now) (g.P.Peer.called c.loop.peer) (g.P.Peer.called c.await_note.new.peer)
-          c.is_some-ends.ensures c.loop.invariant.1 c.in_ok-noted.ensures.called,
-    )
-
-pub returns-clause-shown : goal.returns-clause-shown
-returns-clause-shown g c = all_shown _ _ _ _ _ _ _ _ _ _ c.loop.invariant.0 (omega (arith, c.loop-test.false, c.loop.auto.counter-end, c.lines_wanted-end.ensures.wanted, c.lines_wanted-end.ensures.some))
-
-pub returns-in-Only-clause-called : goal.returns-in-Only-clause-called
-returns-in-Only-clause-called g c =
-    ends_at_first c.args.observer.now c.args.extent.seconds (Last c.in-Only.code) (g.P.Peer.called c.args.peer.now) (g.P.Peer.called c.print_first.new.peer) tt c.in_ok-watch.ensures.called
-
-pub loop-init : goal.loop-init
-loop-init g c =
-    let before = g.P.Peer.called c.args.peer.now in
-    let between = g.P.Peer.called c.print_first.new.peer in (
-      subst (IsFirstShown g.P.Peer.went g.P.Peer.came g.P.Peer.is_time c.args.observer.now c.args.shown (g.W.Write.contents c.args.out.now) (g.W.Write.contents c.print_first.new.out))
-          c.in-State.is c.in_ok-watch.ensures.shown,
-      waits_first c.args.observer.now c.args.extent.seconds c.first_wait.result before between (g.P.Peer.called c.begin_wait.new.peer) c.first_wait.ensures c.in_ok-watch.ensures.called
-          c.in_ok-begin_wait.ensures.called,
-    )
-
-pub returns-in_default-clause-called : goal.returns-in_default-clause-called
-returns-in_default-clause-called g c =
+    let went = g.P.Peer.went in
+    let came = g.P.Peer.came in
+    let told = g.P.Peer.is_time in
     let o = c.args.observer.now in
+    let seconds = c.args.extent.seconds in
+    let start = c.in-State.watch.at in
     let between = g.P.Peer.called c.loop.peer in
-    let after = g.P.Peer.called c.await_note.new.peer in
-    ends_over o c.args.extent.seconds c.is_some-ends.result (g.P.Peer.called c.args.peer.now) between after c.is_some-ends.ensures c.loop.invariant.1
-    (subst (λ x. MakesCalls between after (AwaitsNote o.token c.is_some-ends.result (is_none x))) c.in_default.is c.in_ok-noted.ensures.called)
-
-pub returns-then-noted-clause-called : goal.returns-then-noted-clause-called
-returns-then-noted-clause-called g c =
-    let o = c.args.observer.now in
-    let before = g.P.Peer.called c.args.peer.now in
-    let after = g.P.Peer.called c.await_note.new.peer in
-    ends_in_time o c.args.extent.seconds (Last c.code.result) before after
-    (observes_on o c.args.extent.seconds c.is_some-ends.result _ before (g.P.Peer.called c.loop.peer) after c.is_some-ends.ensures c.loop.invariant.1 c.in_ok-noted.ensures.called)
-    (λ calls. tt)
+    let later = g.P.Peer.called c.print_line.new.peer in
+    let first : Written = record { out = g.W.Write.contents c.args.out.now; err = g.E.Write.contents c.args.err.now } in
+    let now : Written = record { out = g.W.Write.contents c.loop.out; err = g.E.Write.contents c.loop.err } in
+    let after : Written = record { out = g.W.Write.contents c.print_line.new.out; err = g.E.Write.contents c.print_line.new.err } in (
+      tt,
+      (
+        subst (IsTurn went came told o c.args.shown first after c.loop.counter c.print_line.new.watch) c.in-None.is
+            (c.in_ok-ended.ensures.turn first c.loop.counter (between_ready went came told o c.args.shown first now c.loop.counter c.loop.watch c.loop.buffer c.loop.next c.loop.invariant.1.0)),
+        observes_on o seconds start (g.P.Peer.called c.args.peer.now) between later c.loop.invariant.1.1
+            (subst (λ x. MakesCalls between later (IsLineBy o seconds start x)) c.in-None.is c.in_ok-ended.ensures.called),
+      ),
+    )
 
 pub returns-clause-called : goal.returns-clause-called
 returns-clause-called g c =
-    ends_in_time c.args.observer.now c.args.extent.seconds Counted (g.P.Peer.called c.args.peer.now) (g.P.Peer.called c.loop.peer) c.loop.invariant.1 (λ calls. tt)
-
-pub returns-in_err-noted-clause-fault : goal.returns-in_err-noted-clause-fault
-returns-in_err-noted-clause-fault g c =
-    let o = c.args.observer.now in
-    let before = g.P.Peer.called c.args.peer.now in
-    let between = g.P.Peer.called c.loop.peer in
-    let after = g.P.Peer.called c.await_note.new.peer in
-    raised c.from_residual-in_err-noted.result (notes_error.Fault c.in_err-noted.field-0.0)
-    (IsNotesFault g.P.Peer.went g.P.Peer.came g.P.Peer.is_time g.P.Peer.is_error (MakesCalls before after) o c.args.extent.seconds) c.from_residual-in_err-noted.ensures.1
-    (inr (stopped g.P.Peer.went g.P.Peer.came g.P.Peer.is_time g.P.Peer.is_error before between after o c.args.shown _ _ _ c.args.extent.seconds c.is_some-ends.result c.loop.watch
-    c.in_err-noted.field-0.0 c.is_some-ends.ensures c.loop.invariant.0 c.loop.invariant.1 c.in_err-noted.ensures.fault))
-
-pub returns-in_err-write_note-clause-fault : goal.returns-in_err-write_note-clause-fault
-returns-in_err-write_note-clause-fault g c =
-    let o = c.args.observer.now in
-    let before = g.P.Peer.called c.args.peer.now in
-    let between = g.P.Peer.called c.loop.peer in
-    let after = g.P.Peer.called c.await_note.new.peer in
-    raised c.from_residual-in_err-write_note.result (notes_error.Print c.in_err-write_note.field-0.0)
-    (IsNotesFault g.P.Peer.went g.P.Peer.came g.P.Peer.is_time g.P.Peer.is_error (MakesCalls before after) o c.args.extent.seconds) c.from_residual-in_err-write_note.ensures.1
-    (inr (ends_in_time o c.args.extent.seconds Counted before after
-    (observes_on o c.args.extent.seconds c.is_some-ends.result _ before between after c.is_some-ends.ensures c.loop.invariant.1 c.in_ok-noted.ensures.called) (λ calls. tt)))
+    ends_counted c.args.observer.now c.args.extent.seconds c.in-State.watch.at (g.P.Peer.called c.args.peer.now) (g.P.Peer.called c.loop.peer) c.loop.invariant.1.1

@@ -1,7 +1,7 @@
 use Rattle.std.proofs.Common.{◌≡◌}
 use Rattle.coap_client.specs.Transmissions.{MakesCalls}
 use Rattle.fc_fetch.proofs.Timing.{HasAwaited}
-use Rattle.fc_fetch.proofs.observer.await_note.Given as goal
+use Rattle.fc_fetch.proofs.waits.await_note.Given as goal
 
 -- nothing was shown so far
 abbrev pub invariant-loop : goal.invariant-loop

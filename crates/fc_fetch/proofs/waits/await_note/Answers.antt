@@ -6,7 +6,7 @@ use Rattle.coap_client.proofs.Failing.{raised}
 use Rattle.fc_fetch.specs.Observing.{IsAwaitFault}
 use Rattle.fc_fetch.proofs.Failures.{no_note}
 use Rattle.fc_fetch.proofs.Timing.{awaited_to_the_end, awaits_nothing, note_awaited, one_more_day}
-use Rattle.fc_fetch.proofs.observer.await_note.Goals as goal
+use Rattle.fc_fetch.proofs.waits.await_note.Goals as goal
 
 pub loop-init : goal.loop-init
 loop-init g c = (refl, awaits_nothing c.args.observer.now.token c.args.ends (g.P.Peer.called c.args.peer.now))

@@ -1,0 +1,213 @@
+//! The rendering of an observer's notes: a line of output for each, or the reason why not.
+//!
+//! The blocks of a state of several blocks are joined before it is printed.
+ghost use Rattle.std.specs.Prelude.{◌≡◌, ℕ, IfErr, IfOk, IfSome, None, OnErr, OnOk, true, take, is_none};
+ghost use Rattle.std.specs.Io.KnownBytes.{Appends};
+ghost use Rattle.coap_client.specs.Representations.{begun, state_of};
+ghost use Rattle.coap_client.specs.Requests.{IsBlock};
+ghost use Rattle.coap_client.specs.Transmissions.{MakesCalls};
+ghost use Rattle.coap_msg.specs.Reading.{reading_of};
+ghost use Rattle.coap_msg.specs.Wire.{Message as Read};
+ghost use Rattle.fc_fetch.specs.Observing.{AreTurns, AwaitsNote, HasMessage, HasNewer, IsAwaitFault, IsLastPrinted, IsLaterFault, IsLineBy, IsReady, IsRenderedAs, IsRenderedBy, IsRenderFault, IsTurn};
+ghost use Rattle.fc_fetch.specs.Rendering.{Written, has_further, missing_text, note_text};
+
+use crate::observer::{NotesError, ObservationEnd};
+use crate::printer::{PrintError, Shown, write_note};
+use crate::waits::{TimeLimit, await_note, begin_rest};
+use coap_client::peer::Buffer;
+use coap_client::{
+    Completion, FetchFault, Joining, NotedMessage, Observation, Observer, Peer, Unfetched,
+};
+use coap_msg::read;
+use std::alloc::Global;
+use std::io;
+use std::io::Write;
+
+// The effect of rendering a state.
+#[derive(Clone, Copy, PartialEq, Eq)]
+pub(crate) enum Rendered {
+    // It was printed.
+    Line,
+    // Its further blocks can't be fetched.
+    Missing,
+    // This newer notification arrived while its further blocks were requested.
+    Newer(NotedMessage),
+    // A newer notification arrived, and the time was over.
+    Over,
+}
+
+// Renders notes until one has a line, and returns `None`; or returns how the observation ends. The
+// first note is `next`, if there is one.
+pub(crate) fn print_line<P: Peer, W: Write, E: Write>(
+    alloc: Global,
+    peer: &mut P,
+    out: &mut W,
+    err: &mut E,
+    observer: &Observer<'_>,
+    shown: Shown,
+    limit: TimeLimit,
+    watch: &mut Observation,
+    ids: &mut u16,
+    next: Option<NotedMessage>,
+    buffer: &mut Buffer,
+) -> Result<Option<ObservationEnd>, NotesError>
+    requires { IfSome next (HasMessage buffer.old) }
+    ensures turn { IfOk result (λ end. (before : Written) (lines : ℕ) →
+        IsReady P.went P.came P.is_time observer.now shown before (record { out = W.contents out.old; err = E.contents err.old }) lines watch.old buffer.old next →
+        IsTurn P.went P.came P.is_time observer.now shown before (record { out = W.contents out.new; err = E.contents err.new }) lines watch.new end) }
+    ensures called { IfOk result (λ end. MakesCalls (P.called peer.old) (P.called peer.new) (IsLineBy observer.now limit.seconds limit.start end)) }
+    ensures fault { IfErr result (λ error. (before : Written) (lines : ℕ) →
+        IsReady P.went P.came P.is_time observer.now shown before (record { out = W.contents out.old; err = E.contents err.old }) lines watch.old buffer.old next →
+        IsLaterFault P.went P.came P.is_time P.is_error P.called peer.old peer.new observer.now (AreTurns observer.now limit.seconds limit.start) error) }
+{
+    let mut next = next;
+    for _ in 0..u64::MAX {
+        let ends = limit.seconds.is_some();
+        let Some(noted) = next_note(peer, observer, watch, next, ends, buffer)? else {
+            return Ok(Some(ObservationEnd::Over));
+        };
+        if noted.last {
+            return Ok(Some(print_last(alloc, out, shown, noted, buffer)?));
+        }
+        match render(
+            alloc, peer, out, err, observer, shown, limit, watch, ids, noted, buffer,
+        )? {
+            Rendered::Line => return Ok(None),
+            Rendered::Missing => next = None,
+            Rendered::Newer(newer) => next = Some(newer),
+            Rendered::Over => return Ok(Some(ObservationEnd::Over)),
+        }
+    }
+    Ok(Some(ObservationEnd::Over))
+}
+
+// Returns the next note, or waits for it if it hasn't arrived.
+fn next_note<P: Peer>(
+    peer: &mut P,
+    observer: &Observer<'_>,
+    watch: &mut Observation,
+    next: Option<NotedMessage>,
+    ends: bool,
+    buffer: &mut Buffer,
+) -> Result<Option<NotedMessage>, FetchFault>
+    requires { IfSome next (HasMessage buffer.old) }
+    ensures message { IfOk result (λ noted. IfSome noted (HasMessage buffer.new)) }
+    ensures noted { IfOk result (λ noted. (shown : Shown) (before now : Written) (lines : ℕ) →
+        IsReady P.went P.came P.is_time observer.now shown before now lines watch.old buffer.old next →
+        IsReady P.went P.came P.is_time observer.now shown before now lines watch.new buffer.new noted) }
+    ensures called { IfOk result (λ noted. MakesCalls (P.called peer.old) (P.called peer.new) (AwaitsNote observer.now.token ends (is_none noted))) }
+    ensures awaited { OnErr result (next ≡ None) }
+    ensures fault { IfErr result (IsAwaitFault P.came P.is_time P.is_error (MakesCalls (P.called peer.old) (P.called peer.new)) observer.now ends watch.old) }
+{
+    match next {
+        Some(noted) => Ok(Some(noted)),
+        None => await_note(peer, observer, watch, ends, buffer),
+    }
+}
+
+// Prints the last note.
+fn print_last<W: Write>(
+    alloc: Global,
+    out: &mut W,
+    shown: Shown,
+    noted: NotedMessage,
+    buffer: &Buffer,
+) -> Result<ObservationEnd, PrintError>
+    requires { HasMessage buffer.now noted }
+    ensures { IfOk result (λ end. (m : Read) → reading_of (take noted.count buffer.now) ≡ Ok m → IsLastPrinted shown m (W.contents out.old) (W.contents out.new) end) }
+{
+    let Ok(message) = read(&buffer[..noted.count]) else {
+        unreachable!();
+    };
+    write_note(alloc, out, shown, message.code(), message.payload())?;
+    Ok(ObservationEnd::Last(message.code()))
+}
+
+// Prints a state, or its blocks, joined.
+fn render<P: Peer, W: Write, E: Write>(
+    alloc: Global,
+    peer: &mut P,
+    out: &mut W,
+    err: &mut E,
+    observer: &Observer<'_>,
+    shown: Shown,
+    limit: TimeLimit,
+    watch: &mut Observation,
+    ids: &mut u16,
+    noted: NotedMessage,
+    buffer: &mut Buffer,
+) -> Result<Rendered, NotesError>
+    requires { HasMessage buffer.old noted }
+    ensures message { IfOk result (HasNewer buffer.new) }
+    ensures rendered { IfOk result (λ rendered. (m : Read) → reading_of (take noted.count buffer.old) ≡ Ok m →
+        IsRenderedAs P.went P.came P.is_time observer.now shown m (record { out = W.contents out.old; err = E.contents err.old })
+        (record { out = W.contents out.new; err = E.contents err.new }) watch.old watch.new buffer.new rendered) }
+    ensures called { IfOk result (λ rendered. MakesCalls (P.called peer.old) (P.called peer.new) (IsRenderedBy observer.now limit.seconds limit.start rendered)) }
+    ensures fault { IfErr result (λ error. (m : Read) → reading_of (take noted.count buffer.old) ≡ Ok m →
+        IsRenderFault P.came P.is_error (MakesCalls (P.called peer.old) (P.called peer.new)) observer.now limit.seconds limit.start m error) }
+{
+    let Ok(message) = read(&buffer[..noted.count]) else {
+        unreachable!();
+    };
+    match Joining::begin(alloc, &message)? {
+        Some(joining) => {
+            render_blocks(
+                alloc, peer, out, err, observer, shown, limit, watch, ids, joining, buffer,
+            )
+        }
+        None => {
+            write_note(alloc, out, shown, message.code(), message.payload())?;
+            Ok(Rendered::Line)
+        }
+    }
+}
+
+// Requests the further blocks of a state and begins the rest of the time again. Then prints the
+// state, or reports why not.
+fn render_blocks<P: Peer, W: Write, E: Write>(
+    alloc: Global,
+    peer: &mut P,
+    out: &mut W,
+    err: &mut E,
+    observer: &Observer<'_>,
+    shown: Shown,
+    limit: TimeLimit,
+    watch: &mut Observation,
+    ids: &mut u16,
+    joining: Joining,
+    buffer: &mut Buffer,
+) -> Result<Rendered, NotesError>
+    requires { IsBlock joining.number joining.szx }
+    ensures message { IfOk result (HasNewer buffer.new) }
+    ensures rendered { IfOk result (λ rendered. (m : Read) → begun m ≡ state_of joining → has_further m ≡ true →
+        IsRenderedAs P.went P.came P.is_time observer.now shown m (record { out = W.contents out.old; err = E.contents err.old })
+        (record { out = W.contents out.new; err = E.contents err.new }) watch.old watch.new buffer.new rendered) }
+    ensures called { IfOk result (λ rendered. MakesCalls (P.called peer.old) (P.called peer.new) (IsRenderedBy observer.now limit.seconds limit.start rendered)) }
+    ensures fault { IfErr result (λ error. (m : Read) → has_further m ≡ true →
+        IsRenderFault P.came P.is_error (MakesCalls (P.called peer.old) (P.called peer.new)) observer.now limit.seconds limit.start m error) }
+{
+    let completion = watch.complete(alloc, peer, observer, joining, ids, buffer)?;
+    let rest = begin_rest(peer, limit)?;
+    match completion {
+        Completion::Whole(code, body) => {
+            write_note(alloc, out, shown, code, &body)?;
+            Ok(Rendered::Line)
+        }
+        Completion::Newer(_) if rest == 0 => Ok(Rendered::Over),
+        Completion::Newer(noted) => Ok(Rendered::Newer(noted)),
+        Completion::Unfetched(cause) => {
+            if let Err(error) = write_missing(err, cause) {
+                return Err(NotesError::Report(error));
+            }
+            Ok(Rendered::Missing)
+        }
+    }
+}
+
+// Reports in a line that a state isn't printed.
+fn write_missing<E: Write>(err: &mut E, cause: Unfetched) -> io::Result<()>
+    ensures { OnOk result (Appends (E.contents err.old) (E.contents err.new) (missing_text cause)) }
+{
+    writeln!(err, "a state isn't printed: {cause}")?;
+    err.flush()
+}
