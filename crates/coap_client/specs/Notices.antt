@@ -79,10 +79,14 @@ abbrev pub is_first_part : Next → Bool
 is_first_part (next.Ask part) = true
 is_first_part other = false
 
--- the first of several blocks of a state: a success with a sequence number (RFC 7641, section 3.4;
--- RFC 7959, section 2.6).
+-- a success that is the first of several blocks (RFC 7959, section 2.4).
+abbrev pub begins_blocks : Message → Bool
+begins_blocks m = is_understood m && (is_first_part (next_of_answer 0 largest_szx m) && is_success m.code)
+
+-- the first of several blocks of a state: it has a sequence number (RFC 7641, section 3.4; RFC 7959,
+-- section 2.6).
 abbrev pub begins_state : Message → Bool
-begins_state m = is_understood m && (is_first_part (next_of_answer 0 largest_szx m) && (is_success m.code && is_some (sequence_of m)))
+begins_state m = begins_blocks m && is_some (sequence_of m)
 
 -- the message can be shown. No critical option is unknown, and it is whole by itself, like the
 -- response to the first request of a fetch; or it begins a state, whose other blocks can be
@@ -93,7 +97,7 @@ can_be_shown m = (is_understood m && is_last_part (next_of_answer 0 largest_szx 
 -- a success without a sequence number that is the first of several blocks: the server doesn't notify
 -- (RFC 7641, section 4.1; RFC 7959, section 2.6).
 abbrev pub is_unobserved : Message → Bool
-is_unobserved m = is_understood m && (is_first_part (next_of_answer 0 largest_szx m) && (is_success m.code && not (is_some (sequence_of m))))
+is_unobserved m = begins_blocks m && not (is_some (sequence_of m))
 
 -- a success with a sequence number is a state, and more may follow. A success without one is the
 -- last response, and so is an error (RFC 7641, sections 3.2 and 4.2).

@@ -54,7 +54,7 @@
 //!   follows the last (RFC 7959, sections 2.4 and 2.6).
 //! - A newer state ends the joining, and is recorded as shown. The last response ends it too. An
 //!   older state, and a duplicate, change nothing.
-//! - `fcreq observe` doesn't call it yet: a notification that isn't whole ends its observation.
+//! - The reason why a state's blocks can't be fetched has an exact text.
 //!
 //! *A fetch that fails, in terms of its calls:*
 //!
@@ -107,7 +107,8 @@
 //!   Any number is newer 128,001 ms later.
 //! - Of two states at the same time, at most one is newer.
 //! - A response that can be shown is the last if it has no Observe, or one of four bytes. A success
-//!   with an Observe of three bytes is a state.
+//!   with an Observe of three bytes is a state. The first of several blocks can be shown if it is a
+//!   state.
 //! - A registration has Observe 0, a deregistration Observe 1.
 //!
 //! *A ping* is an empty confirmable message:

@@ -123,10 +123,7 @@ pub fn notice_of(message: &Message<'_>) -> NotificationClass
 pub fn begins_state(message: &Message<'_>) -> bool
     ensures { result ≡ spec.begins_state message.now }
 {
-    is_understood(message)
-        && matches!(next_of_answer(0, LARGEST_SZX, message), Next::Ask(_))
-        && message.code().class() == SUCCESS
-        && sequence_of(message).is_some()
+    begins_blocks(message) && sequence_of(message).is_some()
 }
 
 // Returns whether a response is whole, or begins a state.
@@ -143,10 +140,16 @@ fn can_be_shown(message: &Message<'_>) -> bool
 pub fn is_unobserved(message: &Message<'_>) -> bool
     ensures { result ≡ spec.is_unobserved message.now }
 {
+    begins_blocks(message) && sequence_of(message).is_none()
+}
+
+// Returns whether a response is a success that is the first of several blocks.
+fn begins_blocks(message: &Message<'_>) -> bool
+    ensures { result ≡ spec.begins_blocks message.now }
+{
     is_understood(message)
         && matches!(next_of_answer(0, LARGEST_SZX, message), Next::Ask(_))
         && message.code().class() == SUCCESS
-        && sequence_of(message).is_none()
 }
 
 // Returns the sequence number of a state, or `None` if Observe is absent or has more than 3 bytes.

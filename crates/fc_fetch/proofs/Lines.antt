@@ -47,7 +47,7 @@ no_last (Some v) some h = cc h
 
 -- the last response isn't the first of several blocks
 whole_by : (known : Bool) (n : Next) (success : Bool) (o : Option ℕ) →
-    (if (known && is_last_part n) || (known && (is_first_part n && (success && is_some o))) then (if success then by_sequence o else notice.Last) else notice.Malformed) ≡ notice.Last →
+    (if (known && is_last_part n) || ((known && (is_first_part n && success)) && is_some o) then (if success then by_sequence o else notice.Last) else notice.Malformed) ≡ notice.Last →
     is_first_part n ≡ false
 whole_by false n success o h = absurd (cc h)
 whole_by true (next.Ask part) true None h = absurd (cc h)

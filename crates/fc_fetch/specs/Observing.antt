@@ -289,7 +289,8 @@ IsAwaitFault came told is_error Makes o ends w (fault.Memory error) = Makes (Awa
 IsAwaitFault came told is_error Makes o ends w (fault.Socket error) = is_error error
 IsAwaitFault came told is_error Makes o ends w other = ⊥
 
--- the notes so far came with such calls, and then a notification came last that has this classification.
+-- the notes so far came with such calls, and then a notification came last that has this
+-- classification.
 pub record IsStoppedBy (went came : List ℕ → Type 0) (told : ℕ → Type 0) (Makes : (List PeerCall → Type 0) → Type 0) (o : Observer) (SoFar : List PeerCall → Type 0) (P : NotificationClass → Type 0) : Type 0 where
   pub latest : Note
   pub older : List Note
@@ -325,8 +326,8 @@ IsFirstFault came is_error Makes o (notes_error.Print error) = Makes (IsDatedReg
 IsFirstFault came is_error Makes o (notes_error.Report error) = ⊥
 IsFirstFault came is_error Makes o (notes_error.Memory error) = IsStoppedByFirst came Makes o
 
--- the wait for a note failed: a notification can't be shown, memory for its mark can't be allocated, or
--- the peer returned an error.
+-- the wait for a note failed: a notification can't be shown, memory for its mark can't be
+-- allocated, or the peer returned an error.
 abbrev pub IsStoppedWaiting : (List ℕ → Type 0) → (List ℕ → Type 0) → (ℕ → Type 0) → (PeerError → Type 0) → ((List PeerCall → Type 0) → Type 0) → Observer → (List PeerCall → Type 0) → FetchFault → Type 0
 IsStoppedWaiting went came told is_error Makes o SoFar fault.Part = UnfitCame came o.token o.id × IsStoppedBy went came told Makes o SoFar (λ n. n ≡ notice.Malformed)
 IsStoppedWaiting went came told is_error Makes o SoFar (fault.Memory error) = IsStoppedBy went came told Makes o SoFar IsNewState
@@ -346,8 +347,8 @@ pub record IsStoppedJoining {S : Type 0} (went came : List ℕ → Type 0) (told
   pub called_is : MakesCalls (called before) (called at) SoFar
   pub fails : IsFollowingFault came is_error o.token f
 
--- a later note failed, after such calls: the wait for it or the requests for its further blocks failed,
--- memory for its first block can't be allocated, or a line can't be written.
+-- a later note failed, after such calls: the wait for it or the requests for its further blocks
+-- failed, memory for its first block can't be allocated, or a line can't be written.
 abbrev pub IsLaterFault : {S : Type 0} → (List ℕ → Type 0) → (List ℕ → Type 0) → (ℕ → Type 0) → (PeerError → Type 0) → (S → List PeerCall → Type 0) → S → S → Observer → (List PeerCall → Type 0) → NotesError → Type 0
 IsLaterFault went came told is_error called before after o SoFar (notes_error.Fault f) =
     IsStoppedWaiting went came told is_error (MakesCalls (called before) (called after)) o SoFar f ⊎ IsStoppedJoining went came told is_error called before o SoFar f

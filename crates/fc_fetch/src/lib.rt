@@ -37,24 +37,29 @@
 //! - The printed form of a response, in hex or as text. The client is done only at a success.
 //! - An argument of a query has at most 255 bytes. A target that names no resource has a bad path
 //!   or a longer argument.
-//! - An observer prints a line for each message of a list, and nothing else. Its registration was
-//!   sent, and each message came with its token. Each state is newer than the one before it
-//!   (RFC 7641, section 3.4). No message is a duplicate, by its message ID within 247 s, of one
-//!   before it. Each can be shown, and each but the last is a state.
+//! - An observer renders each note of a list, once, and writes nothing else. Its registration was
+//!   sent, and each note came with its token. Each state is newer than the one before it (RFC 7641,
+//!   section 3.4). No message is a duplicate, by its message ID within 247 s, of one before it. Each
+//!   can be shown, and each but the last is a state.
+//! - A note whose message is whole has one line. A state of several blocks has one line with its
+//!   blocks, which were requested and are joined; or none, if a newer notification arrived
+//!   meanwhile; or none but a line on standard error with the reason, if they can't be fetched.
 //! - An observation that ends by its count has printed exactly that many lines, and one that ends
 //!   by its time has printed fewer. In both cases the last message is a state as well, and the
 //!   deregistration was sent and acknowledged. Otherwise the last is an error or has no sequence
 //!   number.
 //! - Between the registration and the deregistration an observer begins waits and receives. It
-//!   sends only the acknowledgement of each confirmable notification. With `--seconds S` it begins
-//!   one wait, of S seconds. The observation ends by its time only if that wait is over, or if
-//!   2^64 - 1 datagrams came. Without it, each wait is of a day, and none ends the observation
-//!   before 2^64 - 1 days. After the deregistration, or an error or a response without a sequence
-//!   number, nothing is called.
+//!   sends only the acknowledgement of each confirmable notification, and requests for further
+//!   blocks. With `--seconds S` it begins one wait, of S seconds, and after such requests one of
+//!   what is left of them, rounded up. The observation ends by its time only if its wait is over, if
+//!   nothing was left after such requests, or if 2^64 - 1 datagrams came. Without it, each wait is of
+//!   a day, and none ends the observation before 2^64 - 1 waits. After the deregistration, or an
+//!   error or a response without a sequence number, nothing is called.
 //! - An observation fails for one of these reasons. No response, or a Reset message, came to its
 //!   registration or its deregistration. The message that came last can't be shown. It is a state,
-//!   and memory for it can't be allocated. The line of the message that came last can't be printed.
-//!   Memory for a request can't be allocated, and nothing was called. Or a call of the peer failed.
+//!   and memory for it can't be allocated. A line can't be written. Memory for a request can't be
+//!   allocated, and nothing was called. Or a call of the peer failed. While further blocks are
+//!   requested, it fails if a notification can't be shown, for memory, or by its peer.
 //!   Even then its deregistration was passed to the peer, unless nothing was called, or the
 //!   registration was rejected or got no response. The deregistration was sent until it was
 //!   acknowledged or rejected, or by its whole schedule, unless a call of the peer failed.
@@ -80,9 +85,9 @@ pub mod observer;
 pub mod operation;
 pub mod ping;
 pub mod printer;
-pub mod rendering;
+mod rendering;
 pub mod resource;
-pub mod waits;
+mod waits;
 
 pub use client::{FetchOptions, fetch, fetch_to};
 pub use connector::{Connector, System};

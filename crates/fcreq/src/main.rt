@@ -41,16 +41,16 @@ It prints nothing, and ends with 0 where the server answers.
   fcreq ping coap://127.0.0.1:5683
 
 `observe` prints what a GET is answered, and then each newer state that it is notified of, in a
-line: the code, a space and the bytes, with `--text` as text where that has no line feed. It
-reads no body. It ends after N lines, or S seconds after the first answer, and deregisters.
+line: the code, a space and the bytes, with `--text` as text where that has no line feed. A state
+of several blocks is fetched; where that fails, standard error says why. It reads no body. It ends
+after N lines, or S seconds after the first answer, and deregisters.
 
   fcreq --text --count 3 observe coap://127.0.0.1/r/1
 
 Exit status: 0 where the code is of class 2; 1 where it is another, or the server notifies no
 more; 2 where the command line is bad, or the request has no room in a datagram; 3 where no answer
-came, or one with a critical option that isn't known, or blocks that don't fit or, with `observe`,
-more than one; nobody listens at the port, the socket, reading or writing failed, or memory was
-refused.";
+came, or one with a critical option that isn't known, or blocks that don't fit; nobody listens at
+the port, the socket, reading or writing failed, or memory was refused.";
 
 /// A file to open in place of a closed standard stream.
 const NULL: &str = "/dev/null";

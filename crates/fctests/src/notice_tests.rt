@@ -49,8 +49,8 @@ fn states_are_in_order(rt: HostRuntime) {
 
 // A message, and its classification by an observer: a state with Observe of no byte, of one and of
 // three; an error, without Observe and with it; a success without it, or with one of four bytes; a
-// complete response in its first block, the first of two, and the second; and an unrecognised
-// critical option.
+// complete response in its first block, a first of two that isn't full, and the second; and an
+// unrecognised critical option.
 static NOTICES: [(&[u8], NotificationClass); 11] = [
     (b"\x50\x45\x00\x01\x60\xff\x61", NotificationClass::State(0)),
     (b"\x50\x45\x00\x01\x61\x05", NotificationClass::State(5)),
@@ -118,6 +118,18 @@ fn printed(
     client_request: &ClientRequest<'_>,
     count: u32,
 ) -> Result<Vec<u8>, NotesError> {
+    let mut err = Vec::new(alloc);
+    printed_to(alloc, server, client_request, count, &mut err)
+}
+
+// The same, with what standard error gets.
+fn printed_to(
+    alloc: Global,
+    server: &mut Scripted,
+    client_request: &ClientRequest<'_>,
+    count: u32,
+    err: &mut Vec<u8>,
+) -> Result<Vec<u8>, NotesError> {
     let observer = Observer {
         client_request,
         token: TOKEN,
@@ -133,6 +145,7 @@ fn printed(
         alloc,
         server,
         &mut out,
+        err,
         &observer,
         Shown::Text,
         extent,
@@ -338,6 +351,98 @@ fn a_state_of_two_blocks_is_joined(rt: HostRuntime) -> Result<(), Fail> {
     Ok(())
 }
 
+// The response to the registration of an observer with message ID 7: the first of two blocks.
+fn comes_large(server: &mut Scripted, alloc: Global) -> Result<(), Fail> {
+    let rest = joined(alloc, b"\x41\x09\x21\x02\xd1\x04\x0e\xff", &[b'a'; 1024])?;
+    comes_with(server, 0, b"\x64\x45\x00\x07", &rest)?;
+    Ok(())
+}
+
+// The second block is requested with message ID 9 and arrives after 12.5 s: 48 of 60 s are left,
+// rounded up. A whole state follows.
+#[test]
+fn an_observer_prints_a_state_of_two_blocks(rt: HostRuntime) -> Result<(), Fail> {
+    let alloc = rt.alloc();
+    let mut server = follows(alloc);
+    comes_large(&mut server, alloc)?;
+    comes_at(
+        &mut server,
+        12_500,
+        b"\x62\x45\x00\x09\x00\x09\x41\x09\xd1\x06\x16\xff",
+        b"end",
+    )?;
+    comes_with(
+        &mut server,
+        13_000,
+        b"\x54\x45\x10\x00",
+        b"\x61\x03\xff\x62",
+    )?;
+    let out = watched(alloc, &mut server, 9)?;
+    let text = joined(alloc, b"2.05 ", &[b'a'; 1024])?;
+    let text = joined(alloc, &text, b"end\n2.05 b\n")?;
+    assert!(rt; out.as_slice() == text.as_slice());
+    assert!(rt; server.waits.as_slice() == [2, 60, 2, 48].as_slice());
+    check_sent(
+        &rt,
+        &server,
+        1,
+        b"\x42\x01\x00\x09\x00\x09\xb1\x72\x01\x31\xc1\x16",
+        &[],
+    );
+    Ok(())
+}
+
+// A newer state arrives while the second block is requested; the first one is dropped. It has one
+// line of the two that are wanted.
+#[test]
+fn a_superseded_state_has_no_line(rt: HostRuntime) -> Result<(), Fail> {
+    let alloc = rt.alloc();
+    let mut server = follows(alloc);
+    comes_large(&mut server, alloc)?;
+    comes_with(&mut server, 1, b"\x54\x45\x10\x00", b"\x61\x03\xff\x62")?;
+    comes_with(&mut server, 2, b"\x54\x45\x10\x01", b"\x61\x04\xff\x63")?;
+    comes_with(&mut server, 3, b"\x54\x45\x10\x02", b"\x61\x05\xff\x64")?;
+    let out = watched(alloc, &mut server, 2)?;
+    assert!(rt; out.as_slice() == b"2.05 b\n2.05 c\n".as_slice());
+    Ok(())
+}
+
+// The request of the second block is answered by 5.03, and a whole state follows.
+#[test]
+fn a_state_without_its_blocks_is_reported(rt: HostRuntime) -> Result<(), Fail> {
+    let alloc = rt.alloc();
+    let client_request = slot_one(alloc)?;
+    let mut server = follows(alloc);
+    comes_large(&mut server, alloc)?;
+    comes(&mut server, b"\x62\xa3\x00\x09\x00\x09", &[])?;
+    comes_with(&mut server, 2, b"\x54\x45\x10\x00", b"\x61\x03\xff\x62")?;
+    let mut err = Vec::new(alloc);
+    let out = printed_to(alloc, &mut server, &client_request, 1, &mut err)?;
+    assert!(rt; out.as_slice() == b"2.05 b\n".as_slice());
+    let told = b"a state isn't printed: a further block was refused by 5.03\n".as_slice();
+    assert!(rt; err.as_slice() == told);
+    Ok(())
+}
+
+// A newer state arrives after the 60 s, while the second block is requested: it isn't printed, since
+// the time is over.
+#[test]
+fn the_time_ends_between_states(rt: HostRuntime) -> Result<(), Fail> {
+    let alloc = rt.alloc();
+    let mut server = follows(alloc);
+    comes_large(&mut server, alloc)?;
+    comes_with(
+        &mut server,
+        60_000,
+        b"\x54\x45\x10\x00",
+        b"\x61\x03\xff\x62",
+    )?;
+    let out = watched(alloc, &mut server, 9)?;
+    assert!(rt; out.is_empty());
+    assert!(rt; server.waits.as_slice() == [2, 60, 2, 0].as_slice());
+    Ok(())
+}
+
 // A further block with another ETag, a newer notification, an error, and no answer.
 #[test]
 fn a_state_that_changes_is_not_joined(rt: HostRuntime) -> Result<(), Fail> {
@@ -439,6 +544,7 @@ fn ends_by_its_output(
         alloc,
         server,
         &mut Full(3),
+        &mut Vec::new(alloc),
         &observer,
         Shown::Hex,
         extent,
@@ -455,7 +561,7 @@ fn an_observer_that_fails_deregisters_by_the_schedule(rt: HostRuntime) -> Result
     let mut server = follows(alloc);
     comes_with(&mut server, 0, b"\x64\x45\x00\x07", b"\x61\x02\xff\x61")?;
     assert!(rt; ends_by_its_output(alloc, &mut server, &client_request));
-    assert!(rt; server.waits.as_slice() == [2, 2, 4, 8, 16, 32].as_slice());
+    assert!(rt; server.waits.as_slice() == [2, 86_400, 2, 4, 8, 16, 32].as_slice());
     assert!(rt; server.sent.len() == 6);
     for place in 1..6 {
         check_sent(
@@ -469,10 +575,9 @@ fn an_observer_that_fails_deregisters_by_the_schedule(rt: HostRuntime) -> Result
     Ok(())
 }
 
-// A first state that continues in further blocks is a fault (Block2 with number 0, more, 1,024
-// bytes).
+// A first block that has fewer bytes than Block2 names is a fault (number 0, more, 1,024 bytes).
 #[test]
-fn a_first_state_of_more_blocks_is_a_fault(rt: HostRuntime) -> Result<(), Fail> {
+fn a_short_first_block_is_a_fault(rt: HostRuntime) -> Result<(), Fail> {
     let alloc = rt.alloc();
     let client_request = slot_one(alloc)?;
     let mut server = follows(alloc);
@@ -494,7 +599,8 @@ fn each_line_of_an_observer_is_flushed(rt: HostRuntime) -> Result<(), Fail> {
     let (error, note) = (b"\x60\x84\x00\x07", b"\x60\x45\x00\x07\xff\x61");
     for bytes in [error.as_slice(), note.as_slice()] {
         if let Ok(message) = read(bytes) {
-            let shown = write_note(alloc, &mut Unflushed, Shown::Text, &message);
+            let (code, payload) = (message.code(), message.payload());
+            let shown = write_note(alloc, &mut Unflushed, Shown::Text, code, payload);
             assert!(rt; matches!(&shown, Err(PrintError::Output(_))), "{bytes:?}");
         }
     }

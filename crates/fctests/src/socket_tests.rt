@@ -8,7 +8,8 @@ use coap_msg::{Emission, Endpoint};
 use coap_opts::Method;
 use fc_cli::Status;
 use fc_core::DEFAULT_POLICY;
-use fc_fetch::{FetchOptions, Shown, fetch};
+use fc_fetch::observer::ObservationExtent;
+use fc_fetch::{FetchOptions, Observing, Shown, fetch, observe};
 use fc_host::sensors::{NoSensors, Sensors};
 use fc_host::socket::{Buffer, Receiving, Sink, Source, open};
 use fc_record::{NoChanges, NoReports};
@@ -283,9 +284,10 @@ pub(crate) fn largest_image(alloc: Global) -> Result<Vec<u8>, AllocError> {
 static LONG: &[u8] =
     b"FCB1\x00\x00\x04\x00\x04\x00\x00\x00\x00\x00\x00\x00\xb7\x02\x00\x00\x4c\x04\x00\x00\x85\x00\x00\x00\x05\x00\x00\x00\xb7\x00\x00\x00\x00\x00\x00\x00\x95\x00\x00\x00\x00\x00\x00\x00";
 
-// Returns the output for its response to a GET: the method 1, the slot 2, and zeros.
-fn long_answer(alloc: Global) -> Result<String, AllocError> {
-    let mut text = format!(in alloc; "2.05\n0102")?;
+// Returns the output for its response to a GET: the method 1, the slot 2, and zeros. It is after
+// the code and this separator.
+fn long_answer(alloc: Global, separator: &str) -> Result<String, AllocError> {
+    let mut text = format!(in alloc; "2.05{separator}0102")?;
     for _ in 2..1100 {
         text.push_str("00")?;
     }
@@ -299,7 +301,7 @@ fn ask_by_blocks<R: Abort + Net + Clock + RandomSource + AllocGlobal>(
     port: u16,
 ) -> Result<(), Fail> {
     let image = largest_image(rt.alloc())?;
-    let answer = long_answer(rt.alloc())?;
+    let answer = long_answer(rt.alloc(), "\n")?;
     // version=1 cost=512 budget=512 vars=0
     let largest =
         "2.01\n76657273696f6e3d3120636f73743d353132206275646765743d35313220766172733d30\n";
@@ -322,6 +324,46 @@ fn bodies_go_and_come_by_blocks(rt: HostRuntime) -> Result<(), Fail> {
     };
     let memory = serve_while(&rt, &NoSensors, extent, |port| ask_by_blocks(&rt, port))?;
     check_logged(&rt, memory, "sent 8 failed 0");
+    Ok(())
+}
+
+// A state of 1,100 bytes is observed: the first block is in the response to the registration, and
+// the second is requested.
+fn observe_by_blocks<R: Abort + Net + Clock + RandomSource + AllocGlobal>(
+    rt: &R,
+    port: u16,
+) -> Result<(), Fail> {
+    let alloc = rt.alloc();
+    let installed = "2.01\n76657273696f6e3d3120636f73743d34206275646765743d3420766172733d30\n";
+    check_asked(rt, port, Method::Put, "/p/2", LONG, Status::Done, installed);
+    let observing = Observing {
+        target: "/r/2",
+        port: Some(port),
+        shown: Shown::Hex,
+        extent: ObservationExtent {
+            count: Some(1),
+            seconds: None,
+        },
+    };
+    let (mut out, mut err) = (Vec::new(alloc), Vec::new(alloc));
+    let ended = observe(rt, alloc, &mut out, &mut err, &observing);
+    assert!(rt; ended == Status::Done && err.is_empty());
+    assert!(rt; out.as_slice() == long_answer(alloc, " ")?.as_bytes());
+    Ok(())
+}
+
+// The upload, the registration, the second block and the deregistration are four datagrams.
+#[test]
+fn a_state_of_two_blocks_is_observed(rt: HostRuntime) -> Result<(), Fail> {
+    let extent = Extent {
+        workers: 2,
+        limit: 4,
+        started: 0,
+        first_id: 0,
+        policy: DEFAULT_POLICY,
+    };
+    let memory = serve_while(&rt, &NoSensors, extent, |port| observe_by_blocks(&rt, port))?;
+    check_logged(&rt, memory, "sent 4 failed 0");
     Ok(())
 }
 

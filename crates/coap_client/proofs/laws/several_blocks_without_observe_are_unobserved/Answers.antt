@@ -14,18 +14,22 @@ unlast next.Stale h = refl
 unlast next.Malformed h = refl
 
 -- without a sequence number it isn't the first block of a state either.
-unshown : (known : Bool) (n : Next) (success some : Bool) → (known && (is_first_part n && (success && not some))) ≡ true
-    → ((known && is_last_part n) || (known && (is_first_part n && (success && some)))) ≡ false
-unshown false n success some h = refl
-unshown true n success some h = by (is_first_part n) refl h
+unshown : (known : Bool) (n : Next) (success some : Bool) → ((known && (is_first_part n && success)) && not some) ≡ true
+    → ((known && is_last_part n) || ((known && (is_first_part n && success)) && some)) ≡ false
+unshown false n success some h = absurd (cc h)
+unshown true n success true h = by (is_first_part n && success) h
   where
-    by_some : (a b : Bool) → (a && not b) ≡ true → (a && b) ≡ false
-    by_some false b x = refl
-    by_some true false x = refl
-    by_some true true x = absurd (cc x)
+    by : (b : Bool) → (b && false) ≡ true → (is_last_part n || (b && true)) ≡ false
+    by true x = absurd (cc x)
+    by false x = absurd (cc x)
+unshown true n success false h = by (is_first_part n) refl h
+  where
+    none : (x y : Bool) → x ≡ false → (x || (y && false)) ≡ false
+    none x true is = ap (λ (z : Bool). z || false) is
+    none x false is = ap (λ (z : Bool). z || false) is
 
-    by : (b : Bool) → is_first_part n ≡ b → (b && (success && not some)) ≡ true → (is_last_part n || (b && (success && some))) ≡ false
-    by true is x = ap (λ (y : Bool). y || (success && some)) (unlast n is) ∙ by_some success some x
+    by : (b : Bool) → is_first_part n ≡ b → ((b && success) && true) ≡ true → (is_last_part n || ((b && success) && false)) ≡ false
+    by true is x = none (is_last_part n) (true && success) (unlast n is)
     by false is x = absurd (cc x)
 
 pub returns-clause-unshown : goal.returns-clause-unshown
