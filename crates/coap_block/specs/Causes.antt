@@ -9,18 +9,19 @@ pub record FindsNoRoom (h : List Addition) (a : Addition) (b : Place) : Type 0 w
   pub first : b.number ≡ 0
   pub others : 16 ≤ others_at a h
 
--- the block has another number, and doesn't begin at the end of those before it.
+-- the block has a number other than 0, and doesn't begin at the end of the payloads before it.
 pub record IsOutOfPlace (h : List Addition) (a : Addition) (b : Place) : Type 0 where
   pub later : b.number ≢ 0
   pub nowhere : (before : List ℕ) → BeginsBehind h a b before → ⊥
 
--- the block begins there, and its payload doesn't have the length of its block.
+-- the block begins at the end of the payloads before it, and its payload has a wrong length.
 pub record HasWrongLength (h : List Addition) (a : Addition) (b : Place) : Type 0 where
   pub before : List ℕ
   pub begins : BeginsBehind h a b before
   pub wrong : HasLength b.more (block_size b.szx) (length a.payload) → ⊥
 
--- the block begins there and has that length, and the sum is above 8,208 bytes.
+-- the block begins at the end of the payloads before it, its payload has the right length, and the
+-- sum is above 8,208 bytes.
 pub record HasLargeSum (h : List Addition) (a : Addition) (b : Place) : Type 0 where
   pub before : List ℕ
   pub begins : BeginsBehind h a b before

@@ -27,8 +27,8 @@ abbrev pub cut_at : List ℕ → ℕ → ℕ → Option Part
 cut_at bytes number szx = if is_past bytes number szx then None else Some (block_at bytes number szx)
 
 -- the requested block, by its number and size alone; `None` if it isn't the first and begins at or
--- past the end. If no block is requested, a body of at most 1,024 bytes is whole, and of a longer
--- one it is the first 1,024 (SZX 6).
+-- past the end. If no block is requested, the result is the whole body if it has at most 1,024
+-- bytes, and else its first 1,024 bytes (SZX 6).
 abbrev pub cut_of : List ℕ → Option Place → Option Part
 cut_of bytes None = if nat_lt 1024 (length bytes) then cut_at bytes 0 6 else Some (record { bytes = bytes; place = None })
 cut_of bytes (Some place) = cut_at bytes place.number place.szx

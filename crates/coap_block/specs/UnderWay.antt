@@ -30,18 +30,19 @@ block_if false block = None
 abbrev pub block_for : Endpoint → ℕ → Addition → Option Place
 block_for to n a = block_if (same_key a.endpoint a.slot to n) a.block
 
--- number 0 begins a new body, if fewer than 16 others are in progress; another block begins at the
--- sum of the payloads before it.
+-- a block with number 0 begins a new body, if fewer than 16 other transfers are in progress; any
+-- other block begins at the sum of the payloads before it.
 abbrev pub Begins : (List ℕ → Type 0) → ℕ → Place → List ℕ → Type 0
 Begins UnderWay rest b before = ((b.number ≡ 0) × (rest < 16) × (before ≡ [])) ⊎ ((b.number ≢ 0) × UnderWay before × (b.number * block_size b.szx ≡ length before))
 
--- if more blocks follow, a payload has just the block size; the last has at most that.
+-- if more blocks follow, a payload has exactly the block size; the last payload has at most that
+-- size.
 abbrev pub HasLength : Bool → ℕ → ℕ → Type 0
 HasLength true size bytes = bytes ≡ size
 HasLength false size bytes = bytes ≤ size
 
--- a fitting block, and the body with it: the payloads before it and its own, joined, of at most
--- 8,208 bytes.
+-- a fitting block, and the body with this block: the payloads before the block and the block's own,
+-- joined, of at most 8,208 bytes.
 pub record Fits (UnderWay : List ℕ → Type 0) (rest : ℕ) (b : Place) (payload body : List ℕ) : Type 0 where
   pub before : List ℕ
   pub begins : Begins UnderWay rest b before
@@ -50,7 +51,7 @@ pub record Fits (UnderWay : List ℕ → Type 0) (rest : ℕ) (b : Place) (paylo
   pub within : length body ≤ 8208
 
 -- a transfer is in progress for less than EXCHANGE_LIFETIME after a fitting block that has more to
--- follow; a payload that isn't its block doesn't change it.
+-- follow; a payload that isn't a block of the transfer doesn't change the transfer.
 pub record Continued (now : ℕ) (UnderWay : List ℕ → Type 0) (rest at : ℕ) (b : Place) (payload body : List ℕ) : Type 0 where
   pub recent : now < at + window
   pub more : b.more ≡ true

@@ -6,7 +6,7 @@ use Rattle.coap_msg.specs.Windows.{within_window}
 use Rattle.coap_block.specs.declared.transfer.Transfer.{Transfer}
 use Rattle.coap_opts.specs.Values.{Place, block_size}
 
--- its latest block arrived less than EXCHANGE_LIFETIME before `now`.
+-- the transfer's latest block arrived less than EXCHANGE_LIFETIME before `now`.
 abbrev pub is_under_way : ℕ → Transfer → Bool
 is_under_way now t = within_window now t.at
 
@@ -47,7 +47,8 @@ before_by false (Some t) = Some t.body.items
 abbrev pub before_of : ℕ → Option Transfer → Option (List ℕ)
 before_of number under_way = before_by (number == 0) under_way
 
--- if more blocks follow, a payload has just the block size; the last has at most that.
+-- if more blocks follow, a payload has exactly the block size; the last payload has at most that
+-- size.
 abbrev pub has_length : Bool → ℕ → ℕ → Bool
 has_length true size bytes = bytes == size
 has_length false size bytes = not (nat_lt size bytes)
@@ -75,18 +76,18 @@ is_full number others = (number == 0) && not (nat_lt others 16)
 abbrev pub body_among : List Transfer → Endpoint → ℕ → Place → List ℕ → Add
 body_among held to n b bytes = if is_full b.number (length (others to n held)) then IsFull else body_behind (before_of b.number (find (is_transfer_of to n) held)) b bytes
 
--- a body that fits continues if more blocks follow.
+-- a whole body becomes `Continues` if more blocks follow; any other result stays.
 abbrev pub unless_more : Bool → Add → Add
 unless_more true (IsWhole body) = Continues
 unless_more more other = other
 
--- the transfer that is stored: one whose block fits and has more to follow.
+-- the transfer that is stored, if its block fits and more blocks follow.
 abbrev pub kept_transfer : Bool → ℕ → Endpoint → ℕ → Add → List Transfer
 kept_transfer true now to n (IsWhole body) = record { endpoint = to; slot = n; at = now; body = record { items = body } } ∷ []
 kept_transfer more now to n other = []
 
 -- the result for a block, and the transfers after it: those idle for EXCHANGE_LIFETIME are removed,
--- and the block's own is extended and last in order, or is removed.
+-- and the block's own transfer is extended and becomes the last in order, or is removed.
 abbrev pub block_added : List Transfer → ℕ → Endpoint → ℕ → Place → List ℕ → Add
 block_added held now to n b bytes = unless_more b.more (body_among (live now held) to n b bytes)
 

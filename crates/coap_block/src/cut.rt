@@ -28,8 +28,8 @@ pub struct PastEnd;
 
 /// Returns the requested block of a body, by its number and size alone.
 ///
-/// The requested M bit is ignored. If no block is requested, a body of at most 1,024 bytes is
-/// returned whole, and of a longer one the first 1,024 bytes.
+/// The requested M bit is ignored. If no block is requested, returns the whole body if it has at
+/// most 1,024 bytes, and else its first 1,024 bytes.
 ///
 /// # Errors
 /// Returns [`PastEnd`] if the block isn't the first, and begins at or past the body's end.

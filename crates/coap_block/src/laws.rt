@@ -23,7 +23,8 @@ pub fn transfers_are_payloads_joined()
 
 /// A fitting block is joined to the payloads before it.
 ///
-/// If it is the last, the result is the whole body. If more blocks follow, the transfer continues.
+/// If the block is the last, the result is the whole body. If more blocks follow, the transfer
+/// continues.
 pub fn blocks_that_fit_are_joined()
     ensures whole { (h : List Addition) (a : Addition) (b : Place) (body : List ℕ) → RisesTo a.at h →
         ((block_added (transfers h) a.at a.endpoint a.slot b a.payload ≡ IsWhole body)
@@ -54,7 +55,7 @@ pub fn refusals_have_causes()
         block_added (transfers h) a.at a.endpoint a.slot b a.payload ≡ IsTooLarge }
 {}
 
-/// A refusal has no other cause: each occurs exactly if its cause holds.
+/// A refusal has no other cause: each refusal occurs exactly if its cause holds.
 pub fn refusals_have_only_their_causes()
     ensures full { (h : List Addition) (a : Addition) (b : Place) → RisesTo a.at h →
         ((block_added (transfers h) a.at a.endpoint a.slot b a.payload ≡ IsFull) ↔ FindsNoRoom h a b) }
@@ -84,7 +85,7 @@ pub fn bodies_are_bounded()
 
 /// A block doesn't change the transfers of other endpoints and slots.
 ///
-/// Only time ends those.
+/// Only time ends those transfers.
 pub fn blocks_leave_other_transfers()
     ensures { (held : List Transfer) (at now : ℕ) (from to : Endpoint) (m n : ℕ) (b : Place)
         (bytes : List ℕ) → at ≤ now → same_key from m to n ≡ false →
@@ -94,8 +95,8 @@ pub fn blocks_leave_other_transfers()
 
 /// The blocks of one size, numbered from 0 and joined, are the body.
 ///
-/// Each block but the last has just the size, and has the M bit. The last doesn't have it. There is
-/// no block if it isn't the first and would begin at or past the end.
+/// Each block but the last has exactly the block size, and has the M bit. The last block doesn't
+/// have the M bit. No block other than the first begins at or past the end.
 pub fn cuts_joined_are_the_body()
     ensures joined { (body : List ℕ) (szx k : ℕ) →
         joined_cuts body szx k ≡ take (k * block_size szx) body }

@@ -26,7 +26,8 @@ pub enum Added {
     Incomplete,
     /// The payload has a wrong length: 4.00 (Bad Request).
     ///
-    /// If more blocks follow, it must have the block size; the last may be shorter.
+    /// If more blocks follow, the payload must have the block size; the last payload may be
+    /// shorter.
     BadLength,
     /// The body has more than 8,208 bytes: 4.13 (Request Entity Too Large).
     TooLarge,
@@ -166,7 +167,7 @@ fn is_full(number: u32, others: usize) -> bool
 }
 
 // Returns the payloads before a block with this number, joined: empty before number 0, else those
-// of the transfer in progress. Returns `None` if that is missing.
+// of the transfer in progress. Returns `None` if there is no such transfer.
 fn before(held: &[Transfer], endpoint: Endpoint, slot: u8, number: u32) -> Option<Body>
     ensures { option_map (λ b. b.items) result ≡ before_of number (find (is_transfer_of endpoint slot) held.now) }
 {

@@ -29,7 +29,7 @@ use Rattle.coap_client.specs.Transmissions.{most_sendings, non_wait, separate_wa
 
 -- ---- a rejection (RFC 7252, section 4.2); `tells` classifies a datagram for the request
 
--- a datagram rejects the request, the first datagram that isn't skipped.
+-- the first datagram that isn't skipped rejects the request.
 abbrev pub IsRejectedBy : (List ℕ → ReplyClass → Type 0) → Bool → List PeerCall → Type 0
 IsRejectedBy tells awaited handled = (bytes : List ℕ) × tells bytes Rejected × EndsOn (IsPassedOver tells awaited) bytes handled
 
@@ -44,7 +44,7 @@ pub record IsRejectedLater (tells : List ℕ → ReplyClass → Type 0) (handled
 abbrev pub EndsRejected : (List ℕ → ReplyClass → Type 0) → List PeerCall → Type 0
 EndsRejected tells handled = IsRejectedBy tells false handled ⊎ IsRejectedLater tells handled
 
--- a request is sent until it is rejected; a confirmable one is retransmitted at the end of each
+-- a request is sent until it is rejected; a confirmable request is retransmitted at the end of each
 -- wait.
 abbrev pub IsRejection : Bool → (List ℕ → ReplyClass → Type 0) → List ℕ → List PeerCall → Type 0
 IsRejection true tells request calls = IsLastSending (IsPassedOver tells false) request (EndsRejected tells) calls
@@ -62,7 +62,7 @@ IsOfPeer is_error rejected other = ⊥
 
 -- ---- a fetch; `Makes` says that calls with a property are made
 
--- a number of requests: more than a body and a response have blocks.
+-- a number of requests, greater than the number of blocks of a body and a response.
 abbrev pub most_requests : ℕ
 most_requests = 4194304
 
@@ -82,14 +82,15 @@ pub record EndsOnRequest (e : ClientRequest) (first : ℕ) (known : List ℕ) (E
   pub ends : Ends e.confirmable (Tells e.confirmable id (taken_ids known replies)) (message_bytes (part_request e part id)) last
   pub is : calls ≡ last ++ older
 
--- replies to the requests from this message ID on arrived, and the calls for them were made.
+-- replies arrived to requests whose message IDs count up from this one, and the calls for these
+-- replies were made.
 pub record HasReplies (went came : List ℕ → Type 0) (e : ClientRequest) (first : ℕ) (known : List ℕ) (Called : List Message → Type 0) : Type 0 where
   pub replies : List Message
   pub are : AreReplies went came e first known replies
   pub called : Called replies
 
--- the cause of an error: a request has no response, after those that have one; a response doesn't
--- match, or the response changed; or there was no memory for a request or a response.
+-- the cause of an error: the outstanding request has no response or is rejected; a response doesn't
+-- match; the response changed; or there was no memory for a request or a response.
 abbrev pub StopsBy : (List ℕ → Type 0) → (List ℕ → Type 0) → ((List PeerCall → Type 0) → Type 0) → ClientRequest → ℕ → List ℕ → FetchFault → Type 0
 StopsBy went came Makes e first known fault.Silence = HasReplies went came e first known (λ replies. Makes (EndsOnRequest e first known IsSilence replies))
 StopsBy went came Makes e first known fault.Rejected = HasReplies went came e first known (λ replies. Makes (EndsOnRequest e first known IsRejection replies))
@@ -117,7 +118,7 @@ pub record StopsAgain (went came : List ℕ → Type 0) (Makes : (List PeerCall 
   pub next_is : next ≡ (first + length outdated) % 65536
   pub stops : StopsBy went came (λ Calls. Makes (AreBehind (ArePartRequests e first [] outdated) Calls)) e next (taken_ids [] outdated) fault
 
--- the errors of a fetch: an error of the peer, or one of its attempt, the first or the second. A
+-- the errors of a fetch: an error of the peer, or an error of its first or second attempt. A
 -- changed response is an error if it changed twice, or if the method isn't GET.
 abbrev pub IsFetchFault : (List ℕ → Type 0) → (List ℕ → Type 0) → (PeerError → Type 0) → ((List PeerCall → Type 0) → Type 0) → ClientRequest → ℕ → FetchFault → Type 0
 IsFetchFault went came is_error Makes e first (fault.Socket error) = is_error error
@@ -159,8 +160,8 @@ IsLeavingFault is_error Makes o fault.Rejected =
 IsLeavingFault is_error Makes o (fault.Socket error) = is_error error
 IsLeavingFault is_error Makes o other = ⊥
 
--- the errors of a deregistration: these, or there was no memory for the request and no call was
--- made.
+-- the errors of a deregistration: those of its request; or there was no memory for the request, and
+-- no call was made.
 abbrev pub IsDeregistrationFault : (PeerError → Type 0) → ((List PeerCall → Type 0) → Type 0) → Observer → FetchFault → Type 0
 IsDeregistrationFault is_error Makes o (fault.Memory error) = Makes (λ calls. calls ≡ [])
 IsDeregistrationFault is_error Makes o other = IsLeavingFault is_error Makes o other
@@ -180,8 +181,8 @@ abbrev pub IsNewState : NotificationClass → Type 0
 IsNewState (notice.State sequence) = Unit {0}
 IsNewState other = ⊥
 
--- a response with the token arrived that can't be shown. It is piggybacked on the acknowledgement
--- of the registration, which has this message ID, or a separate response.
+-- a response that has the token and can't be shown arrived. It is a separate response, or is
+-- piggybacked on the acknowledgement of the registration, which has this message ID.
 pub record UnfitCame (came : List ℕ → Type 0) (token : List ℕ) (id : ℕ) : Type 0 where
   pub bytes : List ℕ
   pub message : Message
@@ -190,8 +191,8 @@ pub record UnfitCame (came : List ℕ → Type 0) (token : List ℕ) (id : ℕ) 
   pub own : IsResponseWith token id message
   pub unfit : can_be_shown message ≡ false
 
--- the errors of the wait for the next notification: one that can't be shown, a newer one for which
--- there was no memory, or an error of the peer.
+-- the errors of the wait for the next notification: a notification that can't be shown, a newer
+-- notification for which there was no memory, or an error of the peer.
 abbrev pub IsNotificationFault : (List ℕ → Type 0) → (PeerError → Type 0) → ((List PeerCall → Type 0) → Type 0) → (ℕ → Type 0) → List ℕ → Observation → FetchFault → Type 0
 IsNotificationFault came is_error Makes told token w fault.Part =
     Makes (EndsOnNotification told token w (λ n. n ≡ notice.Malformed)) × ((id : ℕ) → UnfitCame came token id)

@@ -1,5 +1,5 @@
 -- A fetch as a list of replies, newest first. Each is a reply to the request that results from the
--- earlier ones.
+-- earlier replies.
 use Rattle.std.specs.Prelude.{◌≡◌, ℕ, ◌+◌, ◌%◌, ◌⊎◌, if◌then◌else◌, List, [], ◌∷◌, ◌++◌, length, Some, Ok}
 use Rattle.coap_msg.specs.Reading.{reading_of}
 use Rattle.coap_msg.specs.Wire.{Message, message_bytes}
@@ -30,7 +30,7 @@ pub data State : Type 0 where
   Outdated : State
   Lost : State
 
--- a reply adds a block of the response if a further one is requested; a reply to a block of the
+-- a reply adds a block of the response if a further block is requested; a reply to a block of the
 -- request's body adds none.
 abbrev pub going_on : Part → List ℕ → List ℕ → Message → State
 going_on (Answer n szx) body etag m = Out (Answer n szx) (body ++ m.payload) (etag_of m)
@@ -52,7 +52,7 @@ abbrev pub state_after : ClientRequest → List Message → State
 state_after e [] = Out (first_part e.method (length e.payload.now)) [] []
 state_after e (m ∷ ms) = after_reply (length e.payload.now) m (state_after e ms)
 
--- these message IDs, and after them those of the replies that were separate responses, in order.
+-- these message IDs, followed by those of the replies that were separate responses, in order.
 abbrev pub with_taken_id : Message → List ℕ → List ℕ
 with_taken_id m ids = if begins_exchange m.kind then ids ++ m.id ∷ [] else ids
 
@@ -77,8 +77,8 @@ AreReplies went came e first known [] = Unit {0}
 AreReplies went came e first known (m ∷ ms) =
     AreReplies went came e first known ms × AnswersInState went came e ((first + length ms) % 65536) (taken_ids known ms) (state_after e ms) m
 
--- the request of the outstanding part, with this message ID, is transmitted after the earlier ones,
--- and its response encodes the message.
+-- the request of the outstanding part, with this message ID, is transmitted after the earlier
+-- requests, and its response encodes the message.
 pub record IsNextRequest (Before : List PeerCall → Type 0) (e : ClientRequest) (id : ℕ) (earlier : List ℕ) (state : State) (m : Message) (calls : List PeerCall) : Type 0 where
   pub older : List PeerCall
   pub before : Before older
@@ -99,14 +99,15 @@ ArePartRequests e first known [] calls = calls ≡ []
 ArePartRequests e first known (m ∷ ms) calls =
     IsNextRequest (ArePartRequests e first known ms) e ((first + length ms) % 65536) (taken_ids known ms) (state_after e ms) m calls
 
--- replies to the requests from this message ID on result in this state, with these calls.
+-- replies to requests whose message IDs count up from this one result in this state, with these
+-- calls.
 pub record RepliesLeadTo (went came : List ℕ → Type 0) (e : ClientRequest) (first : ℕ) (known : List ℕ) (Called : List Message → Type 0) (state : State) : Type 0 where
   pub replies : List Message
   pub are : AreReplies went came e first known replies
   pub leads : state_after e replies ≡ state
   pub called : Called replies
 
--- replies to a GET ended in `Outdated`, and after them others, to requests of later message IDs,
+-- replies to a GET ended in `Outdated`. The replies after these, to requests of later message IDs,
 -- result in this state.
 pub record RepliesLeadToAgain (went came : List ℕ → Type 0) (before after : List PeerCall → Type 0) (e : ClientRequest) (first : ℕ) (state : State) : Type 0 where
   pub outdated : List Message
@@ -143,8 +144,8 @@ IsFetchOutcome went came before after e first known (fetch_outcome.Outdated id e
 IsFetchOutcome went came before after e first known fetch_outcome.Malformed =
     RepliesLeadTo went came e first known (λ replies. MakesCalls before after (ArePartRequests e first known replies)) Lost
 
--- the fetch after a response: the next request is outstanding, or it has ended, or the response
--- changed, or it doesn't match.
+-- the fetch after a response: the next request is outstanding; the fetch has ended; the response
+-- changed; or the response doesn't match.
 abbrev pub IsNow : State → FetchState → Step → Type 0
 IsNow state c step.GoesOn = state ≡ Out c.part c.body.items c.etag.items
 IsNow state c (step.Ended code) = state ≡ Ended code.byte c.body.items

@@ -19,8 +19,8 @@ pub record CameAcknowledgement (came : List ℕ → Type 0) (id : ℕ) : Type 0 
   pub read_is : reading_of bytes ≡ Ok message
   pub is : IsEmptyAcknowledgement id message
 
--- the message is a separate response, and none of the earlier ones; if the request is confirmable,
--- it has been acknowledged.
+-- the message is a separate response, with none of the `earlier` IDs; if the request is
+-- confirmable, the request has been acknowledged.
 pub record IsSeparateTo (came : List ℕ → Type 0) (confirmable : Bool) (id : ℕ) (earlier : List ℕ) (m : Message) : Type 0 where
   pub own : IsSeparate m
   pub new : is_taken earlier m.id ≡ false
@@ -43,12 +43,12 @@ pub record IsResponseTo (went came : List ℕ → Type 0) (confirmable : Bool) (
   pub read_is : reading_of bytes ≡ Ok m
   pub responds : IsResponseFor came confirmable id earlier m
 
--- the same, and the message was acknowledged if it is confirmable (RFC 7252, section 4.2).
+-- the same, and the message was acknowledged if the message is confirmable (RFC 7252, section 4.2).
 pub record IsTakenResponse (went came : List ℕ → Type 0) (confirmable : Bool) (id : ℕ) (earlier request bytes : List ℕ) (m : Message) : Type 0 where
   pub asked : IsResponseTo went came confirmable id earlier request bytes m
   pub acknowledged : m.kind ≡ Confirmable → went (message_bytes (acknowledgement m.id))
 
--- the bytes encode a response to the request; and, in the second record, one that was acknowledged
+-- the bytes encode a response to the request. In the second record, that response was acknowledged
 -- if it is confirmable.
 pub record HasResponse (went came : List ℕ → Type 0) (r : SentRequest) (bytes : List ℕ) : Type 0 where
   pub message : Message
@@ -63,8 +63,8 @@ pub record IsSeparateAmong (earlier : List ℕ) (before : Bool) (m : Message) : 
   pub own : IsSeparate m
   pub before_is : is_taken earlier m.id ≡ before
 
--- the message is neither a piggybacked nor a separate response, nor an empty acknowledgement, nor a
--- rejection.
+-- the message is none of these: a piggybacked response, a separate response, an empty
+-- acknowledgement, or a rejection.
 pub record IsOther (confirmable : Bool) (id : ℕ) (m : Message) : Type 0 where
   pub reply : IsPiggybacked confirmable id m → ⊥
   pub acknowledged : IsEmptyAcknowledgement id m → ⊥
@@ -88,7 +88,7 @@ pub record IsReadAs (bytes : List ℕ) (P : Message → Type 0) : Type 0 where
   pub read_is : reading_of bytes ≡ Ok message
   pub holds : P message
 
--- the classification of a datagram for the request with this message ID; one that encodes no
+-- the classification of a datagram for the request with this message ID; a datagram that encodes no
 -- message is `Other`.
 abbrev pub Tells : Bool → ℕ → List ℕ → List ℕ → ReplyClass → Type 0
 Tells confirmable id earlier bytes Other = (m : Message) → reading_of bytes ≡ Ok m → IsOther confirmable id m
@@ -102,8 +102,8 @@ abbrev pub AcknowledgesRepeat : (List ℕ → Type 0) → List ℕ → ReplyClas
 AcknowledgesRepeat went bytes Repeat = (m : Message) → reading_of bytes ≡ Ok m → m.kind ≡ Confirmable → went (message_bytes (acknowledgement m.id))
 AcknowledgesRepeat went bytes _ = Unit {0}
 
--- the message is a response to the request: a piggybacked one, or a separate one if that is
--- awaited.
+-- the message is a response to the request: a piggybacked response, or a separate response if one
+-- is awaited.
 abbrev pub IsAwaitedReply : SentRequest → Bool → Message → Type 0
 IsAwaitedReply r awaited m = IsPiggybacked r.confirmable r.id m ⊎ ((awaited ≡ true) × IsSeparateAmong r.earlier.now false m)
 

@@ -28,9 +28,9 @@ abbrev pub IsLastBlock : Option (List ℕ) → Type 0
 IsLastBlock None = Unit {0}
 IsLastBlock (Some value) = (place_in value).more ≡ false
 
--- the response consists of the payloads of this reply and of the latest ones before it, joined. No
--- block follows, each block begins at the end of those before it, and all have one ETag, or none
--- (RFC 7959, section 2.4).
+-- the response consists of the payloads of this reply and of the latest replies before it, joined.
+-- No block follows the last, each block begins at the end of those before it, and all have one
+-- ETag, or none (RFC 7959, section 2.4).
 pub record IsOneAnswer (answer : List ℕ) (m : Message) (replies : List Message) : Type 0 where
   pub older : List Message
   pub before : List Message

@@ -36,7 +36,7 @@ pub record IsOver (passes : List ℕ → List PeerCall → Type 0) (handled : Li
   pub before : ArePassedOver passes n older
   pub is : (handled ≡ Receives None ∷ older) ⊎ ((handled ≡ older) × (2 ^ 64 ≤ n + 1))
 
--- this datagram ends the wait, the first that isn't skipped.
+-- this datagram, the first that isn't skipped, ends the wait.
 pub record EndsOn (passes : List ℕ → List PeerCall → Type 0) (bytes : List ℕ) (handled : List PeerCall) : Type 0 where
   pub n : ℕ
   pub older : List PeerCall
@@ -46,7 +46,7 @@ pub record EndsOn (passes : List ℕ → List PeerCall → Type 0) (bytes : List
 -- ---- acknowledgements
 
 -- the acknowledgement of a confirmable message, by its message ID (RFC 7252, section 4.2); no other
--- message has one.
+-- message has an acknowledgement.
 abbrev pub acknowledges_kind : MessageType → ℕ → List PeerCall
 acknowledges_kind Confirmable id = Sends (message_bytes (acknowledgement id)) ∷ []
 acknowledges_kind other id = []
@@ -60,8 +60,8 @@ acknowledges bytes = acknowledges_read (reading_of bytes)
 
 -- ---- a wait for a response
 
--- the datagrams that are skipped: a response received before, and any unrelated one; a separate
--- response if none is awaited, and an acknowledgement if one is.
+-- the datagrams that are skipped: a response received before, and any unrelated datagram; a
+-- separate response if none is awaited; an acknowledgement if a separate response is awaited.
 abbrev pub is_passed_over : Bool → ReplyClass → Bool
 is_passed_over awaited Repeat = true
 is_passed_over awaited Other = true
@@ -69,7 +69,8 @@ is_passed_over awaited Separate = not awaited
 is_passed_over awaited Acknowledged = awaited
 is_passed_over awaited ended = false
 
--- the datagrams that are responses: a piggybacked one, and a separate one if that is awaited.
+-- the datagrams that are responses: a piggybacked response, and a separate response if one is
+-- awaited.
 abbrev pub is_answering : Bool → ReplyClass → Bool
 is_answering awaited Reply = true
 is_answering awaited Separate = awaited
@@ -97,7 +98,7 @@ pub record AnswersAwaited (tells : List ℕ → ReplyClass → Type 0) (awaited 
 abbrev pub IsAnsweredBy : (List ℕ → ReplyClass → Type 0) → Bool → List ℕ → List PeerCall → Type 0
 IsAnsweredBy tells awaited answer handled = AnswersAwaited tells awaited answer × EndsOn (IsPassedOver tells awaited) answer handled
 
--- an acknowledgement without a response arrived, and none had arrived before.
+-- an acknowledgement without a response arrived, and no acknowledgement had arrived before.
 abbrev pub IsAcknowledgedBy : (List ℕ → ReplyClass → Type 0) → List PeerCall → Type 0
 IsAcknowledgedBy tells handled = (bytes : List ℕ) × tells bytes Acknowledged × EndsOn (IsPassedOver tells false) bytes handled
 

@@ -30,11 +30,12 @@ abbrev pub IsResponseWith : List ℕ → ℕ → Message → Type 0
 IsResponseWith token id m = IsReplyWith token id m ⊎ IsOwnResponse token m
 
 -- a response to the request with this message ID and its own token, or a notification, which has
--- the observer's token. The registration's own token is the observer's.
+-- the observer's token. The registration's own token is the observer's token.
 abbrev pub IsAwaitedBy : List ℕ → List ℕ → ℕ → Message → Type 0
 IsAwaitedBy token own id m = IsResponseWith own id m ⊎ IsOwnResponse token m
 
--- the message is neither of these, and neither acknowledges nor rejects the request.
+-- the message is neither such a response nor a notification, and neither acknowledges nor rejects
+-- the request.
 pub record IsNoneOf (token own : List ℕ) (id : ℕ) (m : Message) : Type 0 where
   pub reply : IsReplyWith own id m → ⊥
   pub separate : IsOwnResponse own m → ⊥
@@ -107,8 +108,8 @@ abbrev pub IsNewerThan : ℕ → ℕ → NotificationClass → ℕ → Type 0
 IsNewerThan sequence at (State v) now = is_newer sequence at v now ≡ true
 IsNewerThan sequence at other now = Unit {0}
 
--- the earlier one is a state, and the later one isn't earlier in time. If the later one is a state
--- too, it is newer.
+-- the earlier message is a state, and the later message doesn't have an earlier time. If the later
+-- message is a state too, it is newer.
 pub record IsAfter (earlier later : Note) : Type 0 where
   pub sequence : ℕ
   pub state : notice_of earlier.message ≡ State sequence
@@ -120,8 +121,8 @@ pub record IsAfter (earlier later : Note) : Type 0 where
 abbrev pub IsApart : Note → Note → Type 0
 IsApart later earlier = begins_exchange earlier.message.kind ≡ true → earlier.message.id ≡ later.message.id → earlier.at + window ≤ later.at
 
--- each message shown after the first is a notification, follows the one before it, and is a
--- duplicate of none of the earlier ones.
+-- each message shown after the first is a notification, follows the one before it, and isn't a
+-- duplicate of any earlier message.
 pub record IsNext (token : List ℕ) (before : Note) (older : List Note) (n : Note) : Type 0 where
   pub own : IsOwnResponse token n.message
   pub after : IsAfter before n
@@ -149,7 +150,8 @@ has_mark marks id at = list_any (is_mark_of id at) marks
 abbrev pub IsRemembered : List ShownMark → ℕ → Note → Type 0
 IsRemembered marks now n = begins_exchange n.message.kind ≡ true → (has_mark marks n.message.id n.at ≡ true) ⊎ (n.at + window ≤ now)
 
--- these messages were shown. The watch has the state of the newest one, and remembers all.
+-- these messages were shown. The watch has the state of the newest message, and remembers all of
+-- them.
 pub record IsWatching (went came : List ℕ → Type 0) (told : ℕ → Type 0) (token : List ℕ) (id : ℕ) (latest : Note) (older : List Note) (w : Observation) : Type 0 where
   pub are : AreNotes went came told token id (latest ∷ older)
   pub state : notice_of latest.message ≡ State w.sequence

@@ -47,8 +47,8 @@ pub record IsReplyWith (token : List ℕ) (id : ℕ) (m : Message) : Type 0 wher
   pub token_is : m.token ≡ token
   pub response : is_response m.code ≡ true
 
--- the message is a separate response to a request with this token; each notification is one (RFC
--- 7641, section 1.2).
+-- the message is a separate response to a request with this token; each notification is such a
+-- response (RFC 7641, section 1.2).
 pub record IsOwnResponse (token : List ℕ) (m : Message) : Type 0 where
   pub kind : begins_exchange m.kind ≡ true
   pub token_is : m.token ≡ token
@@ -63,8 +63,8 @@ sequence_in (Some value) = if nat_le (length value) 3 then Some (uint_value valu
 abbrev pub sequence_of : Message → Option ℕ
 sequence_of m = sequence_in (first_or_none (values_in option.OBSERVE m.options))
 
--- the state of sequence number v2 that arrived at t2 is newer than that of v1 that arrived at t1;
--- times are in milliseconds (RFC 7641, section 3.4).
+-- the state of sequence number v2, which arrived at t2, is newer than the state of v1, which
+-- arrived at t1; times are in milliseconds (RFC 7641, section 3.4).
 abbrev pub is_newer : ℕ → ℕ → ℕ → ℕ → Bool
 is_newer v1 t1 v2 t2 =
     (nat_lt v1 v2 && nat_lt (v2 - v1) 8388608) || ((nat_lt v2 v1 && nat_lt 8388608 (v1 - v2)) || nat_lt (t1 + 128000) t2)
@@ -94,13 +94,13 @@ begins_state m = begins_blocks m && is_some (sequence_of m)
 abbrev pub can_be_shown : Message → Bool
 can_be_shown m = (is_understood m && is_last_part (next_of_answer 0 largest_szx m)) || begins_state m
 
--- a success without a sequence number that is the first of several blocks: the server doesn't notify
--- (RFC 7641, section 4.1; RFC 7959, section 2.6).
+-- a success that has no sequence number and is the first of several blocks: the server doesn't
+-- notify (RFC 7641, section 4.1; RFC 7959, section 2.6).
 abbrev pub is_unobserved : Message → Bool
 is_unobserved m = begins_blocks m && not (is_some (sequence_of m))
 
 -- a success with a sequence number is a state, and more may follow. A success without one is the
--- last response, and so is an error (RFC 7641, sections 3.2 and 4.2).
+-- last response, as is an error (RFC 7641, sections 3.2 and 4.2).
 abbrev pub by_sequence : Option ℕ → NotificationClass
 by_sequence None = Last
 by_sequence (Some v) = State v
@@ -111,8 +111,8 @@ by_success m = if is_success m.code then by_sequence (sequence_of m) else Last
 abbrev pub notice_of : Message → NotificationClass
 notice_of m = if can_be_shown m then by_success m else Malformed
 
--- a message with this message ID was shown less than 247 s before, so that this one is a duplicate
--- (RFC 7252, section 4.5).
+-- a message with this message ID was shown less than 247 s earlier, so that the new message is a
+-- duplicate (RFC 7252, section 4.5).
 abbrev pub is_shown_again : List ShownMark → ℕ → ℕ → Bool
 is_shown_again marks id at = list_any (λ k. nat_eq k.id id && within_window at k.at) marks
 

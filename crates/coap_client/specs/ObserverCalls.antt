@@ -40,7 +40,7 @@ pub record IsDatedRegistration (o : Observer) (calls : List PeerCall) : Type 0 w
 abbrev pub IsNoNotification : List ℕ → List ℕ → List PeerCall → Type 0
 IsNoNotification token bytes sent = (IsReadAs bytes (IsOwnResponse token) → ⊥) × (sent ≡ [])
 
--- a notification is acknowledged if it is confirmable; nothing is sent after another datagram.
+-- a notification is acknowledged if it is confirmable; nothing is sent after any other datagram.
 abbrev pub AcknowledgesNotification : List ℕ → List ℕ → List PeerCall → Type 0
 AcknowledgesNotification token bytes sent = (IsReadAs bytes (IsOwnResponse token) × (sent ≡ acknowledges bytes)) ⊎ IsNoNotification token bytes sent
 
@@ -123,8 +123,8 @@ IsObservation o calls = AreBehind (IsDatedRegistration o) (IsObserving o.token) 
 
 -- ---- the deregistration
 
--- while the deregistration with this message ID is outstanding, a datagram is skipped that neither
--- acknowledges nor rejects it.
+-- while the deregistration with this message ID is outstanding, a datagram that neither
+-- acknowledges nor rejects it is skipped.
 pub record IsPassedOverLeaving (token : List ℕ) (id : ℕ) (bytes : List ℕ) (sent : List PeerCall) : Type 0 where
   pub acknowledged : IsReadAs bytes (IsAcknowledgementOf id) → ⊥
   pub rejected : IsReadAs bytes (IsReset id) → ⊥

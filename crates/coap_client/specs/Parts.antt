@@ -19,8 +19,8 @@ largest_block = 1024
 abbrev pub largest_szx : ℕ
 largest_szx = 6
 
--- the number of bytes of a body in one request: a PUT sends blocks, the other methods the whole
--- body.
+-- the number of bytes of a body in one request: a PUT sends blocks, and the other methods send the
+-- whole body.
 abbrev pub most_at_once : Method → ℕ → ℕ
 most_at_once Put count = min count largest_block
 most_at_once other count = count
@@ -62,7 +62,7 @@ format_option None = []
 format_option (Some format) = (option.CONTENT_FORMAT, uint_bytes format) ∷ []
 
 -- whether a request has the body, or a block of it; a request for a further block of the response
--- has it only if it is a GET.
+-- has the body only if it is a GET.
 abbrev pub brings_body : Method → Part → Bool
 brings_body Get part = true
 brings_body method (Answer n szx) = false
@@ -76,8 +76,8 @@ format_options method part format = if brings_body method part then format_optio
 abbrev pub resource_options : List (List ℕ) → List (List ℕ) → List (ℕ × List ℕ)
 resource_options segments query = numbered option.URI_PATH segments ++ numbered option.URI_QUERY query
 
--- the same with the Content-Format between the two, in the order of the option numbers (RFC 7252,
--- section 3.1).
+-- the same with the Content-Format between the path and the query, in the order of the option
+-- numbers (RFC 7252, section 3.1).
 abbrev pub request_options : List (List ℕ) → List (ℕ × List ℕ) → List (List ℕ) → List (ℕ × List ℕ)
 request_options segments format query = numbered option.URI_PATH segments ++ (format ++ numbered option.URI_QUERY query)
 
@@ -91,8 +91,8 @@ abbrev pub option_in : Option (ℕ × ArrayVec ℕ) → List (ℕ × List ℕ)
 option_in None = []
 option_in (Some (number, value)) = (number, value.items) ∷ []
 
--- a GET has its body in each request, since the server makes the response again for each; the other
--- methods have sent it.
+-- a GET has its body in each request, since the server makes the response again for each request;
+-- the other methods have already sent it.
 abbrev pub answer_payload : Method → List ℕ → List ℕ
 answer_payload Get payload = payload
 answer_payload other payload = []

@@ -18,7 +18,8 @@ TellsNoPath text NoMemory = Unit {0}
 TellsNoPath text other = IsNoPath text
 
 -- the first part that isn't a segment has this number, counted from 1. The text consists of the
--- segments before it, a slash, and a rest; the part is the rest up to its next slash, or all of it.
+-- segments before it, a slash, and a rest; the part is that rest up to its first slash, or all of
+-- the rest.
 pub record IsFirstUnfit (text : List ℕ) (number : ℕ) (Unfit : List ℕ → Type 0) : Type 0 where
   pub before : List (List ℕ)
   pub are : All IsSegment before

@@ -15,7 +15,7 @@ pub data PeerCall : Type 0 where
   Sends : (bytes : List ℕ) → PeerCall
   -- a wait of `seconds` seconds begins.
   Waits : (seconds : ℕ) → PeerCall
-  -- a datagram arrives during the wait; or none, since the wait is over.
+  -- a datagram arrives during the wait; or none arrives, since the wait is over.
   Receives : (bytes : Option (List ℕ)) → PeerCall
   -- the clock is read, and returns this time in milliseconds.
   Reads : (time : ℕ) → PeerCall

@@ -1,5 +1,5 @@
 -- A CoAP ping: an empty confirmable message, which each endpoint rejects by a Reset message with
--- its message ID (RFC 7252, sections 4.2 and 4.3). In a list of calls, the newest is first.
+-- the ping's message ID (RFC 7252, sections 4.2 and 4.3). In a list of calls, the newest is first.
 use Rattle.std.specs.Prelude.{◌≡◌, ℕ, Bool, true, false, filter, List, []}
 use Rattle.coap_msg.specs.Wire.{Message, message_bytes}
 use Rattle.coap_msg.specs.declared.types.MessageType.TheVariants.{Confirmable}
@@ -11,7 +11,7 @@ use Rattle.coap_client.specs.PeerCalls.{PeerCall, PeerError, Sends, Waits, Recei
 use Rattle.coap_client.specs.Replies.{IsReset}
 use Rattle.coap_client.specs.Transmissions.{AreInVain, IsLastSending, most_sendings}
 
--- the ping with this message ID has nothing else.
+-- the ping, which has this message ID and nothing else.
 abbrev pub ping : ℕ → Message
 ping id = record { kind = Confirmable; code = 0; id = id; token = []; options = []; payload = [] }
 

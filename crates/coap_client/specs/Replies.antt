@@ -96,19 +96,19 @@ or_empty (Some v) = v
 abbrev pub etag_of : Message → List ℕ
 etag_of m = or_empty (first_or_none (values_in option.ETAG m.options))
 
--- the next step after a block of the response that others follow.
+-- the next step after a block of the response that is followed by others.
 abbrev pub next_block : Place → Next
 next_block b = if nat_lt (b.number + 1) 1048576 then Ask (Answer (b.number + 1) b.szx) else Malformed
 
--- the next step after a block of `count` bytes of the response. If others follow, it has just the
--- block size; if not, at most that.
+-- the next step after a block of `count` bytes of the response. If other blocks follow, this block
+-- has exactly the block size; if not, it has at most that size.
 abbrev pub by_more : Place → ℕ → Next
 by_more b count = if b.more
     then (if count == block_size b.szx then next_block b else Malformed)
     else (if nat_le count (block_size b.szx) then Last else Malformed)
 
--- the block begins at the start of the requested one, and is no larger (RFC 7959, sections 2.3 and
--- 2.4).
+-- the block begins at the start of the requested block, and is no larger (RFC 7959, sections 2.3
+-- and 2.4).
 abbrev pub fits_place : ℕ → ℕ → Place → Bool
 fits_place n szx b = nat_le b.szx szx && (block_size b.szx * b.number == block_size szx * n)
 
@@ -124,10 +124,10 @@ by_option n szx count (Some value) = if nat_le (length value) 3 then by_block n 
 abbrev pub next_of_answer : ℕ → ℕ → Message → Next
 next_of_answer n szx m = by_option n szx (length m.payload) (block2_of m)
 
--- the size for the rest of the body, if a success says that the server took block n. It says so by
--- a Block1 that names that block and a size that is no greater, or by 2.31 without Block1 (RFC
--- 7959, sections 2.3 and 2.9.1). A success other than 2.31 is from a server that carries out each
--- block by itself, or waits for the others.
+-- the size for the rest of the body, if a success says that the server took block n. The success
+-- says so by a Block1 that names that block and a size that is no greater, or by 2.31 without
+-- Block1 (RFC 7959, sections 2.3 and 2.9.1). A success other than 2.31 is from a server that
+-- carries out each block by itself, or waits for the other blocks.
 abbrev pub size_by_block : ℕ → ℕ → Place → Option ℕ
 size_by_block n szx b = if (b.number == n) && nat_le b.szx szx then Some b.szx else None
 

@@ -49,7 +49,7 @@ pub record IsBlockAnswer (went came : List ℕ → Type 0) (o : Observer) (n szx
 abbrev pub IsBlockRejection : Observer → ℕ → ℕ → ℕ → List PeerCall → Type 0
 IsBlockRejection o n szx id = IsRejection true (TellsRequest o.token (block_token id) id) (message_bytes (block_request o.client_request.now n szx id))
 
--- its errors; if there was no memory for it, no call was made.
+-- the errors of the request; if there was no memory for it, no call was made.
 abbrev pub IsBlockFault : (PeerError → Type 0) → ((List PeerCall → Type 0) → Type 0) → Observer → ℕ → ℕ → ℕ → FetchFault → Type 0
 IsBlockFault is_error Makes o n szx id (fault.Memory error) = Makes (λ calls. calls ≡ [])
 IsBlockFault is_error Makes o n szx id f =
@@ -57,11 +57,12 @@ IsBlockFault is_error Makes o n szx id f =
 
 -- ---- the blocks that are joined
 
--- after the notification: it is whole, or the first of several blocks.
+-- the state after the notification, which is whole or is the first of several blocks.
 abbrev pub begun : Message → State
 begun m = moved_on (next_of_answer 0 largest_szx m) [] [] m
 
--- after replies to the requests for further blocks too, newest first.
+-- the state after the notification and these replies to the requests for further blocks, newest
+-- first.
 abbrev pub joined : Message → List Message → State
 joined m [] = begun m
 joined m (r ∷ rs) = after_reply 0 r (joined m rs)
@@ -89,7 +90,7 @@ pub record HasBlocks (went came : List ℕ → Type 0) (o : Observer) (m : Messa
   pub are : AreBlockReplies went came o m replies
   pub leads : joined m replies ≡ state
 
--- the body of a state, which a notification begins: all of its blocks, joined.
+-- the body of a state whose first block is in a notification: all blocks of the state, joined.
 abbrev pub HasBody : (List ℕ → Type 0) → (List ℕ → Type 0) → Observer → Message → ℕ → List ℕ → Type 0
 HasBody went came o m code body = HasBlocks went came o m (Ended code body)
 
@@ -98,7 +99,7 @@ HasBody went came o m code body = HasBlocks went came o m (Ended code body)
 abbrev pub state_of : Joining → State
 state_of j = Out (Answer j.number j.szx) j.body.items j.etag.items
 
--- the joining that a message begins, unless it is no first block of several.
+-- the joining that a message begins, or none if the message isn't the first of several blocks.
 abbrev pub IsBegun : Message → Option Joining → Type 0
 IsBegun m None = is_first_part (next_of_answer 0 largest_szx m) ≡ false
 IsBegun m (Some j) = (begun m ≡ state_of j) × IsBlock j.number j.szx
@@ -110,13 +111,13 @@ IsStateBy state j (step.Ended code) = state ≡ Ended code.byte j.body.items
 IsStateBy state j step.Outdated = state ≡ Outdated
 IsStateBy state j step.Malformed = state ≡ Lost
 
--- one more block is joined, or the last.
+-- the response to the request for the next block leads from this joining to this state.
 pub record IsGrownBy (went came : List ℕ → Type 0) (o : Observer) (id : ℕ) (old : Joining) (state : State) : Type 0 where
   pub reply : Message
   pub is : IsBlockReply went came o old.number old.szx id reply
   pub leads : after_reply 0 reply (state_of old) ≡ state
 
--- a notification, by its classification: no newer one leaves the watch unchanged.
+-- the result of a notification: it is to be shown, or else the watch is unchanged.
 abbrev pub IsNotedAs : DatedMessage → Message → Observation → Observation → Option NotedMessage → Type 0
 IsNotedAs came m old new None = new ≡ old
 IsNotedAs came m old new (Some noted) = (noted.count ≡ came.count) × ((noted.time ≡ came.time) × IsShownAs noted.last old new (max old.at came.time) m)
@@ -127,8 +128,8 @@ IsNoteFault n fault.Part = n ≡ notice.Malformed
 IsNoteFault n (fault.Memory error) = Unit {0}
 IsNoteFault n other = ⊥
 
--- what arrived while a block was requested: the block, or a notification. One that isn't newer
--- changes nothing.
+-- the message that arrived while a block was requested: the block, or a notification. A
+-- notification that isn't newer changes nothing.
 abbrev pub IsBlockHandled : (List ℕ → Type 0) → (List ℕ → Type 0) → (ℕ → Type 0) → Observer → ℕ → Joining → Joining → Observation → Observation → List ℕ → ℕ → BlockHandled → Type 0
 IsBlockHandled went came told o id old new before after bytes count handled.GoesOn =
     (after ≡ before) × (IsBlock new.number new.szx × ((new ≡ old) ⊎ IsGrownBy went came o id old (state_of new)))
@@ -153,7 +154,7 @@ unfetched_text unfetched.Changed = codes "it changed while its blocks were fetch
 unfetched_text unfetched.Malformed = codes "a further block doesn't fit the request"
 
 -- the result of the requests for the further blocks: the body; or a newer notification arrived; or
--- they can't be fetched. Only a newer notification changes the watch.
+-- the blocks can't be fetched. Only a newer notification changes the watch.
 abbrev pub IsCompletion : (List ℕ → Type 0) → (List ℕ → Type 0) → (ℕ → Type 0) → Observer → Joining → Observation → Observation → List ℕ → Completion → Type 0
 IsCompletion went came told o j old new buffer (completion.Whole code body) =
     (new ≡ old) × ((is_success code.byte ≡ true) × ((m : Message) → begun m ≡ state_of j → HasBody went came o m code.byte body.items))
@@ -182,7 +183,8 @@ AreFollowingSteps o (suc n) calls = IsOneMoreOf (IsFollowingStep o) (AreFollowin
 abbrev pub IsFollowing : Observer → List PeerCall → Type 0
 IsFollowing o calls = (n : ℕ) × AreFollowingSteps o n calls
 
--- the errors: an error of the peer, memory, or a notification that can't be shown.
+-- the errors: an error of the peer, a failed allocation of memory, or a notification that can't be
+-- shown.
 abbrev pub IsFollowingFault : (List ℕ → Type 0) → (PeerError → Type 0) → List ℕ → FetchFault → Type 0
 IsFollowingFault came is_error token fault.Part = (id : ℕ) → UnfitCame came token id
 IsFollowingFault came is_error token (fault.Socket error) = is_error error

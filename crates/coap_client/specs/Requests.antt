@@ -23,7 +23,7 @@ pub record IsBodyBlock (e : ClientRequest) (n szx : ℕ) : Type 0 where
   pub method : e.method ≡ Put
   pub within : block_size szx * n < length e.payload.now
 
--- the part is one of the client request's.
+-- the part belongs to the client request.
 abbrev pub IsPartOf : ClientRequest → Part → Type 0
 IsPartOf e Whole = most_at_once e.method (length e.payload.now) ≡ length e.payload.now
 IsPartOf e (Body n szx) = IsBodyBlock e n szx

@@ -6,7 +6,7 @@ use Rattle.coap_msg.specs.Wire.{Message}
 use Rattle.coap_client.specs.Replies.{IsReset}
 use Rattle.coap_client.specs.PeerCalls.{PeerCall, Sends, Waits, Receives, Reads}
 
--- bytes whose code isn't 0.00: not those of an empty message, and each acknowledgement here is
+-- bytes whose code isn't 0.00, which is the code of an empty message; each acknowledgement here is
 -- empty (RFC 7252, section 4.1).
 abbrev pub has_code : List ℕ → Bool
 has_code (first ∷ code ∷ rest) = not (code == 0)
@@ -22,13 +22,14 @@ is_scheduled (Reads time) = false
 abbrev pub schedule : List PeerCall → List PeerCall
 schedule calls = filter is_scheduled calls
 
--- a request is sent five times, the first one last in this list, and each wait for its response is
--- twice the one before.
+-- a request is sent five times, and each wait for its response is twice the wait before it. The
+-- first transmission is the last in this list.
 abbrev pub full_schedule : List ℕ → List PeerCall
 full_schedule request =
     Waits 32 ∷ Sends request ∷ Waits 16 ∷ Sends request ∷ Waits 8 ∷ Sends request ∷ Waits 4 ∷ Sends request ∷ Waits 2 ∷ Sends request ∷ []
 
--- the first of these five transmissions, at least one; `left` is the number of the others.
+-- the first of these five transmissions, at least one, with their waits; `left` is the number of
+-- the transmissions that remain.
 abbrev pub BeginsSchedule : List ℕ → List PeerCall → Type 0
 BeginsSchedule request calls = (left : ℕ) × (left < 5) × (calls ≡ drop (2 * left) (full_schedule request))
 

@@ -33,7 +33,7 @@ pub record HasAdded (after : List PeerCall → Type 0) (P : List PeerCall → Ty
 abbrev pub MakesCalls : (List PeerCall → Type 0) → (List PeerCall → Type 0) → (List PeerCall → Type 0) → Type 0
 MakesCalls before after P = (calls : List PeerCall) → before calls → HasAdded after P calls
 
--- the calls of the first kind, and then those of the second.
+-- calls with the first property, and then calls with the second.
 pub record AreBehind (First Then : List PeerCall → Type 0) (calls : List PeerCall) : Type 0 where
   pub older : List PeerCall
   pub first : First older
@@ -49,7 +49,7 @@ pub record IsSending (request : List ℕ) (seconds : ℕ) (P : List PeerCall →
   pub ends : P handled
   pub is : calls ≡ handled ++ (Waits seconds ∷ Sends request ∷ [])
 
--- the request was sent n times before, and once more, and each wait was over.
+-- the request was sent n times before, and then once more. Each of the waits was over.
 pub record IsSentAgain (Before : List PeerCall → Type 0) (passes : List ℕ → List PeerCall → Type 0) (request : List ℕ) (n : ℕ) (calls : List PeerCall) : Type 0 where
   pub older : List PeerCall
   pub before : Before older
@@ -61,7 +61,8 @@ abbrev pub AreInVain : (List ℕ → List PeerCall → Type 0) → List ℕ → 
 AreInVain passes request zero calls = calls ≡ []
 AreInVain passes request (suc n) calls = IsSentAgain (AreInVain passes request n) passes request n calls
 
--- the request is sent once more, after fewer transmissions without a response than the maximum.
+-- the request is sent once more, after fewer transmissions than the maximum; none of these got a
+-- response.
 pub record IsLastSending (passes : List ℕ → List PeerCall → Type 0) (request : List ℕ) (P : List PeerCall → Type 0) (calls : List PeerCall) : Type 0 where
   pub n : ℕ
   pub few : n < most_sendings
@@ -91,13 +92,13 @@ abbrev pub EndsAnswered : (List ℕ → ReplyClass → Type 0) → List ℕ → 
 EndsAnswered tells answer handled = IsAnsweredBy tells false answer handled ⊎ IsAcknowledgedFirst tells (Some answer) handled
 
 -- a confirmable request has a response; or it is sent the maximum number of times without one; or
--- it is acknowledged, and then has none.
+-- it is acknowledged, and then has no response.
 abbrev pub IsAskedAgain : (List ℕ → ReplyClass → Type 0) → List ℕ → Option (List ℕ) → List PeerCall → Type 0
 IsAskedAgain tells request (Some answer) calls = IsLastSending (IsPassedOver tells false) request (EndsAnswered tells answer) calls
 IsAskedAgain tells request None calls =
     AreInVain (IsPassedOver tells false) request most_sendings calls ⊎ IsLastSending (IsPassedOver tells false) request (IsAcknowledgedFirst tells None) calls
 
--- the transmission of a request; a non-confirmable one is sent once.
+-- the transmission of a request; a non-confirmable request is sent once.
 abbrev pub IsTransmitted : Bool → (List ℕ → ReplyClass → Type 0) → List ℕ → Option (List ℕ) → List PeerCall → Type 0
 IsTransmitted true tells request answer calls = IsAskedAgain tells request answer calls
 IsTransmitted false tells request answer calls = IsSending request non_wait (EndsAwaited tells answer) calls

@@ -65,10 +65,10 @@ impl<'a> ClientRequest<'a> {
 
     /// Builds the client request; `None` if its requests don't fit a datagram.
     ///
-    /// They fit if these have at most 1,262 bytes together: the segments of the path and the
-    /// arguments of the query, each with five bytes more, and the part of the body in one request.
-    /// A PUT sends at most 1,024 bytes of its body in one request; the other methods send all of
-    /// it. A body has at most 2^30 bytes.
+    /// The requests fit if these have at most 1,262 bytes together: the segments of the path and
+    /// the arguments of the query, each with five bytes more, and the part of the body in one
+    /// request. A PUT sends at most 1,024 bytes of its body in one request; the other methods send
+    /// all of it. A body has at most 2^30 bytes.
     pub fn new(
         confirmable: bool,
         method: Method,
@@ -141,7 +141,7 @@ impl<'a> ClientRequest<'a> {
 
     /// Returns whether more of the body follows the block of this number.
     ///
-    /// `szx` is the exponent of its size, less 4.
+    /// `szx` is the exponent of the block's size, less 4.
     pub fn has_more(&self, number: u32, szx: u8) -> bool
         requires { IsBlock number szx }
         ensures { result ≡ has_more (length self.now.payload.now) number szx }
@@ -183,8 +183,9 @@ impl<'a> ClientRequest<'a> {
 
     /// Writes the GET of a further block of a state, for an observer.
     ///
-    /// See [`Observer::ask_block`](crate::Observer::ask_block). Its message ID and its token are
-    /// `id`. It has no body and no Observe. The request replaces the contents of `datagram`.
+    /// See [`Observer::ask_block`](crate::Observer::ask_block). The request's message ID and its
+    /// token are `id`. It has no body and no Observe. The request replaces the contents of
+    /// `datagram`.
     ///
     /// # Errors
     /// Returns `AllocError` if memory can't be allocated for the list of options.
@@ -276,7 +277,7 @@ fn encode_format(format: u16) -> UintBytes
 }
 
 // Returns whether a part's request has the body, or a block of it. Of the requests for a further
-// block of the response, only a GET has it.
+// block of the response, only a GET has the body.
 fn brings_body(method: Method, part: Part) -> bool
     ensures { result ≡ spec.brings_body method part }
 {

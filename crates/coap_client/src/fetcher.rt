@@ -19,7 +19,7 @@ use std::alloc::{AllocError, Global};
 use std::io;
 use thiserror::Error;
 
-/// Number of requests: more than a body and a response have blocks.
+/// Number of requests, greater than the number of blocks of a body and a response.
 const REQUESTS: u32 = 1 << 22;
 
 /// The errors of a fetch and of an observer.
@@ -33,8 +33,8 @@ pub enum FetchFault {
     Rejected,
     /// The response doesn't match the request.
     ///
-    /// A success doesn't say that the server took the block of the body, or it doesn't have the
-    /// requested block of the response. Or a response has an unknown critical option.
+    /// A success doesn't say that the server took the block of the body, or a success doesn't have
+    /// the requested block of the response. Or a response has an unknown critical option.
     #[error("the answer doesn't fit the block that was sent or asked for, or has a critical option that isn't known")]
     Malformed,
     /// The response changed during the fetch.
@@ -77,7 +77,7 @@ pub struct Fetched {
     pub code: Code,
     /// The payloads of the response's blocks, joined.
     ///
-    /// If the code isn't a success, the payload of that last response alone.
+    /// If the code isn't a success, the body is the payload of the last response alone.
     pub body: Vec<u8>,
 }
 
@@ -88,7 +88,8 @@ pub enum FetchOutcome {
     Ended(Fetched),
     /// The response changed during the fetch.
     ///
-    /// Has the message ID of the next request, and those of the separate responses so far.
+    /// Has the message ID of the next request, and the message IDs of the separate responses so
+    /// far.
     Outdated(u16, Vec<u16>),
     /// A response doesn't match its request.
     Malformed,

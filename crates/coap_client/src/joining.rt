@@ -1,4 +1,4 @@
-//! The joining of a state's blocks: its notification has the first of them.
+//! The joining of a state's blocks: the state's notification has the first block.
 //!
 //! See RFC 7959, section 2.6. It is for observers. `fcreq observe` doesn't call it yet.
 ghost use Rattle.std.specs.Prelude.{◌≡◌, ◌≤◌, IfErr, IfOk, OnOk, length, max, take};
@@ -149,8 +149,8 @@ impl Joining {
         }
     }
 
-    // Sets the next block, that of `part`, and adds the payload and the ETag of `message`, the
-    // response before it.
+    // Sets the next block, that of `part`. Appends the payload of `message`, the response before
+    // it, and replaces the ETag by that response's.
     fn go_on(&mut self, part: Part, message: &Message<'_>) -> Result<(), AllocError>
         requires { IsFurther part }
         ensures own { OnOk result (IsBlock self.new.number self.new.szx) }
@@ -171,9 +171,10 @@ impl Joining {
 impl Observation {
     /// Requests the further blocks of a state, one after the other, and joins them.
     ///
-    /// The message IDs count up from `ids`, which is the next one afterwards; no clause says so.
-    /// Confirmable notifications that arrive meanwhile are acknowledged. One that is to be shown
-    /// ends the joining, and is at the start of `buffer`. It is recorded as shown if it is a state.
+    /// The message IDs count up from `ids`, which is the next message ID afterwards; no clause says
+    /// so. Confirmable notifications that arrive meanwhile are acknowledged. A notification that is
+    /// to be shown ends the joining, and is at the start of `buffer`. It is recorded as shown if it
+    /// is a state.
     ///
     /// # Errors
     /// Returns an error if a notification can't be shown, or if sending, receiving or allocating
@@ -217,7 +218,8 @@ impl Observation {
     }
 
     // Handles the message that ended the wait for a block: the block, or a notification. Returns
-    // its effect. It is the first `count` bytes of `buffer`; `id` is the request's message ID.
+    // the message's effect. The message is the first `count` bytes of `buffer`; `id` is the
+    // request's message ID.
     fn handle_block<P: Peer>(
         &mut self,
         peer: &mut P,

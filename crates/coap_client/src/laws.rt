@@ -40,7 +40,7 @@ use crate::peer::BUFFER;
 
 /// A block of the body is followed by another only if the server took it.
 ///
-/// Its response is then a success that says so.
+/// The response to that block is then a success that says so.
 pub fn the_next_block_goes_behind_one_that_was_taken()
     ensures { (count n szx next smaller : ℕ) (m : Message) (body etag body_then etag_then : List ℕ) →
         after_reply count m (Out (Body n szx) body etag) ≡ Out (Body next smaller) body_then etag_then →
@@ -92,7 +92,7 @@ pub fn less_than_half_ahead_is_newer()
     ensures { (v first second : ℕ) → is_newer v first (v + 8388607) second ≡ true }
 {}
 
-/// Of two sequence numbers half of all apart, neither is newer, except by age.
+/// Of two sequence numbers apart by half of all, neither is newer, except by age.
 pub fn half_apart_is_newer_neither_way()
     ensures up { (v first second : ℕ) → second ≤ first + 128000 → is_newer v first (v + 8388608) second ≡ false }
     ensures down { (v first second : ℕ) → second ≤ first + 128000 → is_newer (v + 8388608) first v second ≡ false }
@@ -210,7 +210,8 @@ pub fn bodies_go_in_blocks()
 /// seconds. The client gives up after these 62 seconds. The schedule is that of ACK_TIMEOUT and
 /// MAX_RETRANSMIT, without a random part (RFC 7252, sections 4.2 and 4.8). Or the request is
 /// acknowledged, isn't sent again, and the client waits 93 seconds more. That is MAX_TRANSMIT_WAIT
-/// (RFC 7252, section 4.8.2). A request with a response was sent by this schedule up to then.
+/// (RFC 7252, section 4.8.2). A request that got a response was sent by this schedule until the
+/// response.
 ///
 /// A non-confirmable request is sent once, with a wait of 32 seconds. Apart from these requests,
 /// only empty messages are sent.
@@ -227,8 +228,8 @@ pub fn requests_are_sent_by_the_schedule()
 
 /// An observer's requests are sent by the same schedule.
 ///
-/// A registration with a response was sent by it up to then. A successful deregistration was sent
-/// by it until it was acknowledged.
+/// A registration that got a response was sent by the schedule until the response. A successful
+/// deregistration was sent by the schedule until it was acknowledged.
 pub fn observers_are_sent_by_the_schedule()
     ensures registration { (o : Observer) (answer : List ℕ) (calls : List PeerCall) → IsRegistration o answer calls
         → BeginsSchedule (message_bytes (observe_request o.client_request.now Register o.token o.id)) (schedule calls)
@@ -239,7 +240,7 @@ pub fn observers_are_sent_by_the_schedule()
 
 /// An observer gives up by the same schedule.
 ///
-/// A registration without a response is sent five times with these waits, or acknowledged. A
+/// A registration without a response is sent five times with these waits, or is acknowledged. A
 /// deregistration without an acknowledgement is sent five times. A request that is rejected was
 /// sent by that schedule up to then.
 pub fn observers_give_up_by_the_schedule()
@@ -258,7 +259,7 @@ pub fn observers_give_up_by_the_schedule()
 ///
 /// The client gives up a confirmable request after at least 62 seconds: MAX_TRANSMIT_WAIT without
 /// its random part (RFC 7252, section 4.8.2). It waits 32 seconds for the response to a
-/// non-confirmable one, which is this client's own number.
+/// non-confirmable request; this number is the client's own.
 pub fn no_answer_is_told_too_soon()
     ensures confirmable { (id : ℕ) (earlier : List ℕ) (m : Message) (calls : List PeerCall) → (m.code ≡ 0 → ⊥)
         → IsSilence true (Tells true id earlier) (message_bytes m) calls → 62 ≤ seconds_in calls }
@@ -288,7 +289,7 @@ pub fn requests_are_rejected_by_a_reset()
 /// While a request may still be acknowledged, its acknowledgement ends the wait, and a separate
 /// response is skipped. Once it is acknowledged, the reverse holds (RFC 7252, section 5.2.2). A
 /// piggybacked response and a Reset message always end the wait. A response that was received
-/// before never does, and neither does any other datagram.
+/// before never ends the wait, and neither does any other datagram.
 pub fn waits_pass_over_what_does_not_answer()
     ensures acknowledged { (is_passed_over false reception.Acknowledged ≡ false) × (is_passed_over true reception.Acknowledged ≡ true) }
     ensures separate { (is_passed_over false reception.Separate ≡ true) × (is_passed_over true reception.Separate ≡ false) }
@@ -309,8 +310,8 @@ pub fn messages_leave_room_in_the_buffer()
 /// A ping is four bytes, and is sent by the schedule of a confirmable request.
 ///
 /// It has its message ID and nothing else: with ID 7 it is the bytes 64, 0, 0 and 7. A ping without
-/// an answer is sent five times, with waits of 2, 4, 8, 16 and 32 seconds. A ping with an answer
-/// was sent by this schedule up to then. Nothing else is sent.
+/// an answer is sent five times, with waits of 2, 4, 8, 16 and 32 seconds. A ping that got an
+/// answer was sent by this schedule until the answer. Nothing else is sent.
 ///
 /// The answer is a Reset message with the ping's ID, the last datagram received (RFC 7252, sections
 /// 4.2 and 4.3).
@@ -338,8 +339,8 @@ pub fn formats_go_with_bodies()
 
 /// An interrupted receive doesn't end a wait.
 ///
-/// Neither does one in which nothing arrives in time. A receive that fails because the server's
-/// port is closed, or its network is down, ends the wait.
+/// Neither does a receive in which nothing arrives in time. A receive that fails because the
+/// server's port is closed, or its network is down, ends the wait.
 pub fn interruptions_end_no_wait()
     ensures interrupted { (is_transient Interrupted ≡ true) × (is_transient WouldBlock ≡ true) × (is_transient TimedOut ≡ true) }
     ensures closed { (is_transient ConnectionRefused ≡ false) × (is_transient NetworkDown ≡ false) }

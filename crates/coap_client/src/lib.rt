@@ -9,38 +9,41 @@
 //!
 //! - A text is a path exactly if it consists of segments of 1 to 255 bytes, each after a slash.
 //!   Otherwise the error has the number of the first segment that is empty or too long, counted
-//!   from 1, and says which of these it is. Or it says that the text doesn't begin with a slash.
+//!   from 1, and says whether that segment is empty or too long. Or the error says that the text
+//!   doesn't begin with a slash.
 //! - A datagram is received into 1,281 bytes, one more than the maximum length of a message. A
-//!   datagram that fills them may be truncated, and is skipped.
+//!   datagram that fills these bytes may be truncated, and is skipped.
 //! - Each request of a client request is a message that fits a datagram. It has the whole body, a
 //!   block of it, or a block option that requests a further block of the response. The size of that
 //!   block is the one that the server named last. A Content-Format, if the client request has one,
 //!   is in each request with the body or a block of it, between the path and the query.
 //! - Each datagram has one meaning for a request: a piggybacked response, a separate response, an
 //!   acknowledgement, a rejection, or none of these. The next step after each response is defined
-//!   exactly. There is none after a response with an unknown critical option, or with two Block1 or
-//!   two Block2.
+//!   exactly. There is no next step after a response with an unknown critical option, or with two
+//!   Block1 or two Block2.
 //!
 //! *A fetch that returns a response:*
 //!
 //! - Its result follows from a list of replies. For each reply, the request that results from the
-//!   earlier ones was passed to `Peer::send`, and the reply's datagram came from `Peer::receive`.
-//! - A separate response is one to a request whose acknowledgement arrived, unless the request was
-//!   non-confirmable. Its message ID is none of the earlier ones. A confirmable one is
-//!   acknowledged, and acknowledged again if it is received again.
-//! - Its calls on the peer (`Peer::called`) follow, call by call, from the datagrams received.
-//!   There is one request for each of these replies, sent once the one before has its response, and
-//!   nothing after the last. Message IDs count up.
+//!   earlier replies was passed to `Peer::send`, and the reply's datagram came from
+//!   `Peer::receive`.
+//! - A separate response answers a request whose acknowledgement arrived, unless the request was
+//!   non-confirmable. The response's message ID is none of the earlier ones. A confirmable separate
+//!   response is acknowledged, and acknowledged again if it is received again.
+//! - The fetch's calls on the peer (`Peer::called`) follow, call by call, from the datagrams
+//!   received. There is one request for each of these replies, and no other. Each request is sent
+//!   after the response to the request before it. Message IDs count up.
 //! - A confirmable request is retransmitted with the same bytes after waits of 2, 4, 8 and 16
 //!   seconds, so it is sent at most five times. After its acknowledgement it isn't sent again, and
 //!   the wait is 93 seconds more. A non-confirmable request is sent once, with a wait of 32
 //!   seconds.
 //! - The first datagram that answers, acknowledges or rejects a request ends its wait. A separate
-//!   response answers only if one is awaited, and not if its message ID has answered before.
+//!   response answers only if one is awaited, and if no response with its message ID has answered
+//!   before.
 //! - Apart from requests, only acknowledgements are sent: one for each confirmable response, also
 //!   for one whose message ID has answered before.
 //! - If the fetch ends with a success, requests that were sent have the whole body, joined. Each
-//!   block of the body follows a success that says that the server took the one before. The
+//!   block of the body follows a success that reports that the server took the block before. The
 //!   response consists of the payloads of blocks of one ETag, or of none. Each of them begins at
 //!   the end of those before it, and none follows the last.
 //! - The fetch starts again at most once, and only for a GET.
@@ -58,12 +61,13 @@
 //!
 //! *A fetch that fails, in terms of its calls:*
 //!
-//! - *No answer*: earlier requests have their responses, and the last one was sent by the whole
+//! - *No answer*: earlier requests have their responses, and the last request was sent by the whole
 //!   schedule. Its waits add up to at least 62 seconds, or to 32 for a non-confirmable request. Or
 //!   2^64 - 1 datagrams arrived in one wait.
 //! - *Rejected*: the last datagram received is a Reset message with the request's ID (RFC 7252,
 //!   section 4.2).
-//! - *A response that doesn't match*: the replies lead to one, or there are 2^22 replies.
+//! - *A response that doesn't match*: the replies lead to such a response, or there are 2^22
+//!   replies.
 //! - *Changed*: a further block has another ETag, for the second time, or for the first time and
 //!   the method isn't GET.
 //! - *Out of memory*: each request that was sent has its response. No clause says that memory was
@@ -74,12 +78,13 @@
 //! *An observer:*
 //!
 //! - Its registration and its deregistration are messages that fit a datagram, with its token. They
-//!   are retransmitted as a confirmable request of a fetch is, the first until it has a response,
-//!   the second until it is acknowledged. While the registration is outstanding, only its response
-//!   is acknowledged. While the deregistration is outstanding, each confirmable notification is.
-//! - The classification of a response is exact, by RFC 7641's comparison. It is a newer state; not
-//!   newer, or a duplicate of one already shown (one result for both); the last; or one that can't
-//!   be shown.
+//!   are retransmitted as a confirmable request of a fetch is: the registration until it has a
+//!   response, the deregistration until it is acknowledged. While the registration is outstanding,
+//!   only its response is acknowledged. While the deregistration is outstanding, each confirmable
+//!   notification is acknowledged.
+//! - The classification of a response is exact, by RFC 7641's comparison. The response is a newer
+//!   state; not newer, or a duplicate of one already shown (one result for both); the last; or one
+//!   that can't be shown.
 //! - The next notification to show came from `Peer::receive`. It is a separate response with the
 //!   observer's token, and was acknowledged if it is confirmable. It is a state newer than the one
 //!   shown last, at a time that the peer returned; or it is the last, and no clause says that the
@@ -94,8 +99,8 @@
 //!   whole schedule.
 //! - A request is rejected: the last datagram received is a Reset message with its ID.
 //! - Out of memory: no call was made.
-//! - During the wait for a notification: the last one can't be shown, or is a newer state for which
-//!   there was no memory. So an older one never ends the observation.
+//! - During the wait for a notification: the last notification can't be shown, or is a newer state
+//!   for which there was no memory. So an older notification never ends the observation.
 //! - Or a call on the peer returned an error.
 //! - `deregister_by` calls the peer to send its request in each case.
 //!
@@ -103,8 +108,8 @@
 //!
 //! - 0 is newer than 16,777,215. A number ahead by 8,388,607 is newer, and so is one lower by
 //!   8,388,609.
-//! - Of two numbers 8,388,608 apart, neither is newer within 128 s. The same number isn't either.
-//!   Any number is newer 128,001 ms later.
+//! - Of two numbers 8,388,608 apart, neither is newer within 128 s. The same number isn't newer
+//!   within 128 s either. Any number is newer 128,001 ms later.
 //! - Of two states at the same time, at most one is newer.
 //! - A response that can be shown is the last if it has no Observe, or one of four bytes. A success
 //!   with an Observe of three bytes is a state. The first of several blocks can be shown if it is a
@@ -124,7 +129,8 @@
 //!   clock, or one of the socket other than `Interrupted`, `WouldBlock` and `TimedOut`.
 //! - A wait ends the given number of seconds after a reading of the clock. The peer's times are the
 //!   milliseconds from its start to a reading.
-//! - An observer reads the clock after the receive of each notification, and its acknowledgement.
+//! - An observer reads the clock after it received a notification and acknowledged a confirmable
+//!   one.
 //!
 //! By the contracts of `Path::parse`, `ClientRequest::new`, `ClientRequest::write`, `is_reply`,
 //! `is_separate`, `next_of`, `fetch`, `laws`; `Observer::register`, `deregister`, `deregister_by`,
@@ -132,7 +138,7 @@
 //! `ask_block`; `ping`; `UdpPeer`.
 //!
 //! No public clause of [`UdpPeer`] says which bytes its socket sends and receives, or that a
-//! receive ends with its wait. Tests try that over a socket.
+//! receive ends with its wait. Tests check both over a socket.
 #![tactic(auto)]
 
 pub mod client_request;

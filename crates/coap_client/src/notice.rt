@@ -99,8 +99,8 @@ pub fn is_newer(first: u32, first_at: u64, second: u32, second_at: u64) -> bool
 
 /// Classifies a response to an observer, regardless of earlier ones.
 ///
-/// It is never `Older`: [`Observation::notice_of`](crate::Observation::notice_of) compares it with
-/// earlier ones.
+/// The class is never `Older`: [`Observation::notice_of`](crate::Observation::notice_of) compares
+/// the response with earlier ones.
 pub fn notice_of(message: &Message<'_>) -> NotificationClass
     ensures { result ≡ spec.notice_of message.now }
 {
@@ -135,8 +135,8 @@ fn can_be_shown(message: &Message<'_>) -> bool
 
 /// Returns whether a response is a success of several blocks, without a sequence number.
 ///
-/// An Observe of more than three bytes counts as none. The server that sent it doesn't notify of
-/// changes, or has no place for another observer (RFC 7641, section 4.1).
+/// An Observe of more than three bytes counts as none. The server that sent the response doesn't
+/// notify of changes, or has no place for another observer (RFC 7641, section 4.1).
 pub fn is_unobserved(message: &Message<'_>) -> bool
     ensures { result ≡ spec.is_unobserved message.now }
 {
@@ -170,8 +170,8 @@ fn decode(value: &[u8]) -> u32
     decode_uint(value) as u32
 }
 
-// Returns whether a response is whole: it has no Block2, or one that names the first block and says
-// that no more follow.
+// Returns whether a response is whole: it has no Block2, or a Block2 that names the first block and
+// says that no more follow.
 fn is_whole(message: &Message<'_>) -> bool
     ensures { result ≡ spec.is_last_part (replies.next_of_answer 0 6 message.now) }
 {

@@ -165,8 +165,8 @@ impl<'a> Observer<'a> {
     }
 
     // Receives datagrams until one ends the wait or the wait is over; skips the others. `awaited`
-    // says whether the request was acknowledged: then another acknowledgement is skipped. Returns
-    // `FetchFault::Rejected` if the request is rejected.
+    // says whether the request was acknowledged; if it was, another acknowledgement is skipped.
+    // Returns `FetchFault::Rejected` if the request is rejected.
     fn listen<P: Peer>(
         &self,
         own: &[u8],
@@ -199,8 +199,9 @@ impl<'a> Observer<'a> {
     /// Requests a block of the observed resource, for [`Observation::complete`].
     ///
     /// Sends a confirmable GET without Observe, and retransmits it as a fetch does. The response,
-    /// or a notification that arrives before it, is at the start of `buffer`. It is acknowledged if
-    /// it is confirmable. Returns its length in bytes, or `None` if neither arrives.
+    /// or a notification that arrives before it, is at the start of `buffer`. Whichever of the two
+    /// it is, it is acknowledged if it is confirmable. Returns its length in bytes, or `None` if
+    /// neither arrives.
     ///
     /// # Errors
     /// Returns an error if the request is rejected, or if sending, receiving or allocating memory
@@ -306,9 +307,9 @@ impl<'a> Observer<'a> {
 impl Observation {
     /// Waits for the next notification to show, and records a state as shown.
     ///
-    /// Notifications have the token `token`. The one to show is at the start of `buffer`. Skips
-    /// older ones and duplicates. A confirmable one is acknowledged, shown or not. Returns `None`
-    /// if the wait is over.
+    /// Notifications have the token `token`. The notification to show is at the start of `buffer`.
+    /// Skips older notifications and duplicates. A confirmable notification is acknowledged,
+    /// whether it is shown or not. Returns `None` if the wait is over.
     ///
     /// # Errors
     /// Returns an error if a notification can't be shown, or if sending, receiving or allocating

@@ -8,7 +8,7 @@ use std::io;
 
 /// Length of a receive buffer, in bytes.
 ///
-/// It is one more than the maximum length of a datagram, so that a longer one can be detected.
+/// It is one more than the maximum length of a datagram, so that a longer datagram can be detected.
 pub const BUFFER: usize = DATAGRAM + 1;
 
 /// A receive buffer.
@@ -16,22 +16,22 @@ pub type Buffer = [u8; BUFFER];
 
 /// The server, as seen by a client.
 pub trait Peer {
-    // The datagrams passed to it: the predicate says of a datagram that it was sent.
+    // The datagrams passed to the peer: true of a datagram if it was sent.
     ghost went: { List ℕ → Type 0 } = { λ _. ⊤ };
 
-    // The datagrams that it was called to send.
+    // The datagrams that the peer was called to send.
     ghost tried: { List ℕ → Type 0 } = { λ _. ⊤ };
 
-    // The datagrams that it received.
+    // The datagrams that the peer received.
     ghost came: { List ℕ → Type 0 } = { λ _. ⊤ };
 
-    // The calls on it, newest first: true of a list if the calls are that list.
+    // The calls on the peer, newest first: true of a list if the calls are that list.
     ghost called: { Self → List PeerCall → Type 0 } = { λ peer calls. ⊤ };
 
-    // The times that it returned.
+    // The times that the peer returned.
     ghost is_time: { ℕ → Type 0 } = { λ _. ⊤ };
 
-    // The errors that it returned.
+    // The errors that the peer returned.
     ghost is_error: { PeerError → Type 0 } = { λ _. ⊤ };
 
     /// Sends a datagram to the server.

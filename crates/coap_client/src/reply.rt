@@ -209,8 +209,8 @@ fn is_continue(message: &Message<'_>) -> bool
     message.code() == Code::CONTINUE
 }
 
-// Returns the size exponent for the rest of the body, after a success that answers a block of it
-// that isn't the last. `None` if the response doesn't say that the server took this block.
+// Returns the size exponent for the rest of the body, after a success that answers a block of the
+// body other than the last. `None` if the response doesn't say that the server took this block.
 fn next_size(number: u32, szx: u8, message: &Message<'_>) -> Option<u8>
     ensures size { result ≡ spec.next_size number szx (spec.is_continue message.now) (spec.block1_of message.now) }
     ensures smaller { IfSome result (λ smaller. smaller ≤ szx) }
@@ -224,8 +224,8 @@ fn next_size(number: u32, szx: u8, message: &Message<'_>) -> Option<u8>
     }
 }
 
-// Returns the size exponent of a response's Block1. `None` if it has another number than the block
-// that was sent, or a greater size.
+// Returns the size exponent of a response's Block1. Returns `None` if the Block1 has another number
+// than the block that was sent, or a greater size.
 fn size_by_block(number: u32, szx: u8, block: Block) -> Option<u8>
     ensures { result ≡ spec.size_by_block number szx block }
 {
@@ -316,7 +316,7 @@ pub(crate) fn next_of_answer(number: u32, szx: u8, message: &Message<'_>) -> Nex
     }
 }
 
-// Returns whether a block begins at the start of the requested one, and is no larger.
+// Returns whether a block begins at the start of the requested block, and is no larger.
 fn fits_place(number: u32, szx: u8, block: Block) -> bool
     requires { IsBlock number szx }
     ensures { result ≡ spec.fits_place number szx block }

@@ -1,6 +1,6 @@
 //! Transmission: sends a request until it has a response or an acknowledgement.
 //!
-//! [`ask`] does so for a fetch. Observers and pings use its steps.
+//! [`ask`] does so for a fetch. Observers and pings use the steps of [`ask`].
 ghost use Rattle.std.specs.Prelude.{◌≡◌, ◌<◌, ◌≤◌, [], ◌∷◌, IfErr, IfOk, IfSome, OnOk, false, length, take, true};
 ghost use Rattle.coap_msg.specs.Wire.{message_bytes};
 ghost use Rattle.coap_msg.specs.Reading.{reading_of};
@@ -21,7 +21,7 @@ use coap_msg::{Code, Datagram, Message, MessageType, Outgoing, read, write};
 
 /// Maximum number of transmissions of a confirmable request.
 ///
-/// It is once, and MAX_RETRANSMIT times again (RFC 7252, section 4.8).
+/// It is one transmission and MAX_RETRANSMIT retransmissions (RFC 7252, section 4.8).
 pub(crate) const SENDINGS: u32 = 5;
 
 /// Wait for the response to the first transmission, in seconds.
@@ -114,7 +114,7 @@ pub fn ask<P: Peer>(
 }
 
 // Sends a confirmable or a non-confirmable request, and waits for its response, as `ask` does, but
-// doesn't acknowledge it.
+// doesn't acknowledge the response.
 fn transmit<P: Peer>(
     peer: &mut P,
     request: &SentRequest<'_>,
@@ -196,7 +196,7 @@ pub(crate) fn send<P: Peer>(
 }
 
 // Waits for a separate response: the request was acknowledged or is non-confirmable. Returns `None`
-// if there is none.
+// if no response arrives.
 fn await_separate<P: Peer>(
     peer: &mut P,
     request: &SentRequest<'_>,
@@ -245,7 +245,8 @@ fn listen<P: Peer>(
 }
 
 // Returns whether a datagram of this class is skipped, so that the wait goes on. A separate
-// response ends the wait only if one is awaited, and an acknowledgement only if none is.
+// response ends the wait only if one is awaited. An acknowledgement ends it only if no separate
+// response is awaited.
 pub(crate) fn is_passed_over(awaited: bool, handled: ReplyClass) -> bool
     ensures { result ≡ is_passed_over awaited handled }
 {
@@ -306,7 +307,7 @@ fn handle_message(request: &SentRequest<'_>, message: &Message<'_>) -> ReplyClas
     }
 }
 
-// Acknowledges a confirmable message (RFC 7252, section 4.2). Sends nothing for another datagram.
+// Acknowledges a confirmable message (RFC 7252, section 4.2). Sends nothing for any other datagram.
 pub(crate) fn acknowledge<P: Peer>(peer: &mut P, bytes: &[u8]) -> Result<(), FetchFault>
     ensures went { OnOk result ((m : wire.Message) → reading_of bytes.now ≡ Ok m → m.kind ≡ Confirmable
         → P.went (message_bytes (acknowledgement m.id))) }

@@ -86,7 +86,7 @@ impl<'a, T: Ticks> UdpPeer<'a, T> {
 
     // Waits for a datagram for `left`, and returns its length in bytes. `None` if no datagram of
     // the server arrived, or if a signal interrupted the wait. A datagram from before the
-    // connection may be another host's. One that fills the buffer may be truncated.
+    // connection may be another host's. A datagram that fills the buffer may be truncated.
     fn receive_once(&self, left: Duration, buffer: &mut Buffer) -> io::Result<Option<usize>>
         ensures whole { IfOk result (λ r. IfSome r (λ count. count < length buffer.new)) }
         ensures error { IfErr result (λ e. is_transient (error_kind e) ≡ false) }

@@ -1,6 +1,6 @@
 //! Observations: an observer's record of the notifications that it has shown.
 //!
-//! The record decides whether a later one is newer.
+//! The record decides whether a later notification is newer.
 ghost use Rattle.std.specs.Prelude.{◌≡◌, IfOk, OnOk};
 ghost use Rattle.coap_client.specs.Notices.{first_marks, is_shown_again, marked, notice_after};
 ghost use Rattle.coap_msg.specs.Windows.{within_window};
@@ -64,8 +64,8 @@ impl Observation {
 
     /// Classifies a separate response received at `at`, in milliseconds.
     ///
-    /// A state is `Older` if it isn't newer than the one shown last, and so is a duplicate of a
-    /// message shown.
+    /// A state is `Older` if it isn't newer than the one shown last. A duplicate of a message shown
+    /// is `Older` too.
     pub fn notice_of(&self, at: u64, message: &Message<'_>) -> NotificationClass
         ensures { result ≡ notice_after self.now at message.now }
     {

@@ -23,7 +23,7 @@ opened t now to id confirmable = record {
 abbrev pub is_open : ℕ → ℕ → Exchange → Bool
 is_open now number e = (e.number == number) && is_live now e
 
--- an exchange after the response to the one with this number was stored.
+-- an exchange, after the response of the exchange with this number was stored.
 abbrev pub answered : ℕ → ℕ → ArrayVec ℕ → Exchange → Exchange
 answered now number bytes e = answered_if (is_open now number e) bytes e
 

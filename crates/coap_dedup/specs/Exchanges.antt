@@ -24,22 +24,23 @@ pub record Exchange : Type 0 where
 abbrev pub places_of : Limits → ℕ
 places_of l = max 1 (min l.exchanges 65536)
 
--- the limits, the time, how many exchanges were opened, and the stored ones, in order of arrival.
+-- the limits, the time, how many exchanges were opened, and the stored exchanges in order of
+-- arrival.
 pub record Table : Type 0 where
   pub limits : Limits
   pub now : ℕ
   pub opened : ℕ
   pub held : List Exchange
 
--- it was opened less than EXCHANGE_LIFETIME before `now`.
+-- the exchange was opened less than EXCHANGE_LIFETIME before `now`.
 abbrev pub is_live : ℕ → Exchange → Bool
 is_live now e = within_window now e.at
 
--- it has this endpoint and message ID.
+-- the exchange has this endpoint and message ID.
 abbrev pub is_of : Endpoint → ℕ → Exchange → Bool
 is_of to id e = same_endpoint e.endpoint to && (e.id == id)
 
--- it has this address.
+-- the exchange has this address.
 abbrev pub is_at : List ℕ → Exchange → Bool
 is_at ip e = pointwise nat_eq e.endpoint.ip ip
 
@@ -51,11 +52,11 @@ share_of ip held = length (filter (is_at ip) held)
 abbrev pub has_place : Table → Bool
 has_place t = nat_lt (length t.held) (places_of t.limits) && nat_lt t.opened 18446744073709551615
 
--- fewer exchanges of the address are stored than its share.
+-- the number of stored exchanges of the address is below the address's share.
 abbrev pub has_share : Table → List ℕ → Bool
 has_share t ip = nat_lt (share_of ip t.held) t.limits.share
 
--- the room for one more exchange of an address: its share is checked before the places.
+-- the room for one more exchange of an address: the address's share is checked before the places.
 abbrev pub room_by : Bool → Bool → Room
 room_by false place = OverShare
 room_by true false = Full
@@ -64,9 +65,9 @@ room_by true true = Free
 abbrev pub room_at : Table → List ℕ → Room
 room_at t ip = room_by (has_share t ip) (has_place t)
 
--- the class of a request: new; a duplicate of a request in progress; of a confirmable one with this
--- response; of a non-confirmable one with a response; new with no free place; new with its address
--- at its full share.
+-- the class of a request: new; a duplicate of a request in progress; a duplicate of a confirmable
+-- request with this response; a duplicate of a non-confirmable request with a response; new,
+-- without a free place; new, from an address with its full share.
 pub data Look : Type 0 where
   IsNew : Look
   IsBusy : Look

@@ -25,7 +25,7 @@ pub record IsIndex (os : List Opened) (places : List ℕ) : Type 0 where
   pub distinct : len (by_key os) ≡ length os
   pub sorted : places ≡ map (λ n. n % 65536) (values (by_key os))
 
--- a ring in order of arrival, of at most 65,536 requests, and its index, with room for as many.
+-- a ring of at most 65,536 requests in order of arrival, and its index, which has room for as many.
 pub record AreRequests (ring : Buffer Opened) (index : Vec ℕ) : Type 0 where
   pub capacity : ring.capacity ≤ 65536
   pub few : length ring.items ≤ ring.capacity
@@ -42,7 +42,7 @@ left_after most (suc n) = left_after most n / 2
 abbrev pub AreBelow : List Key → Key → ℕ → Type 0
 AreBelow ks k i = (j : ℕ) (x : Key) → j < i → slice_get ks j ≡ Some x → key_cmp x k ≡ Less
 
--- the keys from this place on are greater than it.
+-- the keys from this place on are greater than the key.
 abbrev pub AreAbove : List Key → Key → ℕ → Type 0
 AreAbove ks k i = (j : ℕ) (x : Key) → i ≤ j → slice_get ks j ≡ Some x → key_cmp x k ≡ Greater
 
@@ -52,8 +52,8 @@ pub record IsGap (ks : List Key) (k : Key) (i : ℕ) : Type 0 where
   pub below : AreBelow ks k i
   pub above : AreAbove ks k i
 
--- the keys of an address begin at this place, or would begin: the keys before it are less than each
--- of them, and those from it on aren't.
+-- the keys of an address begin, or would begin, at this place. The keys before this place are less
+-- than each key of the address, and the keys from this place on aren't.
 pub record IsStart (ip : List ℕ) (ks : List Key) (i : ℕ) : Type 0 where
   pub within : i ≤ length ks
   pub below : (j : ℕ) (x : Key) → j < i → slice_get ks j ≡ Some x → x.number < (first_key ip).number

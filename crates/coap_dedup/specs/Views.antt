@@ -49,7 +49,7 @@ abbrev pub Arrives : ℕ → ℕ → ℕ → List Opened → Type 0
 Arrives number since now [] = Unit {0}
 Arrives number since now (o ∷ os) = (o.number ≡ number) × (since ≤ o.at) × (o.at ≤ now) × Arrives (number + 1) o.at now os
 
--- the stored requests, if `opened` were opened in all.
+-- the stored requests, if `opened` requests were opened in all.
 pub record IsArrived (now opened : ℕ) (os : List Opened) : Type 0 where
   pub first : ℕ
   pub order : Arrives first 0 now os
@@ -61,7 +61,7 @@ pub record InOrder (os : List Opened) : Type 0 where
   pub now : ℕ
   pub order : Arrives first 0 now os
 
--- the request with this number is stored, if `opened` were opened in all.
+-- the request with this number is stored, if `opened` requests were opened in all.
 pub record IsNumbered (os : List Opened) (opened number : ℕ) (o : Opened) : Type 0 where
   pub place : slice_get os (length os - (opened - number)) ≡ Some o
   pub before : number < opened

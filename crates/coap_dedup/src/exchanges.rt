@@ -129,8 +129,8 @@ impl Exchanges {
         self.requests.len() < self.limits.places() && self.opened < u64::MAX
     }
 
-    // Returns whether fewer exchanges of this address are stored than its share. They are counted
-    // only if at least as many as a share are stored in all.
+    // Returns whether fewer exchanges of this address are stored than its share. The exchanges of
+    // the address are counted only if at least as many as a share are stored in all.
     fn has_share(&self, ip: [u8; 4]) -> bool
         ensures { result ≡ has_share self.entry.now ip }
     {
@@ -202,7 +202,7 @@ impl Exchanges {
 }
 
 // Returns the class of a duplicate, for `look`. `confirmable` and `answer` are those of the first
-// request; `answer` is `None` if it is in progress.
+// request; `answer` is `None` if that request is in progress.
 fn repeat(confirmable: bool, answer: Option<&Datagram>) -> Looked
     ensures { (room : Room) → look_of result room ≡ repeated_by confirmable (option_map (λ bytes. bytes.now) answer.entry) }
 {

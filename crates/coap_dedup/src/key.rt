@@ -37,8 +37,8 @@ impl Comparisons {
 
 /// A request's address, port and message ID as one number.
 ///
-/// The address has the highest bits, and the message ID the lowest. So in the order of keys those
-/// of an address are adjacent, and one comparison of numbers compares all three.
+/// The address has the highest bits, and the message ID the lowest. So the keys of an address are
+/// adjacent in the order of keys, and one comparison of numbers compares all three parts.
 #[derive(Clone, Copy)]
 pub(crate) struct Key {
     number: u64,
@@ -68,7 +68,8 @@ impl Key {
         }
     }
 
-    // Compares two keys, and counts the comparison. Only `is_of` also reads a key, uncounted.
+    // Compares two keys, and counts the comparison. Only `is_of` also reads a key, and doesn't
+    // count that.
     pub(crate) fn order(&self, other: &Key, comparisons: &mut Comparisons) -> Ordering
         requires { comparisons.old < 4294967295 }
         ensures order { result ≡ key_cmp self.now other.now }

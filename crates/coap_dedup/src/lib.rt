@@ -41,10 +41,10 @@
 //!
 //! # What is proved
 //!
-//! - A request is new, or a duplicate of an exchange that is less than 247,000 ms old: one in
-//!   progress, or one with a stored response (`look`).
-//! - There is room for a new request of an IP address if fewer than its share are stored for the
-//!   address, and fewer than the limit in all (`room`).
+//! - A request is new, or a duplicate of an exchange that is less than 247,000 ms old. That
+//!   exchange is in progress, or has a stored response (`look`).
+//! - A new request of an IP address has room if fewer requests than the address's share are stored
+//!   for it, and fewer than the limit in all (`room`).
 //! - A new exchange is opened if there is room (`open`), and each response is stored for its own
 //!   exchange (`close`).
 //! - `comparisons` returns at most 17 for every table, and at most 11 for a table of 1,024 places.

@@ -175,9 +175,9 @@ impl Requests {
         Err(low)
     }
 
-    // Returns whether fewer than `share` requests are of an address. In the order of keys they are
-    // adjacent, so the key at the end of a full share decides. It isn't inlined: its caller usually
-    // finds fewer requests than a share, and doesn't call it.
+    // Returns whether fewer than `share` requests are of an address. The keys of an address are
+    // adjacent in the order of keys, so the key at the end of a full share decides. It isn't
+    // inlined: its caller usually finds fewer requests than a share, and doesn't call it.
     #[inline(never)]
     pub(crate) fn are_fewer(&self, ip: [u8; 4], share: usize) -> bool
         ensures { result ≡ nat_lt (length (filter (is_of_address ip) self.now.items)) share }
@@ -234,7 +234,7 @@ fn low_bits(number: u64) -> u16
     (number % 65_536) as u16
 }
 
-// Returns how many requests, from `first` on, arrived before the one with these low bits.
+// Returns how many requests, from `first` on, arrived before the request with these low bits.
 fn after(first: u64, low: u16) -> usize
     ensures { (number : ℕ) → first ≤ number → number < first + 65536 → number % 65536 ≡ low → first + result ≡ number }
 {

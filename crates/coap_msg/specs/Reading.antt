@@ -69,7 +69,7 @@ abbrev pub number_at : ℕ → List ℕ → Option (ℕ × List ℕ)
 number_at nibble bytes =
     if nat_lt nibble 13 then Some (nibble, bytes) else (if nibble == 13 then ext8 bytes else (if nibble == 14 then ext16 bytes else None))
 
--- an option after one with the number `before`, and the bytes after it.
+-- an option that follows an option with the number `before`, and the bytes after it.
 pub record RawOption : Type 0 where
   pub number : ℕ
   pub value : List ℕ
@@ -93,7 +93,7 @@ abbrev pub with_first : RawOption → Option Listed → Option Listed
 with_first o None = None
 with_first o (Some (options, after)) = Some (((o.number, o.value) ∷ options), after)
 
--- the options at the start, at most `count` of them; there are never more than bytes.
+-- the options at the start, at most `count` of them; there are never more options than bytes.
 unfoldable pub options_at : ℕ → ℕ → List ℕ → Option Listed
 options_at count before [] = Some ([], [])
 options_at zero before (b ∷ bytes) = None
@@ -127,7 +127,7 @@ message_of (first ∷ code ∷ high ∷ low ∷ rest) =
     if is_sized code rest then message_by first code (256 * high + low) rest else None
 message_of _ = None
 
--- the way to reject bytes that encode none.
+-- the way to reject bytes that encode no message.
 unfoldable pub bad_of : List ℕ → Bad
 bad_of bytes =
     if (nat_le 4 (length bytes) && nat_le (length bytes) 1280) && (slice_index bytes 0 / 16 == 4) then bad.Reset (id_of bytes) else bad.Ignore
@@ -137,6 +137,6 @@ abbrev pub or_bad : Option Message → Bad → Result Message Bad
 or_bad None e = Err e
 or_bad (Some m) e = Ok m
 
--- the message that the bytes encode, or the way to reject bytes that encode none.
+-- the message that the bytes encode, or the way to reject bytes that encode no message.
 unfoldable pub reading_of : List ℕ → Result Message Bad
 reading_of bytes = or_bad (message_of bytes) (bad_of bytes)

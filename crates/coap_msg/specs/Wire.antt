@@ -56,7 +56,8 @@ payload_bytes (b ∷ payload) = 255 ∷ b ∷ payload
 abbrev pub message_bytes : Message → List ℕ
 message_bytes m = header m.kind m.code m.id m.token ++ (options_bytes 0 m.options ++ payload_bytes m.payload)
 
--- an option has a number of 16 bits that is at least the one before, and at most 65,804 bytes.
+-- the number of an option has 16 bits and is at least the number before it; the value has at most
+-- 65,804 bytes.
 pub record IsOption (before number : ℕ) (value : List ℕ) : Type 0 where
   pub rises : before ≤ number
   pub is_number : number < 65536

@@ -13,7 +13,7 @@ use std::marker::Model;
 
 /// An iterator over a message's options, each with its number and its value.
 ///
-/// In contracts it is the list of the options that are left, in order.
+/// Contracts see it as the list of the options that are left, in order.
 #[derive(Drop)]
 pub struct Options<'a> {
     before: u16,
@@ -66,8 +66,8 @@ struct RawOption<'a> {
 
 /// Decodes the first option of `bytes`.
 ///
-/// `before` is the number of the option before it, or 0 if it is the message's first. Returns
-/// `None` if `bytes` don't begin with an option.
+/// `before` is the number of the option before that one, or 0 for the message's first option.
+/// Returns `None` if `bytes` don't begin with an option.
 #[tactic(auto, unfolding(crate::specs::Reading::option_at))]
 fn split_option(before: u16, bytes: &[u8]) -> Option<RawOption<'_>>
     ensures option { MatchOption result (option_at before bytes.now ≡ None) (IsFirstOf before bytes.now) }

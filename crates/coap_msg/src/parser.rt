@@ -117,7 +117,7 @@ fn token_length(first: u8) -> Option<usize>
 
 /// Returns the payload from the bytes after the options.
 ///
-/// These are empty, or the marker and a payload that isn't empty. Otherwise returns `None`.
+/// Returns `None` unless these bytes are empty, or are the marker and a payload that isn't empty.
 fn payload_of(bytes: &[u8]) -> Option<&[u8]>
     ensures { MatchOption result (payload_at bytes.now ≡ None)
         (λ payload. payload_at bytes.now ≡ Some payload.now) }

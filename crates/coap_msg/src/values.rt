@@ -8,7 +8,7 @@ use std::marker::Model;
 
 /// An iterator over the values of a message's options with one number.
 ///
-/// In contracts it is the list of the values that are left, in order.
+/// Contracts see it as the list of the values that are left, in order.
 #[derive(Drop)]
 pub struct Values<'a> {
     number: u16,
@@ -25,7 +25,7 @@ impl<'a> Model for Values<'a> {
 }
 
 impl<'a> Values<'a> {
-    /// Iterates over the values of those of `options` with the number `number`.
+    /// Iterates over the values of the options in `options` with the number `number`.
     pub(crate) fn new(number: u16, options: Options<'a>) -> Self
         ensures { result ≡ values_in number options.entry }
     {

@@ -1,7 +1,7 @@
 //! Writing: from a message to a datagram.
 //!
-//! [`write`] writes a message; the other functions write its parts one after another. The public
-//! ones of these are for `coap_opts`, whose responses have options of another type.
+//! [`write`] writes a message; the other functions write its parts one after another. The other
+//! public functions are for `coap_opts`, whose responses have options of another type.
 ghost use Rattle.std.specs.Prelude.{◌≡◌, ◌+◌, ◌<◌, ◌≤◌, ◌++◌, length};
 ghost use Rattle.arrayvec.specs.ArrayVec.{array_vec_len};
 ghost use Rattle.coap_msg.specs.Wire.{IsMessage, AreOptions, message_bytes, extension, nibble, header, option_bytes, options_bytes, payload_bytes, type_number};

@@ -27,7 +27,7 @@ pub record IsRequest (m : Message) : Type 0 where
   pub some : 0 < m.code
   pub class : m.code < 32
 
--- it has a Proxy-Uri or a Proxy-Scheme.
+-- the message has a Proxy-Uri or a Proxy-Scheme.
 abbrev pub NamesProxy : Message → Type 0
 NamesProxy m = (values 35 m ≢ []) ⊎ (values 39 m ≢ [])
 

@@ -21,7 +21,7 @@ pub record IsKnown (m : Message) : Type 0 where
   pub no_proxy : names_proxy m ≡ false
   pub no_unknown : has_unknown_critical m.code None m.options ≡ false
 
--- the message passed also the checks of its method and its path.
+-- the message also passed the checks of its method and its path.
 pub record IsServedAt (m : Message) (method : Method) (at : Resource) (action : Action) : Type 0 where
   pub known : IsKnown m
   pub method_is : method_of m.code ≡ Some method

@@ -59,8 +59,8 @@ abbrev pub cons_if : Bool → List ℕ → List (List ℕ) → List (List ℕ)
 cons_if false value left = left
 cons_if true value left = value ∷ left
 
--- a recognised option was stored: for all values left, each part gives the same result as before
--- with this one prepended.
+-- a recognised option was stored. For any values that are left, each part gives the result that it
+-- gave before for these values with this one prepended.
 pub record IsTaken (old new : Collected) (number : ℕ) (value : List ℕ) : Type 0 where
   pub etags : (left : List (List ℕ)) → tags_with old.etags.items (cons_if (number == option.ETAG) value left) ≡ tags_with new.etags.items left
   pub observe : (left : List (List ℕ)) → first_with (lent old.observe) (cons_if (number == option.OBSERVE) value left) ≡ first_with (lent new.observe) left

@@ -43,8 +43,8 @@ method_code Post = 2
 method_code Put = 3
 method_code Delete = 4
 
--- the method is that of the message's code, the resource that of its Uri-Path, and the payload its
--- own; each other field is the value of the options with one number.
+-- the method is that of the message's code, the resource is that of its Uri-Path, and the payload
+-- is the message's; each other field is the value of the options with one number.
 pub record IsMadeOf (m : Message) (r : Asked) : Type 0 where
   pub method_is : method_of m.code ≡ Some (method_in r.action)
   pub resource_is : resource m ≡ Some (resource_in r.action)

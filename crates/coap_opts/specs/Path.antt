@@ -18,7 +18,8 @@ method_of code =
 abbrev pub digit : ℕ → Option ℕ
 digit b = guard (nat_le 48 b && nat_lt b 58) (b - 48)
 
--- the slot that a segment names: one digit, or two with the first not 0; below 64.
+-- the slot that a segment names. The segment is one digit, or two digits whose first isn't 0; the
+-- slot is below 64.
 abbrev pub slot_named : List ℕ → Option ℕ
 slot_named (b ∷ []) = digit b
 slot_named (b ∷ c ∷ []) = digit b >>= λ tens. digit c >>= λ ones. guard (nat_lt 0 tens && nat_lt (10 * tens + ones) 64) (10 * tens + ones)

@@ -15,12 +15,13 @@ abbrev pub is_repeat : Option ℕ → ℕ → Bool
 is_repeat None number = false
 is_repeat (Some before) number = before == number
 
--- the code is the only method, if the row has one.
+-- the code is the only method, if the row has an only method.
 abbrev pub is_defined_for : Option Code → ℕ → Bool
 is_defined_for None code = true
 is_defined_for (Some only) code = only.byte == code
 
--- an option of legal length, defined for the method, and not a repeat of a non-repeatable one.
+-- an option of legal length, defined for the method, and not a repetition of a non-repeatable
+-- option.
 abbrev pub fits : Row → ℕ → Option ℕ → ℕ → Bool
 fits r code before count = (nat_le r.least count && nat_le count r.greatest) && (is_defined_for r.only code && (r.repeatable || not (is_repeat before r.number)))
 
@@ -29,8 +30,8 @@ abbrev pub fits_row : Option Row → ℕ → Option ℕ → ℕ → Bool
 fits_row None code before count = false
 fits_row (Some r) code before count = fits r code before count
 
--- from the message's code, the number of the option before, the option's own number and the length
--- of its value.
+-- whether an option is recognised, from the message's code, the number of the option before, the
+-- option's own number and the length of its value.
 unfoldable pub is_recognised : ℕ → Option ℕ → ℕ → ℕ → Bool
 is_recognised code before number count = fits_row (row_of number) code before count
 

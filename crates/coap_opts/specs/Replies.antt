@@ -18,6 +18,6 @@ reply_options r =
     ++ optional option.BLOCK2 (option_map block_bytes r.block2))
     ++ optional option.BLOCK1 (option_map block_bytes r.block1)
 
--- the message that a response is.
+-- a response as a message.
 abbrev pub reply_message : Reply → Message
 reply_message r = record { kind = r.kind; code = r.code.byte; id = r.id; token = r.token.now; options = reply_options r.options; payload = r.payload.now }

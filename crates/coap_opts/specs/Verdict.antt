@@ -155,7 +155,7 @@ abbrev pub accepted : Option Asked → Verdict
 accepted (Some r) = IsAsked r
 accepted None = IsIgnored
 
--- from the code of the first check that fails.
+-- the verdict for a request, from the code of the first check that fails.
 abbrev pub verdict_by_check : Message → Option ℕ → Verdict
 verdict_by_check m (Some answer) = refusal_verdict m.kind answer
 verdict_by_check m None = accepted (asked m)
@@ -164,7 +164,7 @@ verdict_by_check m None = accepted (asked m)
 abbrev pub request_verdict : Message → Verdict
 request_verdict m = verdict_by_check m (refusal_code m)
 
--- from the type and the code (RFC 7252, sections 4.2 and 4.3).
+-- the verdict for a message, from its type and its code (RFC 7252, sections 4.2 and 4.3).
 abbrev pub verdict_by : MessageType → Message → Verdict
 verdict_by kind.Confirmable m = if is_request m.code then request_verdict m else IsReset
 verdict_by kind.NonConfirmable m = if is_request m.code then request_verdict m else IsIgnored

@@ -45,7 +45,7 @@ impl Block {
 
     /// Decodes the value of a Block1 or Block2 option.
     ///
-    /// `bytes` are at most 3, and may have leading zeros.
+    /// `bytes` has at most 3 bytes, which may have leading zeros.
     pub fn read(bytes: &[u8]) -> Block
         requires { length bytes.now ≤ 3 }
         ensures block { result ≡ place_in bytes.now }

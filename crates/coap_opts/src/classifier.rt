@@ -1,8 +1,8 @@
 //! Classification of the messages that a server receives.
 //!
-//! First come the type and the code. The checks of a request follow: proxy options, then
-//! unrecognised critical options, the method, the path, and the method on the path's resource. Then
-//! come the block sizes and the query's length, and last the payload's length.
+//! The type and the code are checked first. The checks of a request follow: proxy options, then
+//! unrecognised critical options, the method, the path, and the method on the path's resource. The
+//! block sizes and the query's length are next, and the payload's length is last.
 ghost use Rattle.std.specs.Prelude.{◌≡◌, ◌||◌, None, Some};
 ghost use Rattle.coap_opts.specs.Verdict.{refusal_verdict, request_verdict, verdict};
 ghost use Rattle.coap_opts.specs.Classified.{IsRequestOf, asked_by, asking_verdict, verdict_of, written_over};
@@ -32,7 +32,7 @@ pub fn classify<'a>(message: &Message<'a>) -> Classified<Request<'a>>
     }
 }
 
-/// Returns `asking` with `request` if it is to be served, for [`classify`].
+/// Returns `asking`, with `request` if that is to be served, for [`classify`].
 ///
 /// A refusal and silence stay as they are.
 fn served<'a>(asking: Asking<()>, request: Request<'a>) -> Asking<Request<'a>>
@@ -48,7 +48,7 @@ fn served<'a>(asking: Asking<()>, request: Request<'a>) -> Asking<Request<'a>>
 /// Classifies a message, and writes an accepted request to `request`.
 ///
 /// The result is that of [`classify`], for the server's front, which passes its own `request`: no
-/// request is moved. If none is accepted, the contract says nothing of `request`.
+/// request is moved. If no request is accepted, the contract doesn't say what `request` has.
 #[tactic(auto, unfolding(crate::specs::Verdict::verdict))]
 pub fn classify_over<'a>(message: &Message<'a>, request: &mut Request<'a>) -> Classified<()>
     ensures { verdict_of (written_over request.new) result ≡ verdict message.now }

@@ -27,7 +27,7 @@ pub(crate) enum Segments<'a> {
 }
 
 impl<'a> Segments<'a> {
-    /// Appends a segment; with a third one, the path is `More`.
+    /// Appends a segment; with a third segment, the path is `More`.
     fn push(&mut self, segment: &'a [u8])
         ensures { (left : List (List ℕ)) →
             resource_with self.old (segment.now ∷ left) ≡ resource_with self.new left }
@@ -54,7 +54,7 @@ pub(crate) struct JoinedQuery {
 impl JoinedQuery {
     /// Appends a value, with a `&` before it if it isn't the first.
     ///
-    /// Sets `is_long` if there is no room for them. Later values are then ignored.
+    /// Sets `is_long` if there is no room for both. Later values are then ignored.
     fn push(&mut self, value: &[u8])
         ensures { (left : List (List ℕ)) (all : List ℕ) →
             IsJoined self.old (value.now ∷ left) all → IsJoined self.new left all }

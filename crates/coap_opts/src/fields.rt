@@ -1,7 +1,7 @@
 //! The fields of a request, each decoded from the value of its option.
 //!
-//! The classifier writes them. A value is `None` if the request has no such option, and so is its
-//! field then.
+//! The classifier writes them. A value is `None` if the request has no such option, and then its
+//! field is `None` too.
 ghost use Rattle.std.specs.Prelude.{◌≡◌, ◌≤◌, [], length};
 ghost use Rattle.std.specs.Option.{option_map};
 ghost use Rattle.coap_opts.specs.Values.{place_in, uint_value};

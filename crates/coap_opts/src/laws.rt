@@ -32,7 +32,7 @@ pub fn uints_are_read_again()
     ensures short { (n : ℕ) → length (uint_bytes n) ≤ 8 }
 {}
 
-/// Each resource has one path, and other paths name none.
+/// Each resource has one path, and other paths name no resource.
 pub fn resources_have_one_path()
     ensures named { (r : Resource) → IsResource r → resource_of (path_of r) ≡ Some r }
     ensures only { (segments : List (List ℕ)) (r : Resource) → resource_of segments ≡ Some r →
@@ -54,8 +54,8 @@ pub fn requests_are_within()
 
 /// Each field of an accepted request comes from its message.
 ///
-/// The method is that of the code, the resource that of the Uri-Path values, and the query that of
-/// the Uri-Query values. Each other field comes from the options with its number.
+/// The method is that of the code, the resource is that of the Uri-Path values, and the query is
+/// that of the Uri-Query values. Each other field comes from the options with its number.
 pub fn fields_are_the_options()
     ensures { (m : Message) (r : Asked) → verdict m ≡ IsAsked r → IsMadeOf m r }
 {}
@@ -147,9 +147,9 @@ pub fn checks_come_in_order()
 
 /// The verdicts for messages that aren't requests (RFC 7252, sections 4.2 and 4.3).
 ///
-/// A confirmable message with another class or with code 0.00 is rejected by a Reset, and a
-/// non-confirmable one is ignored. An empty Acknowledgement or Reset is a signal for the message
-/// that it matches. All other Acknowledgements and Resets are ignored.
+/// A confirmable message with another class or with code 0.00 is rejected by a Reset, and such a
+/// non-confirmable message is ignored. An empty Acknowledgement or Reset is a signal for the
+/// message that it matches. All other Acknowledgements and Resets are ignored.
 pub fn other_messages_have_their_verdicts()
     ensures rejected { (m : Message) → m.kind ≡ Confirmable → (m.code ≡ 0) ⊎ (32 ≤ m.code) → verdict m ≡ IsReset }
     ensures ignored { (m : Message) → m.kind ≡ NonConfirmable → (m.code ≡ 0) ⊎ (32 ≤ m.code) → verdict m ≡ IsIgnored }

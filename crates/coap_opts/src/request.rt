@@ -115,7 +115,7 @@ pub enum Classified<R> {
     Reset,
     /// An empty Acknowledgement, or an empty Reset if `reset` is true.
     ///
-    /// It belongs to a message that was sent with its message ID.
+    /// It belongs to a message that was sent with the same message ID.
     Signal { reset: bool },
     /// A message to ignore silently.
     Ignored,

@@ -5,7 +5,8 @@ use Rattle.coap_opts.specs.declared.number.TheConstants as option
 use Rattle.coap_opts.specs.Values.{Place, block_bytes}
 use Rattle.coap_block.specs.Cuts.{Part, cut_of}
 
--- no accepted request has the reserved size, 7; it would count as the greatest.
+-- the requested block. The reserved size 7, which no accepted request has, counts as the greatest
+-- size.
 abbrev pub asked_place : Place → Place
 asked_place p = record p { szx = min p.szx 6 }
 

@@ -24,7 +24,8 @@ text answer payload = record { code = answer; options = []; payload = payload }
 abbrev pub bare : ℕ → Response
 bare answer = text answer []
 
--- the response to a block that is answered immediately: a code, and the block if more follow.
+-- the response to a block that is answered immediately: a code, and the Block1 option of the block,
+-- if one is given.
 abbrev pub settled_by : ℕ → Option Place → Response
 settled_by answer place = record { code = answer; options = block1 place; payload = [] }
 
@@ -45,9 +46,9 @@ abbrev pub content : List (ℕ × List ℕ) → Option Part → Response
 content options None = bare (code 4 0)
 content options (Some part) = record { code = code 2 5; options = options ++ block2 part.place; payload = part.bytes }
 
--- the response to a run, by its code: a 2.05 (Content) has the revision counter found as its ETag,
--- and as its sequence number if the client observes the slot; a 2.04 (Changed) carries the bytes
--- alone, and an error carries nothing.
+-- the response to a run, by its code: a 2.05 (Content) has the revision counter that the run found
+-- as its ETag, and also as its sequence number if the client observes the slot; a 2.04 (Changed)
+-- carries the bytes alone, and an error carries nothing.
 abbrev pub ran_response : ℕ → Option Part → ℕ → Bool → Response
 ran_response answer cut serial observed =
     if answer == code 2 5 then content (etag serial ++ observe_option observed serial) cut else (if answer == code 2 4 then text answer (part_bytes cut) else bare answer)
@@ -59,8 +60,8 @@ pub record Envelope : Type 0 where
   pub id : ℕ
   pub token : List ℕ
 
--- the response to a confirmable request is piggybacked in its acknowledgement; any other goes in a
--- non-confirmable message.
+-- the response to a confirmable request is piggybacked in its acknowledgement; any other response
+-- goes in a non-confirmable message.
 abbrev pub reply_kind : Bool → MessageType
 reply_kind true = Acknowledgement
 reply_kind false = NonConfirmable

@@ -36,9 +36,9 @@ impl<'a> Model for BodyBlock<'a> {
 impl<'a> BodyBlock<'a> {
     /// Returns the requested block of a body.
     ///
-    /// If none is requested, it is the body, or the first block of a body above 1,024 bytes.
-    /// Returns `None` if the block isn't the first and begins at or past the end. The reserved size
-    /// counts as the greatest.
+    /// If no block is requested, the result is the body, or the first block of a body above 1,024
+    /// bytes. Returns `None` if the block isn't the first and begins at or past the end. The
+    /// reserved size counts as the greatest.
     pub fn cut(body: &'a [u8], asked: Option<Block>) -> Option<BodyBlock<'a>>
         ensures { result ≡ cut_for asked body.now }
     {

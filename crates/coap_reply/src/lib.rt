@@ -26,11 +26,11 @@
 //!
 //! - A response with a code, options and a payload is written in its one encoding, for the endpoint
 //!   of its envelope.
-//! - A 2.05 (Content) carries the requested block with its Block2. It is a 4.00 if there is no such
-//!   block.
-//! - In the response to a run, a 2.05 has the revision counter as its ETag, and its lowest 24 bits
-//!   as Observe if the slot is observed. A 2.04 carries the bytes alone, and an error carries
-//!   nothing.
+//! - A 2.05 (Content) carries the requested block with its Block2. If there is no such block, the
+//!   response is a 4.00.
+//! - In the response to a run, a 2.05 has the revision counter as its ETag, and the counter's
+//!   lowest 24 bits as Observe if the slot is observed. A 2.04 carries the bytes alone, and an
+//!   error carries nothing.
 //! - A block that is cut is the one that is requested of a body.
 //! - Each response is stated with the numbers of its options, and parsing a written response gives
 //!   that response.

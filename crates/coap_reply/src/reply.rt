@@ -41,7 +41,7 @@ impl<'a> Model for Envelope<'a> {
 /// Returns the type of the message with the response to a request.
 ///
 /// The response to a confirmable request is piggybacked in its acknowledgement (RFC 7252, section
-/// 5.2.1). Any other goes in a non-confirmable message (RFC 7252, section 5.2.3).
+/// 5.2.1). Any other response goes in a non-confirmable message (RFC 7252, section 5.2.3).
 pub fn reply_kind(confirmable: bool) -> MessageType
     ensures { result ≡ spec.reply_kind confirmable }
 {
@@ -91,8 +91,8 @@ pub fn text(envelope: &Envelope<'_>, code: Code, payload: &[u8], bytes: &mut Dat
 
 /// Replaces `bytes` with a 2.05 (Content) with the requested block.
 ///
-/// It has `options`, which name no block, and the Block2 option of the block (RFC 7959, section
-/// 2.4). If there is no such block, it is a 4.00.
+/// The response has `options`, which name no block, and the Block2 option of the block (RFC 7959,
+/// section 2.4). If there is no such block, the response is a 4.00.
 pub fn content(
     envelope: &Envelope<'_>,
     options: ReplyOptions,
@@ -116,10 +116,10 @@ pub fn content(
 /// Replaces `bytes` with the response to a run.
 ///
 /// `code` is the run's code, `block` the requested block of its response, and `serial` the revision
-/// counter that it found. A 2.05 (Content) has the counter as its ETag (RFC 7252, section 5.10.6).
-/// If `observed`, it has the counter's lowest 24 bits as the sequence number (RFC 7641, section
-/// 4.4). A 2.04 (Changed) carries the bytes alone, and an error carries nothing. If `block` is
-/// `None`, a 4.00 stands for a 2.05.
+/// counter that the run found. A 2.05 (Content) has the counter as its ETag (RFC 7252, section
+/// 5.10.6). If `observed`, it has the counter's lowest 24 bits as the sequence number (RFC 7641,
+/// section 4.4). A 2.04 (Changed) carries the bytes alone, and an error carries nothing. If `block`
+/// is `None`, a 4.00 replaces a 2.05.
 pub fn ran(
     envelope: &Envelope<'_>,
     code: Code,

@@ -1,8 +1,8 @@
 //! Arithmetic and comparisons on 64-bit registers (RFC 9669, sections 4.1 to 4.3).
 //!
 //! `alu` computes an arithmetic instruction, and `truth` the comparison of a conditional jump. The
-//! interpreter's loop calls the functions that they use, whose operation and width are constants at
-//! each call.
+//! interpreter's loop calls the functions that these two use; their operation and width are
+//! constants at each call.
 //!
 //! ```rust
 //! use fc_alu::arithmetic;

@@ -1,4 +1,4 @@
--- The program of a text's lines, or the fault of lines that have none.
+-- The program of a text's lines, or the fault of lines that have no program.
 use Rattle.std.specs.Option.{option_to_list}
 use Rattle.std.specs.Prelude.{ℕ, ◌+◌, length, ◌≡◌, IsTrue, List, [], ◌∷◌, ◌++◌, All, Option, Some, None, Ok, Err}
 use Rattle.std.specs.List.{flat_map}
@@ -38,7 +38,7 @@ pub record IsAssembled (lines : List Text) (program : List Insn) : Type 0 where
   pub faultless : All (λ line. mistake_in (line_meaning line) ≡ None) lines
   pub slots : program ≡ flat_map line_slots lines
 
--- the line with this number, counted from 1, has the mistake, and no line before it has one.
+-- the line with this number, counted from 1, has the mistake, and no line before it has a mistake.
 pub record IsFirstMistake (lines : List Text) (mistake : Mistake) (number : ℕ) : Type 0 where
   pub before : List Text
   pub faulty : Text

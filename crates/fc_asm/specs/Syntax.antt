@@ -21,7 +21,7 @@ before_comment line = before_first (λ b. b == 59) line
 abbrev pub split_commas : Text → List Text
 split_commas part = filter (λ word. nat_lt 0 (length word)) (slice_split (λ b. b == 44) part)
 
--- and so do spaces.
+-- spaces separate words too.
 abbrev pub split_words : Text → List Text
 split_words code = flat_map split_commas (slice_split (λ b. b == 32) code)
 

@@ -13,9 +13,9 @@ use std::alloc::{AllocError, Global};
 /// Assembles a source text with one instruction on each line.
 ///
 /// # Errors
-/// Returns the first line with a mistake, and the first of these that it has: an unknown first word
-/// (A1), a bad operand (A2), a value out of range (A3). Returns `NoMemory` if memory can't be
-/// allocated before such a line is found.
+/// Returns the first line with a mistake, and the first of these mistakes that the line has: an
+/// unknown first word (A1), a bad operand (A2), a value out of range (A3). Returns `NoMemory` if
+/// memory can't be allocated before such a line is found.
 pub fn assemble(alloc: Global, text: &str) -> Result<Vec<Insn>, AsmError>
     ensures program { IfOk result (λ v. IsAssembled (lines_of text.now) v.items) }
     ensures slots { IfOk result (λ v. IsTrue (is_program v.items)) }
@@ -47,7 +47,7 @@ fn assemble_lines(alloc: Global, names: &Names, text: &str) -> Result<Vec<Insn>,
 
 /// Appends the slots of the line `code`, which has this number.
 ///
-/// A line without an instruction has none.
+/// A line without an instruction has no slots.
 ///
 /// # Errors
 /// Returns the line's mistake, or `NoMemory` if memory can't be allocated. The contract then

@@ -194,7 +194,7 @@ fn bits(extension: SignExtension) -> i32
 
 /// Returns an instruction's operands, in the order of the line.
 ///
-/// A wide load's second half has none, and no line either.
+/// A wide load's second half has no operands, and no line either.
 fn shown_operands(insn: Insn) -> Operands
     ensures { shown_texts result ≡ operands_of insn }
 {

@@ -51,7 +51,7 @@ fn push_words<'a>(words: &mut Vec<&'a str>, part: &'a str) -> Result<(), AllocEr
     Ok(())
 }
 
-/// Parses the instruction in the words of a line, or `None` for a blank line.
+/// Parses the instruction in the words of a line; returns `None` if it is blank.
 ///
 /// # Errors
 /// Returns `UnknownWord` if the first word is no mnemonic. Otherwise returns the mistake of the

@@ -4,7 +4,7 @@ use Rattle.fc_cli.specs.declared.status.Status.TheVariants.{Bad, Failed}
 use Rattle.fc_cli.specs.declared.stop.Stop.{Stop}
 use Rattle.fc_cli.specs.declared.stop.Stop.TheVariants.{BadLine, Input, Output, Memory}
 
--- a bad line is the fault of its writer.
+-- the status of a stop: `Bad` for a bad line, and `Failed` for each other reason.
 abbrev pub status_of : Stop → Status
 status_of (BadLine line) = Bad
 status_of (Input error) = Failed

@@ -51,6 +51,6 @@ abbrev pub has_no_tab : List ℕ → Bool
 has_no_tab [] = true
 has_no_tab (b ∷ more) = not (is_tab b) && has_no_tab more
 
--- and there is neither a tab nor a carriage return.
+-- no mark begins anywhere, and there is neither a tab nor a carriage return.
 abbrev pub is_plain : List ℕ → Bool
 is_plain text = is_plain_but_for_tabs text && has_no_tab text

@@ -60,7 +60,7 @@ pub(crate) fn value_of<'a>(constants: &[Constant<'a>], name: &[u8]) -> Option<&'
     }
 }
 
-/// Appends the text after a constant's number, and nothing of its line before that.
+/// Appends the text after a constant's number, and nothing of the line before.
 ///
 /// # Errors
 /// Returns the mistake of a malformed line, or of a name that an earlier constant or something else

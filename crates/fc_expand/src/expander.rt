@@ -65,7 +65,7 @@ enum Wanted {
     Label,
     /// `call`: a helper, as its first operand.
     Helper,
-    /// Any other instruction: none.
+    /// Any other instruction: no name.
     Nothing,
 }
 
@@ -84,7 +84,8 @@ enum Wanted {
 /// A source without any of these is unchanged.
 ///
 /// # Errors
-/// Returns the first line with a mistake in one of these, or that memory couldn't be allocated.
+/// Returns the first line with a mistake in one of these forms, or `NoMemory` if memory couldn't be
+/// allocated.
 #[tactic(auto, using(crate::proofs::Spacing::plain_is_spaced))]
 pub fn expand(alloc: Global, text: &[u8]) -> Result<Vec<u8>, ExpandError>
     ensures plain { is_plain text.now ≡ true → IfOk result (λ v. v.items ≡ text.now) }
@@ -269,7 +270,7 @@ fn push_name(
     }
 }
 
-/// Appends the offset to a label, counted in slots from the one after the jump.
+/// Appends the offset to a label, counted in slots from the slot after the jump.
 ///
 /// # Errors
 /// Returns `UnknownLabel` if no line has the label, or `NoMemory` if memory can't be allocated.
@@ -297,7 +298,7 @@ fn push_helper(out: &mut Vec<u8>, name: &[u8], alloc: Global) -> Result<(), Piec
 
 /// Returns the number of slots of a line without a label: two for a wide load.
 ///
-/// A blank line and a constant's have none, and any other has one.
+/// A blank line and a constant's line have no slots, and any other line has one.
 fn slots_of(body: &[u8]) -> u32 {
     match first_word(body) {
         [] | b".const" => 0,

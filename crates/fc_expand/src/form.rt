@@ -30,7 +30,7 @@ pub enum Form {
 }
 
 impl Form {
-    /// Returns the assembler's mistake as which this one is reported.
+    /// Returns the assembler's mistake under which this one is reported.
     pub fn mistake(self) -> Mistake {
         match self {
             Form::DoubleLabel | Form::DoubleConstant | Form::TakenConstant => Mistake::UnknownWord,

@@ -102,7 +102,8 @@ fn packed(out: &mut Vec<u8>, more: &[u8], alloc: Global) -> Result<usize, PieceE
 /// Returns the number whose bytes, in little-endian order, are the characters.
 ///
 /// # Errors
-/// Returns the mistake in a text of more than eight characters, or with others than printed ASCII.
+/// Returns the mistake in a text that has more than eight characters, or characters other than
+/// printed ASCII.
 fn packed_number(text: &[u8]) -> Result<u64, PieceError> {
     if text.len() > 8 {
         return Err(PieceError::Form(Form::LongPacked));

@@ -25,7 +25,7 @@ ampersand = 38
 abbrev pub texts_in : List (Vec ℕ) → List (List ℕ)
 texts_in texts = map (λ text. text.items) texts
 
--- the pieces of a text between separators, with their escapes decoded; an empty text has none.
+-- the pieces of a text between separators, with their escapes decoded; an empty text has no pieces.
 abbrev pub decoded_pieces : ℕ → List ℕ → List (List ℕ)
 decoded_pieces byte [] = []
 decoded_pieces byte (first ∷ text) = map percent_decode (slice_split (λ b. b == byte) (first ∷ text))
@@ -35,7 +35,7 @@ abbrev pub plain_pieces : ℕ → List ℕ → List (List ℕ)
 plain_pieces byte [] = []
 plain_pieces byte (first ∷ text) = slice_split (λ b. b == byte) (first ∷ text)
 
--- such a path ends before the first `?`, and the arguments of its query follow it.
+-- such a path ends before the first `?`, and the arguments of its query follow the `?`.
 abbrev pub is_question : ℕ → Bool
 is_question b = b == 63
 
@@ -89,12 +89,12 @@ abbrev pub begins_with_slash : List ℕ → Bool
 begins_with_slash [] = false
 begins_with_slash (first ∷ text) = first == slash
 
--- a text is read as a URI if it has `://` and doesn't begin with a slash; any other is a path.
+-- a text is read as a URI if it has `://` and doesn't begin with a slash; any other text is a path.
 pub record IsReadAsUri (text : List ℕ) : Type 0 where
   pub scheme : HasSubslice text (codes "://")
   pub no_slash : begins_with_slash text ≡ false
 
--- a path has a port with it, and a URI has none.
+-- a path is given with a port, and a URI without one.
 abbrev pub FitsPort : List ℕ → Option ℕ → Type 0
 FitsPort text (Some port) = IsReadAsUri text → ⊥
 FitsPort text None = IsReadAsUri text
@@ -110,7 +110,7 @@ pub record IsAddress (text : List ℕ) (port : Option ℕ) (a : Address) : Type 
 
 -- ---- no address
 
--- the text is no URI by the URL Standard, or one of another scheme.
+-- the text is no URI by the URL Standard, or is a URI of another scheme.
 abbrev pub IsNoCoapUri : List ℕ → Type 0
 IsNoCoapUri text =
     ((error : ParseError) × (parse_url None text ≡ Err error))
@@ -129,7 +129,8 @@ pub record IsAtHost (uri : Parts) : Type 0 where
   pub host : HasHost uri ip
 
 -- the first reason why the parts of a coap URI are no address: it has other parts; its host denotes
--- no IPv4 address; or a segment of its path contains a slash. Memory is needed after the host.
+-- no IPv4 address; or a segment of its path contains a slash. A lack of memory is reported only if
+-- the URI has no other parts and its host denotes an IPv4 address.
 abbrev pub IsUnfitBy : Parts → AddressError → Type 0
 IsUnfitBy uri address_error.Parts = has_other_parts uri ≡ true
 IsUnfitBy uri address_error.Host = (has_other_parts uri ≡ false) × ((ip : Ipv4Addr) → HasHost uri ip → ⊥)
@@ -137,7 +138,7 @@ IsUnfitBy uri address_error.Escape = IsAtHost uri × (list_any has_slash (segmen
 IsUnfitBy uri address_error.NoMemory = IsAtHost uri
 IsUnfitBy uri other = ⊥
 
--- the same of the URI's path alone.
+-- the same for the URI's path alone.
 abbrev pub IsUnfitSegment : List ℕ → AddressError → Type 0
 IsUnfitSegment path address_error.Escape = list_any has_slash (segments_in path) ≡ true
 IsUnfitSegment path address_error.NoMemory = Unit {0}
@@ -154,8 +155,9 @@ IsNoUri text address_error.NoUri = IsNoCoapUri text
 IsNoUri text address_error.NoMemory = Unit {0}
 IsNoUri text other = IsUnfitUri text other
 
--- the reason why there is no address: a path without a port, or a URI with one; a URI that can't be
--- the target of a request. Memory is needed only for a text of the form that goes with the port.
+-- the reason why there is no address: a path without a port; a URI with a port; or a URI that can't
+-- be the target of a request. A lack of memory is reported only for a path with a port or a URI
+-- without one.
 abbrev pub IsNoAddress : List ℕ → Option ℕ → AddressError → Type 0
 IsNoAddress text port address_error.NoPort = (IsReadAsUri text → ⊥) × (port ≡ None)
 IsNoAddress text port address_error.TwoPorts = IsReadAsUri text × (is_some port ≡ true)

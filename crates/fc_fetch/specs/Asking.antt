@@ -30,7 +30,7 @@ IsAskedBy connected drawn went came is_error called asking known before after st
     before after status
 
 -- the request's body: none, a text, a file's bytes, or the input's bytes if they are known. A
--- file's bytes aren't known, and it may not open.
+-- file's bytes aren't known, and opening the file may fail.
 abbrev pub IsAskedFrom : BodySource → (Option (List ℕ) → Type 0) → Option (List ℕ) → Status → Type 0
 IsAskedFrom source.None Asked input status = Asked (Some [])
 IsAskedFrom (source.Text text) Asked input status = Asked (Some text.now)

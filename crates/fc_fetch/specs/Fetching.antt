@@ -33,7 +33,7 @@ use Rattle.fc_fetch.specs.declared.client.FetchOptions.{FetchOptions}
 use Rattle.fc_fetch.specs.declared.printer.Shown.{Shown}
 use Rattle.fc_fetch.specs.Printing.{shown_bytes}
 
--- a line.
+-- the text, and a line feed after it.
 abbrev pub ended_line : List ℕ → List ℕ
 ended_line text = text ++ (10 ∷ [])
 
@@ -42,7 +42,7 @@ abbrev pub answer_text : Shown → ℕ → List ℕ → List ℕ
 answer_text shown code [] = ended_line (code_text code)
 answer_text shown code (b ∷ body) = ended_line (code_text code) ++ ended_line (shown_bytes shown (b ∷ body))
 
--- the client is done at a code of success (RFC 7252, section 5.9.1).
+-- the client's status for a code: `Done` for a success (RFC 7252, section 5.9.1), else `Refused`.
 abbrev pub ending_of : ℕ → Status
 ending_of code = if code / 32 == 2 then Done else Refused
 
@@ -126,21 +126,21 @@ pub record IsFetchedBy (went came : List ℕ → Type 0) (before after : List Pe
   pub fetched : IsFetched went came before after client_request first code answer
   pub whole : SendsWhole went client_request code
 
--- or it failed with this fault.
+-- a fetch of such a client request failed with this fault.
 pub record IsFaultOf (went came : List ℕ → Type 0) (is_error : PeerError → Type 0) (Makes : (List PeerCall → Type 0) → Type 0) (asking : FetchOptions) (target : RequestTarget)
     (body : List ℕ) (first : ℕ) (fault : FetchFault) : Type 0 where
   pub client_request : ClientRequest
   pub asks : IsAsking asking target body client_request
   pub stops : IsFetchFault went came is_error Makes client_request first fault
 
--- the request doesn't fit in a datagram, and nothing is called.
+-- the request doesn't fit in a datagram, and no call is made.
 pub record HasNoRoom (Makes : (List PeerCall → Type 0) → Type 0) (method : Method) (target : RequestTarget) (body : List ℕ) : Type 0 where
   pub unfit : FitsDatagrams method (slices_in target.path.segments.items) (slices_in target.query.items) body → ⊥
   pub called : Makes (λ calls. calls ≡ [])
 
 -- a client with these options has this response. It connected to the server at its target's address
--- and requested that resource. The body is the input's bytes if they are known. The message IDs
--- begin with one that was drawn.
+-- and requested that resource. The body is the input's bytes if they are known. The first message
+-- ID was drawn.
 pub record IsAnswerTo {S : Type 0} (connected : S → SocketAddrV4 → Type 0) (drawn went came : List ℕ → Type 0) (called : S → List PeerCall → Type 0) (asking : FetchOptions)
     (input : Option (List ℕ)) (code : ℕ) (answer : List ℕ) : Type 0 where
   pub address : Address
@@ -195,7 +195,7 @@ pub record HasFailedAt {S : Type 0} (connected : S → SocketAddrV4 → Type 0) 
   pub ended : S
   pub fails : IsFaultOf went came is_error (MakesCalls (called opened) (called ended)) asking target body id f
 
--- or the client couldn't connect.
+-- the fetch of the target's resource failed in this way, or the client couldn't connect.
 pub record IsAskedInVain {S : Type 0} (connected : S → SocketAddrV4 → Type 0) (drawn went came : List ℕ → Type 0) (is_error : PeerError → Type 0) (called : S → List PeerCall → Type 0)
     (asking : FetchOptions) (input : Option (List ℕ)) (f : FetchFault) : Type 0 where
   pub resource : HasResource asking.target.now asking.port
@@ -205,7 +205,8 @@ pub record IsAskedInVain {S : Type 0} (connected : S → SocketAddrV4 → Type 0
   pub id_is : IsDrawnId drawn id
   pub fails : IsUnconnected f ⊎ HasFailedAt connected went came is_error called asking resource.target body id resource.address.server f
 
--- or the request doesn't fit in a datagram, and nothing was called on the server.
+-- the client connected to the server at the target's address, but the request doesn't fit in a
+-- datagram, and nothing was called on the server.
 pub record IsWithoutRoom {S : Type 0} (connected : S → SocketAddrV4 → Type 0) (called : S → List PeerCall → Type 0) (asking : FetchOptions) (input : Option (List ℕ)) : Type 0 where
   pub resource : HasResource asking.target.now asking.port
   pub body : List ℕ
@@ -215,8 +216,9 @@ pub record IsWithoutRoom {S : Type 0} (connected : S → SocketAddrV4 → Type 0
   pub ended : S
   pub room : HasNoRoom (MakesCalls (called opened) (called ended)) asking.method resource.target body
 
--- the reason why a client with these options has no response. Its target names no resource; or the
--- input or the random bytes failed, the request doesn't fit in a datagram, or the fetch failed.
+-- the reason why a client with these options has no response. Its target names no resource; the
+-- input can't be read; random bytes can't be drawn; the request doesn't fit in a datagram; or the
+-- fetch failed.
 abbrev pub IsFetchStop : {S : Type 0} → (S → SocketAddrV4 → Type 0) → (List ℕ → Type 0) → (List ℕ → Type 0) → (List ℕ → Type 0) → (PeerError → Type 0) → (S → List PeerCall → Type 0)
     → FetchOptions → Option (List ℕ) → FetchStop → Type 0
 IsFetchStop connected drawn went came is_error called asking input (stop.Input name error) = (name.now ≡ asking.source.now) × HasResource asking.target.now asking.port
@@ -234,21 +236,21 @@ pub record IsAnswerShown (Has : ℕ → List ℕ → Type 0) (shown : Shown) (be
   pub has : Has code answer
   pub printed : IsPrinted shown code answer before after status
 
--- or its bytes are stored in a file.
+-- a response of this kind came; its bytes are stored in a file, or it was printed.
 pub record IsAnswerKept (Has : ℕ → List ℕ → Type 0) (shown : Shown) (before after kept_before kept : Option (List ℕ)) (status : Status) : Type 0 where
   pub code : ℕ
   pub answer : List ℕ
   pub has : Has code answer
   pub is : IsKeptOrPrinted shown code answer before after kept_before kept status
 
--- or it came, and couldn't be written.
+-- a response of this kind came, and couldn't be written.
 pub record IsUnprinted (Has : ℕ → List ℕ → Type 0) (status : Status) : Type 0 where
   pub code : ℕ
   pub answer : List ℕ
   pub has : Has code answer
   pub status_is : status ≡ Failed
 
--- or none came, for one of these reasons.
+-- no response came, for one of these reasons; or one came, and couldn't be written.
 abbrev pub IsUnanswered : (ℕ → List ℕ → Type 0) → (FetchStop → Type 0) → Status → Type 0
 IsUnanswered Has Stops status = HasStopped Stops status ⊎ IsUnprinted Has status
 

@@ -47,7 +47,7 @@ use Rattle.fc_fetch.specs.declared.rendering.Rendered.TheVariants as rendered
 use Rattle.fc_fetch.specs.Fetching.{HasResource, HasStopped, IsTargetStop, IsUnconnected}
 use Rattle.fc_fetch.specs.Rendering.{AreRendered, IsRendering, RenderedNote, Rendering, Whole, Written, errors_text, has_further, has_line, lines_in, note_text, notes_of, notes_text, rendered_error, rendered_text}
 
--- the maximum number of lines: as many as are wanted, and one if none is.
+-- the maximum number of lines: the number wanted, or one if that is 0; without a number, 2^64 - 1.
 abbrev pub lines_wanted : Option ℕ → ℕ
 lines_wanted None = 18446744073709551615
 lines_wanted (Some count) = max count 1
@@ -67,7 +67,7 @@ IsEnd limit (Last code) latest older =
 
 -- ---- waits
 
--- a wait without an end is begun in days of 86,400 s.
+-- the call begins a wait of a day, 86,400 s. A wait without an end consists of such waits.
 abbrev pub is_day : PeerCall → Type 0
 is_day call = call ≡ Waits 86400
 
@@ -76,7 +76,7 @@ abbrev pub first_wait : Option ℕ → ℕ
 first_wait None = 86400
 first_wait (Some seconds) = seconds
 
--- if the time ends, no further wait is begun; else each further wait is of a day.
+-- if the time is limited, no further wait is begun; otherwise each further wait is of a day.
 abbrev pub IsAwaitedIn : Bool → List PeerCall → Type 0
 IsAwaitedIn true calls = schedule calls ≡ []
 IsAwaitedIn false calls = All is_day (schedule calls)
@@ -132,8 +132,7 @@ pub record IsWaitedFor (o : Observer) (seconds : Option ℕ) (start : ℕ) (call
   pub turns : AreTurns o seconds start handled
   pub is : calls ≡ handled ++ Waits (first_wait seconds) ∷ []
 
--- the wait is over: the last receive returned nothing, or 2^64 - 1 datagrams came, after which no
--- more are received.
+-- the wait is over: the last receive returned nothing, or at least 2^64 - 1 calls were made.
 abbrev pub IsOverAtLast : List PeerCall → Type 0
 IsOverAtLast calls = ((older : List PeerCall) × (calls ≡ Receives None ∷ older)) ⊎ (2 ^ 64 ≤ length calls + 1)
 
@@ -141,7 +140,8 @@ IsOverAtLast calls = ((older : List PeerCall) × (calls ≡ Receives None ∷ ol
 abbrev pub IsOverAtRest : List PeerCall → Type 0
 IsOverAtRest calls = (now : ℕ) × (older : List PeerCall) × (calls ≡ Waits 0 ∷ Reads now ∷ older)
 
--- the time is over: the wait is over, or 2^64 - 1 waits are if it has no end.
+-- the time is over: the wait is over or, for a wait without an end, at least 2^64 - 1 waits of a
+-- day were begun.
 abbrev pub IsTimeOver : Option ℕ → List PeerCall → Type 0
 IsTimeOver (Some seconds) calls = IsOverAtLast calls ⊎ IsOverAtRest calls
 IsTimeOver None calls = 2 ^ 64 ≤ length (schedule calls) + 1
@@ -150,8 +150,8 @@ abbrev pub EndsInTime : Option ℕ → ObservationEnd → List PeerCall → Type
 EndsInTime seconds Over calls = IsTimeOver seconds calls
 EndsInTime seconds other calls = Unit {0}
 
--- it registers, and observes for that time; nothing is called after a first response that is the
--- last.
+-- the observer registers, and observes for that time; nothing is called after a first response that
+-- is the last.
 pub record IsTimedObservation (o : Observer) (seconds : Option ℕ) (end : ObservationEnd) (calls : List PeerCall) : Type 0 where
   pub older : List PeerCall
   pub registered : IsDatedRegistration o older
@@ -160,12 +160,12 @@ pub record IsTimedObservation (o : Observer) (seconds : Option ℕ) (end : Obser
   pub ends : EndsInTime seconds end newer
   pub is : calls ≡ newer ++ older
 
--- the deregistration was sent and acknowledged, if the server would notify further.
+-- the deregistration was sent and acknowledged, if the server would send further notifications.
 abbrev pub HasLeft : (List ℕ → Type 0) → (List ℕ → Type 0) → Observer → ObservationEnd → Type 0
 HasLeft went came o (Last code) = Unit {0}
 HasLeft went came o other = HasDeregistered went came o
 
--- the calls for that, and the calls from the registration on.
+-- the calls of the deregistration; and, in the second, all calls from the registration on.
 abbrev pub IsLeaving : Observer → ObservationEnd → List PeerCall → Type 0
 IsLeaving o (Last code) calls = calls ≡ []
 IsLeaving o other calls = IsDeregistration o calls
@@ -189,8 +189,8 @@ pub record HasShown (went came : List ℕ → Type 0) (told : ℕ → Type 0) (o
   pub so_far : HasRendered went came told o shown before after (latest ∷ older)
   pub ends : IsEnd limit end latest older
 
--- an error, or a response without notifications, isn't a success. The latter is reported on
--- standard error, and if that fails the program fails.
+-- the status is `Refused` if the last response is an error, or a success without notifications.
+-- Such a success is reported on standard error; if that fails, the status is `Failed`.
 abbrev pub IsToldEnd : ObservationEnd → Status → Type 0
 IsToldEnd (Last code) status = (status ≡ Refused) ⊎ ((code.byte / 32 ≡ 2) × (status ≡ Failed))
 IsToldEnd other status = status ≡ Done
@@ -221,7 +221,7 @@ pub record IsObservedIn {S : Type 0} (connected : S → SocketAddrV4 → Type 0)
   pub target_is : IsResourceOf address client_request.target
   pub observed : IsObservedAt connected drawn went came told called observing client_request address.server before after end
 
--- the program observed to such an end, which determines its status.
+-- the program observed to such an end, which determines the program's status.
 pub record HasObservedTo (Ends : ObservationEnd → Type 0) (status : Status) : Type 0 where
   pub end : ObservationEnd
   pub ends : Ends end
@@ -243,8 +243,8 @@ HasEnded Ends Stops status = HasObservedTo Ends status ⊎ HasStopped Stops stat
 abbrev pub IsUnregistered : ((List PeerCall → Type 0) → Type 0) → Observer → Type 0
 IsUnregistered Makes o = Makes (IsRejection true (TellsObserver o.token o.id) (registration_of o)) ⊎ Makes (IsSilence true (TellsObserver o.token o.id) (registration_of o))
 
--- from some state of the peer on it deregistered: its request was sent until one was acknowledged,
--- or until it failed as a deregistration does.
+-- from some state of the peer on, the observer deregistered: its request was sent until it was
+-- acknowledged, or until the deregistration failed.
 pub record DeregistersFrom {S : Type 0} (called : S → List PeerCall → Type 0) (is_error : PeerError → Type 0) (o : Observer) (after : S) : Type 0 where
   pub from : S
   pub ends : MakesCalls (called from) (called after) (IsDeregistration o) ⊎ ((f : FetchFault) × IsLeavingFault is_error (MakesCalls (called from) (called after)) o f)
@@ -256,8 +256,8 @@ LeavesAtFault called is_error tried before after o =
     (tried (deregistration_of o) × DeregistersFrom called is_error o after)
     ⊎ (MakesCalls (called before) (called after) (λ calls. calls ≡ []) ⊎ IsUnregistered (MakesCalls (called before) (called after)) o)
 
--- a server may have the observer after this error, unless it rejected the registration or no
--- response to the registration came.
+-- a server may have the observer after this error, unless the server rejected the registration or
+-- no response to the registration came.
 abbrev pub may_notify : NotesError → Bool
 may_notify (notes_error.Fault fault.Silence) = false
 may_notify (notes_error.Fault fault.Rejected) = false
@@ -277,12 +277,13 @@ pub record AwaitsNote (token : List ℕ) (ends none : Bool) (calls : List PeerCa
 abbrev pub IsObservedSoFar : Observer → Option ℕ → List PeerCall → Type 0
 IsObservedSoFar o seconds = IsTimedObservation o seconds Counted
 
--- during the wait for the next note a notification came last that has this classification.
+-- during the wait for the next note, the message that came last is a notification of this
+-- classification.
 abbrev pub AwaitsUntil : (ℕ → Type 0) → List ℕ → Bool → Observation → (NotificationClass → Type 0) → List PeerCall → Type 0
 AwaitsUntil told token ends w P = AreBehind (AwaitsNote token ends false) (EndsOnNotification told token w P)
 
--- the wait for the next note failed. A notification that came last can't be shown; it is a newer
--- state, and memory for its mark can't be allocated; or the peer returned an error.
+-- the wait for the next note failed. The notification that came last can't be shown; or it is a
+-- newer state, and memory for its mark can't be allocated; or the peer returned an error.
 abbrev pub IsAwaitFault : (List ℕ → Type 0) → (ℕ → Type 0) → (PeerError → Type 0) → ((List PeerCall → Type 0) → Type 0) → Observer → Bool → Observation → FetchFault → Type 0
 IsAwaitFault came told is_error Makes o ends w fault.Part = UnfitCame came o.token o.id × Makes (AwaitsUntil told o.token ends w (λ n. n ≡ notice.Malformed))
 IsAwaitFault came told is_error Makes o ends w (fault.Memory error) = Makes (AwaitsUntil told o.token ends w IsNewState)
@@ -304,8 +305,8 @@ pub record IsStoppedByFirst (came : List ℕ → Type 0) (Makes : (List PeerCall
   pub came_is : HasArrived came (λ m. IsResponseWith o.token o.id m × IsState (notice_of m)) bytes
   pub called : Makes (IsDatedRegistration o)
 
--- the error for a response to the registration that can't be shown: one of several blocks without a
--- sequence number has its own.
+-- the error for a response to the registration that can't be shown: a response of several blocks
+-- without a sequence number has its own error.
 abbrev pub unfit_error : Message → NotesError
 unfit_error m = if is_unobserved m then notes_error.Unobserved else notes_error.Fault fault.Part
 
@@ -372,8 +373,8 @@ pub record IsFailedIn {S : Type 0} (went came : List ℕ → Type 0) (told : ℕ
   pub at : S
   pub fails : IsNotesFault went came told is_error called before at o seconds e
 
--- memory for the deregistration, which is written first, can't be allocated, and nothing was called;
--- or the deregistration failed.
+-- memory for the deregistration can't be allocated, and nothing was called, since its request is
+-- written first; or the deregistration failed.
 abbrev pub IsLeavingError : (PeerError → Type 0) → ((List PeerCall → Type 0) → Type 0) → Observer → Option ℕ → NotesError → Type 0
 IsLeavingError is_error Makes o seconds (notes_error.Fault f) = IsLeftInVain is_error Makes o seconds f
 IsLeavingError is_error Makes o seconds (notes_error.Memory error) = Makes (λ calls. calls ≡ [])
@@ -401,7 +402,7 @@ pub record IsObservedInVain {S : Type 0} (connected : S → SocketAddrV4 → Typ
   pub fails : IsEndFault went came told is_error called opened ended observer observing.extent.seconds error
   pub leaves : LeavesAtFault called is_error tried opened ended observer
 
--- or there are no random bytes, or the client can't connect.
+-- the observer failed in this way; or there are no random bytes, or the client can't connect.
 abbrev pub IsClientRequestStop : {S : Type 0} → (S → SocketAddrV4 → Type 0) → (List ℕ → Type 0) → (List ℕ → Type 0) → (List ℕ → Type 0) → (List ℕ → Type 0) → (ℕ → Type 0) → (PeerError → Type 0) → (S → List PeerCall → Type 0) → Observing
     → ClientRequest → SocketAddrV4 → FetchStop → Type 0
 IsClientRequestStop connected drawn went came tried told is_error called observing e server (stop.Random error) = Unit {0}
@@ -423,7 +424,7 @@ pub record HasNoRoomFor (observing : Observing) : Type 0 where
   pub resource : HasResource observing.target.now observing.port
   pub unfit : FitsDatagrams Get (slices_in resource.target.path.segments.items) (slices_in resource.target.query.items) [] → ⊥
 
--- or the target names no resource.
+-- the reason why an observation stops: one of these, or the target names no resource.
 abbrev pub IsObserveStop : {S : Type 0} → (S → SocketAddrV4 → Type 0) → (List ℕ → Type 0) → (List ℕ → Type 0) → (List ℕ → Type 0) → (List ℕ → Type 0) → (ℕ → Type 0) → (PeerError → Type 0) → (S → List PeerCall → Type 0) → Observing
     → FetchStop → Type 0
 IsObserveStop connected drawn went came tried told is_error called observing stop.Room = HasNoRoomFor observing

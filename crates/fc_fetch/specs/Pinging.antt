@@ -50,7 +50,7 @@ pub record HasResource (p : Pinging) : Type 0 where
   pub address_is : IsAddress text.now p.port address
   pub resource : names_resource address ≡ true
 
--- or is no address.
+-- the target names a resource, or is no address.
 abbrev pub IsNoEndpoint : Pinging → FetchStop → Type 0
 IsNoEndpoint p (stop.Address error) = (text : Bor (List ℕ)) × (p.target ≡ Some text) × IsNoAddress text.now p.port error
 IsNoEndpoint p stop.Resource = HasResource p
@@ -69,7 +69,7 @@ pub record IsPingedAt {S : Type 0} (connected : S → SocketAddrV4 → Type 0) (
   pub pong : HasPong went came id
   pub called_is : MakesCalls (called opened) (called ended) (IsPinged id)
 
--- or the ping failed.
+-- the client connected to the server, and the ping failed.
 pub record IsPingedInVainAt {S : Type 0} (connected : S → SocketAddrV4 → Type 0) (is_error : PeerError → Type 0) (called : S → List PeerCall → Type 0) (server : SocketAddrV4) (id : ℕ)
     (f : FetchFault) : Type 0 where
   pub opened : S
@@ -77,7 +77,7 @@ pub record IsPingedInVainAt {S : Type 0} (connected : S → SocketAddrV4 → Typ
   pub ended : S
   pub fails : IsPingFault is_error (MakesCalls (called opened) (called ended)) id f
 
--- or the client couldn't connect.
+-- the ping of the endpoint failed in this way, or the client couldn't connect.
 pub record HasFailedPing {S : Type 0} (connected : S → SocketAddrV4 → Type 0) (drawn : List ℕ → Type 0) (is_error : PeerError → Type 0) (called : S → List PeerCall → Type 0) (p : Pinging)
     (f : FetchFault) : Type 0 where
   pub server : SocketAddrV4
@@ -92,7 +92,7 @@ IsPingStop connected drawn is_error called p (stop.Random error) = (server : Soc
 IsPingStop connected drawn is_error called p (stop.Fault f) = HasFailedPing connected drawn is_error called p f
 IsPingStop connected drawn is_error called p other = IsNoEndpoint p other
 
--- a ping is done if it was answered.
+-- the status is `Done` if the ping was answered; otherwise the client stopped for such a reason.
 abbrev pub HasEndedPing : {S : Type 0} → (S → SocketAddrV4 → Type 0) → (List ℕ → Type 0) → (List ℕ → Type 0) → (List ℕ → Type 0) → (PeerError → Type 0) → (S → List PeerCall → Type 0) → Pinging
     → Status → Type 0
 HasEndedPing connected drawn went came is_error called p status =

@@ -14,7 +14,7 @@ is_shown_char c = (c == 9) || ((c == 10) || (nat_le 32 c && not (nat_le 127 c &&
 abbrev pub is_text : List ℕ → Bool
 is_text bytes = is_utf8 bytes && list_all is_shown_char (chars bytes)
 
--- text unchanged, if text is wanted, and all else in hex.
+-- text unchanged, if text is wanted; all other bytes in hex.
 abbrev pub shown_bytes : Shown → List ℕ → List ℕ
 shown_bytes Hex bytes = encode_lower bytes
 shown_bytes Text bytes = if is_text bytes then bytes else encode_lower bytes

@@ -190,7 +190,7 @@ fn host_of(name: &str) -> Option<Ipv4Addr>
 }
 
 // Returns the segments of a URI's path, with their escapes decoded. Returns `AddressError::Escape`
-// if one then contains a slash.
+// if a decoded segment contains a slash.
 fn whole_segments_of(alloc: Global, path: &str) -> Result<Vec<Vec<u8>>, AddressError>
     ensures segments { IfOk result (λ v. texts_in v.items ≡ segments_in path.now) }
     ensures whole { IfOk result (λ v. list_any has_slash (segments_in path.now) ≡ false) }

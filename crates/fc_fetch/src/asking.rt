@@ -19,7 +19,7 @@ use std::rt::Files;
 ///
 /// The body is empty, a text, the bytes of a file, or those of `input` to its end. The response is
 /// printed as [`fetch`](crate::fetch) prints it, or the bytes of a success are written to a file.
-/// That file is created or emptied then. `input` isn't read unless it is the body.
+/// The file is created or emptied only then. `input` isn't read unless it is the body.
 ///
 /// Returns the status of [`fetch`](crate::fetch) or [`fetch_to`](crate::fetch_to). Returns `Failed`
 /// if the body's file can't be opened.

@@ -1,7 +1,7 @@
 //! A client's request: its options, and how its response is printed.
 //!
-//! [`fetch`] and [`fetch_to`] send it by the system's sockets. [`fetch_by`] and [`fetch_to_by`] do
-//! so by any [`Connector`], and have the contracts.
+//! [`fetch`] and [`fetch_to`] send it by the system's sockets. The contracts are those of
+//! [`fetch_by`] and [`fetch_to_by`], which send it by any [`Connector`].
 ghost use Rattle.std.specs.Io.KnownBytes.{Appends};
 ghost use Rattle.std.specs.Prelude.{◌≡◌, ◌⊎◌, IfErr, IfNone, IfOk, IfSome, None, OnOk};
 ghost use Rattle.coap_msg.specs.Codes.{code_text};
@@ -363,8 +363,8 @@ fn keep_answer<W: Write, F: Write, E: Write>(
     }
 }
 
-// Prints a response's code, then writes its bytes to a file. The order matters: a file that is
-// opened first gets the descriptor of a standard output that is closed.
+// Prints a response's code, then writes its bytes to a file. The order matters: if standard output
+// is closed, a file that is opened first gets its descriptor.
 fn keep<'a, W: Write, F: Write>(
     out: &mut W,
     file: &mut F,

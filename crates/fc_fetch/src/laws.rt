@@ -42,9 +42,9 @@ pub fn localhost_is_one_address()
         → ipv4_octets (v4_ip a.server) ≡ 127 ∷ 0 ∷ 0 ∷ 1 ∷ [] }
 {}
 
-/// A path needs a port, and a URI must have none beside it.
+/// A path is given with a port, and a URI without one.
 ///
-/// `/r/1` is a path, also `/a://b`, and `coap://[::1]/r/1` is a URI.
+/// `/r/1` and `/a://b` are paths, and `coap://[::1]/r/1` is a URI.
 pub fn a_path_has_a_port_and_a_uri_has_none()
     ensures path { (error : AddressError) → IsNoAddress (codes "/r/1") None error → error ≡ NoPort }
     ensures slashed { (error : AddressError) → IsNoAddress (codes "/a://b") None error → error ≡ NoPort }
@@ -104,7 +104,7 @@ pub fn a_path_ends_at_its_query()
     ensures none { plain_pieces 38 (after_first is_question (codes "/r/1")) ≡ [] }
 {}
 
-/// No word is missing in `ping`, nor in `observe` with a target.
+/// `ping` has all words that it needs, and so has `observe` with a target.
 pub fn ping_needs_no_target()
     ensures ping { (f : Found) → first_value f (codes "method") ≡ Some (codes "ping") → IsOperationError f Missing → ⊥ }
     ensures observation { (f : Found) (target : List ℕ) → first_value f (codes "method") ≡ Some (codes "observe")

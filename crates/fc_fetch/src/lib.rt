@@ -7,16 +7,16 @@
 //!   Content-Format and an output file. An observation has a target, a port, `--text`, `--count`
 //!   and `--seconds`. A ping has a target and a port. Words that don't go together give the reason.
 //!   A GET or a DELETE whose body would be read from a terminal has no body.
-//! - A client that prints a response has it from the server at its target's address. It requested
-//!   that resource, with its query, by the method, the type and the bytes of its input. Its message
-//!   IDs begin with two random bytes. It ends by the response's class. With a file for the
-//!   response, the bytes of a success are written to that file. Any other response is printed, and
-//!   the file isn't changed.
-//! - A client without a response stops for one reason, and its status is that reason's. The target
-//!   is not an address, or it names no resource. The body can't be read, or random bytes can't be
-//!   drawn. The request doesn't fit in a datagram, and then nothing was called. The fetch failed as
-//!   `coap_client::fetch` does, at the server that was connected to. Or the client couldn't
-//!   connect.
+//! - A client that prints a response has it from the server at its target's address. The client
+//!   requested the target's resource, with its query, by the method, the type and the bytes of its
+//!   input. The first of its message IDs is two random bytes. Its status is that of the response's
+//!   class. With a file for the response, the bytes of a success are written to that file. Any
+//!   other response is printed, and the file isn't changed.
+//! - A client without a response stops for one of these reasons, which determines its status. The
+//!   target is not an address, or it names no resource. The body can't be read, or random bytes
+//!   can't be drawn. The request doesn't fit in a datagram, and then nothing was called. The fetch
+//!   failed as `coap_client::fetch` does, at the server that was connected to. Or the client
+//!   couldn't connect.
 //! - A client has another status only if the reason can't be written, or if a response came and
 //!   can't be written.
 //! - An input that isn't the body isn't read.
@@ -24,16 +24,17 @@
 //!   rejected the ping by a Reset message. Otherwise it stops for a reason of the same kind.
 //! - An observer that ends has observed at its target's address, with a token and a message ID of
 //!   random bytes, for `--count` lines and `--seconds` seconds. Otherwise it stops for a reason of
-//!   the same kind. If the reason is a failed observation, it has left as described below.
+//!   the same kind. If the reason is a failed observation, the deregistration is as described
+//!   below.
 //! - The server and the resource of a target. A target is a path with its query, without escapes,
 //!   at a port of this host, or a URI of the scheme coap, read as the URL Standard says. A URI
 //!   gives the host, the port, the segments of its path and the arguments of its query, each with
 //!   its escapes decoded (RFC 7252, section 6.4). Such a URI has no user, no password, no fragment,
 //!   and no slash in a segment. Without a port it has port 5683, and `localhost` is 127.0.0.1.
 //! - A text with `://` that doesn't begin with a slash is read as a URI, and any other as a path. A
-//!   text that is no address has the first of these faults. It is a path without a port, or a URI
-//!   with one. It is no URI, or one of another scheme. It has other parts. Its host is no IPv4
-//!   address. An escaped slash is in its path.
+//!   text that is no address is reported with the first of these faults that it has. It is a path
+//!   without a port, or a URI with a port. It is no URI, or is a URI of another scheme. It has
+//!   other parts. Its host is no IPv4 address. An escaped slash is in its path.
 //! - The printed form of a response, in hex or as text. The client is done only at a success.
 //! - An argument of a query has at most 255 bytes. A target that names no resource has a bad path
 //!   or a longer argument.
@@ -64,8 +65,8 @@
 //!   registration was rejected or got no response. The deregistration was sent until it was
 //!   acknowledged or rejected, or by its whole schedule, unless a call of the peer failed.
 //! - A request has the method, the type (`-N`), the resource and the body that its options contain.
-//!   One that doesn't fit in a datagram isn't sent, and its errors are those of a fetch. The body
-//!   is the input to its end.
+//!   A request that doesn't fit in a datagram isn't sent. The errors of a request are those of a
+//!   fetch. The body is the input to its end.
 //! - The contract doesn't say that each newer message that came is printed. Tests check that
 //!   [`System`] connects and draws as documented.
 //!

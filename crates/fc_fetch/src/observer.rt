@@ -304,8 +304,8 @@ fn leave<P: Peer>(
     }
 }
 
-// Returns whether a server may have the observer after this error: not if it rejected the
-// registration, or if no response to it came.
+// Returns whether a server may have the observer after this error. Returns `false` if the server
+// rejected the registration, or if no response to the registration came.
 fn may_notify(error: &NotesError) -> bool
     ensures { result ≡ spec.may_notify error.now }
 {

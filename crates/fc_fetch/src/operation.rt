@@ -1,7 +1,7 @@
 //! The operation of a client's command line: a request, an observation, or a ping.
 //!
 //! [`operation_of`] builds it from the words that clap found, for `fcreq`. Functions named `.._in`
-//! read one option or one group of options of them.
+//! read one option or one group of options from these words.
 ghost use Rattle.std.specs.Prelude.{◌≡◌, ◌≢◌, IfErr, IfOk, MatchBool, codes};
 ghost use Rattle.clap.specs.Matches.{first_value, found_of, one_text};
 ghost use Rattle.fc_fetch.specs.Operations.{HasNoFormat, HasTwoBodies, IsBodyIn, IsForNoRequest, IsForRequest, IsFormatIn, IsFormatOf, IsLimited, IsMethodOf, IsNumberOf, IsObservationIn, IsOperationError, IsOperationIn, IsPingIn, IsShownIn, IsUnlimited, body_at};
@@ -48,7 +48,7 @@ pub struct Asking<'a> {
 }
 
 impl<'a> BodySource<'a> {
-    /// Returns the body's source for a method if the input is or isn't a terminal.
+    /// Returns the body's source for a method, given whether the input is a terminal.
     ///
     /// A GET or a DELETE reads no terminal.
     pub fn at_terminal(self, method: Method, terminal: bool) -> BodySource<'a>

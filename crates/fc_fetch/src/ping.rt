@@ -23,14 +23,14 @@ pub struct Pinging<'a> {
     ///
     /// Without a target, a port of 127.0.0.1 is pinged.
     pub target: Option<&'a str>,
-    /// That port, 5683 if it isn't given.
+    /// The port of 127.0.0.1 to ping without a target; 5683 if it isn't given.
     pub port: Option<u16>,
 }
 
 /// Pings a server, and prints nothing.
 ///
-/// It sends an empty confirmable message, as often as a confirmable request, until a Reset message
-/// with its message ID comes.
+/// It sends an empty confirmable message until a Reset message with its message ID comes. It sends
+/// the message as often as a confirmable request.
 ///
 /// Returns `Done` if that message came. Returns `Bad` if the target is bad or names a resource.
 /// Returns `Failed` if no such message came, at a fault of the socket, or if the system's random
@@ -44,7 +44,7 @@ pub fn ping<R: Net + Clock + RandomSource, E: Write>(
     ping_by(&System { rt }, alloc, err, pinging)
 }
 
-/// Pings as [`ping`] does, a server that it connects to through `connector`.
+/// Pings as [`ping`] does, and connects to the server through `connector`.
 pub fn ping_by<C: Connector, E: Write>(
     connector: &C,
     alloc: Global,

@@ -80,7 +80,7 @@ pub fn write_code<W: Write>(out: &mut W, code: Code) -> Result<(), PrintError>
 /// Writes the bytes of a success unchanged, to the file that is named for them.
 ///
 /// # Errors
-/// Returns an error if they can't be written.
+/// Returns an error if the bytes can't be written.
 pub fn write_bytes<W: Write>(out: &mut W, bytes: &[u8]) -> io::Result<()>
     ensures { OnOk result (Appends (W.contents out.old) (W.contents out.new) bytes.now) }
 {

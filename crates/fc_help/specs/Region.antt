@@ -32,7 +32,7 @@ region_head r =
     ∷ slice_index (to_le_bytes w16 (format_number r.content_format)) 0 ∷ slice_index (to_le_bytes w16 (format_number r.content_format)) 1
     ∷ said r.content_format ∷ length r.query ∷ replicate 8 0
 
--- then 64 bytes for the query, and 1,024 for the payload.
+-- these bytes, then 64 bytes for the query, and then 1,024 for the payload.
 unfoldable pub region_of : Request → List ℕ
 region_of r = region_head r ++ (padded 64 r.query ++ padded 1024 r.payload)
 

@@ -12,7 +12,7 @@ ghost use Rattle.fc_help.specs.declared.request.Method.TheVariants.{Get, Post};
 
 /// The helpers by their numbers, 1 to 7; no other number is a helper.
 ///
-/// A reply to a GET has room for 4,096 bytes, and one to a POST for 1,024.
+/// A reply to a GET has room for 4,096 bytes, and a reply to a POST has room for 1,024.
 pub fn helpers_have_their_numbers()
     ensures payload_len { helper_of (pos 1) ≡ Some PayloadLen }
     ensures payload_byte { helper_of (pos 2) ≡ Some PayloadByte }

@@ -13,7 +13,7 @@ pub enum Method {
     /// GET, which reads the resource (RFC 7252, section 5.8.1).
     #[default]
     Get,
-    /// POST, which may change its variables (RFC 7252, section 5.8.2).
+    /// POST, which may change the resource's variables (RFC 7252, section 5.8.2).
     Post,
 }
 
@@ -34,7 +34,7 @@ const HEAD: usize = 16;
 /// Offset of the payload.
 const BEFORE_PAYLOAD: usize = HEAD + QUERY;
 
-/// A request that a program handles, laid out as the memory region that it reads.
+/// A request for a program, laid out as the memory region that the program reads.
 ///
 /// Its type guarantees the limits of query and payload.
 #[derive(Drop)]
@@ -151,8 +151,8 @@ fn write_payload(room: &mut [u8], before: usize, payload: &[u8])
 
 /// Overwrites the region of a request with another's.
 ///
-/// `before` is the length of the old payload. Only the bytes by which it was longer are cleared
-/// after the new payload.
+/// `before` is the length of the old payload. After the new payload, only the bytes by which the
+/// old one was longer are cleared.
 fn lay_over(
     region: &mut ArrayVec<u8, REGION>,
     before: usize,
@@ -297,7 +297,7 @@ impl Request {
 
     /// Returns whether the two requests are the same in all fields.
     ///
-    /// A commit compares the outcome's request with the ticket's by it.
+    /// A commit uses it to compare the outcome's request with the ticket's.
     pub fn is(&self, other: &Request) -> bool
         ensures { IsTrue result ↔ (self.now ≡ other.now) }
     {
@@ -308,7 +308,7 @@ impl Request {
             && self.payload() == other.payload()
     }
 
-    /// Returns a copy. An observation and the record of a commit keep one.
+    /// Returns a copy. An observation and the record of a commit keep such a copy.
     pub fn copy(&self) -> Request
         ensures { result ≡ self.now }
     {

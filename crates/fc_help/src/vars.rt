@@ -55,14 +55,16 @@ impl Vars {
 
     /// Returns whether the bytes are the same.
     ///
-    /// A commit compares the outcome's and the slot's variables with the ticket's by it.
+    /// A commit uses it to compare the outcome's and the slot's variables with the ticket's.
     pub fn is(&self, other: &Vars) -> bool
         ensures { IsTrue result ↔ (self.now ≡ other.now) }
     {
         self.bytes.as_slice() == other.bytes.as_slice()
     }
 
-    /// Returns a copy. The record of a commit keeps one of the variables before it.
+    /// Returns a copy.
+    ///
+    /// The record of a commit keeps a copy of the variables before the commit.
     pub fn copy(&self) -> Vars
         ensures { result ≡ self.now }
     {

@@ -39,8 +39,8 @@ abbrev pub JumpsTo : ℕ → Insn → ℕ → Type 0
 JumpsTo k insn t = (o : ℤ) × (jump_offset insn ≡ Some o) × (target k o ≡ Some t)
 
 -- the instruction at slot k doesn't disturb the loop: in the body it isn't an exit, and only the
--- addition writes the counter; it doesn't jump out of the body, into it from outside, or to the
--- back jump.
+-- addition writes the counter; it doesn't jump out of the body, into the body from outside, or to
+-- the back jump.
 pub record LeavesLoop (l : Loop) (k : ℕ) (insn : Insn) : Type 0 where
   pub no_exit : IsInBody l k → insn ≢ Exit
   pub no_write : IsInBody l k → suc k ≢ l.last → writes insn l.counter ≡ false

@@ -16,7 +16,7 @@ is_at (Some t) place = t == place
 abbrev pub calls : ℕ → Insn → ℕ → Bool
 calls slot insn place = with_offset (call_offset insn) (λ offset. is_at (target slot offset) place)
 
--- one of these instructions, of which the first is at this slot, calls it.
+-- one of these instructions calls that function; the first instruction is at this slot.
 abbrev pub is_called : ℕ → List Insn → ℕ → Bool
 is_called slot [] place = false
 is_called slot (insn ∷ code) place = calls slot insn place || is_called (slot + 1) code place
@@ -40,19 +40,20 @@ may_end Exit = true
 may_end WideSecond = true
 may_end other = false
 
--- it is the last instruction of its function, and isn't an exit.
+-- the instruction is the last of its function, and isn't an exit.
 abbrev pub is_open_end : List Insn → ℕ → Insn → Bool
 is_open_end code slot insn =
     not (may_end insn) && (not (nat_lt (slot + slots_taken insn) (length code)) || is_start code (slot + slots_taken insn))
 
 -- ---- frames
 
--- the entry of a table at an offset from the next slot, at which the table begins.
+-- the entry of a table at an offset from the next slot. The table begins at that slot.
 abbrev pub at_offset : List ℕ → ℤ → ℕ
 at_offset after (pos n) = slice_index after n
 at_offset after (negsuc n) = 0
 
--- the frames of the function that an instruction calls, from the depths from the next slot on.
+-- the frames of the function that an instruction calls, found in the depths of the next slot and of
+-- the later ones.
 abbrev pub frames_called : Insn → List ℕ → ℕ
 frames_called (CallLocal offset) after = 1 + at_offset after offset
 frames_called other after = 0
@@ -60,8 +61,8 @@ frames_called other after = 0
 abbrev pub depth_and : Bool → Insn → List ℕ → List ℕ
 depth_and ends insn after = max (frames_called insn after) (if ends then 0 else slice_index after 0) ∷ after
 
--- for each slot from this one on, the maximum number of frames that calls add up to the end of its
--- function.
+-- for each slot from this one on, the maximum number of frames that calls add, from the slot to the
+-- end of its function.
 abbrev pub depths : (ℕ → Bool) → ℕ → List Insn → List ℕ
 depths starts slot [] = []
 depths starts slot (insn ∷ code) = depth_and (starts (slot + 1)) insn (depths starts (slot + 1) code)

@@ -50,8 +50,8 @@ is_word a b c d bytes =
 abbrev pub has_magic : List ℕ → Bool
 has_magic image = is_word 70 67 66 49 image || is_word 70 67 66 50 image
 
--- violations of the limits: the number of slots is 1 to the version's limit, the variables are up
--- to 256 bytes in words of eight, the budget is 1 to 65536.
+-- violations of the limits. These are: the number of slots is 1 to the version's limit, the
+-- variables are up to 256 bytes in words of eight, the budget is 1 to 65536.
 abbrev pub is_bad_count : ImageVersion → ℕ → Bool
 is_bad_count version count = (count == 0) || nat_lt (slots_allowed version) count
 

@@ -15,8 +15,8 @@ pub record KeepsLimits (head : Head) (code : List Insn) : Type 0 where
   pub frames : frames code ≤ frames_allowed head.version
   pub within : longest head.version code ≤ head.budget
 
--- the fault that is found has the first broken rule and the first slot that breaks it; such a fault
--- is found; its rule is below 20.
+-- the fault that is found has the first broken rule, and the first slot that breaks that rule.
+-- Conversely, such a fault is found. Its rule is below 20.
 abbrev pub ShapeFaultIsFirst : Type 0
 ShapeFaultIsFirst =
     (head : Head) (code : List Insn) (slot : ℕ) (rule : Rule) → shape_fault head code ≡ Some (slot, rule)

@@ -76,7 +76,7 @@ pub record IsBack (loops : List Loop) (slot t : ℕ) : Type 0 where
   pub last : slot ≡ loop.last
   pub head : t ≡ loop.head
 
--- each successor is a later slot, or the target of a loop's back jump; and in the program.
+-- each successor is in the program, and is a later slot or the target of a loop's back jump.
 abbrev pub IsOnward : ℕ → List Loop → ℕ → Flow → Type 0
 IsOnward count loops slot Halts = Unit {0}
 IsOnward count loops slot (Goes next) = IsLater count slot next
@@ -87,7 +87,7 @@ IsOnward count loops slot (Enters start next) = IsLater count slot start × IsLa
 pub record AreLoops (code : List Insn) (loops : List Loop) : Type 0 where
   pub each : (i : ℕ) (l : Loop) → slice_get loops i ≡ Some l → IsLoop code l
   pub one : (i : ℕ) (l : Loop) → slice_get loops i ≡ Some l → begins loops l.head ≡ Some l
-  -- an inner body writes no register that the outer doesn't.
+  -- each register that an inner body writes is also written by the outer body.
   pub inner :
       (i k : ℕ) (l m : Loop) (r : ℕ) → slice_get loops i ≡ Some l → slice_get loops k ≡ Some m → l.head < m.head → m.head ≤ l.last
       → is_written code m r ≡ true → is_written code l r ≡ true
@@ -103,14 +103,14 @@ pub record AreBodies (code : List Insn) (loops : List Loop) : Type 0 where
   pub order : (i : ℕ) (l : Loop) → slice_get loops i ≡ Some l → l.head < l.last
   pub jumps : (i : ℕ) (l : Loop) → slice_get loops i ≡ Some l → flow_at code l.last ≡ Some (Forks l.head (l.last + 1))
   pub after : (i : ℕ) (l : Loop) → slice_get loops i ≡ Some l → l.last + 1 < length code
-  -- no two begin at one slot, or end at one slot; they are nested or apart.
+  -- no two loops begin at the same slot, or end at the same slot; they are nested or apart.
   pub first : (i : ℕ) (l : Loop) → slice_get loops i ≡ Some l → begins loops l.head ≡ Some l
   pub last : (i : ℕ) (l : Loop) → slice_get loops i ≡ Some l → ends loops l.last ≡ Some l
   pub nested :
       (i k : ℕ) (l m : Loop) → slice_get loops i ≡ Some l → slice_get loops k ≡ Some m → l.head < m.head → m.head ≤ l.last
       → m.last < l.last
-  -- no other jump goes back, no flow enters a body except by its head, and none leaves it except by
-  -- its back jump.
+  -- no other jump goes back, no flow enters a body except by its head, and no flow leaves a body
+  -- except by its back jump.
   pub onward :
       (slot : ℕ) (insn : Insn) → slice_get code slot ≡ Some insn → ends loops slot ≡ None
       → IsForward (length code) slot (flow slot insn)
@@ -158,8 +158,8 @@ pub record AreCounters (code : List Insn) (loops : List Loop) : Type 0 where
 
 -- ---- for frames
 
--- the frames are the first and those that calls add; a later slot in a function needs at most as
--- many as an earlier one, and a called function one fewer.
+-- the frames are the first frame and those that calls add; a later slot in a function needs at most
+-- as many as an earlier one, and a called function needs fewer than the slot of the call.
 pub record FramesFall (code : List Insn) : Type 0 where
   pub first : frames code ≡ 1 + frames_at code 0
   pub later :

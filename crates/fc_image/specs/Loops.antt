@@ -18,7 +18,7 @@ use Rattle.fc_image.specs.Functions.{with_offset}
 use Rattle.fc_image.specs.Head.{loops_allowed}
 use Rattle.fc_image.specs.declared.loops.Loop.{Loop}
 
--- the bound of a jump that tests its register below an immediate of 1 to 1,024.
+-- the bound of a jump that tests whether its register is below an immediate of 1 to 1,024.
 abbrev pub bound_of : Width → Relation → Operand → Option ℕ
 bound_of W64 Lt (Imm (pos n)) = if nat_le 1 n && nat_le n 1024 then Some n else None
 bound_of width relation operand = None
@@ -35,7 +35,8 @@ loop_by slot j (Some bound) (Some step) =
     else None
 loop_by slot j bound step = None
 
--- the loop of which an instruction would be the back jump, from it and the one before.
+-- the loop of which an instruction would be the back jump, by this instruction and the one before
+-- it.
 abbrev pub loop_at : List Insn → ℕ → Insn → Option Loop
 loop_at code slot (JumpIf j) =
     loop_by slot j (bound_of j.width j.relation j.right) (step_of (slice_get code (slot - 1)) j.left)

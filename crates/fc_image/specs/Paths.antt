@@ -1,4 +1,4 @@
--- Paths through a program with counted loops, and the number of steps on its longest one.
+-- Paths through a program with counted loops, and the number of steps on its longest path.
 use Rattle.std.specs.Prelude.{◌≡◌, ℕ, zero, suc, ◌+◌, ◌-◌, ◌*◌, ◌/◌, ◌≤◌, ◌⊎◌, nat_lt, if◌then◌else◌, max, List, [], ◌∷◌, Option, Some, None, slice_index}
 use Rattle.fc_isa.specs.declared.insn.Insn.{Insn}
 use Rattle.fc_isa.specs.declared.version.ImageVersion.{ImageVersion}
@@ -7,7 +7,8 @@ use Rattle.fc_image.specs.Flow.{flow_at}
 use Rattle.fc_image.specs.declared.loops.Loop.{Loop}
 use Rattle.fc_image.specs.Loops.{loops_in, begins, ends}
 
--- how many times a path runs through a body, each time it enters its head from outside.
+-- the number of times that a path runs through a body, each time that the path enters the body's
+-- head from outside.
 abbrev pub turns : Loop → ℕ
 turns l = 1 + (l.bound - 1) / l.step
 
@@ -33,7 +34,7 @@ Returns loops Path n [] = n ≡ 0
 Returns loops Path n (Return place ∷ behind) = ContinuesAt loops Path place behind
 Returns loops Path n (Turns l left ∷ behind) = ⊥
 
--- a back jump continues with the next iteration, or after the loop if this was the last one.
+-- a back jump continues with the next iteration, or after the loop if this was the last iteration.
 abbrev pub TurnsBack : List Loop → (ℕ → List Behind → Type 0) → ℕ → List Behind → Type 0
 TurnsBack loops Path slot (Turns l (suc left) ∷ behind) = (slot ≡ l.last) × Path l.head (Turns l left ∷ behind)
 TurnsBack loops Path slot (Turns l zero ∷ behind) = (slot ≡ l.last) × ContinuesAt loops Path (l.last + 1) behind
@@ -62,7 +63,7 @@ pub record IsLongestIn (code : List Insn) (loops : List Loop) (steps : ℕ) : Ty
   pub path : IsPath code loops steps 0 (opened_loops loops 0 [])
   pub greatest : (n : ℕ) → IsPath code loops n 0 (opened_loops loops 0 []) → n ≤ steps
 
--- with the loops that a version of the format allows.
+-- the same with the loops that a version of the format allows.
 abbrev pub IsLongest : ImageVersion → List Insn → ℕ → Type 0
 IsLongest version code steps = IsLongestIn code (loops_in version code) steps
 
@@ -80,12 +81,12 @@ abbrev pub own_cost : (ℕ → ℕ) → Option Loop → Flow → ℕ
 own_cost at None f = along at f
 own_cost at (Some l) f = 1
 
--- at a head it is the cost of all iterations, and of the rest after the loop.
+-- at a head the cost is that of all iterations, and of the rest after the loop.
 abbrev pub looped : (ℕ → ℕ) → Option Loop → ℕ → ℕ
 looped at None own = own
 looped at (Some l) own = turns l * own + at (l.last + 1)
 
--- the cost at a later slot, from the costs from the next slot on.
+-- the cost at a later slot, found in the costs of the next slot and of the later ones.
 abbrev pub cost_at : List ℕ → ℕ → ℕ → ℕ
 cost_at after slot t = if nat_lt slot t then slice_index after (t - suc slot) else 0
 

@@ -84,7 +84,7 @@ pub record KeepsRule (head : Head) (code : List Insn) (rule : Rule) : Type 0 whe
 abbrev pub flow_rules : List Rule
 flow_rules = JumpTarget ∷ BackwardJump ∷ Boundary ∷ BackwardCall ∷ FrameDepth ∷ Cost ∷ Helper ∷ []
 
--- the rules before this one hold, and this is the first slot that breaks it.
+-- the rules before this one hold, and this is the first slot that breaks this rule.
 pub record IsShapeFault (head : Head) (code : List Insn) (slot : ℕ) (rule : Rule) : Type 0 where
   pub before : List Rule
   pub after : List Rule

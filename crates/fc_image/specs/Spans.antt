@@ -29,7 +29,7 @@ AreEnds code count place None = Unit {0}
 AreEnds code count place (Some s) = (s.least < count) × IsJumpTo code s.least place × IsJumpTo code s.greatest place
 
 -- an entry for each of 1,024 slots: the span of those among the first `count` slots that jump to
--- it.
+-- the entry's slot.
 pub record AreSpans (code : List Insn) (count : ℕ) (spans : List (Option Span)) : Type 0 where
   pub size : length spans ≡ 1024
   pub all : (slot place : ℕ) → slot < count → place < 1024 → IsJumpTo code slot place → IsInSpan slot (slice_index_or spans place None)
@@ -44,7 +44,8 @@ abbrev pub widened : List (Option Span) → ℕ → Option ℕ → List (Option 
 widened spans slot None = spans
 widened spans slot (Some place) = if nat_lt place 1024 then slice_set spans place (Some (span_with (slice_index_or spans place None) slot)) else spans
 
--- a jump leads to this slot of a body from outside of it, or to the slot of the back jump.
+-- a jump leads to this slot of a body from outside of the body, or leads to the slot of the back
+-- jump.
 abbrev pub is_jumped_into : Loop → ℕ → Option Span → Bool
 is_jumped_into l slot None = false
 is_jumped_into l slot (Some s) = (slot == l.last) || (nat_lt s.least l.head || nat_lt l.last s.greatest)

@@ -14,7 +14,7 @@ abbrev pub starts_below : List Insn → ℕ → ℕ
 starts_below code zero = 0
 starts_below code (suc slot) = starts_below code slot + (if is_start code slot then 1 else 0)
 
--- a number for each of 1,024 slots: how many functions start up to it.
+-- a number for each of 1,024 slots: how many functions start at or before the slot.
 pub record AreCounts (code : List Insn) (counts : List ℕ) : Type 0 where
   pub each : (slot : ℕ) → slot < 1024 → slice_index counts slot ≡ starts_below code (slot + 1)
 

@@ -20,7 +20,7 @@ use Rattle.fc_image.specs.declared.uncounted.Disturbance.TheVariants.{Write, Exi
 
 -- ---- the jump, and the addition before it
 
--- whether a jump tests a register below an immediate, in 64 bits.
+-- whether a jump tests that a register is below an immediate, in 64 bits.
 abbrev pub is_below : Width → Relation → Operand → Bool
 is_below W64 Lt (Imm n) = true
 is_below width relation operand = false
@@ -46,7 +46,7 @@ leads_earlier slot insn = false
 -- ---- the rest of the program
 
 -- the way in which a jump to a place crosses a loop: past the addition to the back jump; out of the
--- body; into it from outside.
+-- body; into the body from outside.
 abbrev pub crosses_by : Disturbance → Loop → ℕ → Option ℕ → Bool
 crosses_by Skip l slot (Some t) = t == l.last
 crosses_by Leave l slot (Some t) = is_in l slot && not (is_in l t)
@@ -54,7 +54,7 @@ crosses_by Enter l slot (Some t) = not (is_in l slot) && is_in l t
 crosses_by by l slot place = false
 
 -- the way in which an instruction disturbs a loop: in the body it writes the counter, and isn't the
--- addition; it is an exit there; or it is a jump that crosses the loop.
+-- addition; it is an exit in the body; or it is a jump that crosses the loop.
 abbrev pub disturbs_by : Disturbance → Loop → ℕ → Insn → Bool
 disturbs_by Write l slot insn = is_in l slot && (writes insn l.counter && not (suc slot == l.last))
 disturbs_by Exit l slot insn = is_in l slot && is_exit insn

@@ -7,7 +7,7 @@ use Rattle.fc_isa.specs.declared.insn.Operand.TheVariants.{Imm}
 use Rattle.fc_isa.specs.declared.insn.Relation.TheVariants.{Lt}
 use Rattle.fc_isa.specs.declared.insn.Width.TheVariants.{W64}
 
--- R0 is zero, and exit.
+-- sets R0 to zero, and exits.
 abbrev pub zero_function : List Insn
 zero_function = Alu Mov W64 0 (Imm (pos 0)) ∷ Exit ∷ []
 

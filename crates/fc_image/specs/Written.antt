@@ -39,8 +39,8 @@ abbrev pub head_bytes : Head → List ℕ
 head_bytes h =
     70 ∷ 67 ∷ 66 ∷ digit_of h.version ∷ (to_le_bytes w16 h.vars_size ++ (to_le_bytes w16 h.count ++ (to_le_bytes w32 h.budget ++ (0 ∷ 0 ∷ 0 ∷ 0 ∷ []))))
 
--- an image whose header breaks no rule: it is the header and its slots, and the numbers are within
--- their limits.
+-- an image whose header breaks no rule: it consists of the header and its slots, and the numbers
+-- are within their limits.
 pub record KeepsHead (image : List ℕ) : Type 0 where
   pub size : length image ≡ 16 + 8 * (stated image).count
   pub head : IsHead (stated image)

@@ -124,7 +124,7 @@ fn is_astray(code: &[Insn], slot: usize, offset: Option<i32>) -> bool
 
 /// Returns whether a target is a slot of the program, and no second half.
 ///
-/// `None`, a target below slot 0, isn't one.
+/// `None`, which is a target below slot 0, gives `false`.
 fn is_place(code: &[Insn], place: Option<usize>) -> bool
     ensures { result ≡ is_place code.now place }
 {
@@ -166,7 +166,7 @@ fn is_back(slot: usize, offset: Option<i32>) -> bool
     }
 }
 
-/// Returns whether a target is a later slot; `None`, one below slot 0, isn't.
+/// Returns whether a target is a later slot; `None`, below slot 0, gives `false`.
 fn is_later(slot: usize, place: Option<usize>) -> bool
     ensures { result ≡ is_later slot place }
 {
@@ -179,7 +179,7 @@ fn is_later(slot: usize, place: Option<usize>) -> bool
 /// Returns whether a jump with this offset leaves its function.
 ///
 /// Returns `false` without an offset, or if the target isn't a slot of the program. `counts` has
-/// the number of functions that start up to each slot.
+/// the number of functions that start at or before each slot.
 fn leaves(code: &[Insn], counts: &[u16; MOST_SLOTS], slot: usize, offset: Option<i32>) -> bool
     requires counts { AreCounts code.now counts.now }
     requires count { length code.now ≤ 1024 }

@@ -37,7 +37,7 @@ pub(crate) fn longest_cost(code: &[Insn], heads: &[Option<Loop>; MOST_SLOTS], al
 
 /// Returns the steps from an instruction to the end of its body or function.
 ///
-/// `costs` has those from the later slots. If the instruction is the back jump of the loop
+/// `costs` has the steps from the later slots. If the instruction is the back jump of the loop
 /// `ending`, it is one step: the loop's head counts the iterations.
 fn own_steps(costs: &[u32; MOST_SLOTS], slot: usize, ending: &Option<Loop>, insn: &Insn) -> u32
     requires slot { slot < 1024 }
@@ -77,8 +77,8 @@ fn steps_along(costs: &[u32; MOST_SLOTS], slot: usize, insn: &Insn) -> u32
 
 /// Returns the steps from a slot on, once a path reaches it.
 ///
-/// `own` are those up to the end of its body or function. At the head of the loop `beginning` they
-/// count for each iteration, and the steps after the loop are added.
+/// `own` are the steps up to the end of the slot's body or function. At the head of the loop
+/// `beginning` these count for each iteration, and the steps after the loop are added.
 fn steps(costs: &[u32; MOST_SLOTS], slot: usize, beginning: &Option<Loop>, own: u32) -> u32
     requires slot { slot < 1024 }
     requires capped { (k : ℕ) → slice_index costs.now k ≤ 65537 }
@@ -94,7 +94,7 @@ fn steps(costs: &[u32; MOST_SLOTS], slot: usize, beginning: &Option<Loop>, own: 
 
 /// Returns the number of iterations of a loop whose counter begins at 0.
 ///
-/// The cost counts as many, whatever the counter is at the start.
+/// The cost counts this number of iterations, whatever the counter is at the start.
 fn turns(counted: &Loop) -> u32
     requires { IsLow 1024 counted.now }
     ensures turns { result ≡ turns counted.now }

@@ -6,7 +6,7 @@ use fc_isa::Insn;
 
 /// Returns the offset of a jump, or `None` for any other instruction.
 ///
-/// It counts slots from the one after the jump.
+/// It counts slots from the slot after the jump.
 pub(crate) fn jump_offset(insn: &Insn) -> Option<i32>
     ensures { result ≡ jump_offset insn.now }
 {
@@ -20,7 +20,7 @@ pub(crate) fn jump_offset(insn: &Insn) -> Option<i32>
 
 /// Returns the offset of a local call, or `None` for any other instruction.
 ///
-/// It counts slots from the one after the call.
+/// It counts slots from the slot after the call.
 pub(crate) fn call_offset(insn: &Insn) -> Option<i32>
     ensures { result ≡ call_offset insn.now }
 {

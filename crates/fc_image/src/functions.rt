@@ -42,7 +42,7 @@ fn mark(starts: &mut [bool; MOST_SLOTS], slot: usize, insn: &Insn)
     }
 }
 
-/// Returns for each slot how many functions start up to it, including there.
+/// Returns for each slot how many functions start at or before it.
 pub(crate) fn starts_counted(code: &[Insn], starts: &[bool; MOST_SLOTS]) -> [u16; MOST_SLOTS]
     requires { AreStarts code.now starts.now }
     ensures { AreCounts code.now result }

@@ -12,8 +12,8 @@ use fc_isa::{ImageVersion, Insn};
 
 /// Returns for each slot the loop that begins there, or `None`.
 ///
-/// A loop is one by its back jump and the addition before it, whether or not other instructions
-/// disturb it. Of several loops with one head, the entry is that with the first back jump.
+/// A back jump and the addition before it make a loop, whether or not other instructions disturb
+/// it. Of several loops with one head, the entry is the one with the first back jump.
 pub fn loops_by_head(version: ImageVersion, code: &[Insn]) -> [Option<Loop>; MOST_SLOTS]
     requires { length code.now ≤ 1024 }
     ensures { AreHeads (loops_in version code.now) result }

@@ -69,7 +69,7 @@ fn breaks_slot_count(image: &[u8]) -> bool
     is_bad_count(version(image), count(image) as usize)
 }
 
-/// Returns whether the variables aren't up to 256 bytes in words of eight.
+/// Returns whether the variables' size isn't a multiple of 8 up to 256 bytes.
 #[tactic(auto, unfolding(crate::specs::Head::head_breaks))]
 fn breaks_vars_size(image: &[u8]) -> bool
     requires { 16 ≤ length image.now }

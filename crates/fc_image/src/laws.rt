@@ -85,7 +85,7 @@ pub fn written_head_is_read()
 
 /// The rules of a header are checked in the order of their numbers.
 ///
-/// So are those of the control flow.
+/// So are the rules of the control flow.
 pub fn rules_come_by_number()
     ensures head { map number_of head_rules ≡ 1 ∷ 2 ∷ 3 ∷ 4 ∷ 5 ∷ [] }
     ensures flow { map number_of flow_rules ≡ 11 ∷ 12 ∷ 13 ∷ 14 ∷ 15 ∷ 16 ∷ 17 ∷ [] }

@@ -26,7 +26,7 @@
 //! - For a jump back that isn't a counted loop's, the reason is returned: the missing part of the
 //!   form, or the slot that disturbs the loop, and how.
 //! - A jump is a counted loop's exactly if it and the addition before it have that form, in
-//!   literals. An accepted program with such jumps has these loops, nested or apart.
+//!   literals. An accepted program with such jumps has the loops that these form, nested or apart.
 //!
 //! By the contracts of `head`, `Head::new`, `Head::bytes`, `shape`, `why_uncounted`, `laws`.
 #![tactic(auto)]

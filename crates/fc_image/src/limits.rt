@@ -198,7 +198,7 @@ pub(crate) fn is_bad_count(version: ImageVersion, count: usize) -> bool
     count == 0 || count > slots_allowed(version)
 }
 
-/// Returns whether the variables aren't up to 256 bytes in words of eight.
+/// Returns whether the variables' size isn't a multiple of 8 up to 256 bytes.
 pub(crate) fn is_bad_size(vars_size: u16) -> bool
     ensures { result ≡ is_bad_size vars_size }
 {

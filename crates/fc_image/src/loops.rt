@@ -47,7 +47,8 @@ pub(crate) fn is_counted(
 
 /// Returns the loop of which an instruction would be the back jump, or `None`.
 ///
-/// It depends only on the instruction and the one before. Others may still disturb the loop.
+/// The result depends only on the instruction and the one before it. Other instructions may still
+/// disturb the loop.
 pub(crate) fn loop_at(code: &[Insn], slot: usize, insn: &Insn) -> Option<Loop>
     requires count { length code.now ≤ 1024 }
     requires slot { slot < length code.now }
@@ -84,7 +85,7 @@ fn loop_by(slot: usize, jump: &Jump, bound: Option<u32>, step: Option<u32>) -> O
     }
 }
 
-/// Returns the bound of a loop's back jump, or `None` if the jump can't be one.
+/// Returns the bound of a loop's back jump, or `None` if it can't be one.
 ///
 /// Such a jump is taken if a whole register is below an immediate of 1 to 1,024, the bound.
 pub(crate) fn bound_of(jump: &Jump) -> Option<u32>

@@ -40,8 +40,8 @@ fn jumps_to(slot: usize, insn: &Insn) -> Option<usize>
 
 /// Widens the span of `place`, the target of the jump at `slot`.
 ///
-/// The jump comes from a later slot than those before it. Without a target in the table, nothing
-/// changes.
+/// The jump's slot is later than those of the jumps that are in the spans already. Without a target
+/// in the table, nothing changes.
 fn widen(spans: &mut [Option<Span>; MOST_SLOTS], slot: usize, place: Option<usize>)
     requires { slot < 1024 }
     ensures { spans.new ≡ widened spans.old slot place }

@@ -17,7 +17,7 @@ pub const MOST_SLOTS: usize = 1024;
 pub(crate) struct Tables {
     /// Which slots start a function.
     pub(crate) starts: [bool; MOST_SLOTS],
-    /// The number of functions that start up to each slot.
+    /// The number of functions that start at or before each slot.
     pub(crate) counts: [u16; MOST_SLOTS],
     /// The sources of the jumps to each slot.
     pub(crate) spans: [Option<Span>; MOST_SLOTS],

@@ -80,8 +80,8 @@ swap_bits S64 = 64
 abbrev pub fields : Shape → ℕ → ℕ → ℕ → ℕ → Fields
 fields shape dst src offset imm = record { opcode = opcode_of shape; dst = dst; src = src; offset = offset; imm = imm }
 
--- the fields of an instruction's own slot: opcode, dst, src, offset, imm; a second half has none of
--- its own.
+-- the fields of an instruction's own slot: opcode, dst, src, offset, imm; a second half has no
+-- fields of its own.
 abbrev pub fields_of : Insn → Fields
 fields_of (Alu op width dst operand) = fields (shapes.Alu op width (source_of operand)) dst (src_of operand) (sign_offset op) (imm_of operand)
 fields_of (Neg width dst) = fields (shapes.Neg width) dst 0 0 0
@@ -194,7 +194,7 @@ slot_fault f next = find (breaks f next) slot_rules
 abbrev pub BreaksOpcodeFirst : ℕ → Type 0
 BreaksOpcodeFirst opcode = (f : Fields) (next : Option Fields) → f.opcode ≡ opcode → slot_fault f next ≡ Some Opcode
 
--- a slot is a second half if the slot before it is a wide load, and isn't itself a second half.
+-- a slot is a second half if the slot before it is a wide load and isn't itself a second half.
 abbrev pub is_second : List ℕ → ℕ → Bool
 is_second bytes zero = false
 is_second bytes (suc slot) = is_wide (shape_of (fields_at bytes slot).opcode) && not (is_second bytes slot)

@@ -96,7 +96,7 @@ end_opcode Little = coded 13 K (alu_class W32)
 end_opcode Big = coded 13 X (alu_class W32)
 end_opcode Swapped = coded 13 K (alu_class W64)
 
--- the opcode of each form; the unknown form has one that no known form has.
+-- the opcode of each form; the unknown form has an opcode that no known form has.
 abbrev pub opcode_of : Shape → ℕ
 opcode_of (Alu op width source) = coded (alu_code op) source (alu_class width)
 opcode_of (Neg width) = coded 8 K (alu_class width)

@@ -1,7 +1,7 @@
 //! The fields of a slot: read from its bytes, written to them, and checked.
 //!
 //! The decoder reads and checks them, and the encoder writes them. A check returns the first rule
-//! that they break.
+//! that the fields break.
 ghost use Rattle.std.specs.Prelude.{◌≡◌, ◌<◌, ◌+◌, ◌*◌, ◌/◌, ◌%◌, ◌^◌, None, true, length};
 ghost use Rattle.std.specs.Int.{w16, w32, cast_signed, cast_unsigned};
 ghost use Rattle.fc_isa.specs.Encoding.{bytes_of_fields, fields, fields_of, insn_of, insn_with, read_fields, second_half, slot_fault, unused_are_zero, values_allowed, is_second_half, alu_values_allowed, arithmetic, move_insn, operand_of, called, sign_offset, signed_by, extended_bits, extended_width, swap_width, swap_bits, source_of, src_of, imm_of};
@@ -63,7 +63,7 @@ impl Fields {
 
     /// Returns the fields of an instruction's slot; of a wide load, the first slot's.
     ///
-    /// For a second half all are zero; the encoder doesn't write it by itself.
+    /// For a second half all fields are zero; the encoder doesn't write a second half by itself.
     pub(crate) fn of(insn: &Insn) -> Self
         ensures { result ≡ fields_of insn.now }
     {
@@ -179,7 +179,7 @@ impl Fields {
             .imm(imm_of(&jump.right))
     }
 
-    /// Returns fields with a form's opcode, and zeros in the others.
+    /// Returns fields with a form's opcode, and zeros in the other fields.
     fn form(shape: Shape) -> Self
         ensures { result ≡ fields shape 0 0 0 0 }
     {

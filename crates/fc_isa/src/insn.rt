@@ -199,7 +199,7 @@ pub enum Relation {
     Sle,
 }
 
-/// A conditional jump; the offset counts slots from the one after it.
+/// A conditional jump; the offset counts slots from the slot after the jump.
 #[derive(Clone, Copy, PartialEq, Eq)]
 pub struct Jump {
     pub width: Width,

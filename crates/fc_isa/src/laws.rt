@@ -21,13 +21,13 @@ pub fn faultless_bytes_spell(bytes: &[u8])
     ensures count { length (decoded_program bytes.now) ≡ length bytes.now / 8 }
 {}
 
-/// Bytes that encode a program have no fault, and encode no other.
+/// Bytes that encode a program have no fault, and encode no other program.
 pub fn spelled_bytes_are_faultless(bytes: &[u8])
     ensures faultless { (p : List Insn) → Spells bytes.now p → first_fault bytes.now ≡ None }
     ensures one_program { (p : List Insn) → Spells bytes.now p → p ≡ decoded_program bytes.now }
 {}
 
-/// The fault of bytes is that of the first slot that has one.
+/// The fault of bytes is that of the first slot that has a fault.
 ///
 /// Its rule is the least that the slot breaks, and has a number below 20.
 pub fn first_fault_is_first(bytes: &[u8])

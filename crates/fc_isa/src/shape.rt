@@ -95,7 +95,7 @@ pub enum Shape {
     Exit,
 }
 
-/// The fields that a slot uses; the others are zero.
+/// The fields that a slot uses; the other fields are zero.
 ///
 /// They are the destination, the source, the offset and the immediate.
 #[derive(Clone, Copy, PartialEq, Eq)]

@@ -55,11 +55,12 @@ abbrev pub IsShallow : ℕ → Kind → Type 0
 IsShallow top (Stack level lo hi) = level ≤ top
 IsShallow top kind = Unit {0}
 
--- this holds for each register.
+-- each register's stack frame, if it points into one, is at most `top` levels above the current
+-- one.
 pub record AreShallow (top : ℕ) (kinds : List Kind) : Type 0 where
   pub each : (r : ℕ) → IsShallow top (kind_at kinds r)
 
--- on no branch is a stack frame more than `top` levels above.
+-- on each branch a stack frame is at most `top` levels above the current one.
 abbrev pub AllShallow : ℕ → List Way → Type 0
 AllShallow top [] = Unit {0}
 AllShallow top (w ∷ ws) = AreShallow top w.kinds × AllShallow top ws

@@ -92,14 +92,14 @@ extended_values (Byte width) b = extended_interval 8 (bits_of width) b
 extended_values (HalfWord width) b = extended_interval 16 (bits_of width) b
 extended_values Word b = extended_interval 32 64 b
 
--- ---- refinement: the intervals of two numbers in a relation; `None` if it holds for no two
+-- ---- refinement: the intervals of two numbers in a relation; `None` if no two numbers are in it
 
 -- two intervals, if each contains a number.
 abbrev pub both : Bool → Interval → Interval → Option (Interval × Interval)
 both true a b = Some (a, b)
 both false a b = None
 
--- the first is above the second.
+-- the refinement if the first number is above the second.
 abbrev pub above : Interval → Interval → Option (Interval × Interval)
 above a b = both (nat_lt b.lo a.hi) (interval (max a.lo (b.lo + 1)) a.hi) (interval b.lo (min b.hi (a.hi - 1)))
 

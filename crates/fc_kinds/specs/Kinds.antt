@@ -6,8 +6,8 @@ use Rattle.fc_kinds.specs.declared.kind.Kind.TheVariants.{Unset, Num, Stack, Req
 abbrev pub kind_at : List Kind → ℕ → Kind
 kind_at kinds r = slice_index_or kinds r Unset
 
--- one abstract value is within another: the other is unset, or has the same form with ends at least
--- as wide.
+-- one abstract value is within another: the other is unset, or has the same form and ends that are
+-- at least as wide.
 abbrev pub KindWithin : Kind → Kind → Type 0
 KindWithin _ Unset = Unit {0}
 KindWithin (Num lo hi) (Num lo' hi') = (lo' ≤ lo) × (hi ≤ hi')

@@ -4,8 +4,8 @@ use Rattle.std.specs.Int.{int_min, int_max}
 use Rattle.fc_kinds.specs.declared.kind.Kind.{Kind}
 use Rattle.fc_kinds.specs.declared.kind.Kind.TheVariants.{Unset, Num, Stack, Req, Vars, Dev}
 
--- the join of two of the same form is the least of this form that contains both; all others give
--- `Unset`.
+-- the join of two abstract values of the same form is the least of this form that contains both;
+-- the join of any other two is `Unset`.
 abbrev pub join_kind : Kind → Kind → Kind
 join_kind (Num lo hi) (Num lo' hi') = Num (min lo lo') (max hi hi')
 join_kind (Stack level lo hi) (Stack level' lo' hi') = if level == level' then Stack level (int_min lo lo') (int_max hi hi') else Unset

@@ -23,7 +23,7 @@ abbrev pub IsNarrowerState : Option (List Kind) → List Kind → Type 0
 IsNarrowerState None wider = ⊥
 IsNarrowerState (Some kinds) wider = Within kinds wider × AreKinds kinds
 
--- if the narrower branch is possible, so is the other, and it contains the narrower.
+-- if the narrower branch is possible, so is the wider one, whose state contains the narrower one's.
 abbrev pub IsNarrowerWay : Option (List Kind) → Option (List Kind) → Type 0
 IsNarrowerWay None wider = Unit {0}
 IsNarrowerWay (Some kinds) None = ⊥
@@ -54,8 +54,8 @@ EffectsAreMonotone =
     (vars : ℕ) (insn : Insn) (ks wider after : List Kind) → IsInsn insn → AreKinds ks → Within ks wider
     → transfer vars insn wider ≡ Some after → IsNarrowerState (transfer vars insn ks) after
 
--- a branch that is possible in a narrower state is possible in a wider one, with a wider state on
--- it.
+-- a branch that is possible in a narrower state is possible in a wider one, and the state on it is
+-- wider too.
 abbrev pub RefinementIsMonotone : Type 0
 RefinementIsMonotone =
     (j : Jump) (taken : Bool) (ks wider : List Kind) → IsInsn (JumpIf j) → AreKinds ks → Within ks wider

@@ -45,7 +45,7 @@ abbrev pub both_numbers : Kind → Kind → (Interval → Interval → Option (L
 both_numbers (Num lo hi) (Num lo' hi') f kinds = f (interval lo hi) (interval lo' hi')
 both_numbers a b f kinds = Some kinds
 
--- the state on a branch; `None` if no numbers in the state take it.
+-- the state on a branch; `None` if no numbers in the state take the branch.
 unfoldable pub when : Jump → Bool → List Kind → Option (List Kind)
 when j taken kinds =
     if refines j

@@ -146,7 +146,7 @@ abbrev pub where_met : Bool → List Kind → Option (List Kind)
 where_met true kinds = Some kinds
 where_met false kinds = None
 
--- after a call R0 is its result, R1 to R5 are unset, and the others don't change.
+-- after a call R0 is its result, R1 to R5 are unset, and the other registers don't change.
 abbrev pub after_call : Kind → List Kind → List Kind
 after_call answer kinds =
     answer ∷ Unset ∷ Unset ∷ Unset ∷ Unset ∷ Unset
@@ -156,7 +156,7 @@ after_call answer kinds =
 abbrev pub returned : List Kind → List Kind
 returned kinds = after_call (num (all 64)) kinds
 
--- the bytes from a pointer on, as many as a number gives, are in its region.
+-- the bytes from a pointer on, as many as a number gives, are in the pointer's region.
 abbrev pub are_bytes : ℕ → Kind → Kind → Bool
 are_bytes vars pointer (Num lo hi) = may_read vars hi (pos 0) pointer
 are_bytes vars pointer other = false
@@ -173,7 +173,7 @@ abbrev pub helped_kinds : ℕ → List Kind → Helper → Option (List Kind)
 helped_kinds vars kinds helper =
     where_met (are_arguments vars (signature_of helper).arguments kinds) (after_call (Num 0 (signature_of helper).most) kinds)
 
--- in a called function its caller's frame is one level further above.
+-- in a called function the level of a pointer into a stack frame is one greater.
 abbrev pub raised : Kind → Kind
 raised (Stack level lo hi) = Stack (level + 1) lo hi
 raised kind = kind

@@ -15,12 +15,12 @@ pub record Way : Type 0 where
 abbrev pub way : ℕ → List Kind → List Way
 way target kinds = record { target = target; kinds = kinds } ∷ []
 
--- no branch if no values take it.
+-- the branch with this state, or none if no values take it.
 abbrev pub way_where : ℕ → Option (List Kind) → List Way
 way_where target None = []
 way_where target (Some kinds) = way target kinds
 
--- the state if a fork is taken, or isn't.
+-- the state on one branch of a fork: taken, or not taken.
 abbrev pub kinds_when : Bool → Insn → List Kind → Option (List Kind)
 kinds_when taken (JumpIf j) kinds = when j taken kinds
 kinds_when taken insn kinds = Some kinds

@@ -144,7 +144,7 @@ fn subtracted(operand: Operand, a: Kind, b: Kind) -> Result<Kind, Rule>
 
 /// Returns the abstract value after a move of a value `b`.
 ///
-/// A 64-bit move keeps it. A 32-bit move gives the range of a number's low half.
+/// A 64-bit move keeps `b`. A 32-bit move gives the range of a number's low half.
 ///
 /// # Errors
 /// Returns the broken rule if `b` is unset, or if it is a pointer and the move has 32 bits.

@@ -14,8 +14,8 @@ use fc_isa::{Insn, Rule, Width};
 
 /// Returns the abstract state at the start of a function after a local call.
 ///
-/// `regs` is the caller's state. R1 to R5 are passed, with stack frames one level further above.
-/// R10 is at the end of a fresh frame. Levels must be below 1,024.
+/// `regs` is the caller's state. R1 to R5 are passed; the level of a pointer into a stack frame
+/// becomes one greater. R10 is at the end of a fresh frame. Levels must be below 1,024.
 pub fn enter(regs: &Regs) -> Regs
     requires { AreShallow 1023 regs.now }
     ensures { result ≡ enter regs.now }
@@ -60,7 +60,7 @@ fn raised(kind: Kind) -> Kind
 
 /// Updates the abstract state to that after a local call.
 ///
-/// R0 is any number, R1 to R5 are unset, and the others don't change.
+/// R0 is any number, R1 to R5 are unset, and the other registers don't change.
 pub(crate) fn returned(regs: &mut Regs)
     ensures { regs.new ≡ returned regs.old }
 {
@@ -69,7 +69,7 @@ pub(crate) fn returned(regs: &mut Regs)
 
 /// Updates the abstract state to that after a call with this result.
 ///
-/// R0 is `answer`, R1 to R5 are unset, and the others don't change.
+/// R0 is `answer`, R1 to R5 are unset, and the other registers don't change.
 fn after_call(answer: Kind, regs: &mut Regs)
     ensures { regs.new ≡ after_call answer regs.old }
 {
@@ -100,7 +100,7 @@ pub(crate) fn call_helper(number: i32, regs: &mut Regs, vars_size: u16) -> Resul
 
 /// Updates the abstract state to that after a call of this helper.
 ///
-/// If it lacks an argument that it requires, the state doesn't change.
+/// If the helper lacks an argument that it requires, the state doesn't change.
 ///
 /// # Errors
 /// Returns the broken rule if an argument is unset or isn't one that the helper accepts.

@@ -59,7 +59,7 @@ fn added(width: Width, a: Interval, b: Interval) -> Interval
     }
 }
 
-/// Returns an interval of differences; all numbers if one may be below 0.
+/// Returns an interval of differences; all numbers if a difference may be below 0.
 fn subtracted(width: Width, a: Interval, b: Interval) -> Interval
     requires left { IsInterval (bits_of width) a }
     requires right { IsInterval (bits_of width) b }
@@ -105,7 +105,7 @@ fn divided(a: Interval, b: Interval) -> Interval
     }
 }
 
-/// Returns an interval of remainders; that of a division by 0 is the dividend.
+/// Returns an interval of remainders; a remainder by 0 is the dividend.
 fn moded(a: Interval, b: Interval) -> Interval
     requires { b.lo ≤ b.hi }
     ensures { result ≡ moded a b }
@@ -208,7 +208,7 @@ fn shifted_signed(width: Width, a: Interval, b: Interval) -> Interval
 
 /// Returns an interval that contains the results of an operation on intervals.
 ///
-/// Both have numbers of the operation's width.
+/// Both intervals have numbers of the operation's width.
 #[tactic(auto, unfolding(crate::specs::Intervals::interval_of))]
 fn interval_of(op: AluOp, width: Width, a: Interval, b: Interval) -> Interval
     requires left { IsInterval (bits_of width) a }
@@ -259,10 +259,11 @@ pub fn extended_values(extension: SignExtension, b: Interval) -> Interval
     }
 }
 
-/// Refines two intervals by a relation of all 64 bits.
+/// Narrows two intervals to numbers for which the relation may hold.
 ///
-/// Returns `None` if the relation holds for no two numbers in them. A signed comparison or a test
-/// of bits doesn't refine them.
+/// `a` is on the relation's left and `b` on its right, and the relation is of all 64 bits. Returns
+/// `None` if the relation holds for no two numbers in them. A signed comparison or a test of bits
+/// doesn't narrow them.
 #[tactic(auto, unfolding(crate::specs::Intervals::refined))]
 pub fn refined(relation: Relation, a: Interval, b: Interval) -> Option<(Interval, Interval)>
     requires left { a.lo ≤ a.hi }
@@ -282,9 +283,9 @@ pub fn refined(relation: Relation, a: Interval, b: Interval) -> Option<(Interval
     }
 }
 
-/// Returns a refinement with its intervals exchanged, or `None` without one.
+/// Returns a refinement with its intervals exchanged, or `None` if there is none.
 ///
-/// By it `a < b` is refined as `b > a`.
+/// `a < b` is thus refined as `b > a`.
 fn exchanged(pair: Option<(Interval, Interval)>) -> Option<(Interval, Interval)>
     ensures { result ≡ exchanged pair }
 {

@@ -51,16 +51,16 @@ pub fn effects_are_monotone()
 
 /// The transfer function keeps abstract states well formed.
 ///
-/// If each abstract value before an instruction contains some value of its form, so does each after
-/// it.
+/// If each abstract value before an instruction contains some value of its form, so does each
+/// abstract value after it.
 pub fn effects_keep_kinds()
     ensures { (vars : ℕ) (insn : Insn) (ks ls : List What) → IsInsn insn → AreKinds ks → transfer vars insn ks ≡ Some ls → AreKinds ls }
 {}
 
 /// Branch refinement is monotone.
 ///
-/// A branch that is possible in a narrower state is possible in a wider one, with a wider state on
-/// it.
+/// A branch that is possible in a narrower state is possible in a wider one, and the state on it is
+/// wider too.
 pub fn refinement_is_monotone()
     ensures { RefinementIsMonotone }
 {}
@@ -122,9 +122,10 @@ pub fn programs_mean_what_runs_show()
     ensures { (p : Program) (input : Input) (m : Meaning) (w : Means p input m) → w.count ≤ p.budget → meant p input ≡ m }
 {}
 
-/// The code of a reply is an allowed one, whatever R0 is at the exit.
+/// The code of a reply is an allowed code, whatever R0 is at the exit.
 ///
-/// These are its method's success (2.05 for a GET, 2.04 for a POST), 4.00, 4.03, 4.04 and 5.00.
+/// The allowed codes are its method's success (2.05 for a GET, 2.04 for a POST), 4.00, 4.03, 4.04
+/// and 5.00.
 pub fn reply_codes_are_known()
     ensures { (method : Method) (n : ℕ) → is_reply_code method (reply_code method n) ≡ true }
 {}

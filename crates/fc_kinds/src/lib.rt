@@ -21,9 +21,9 @@
 //!   definitions state.
 //! - Joins are least. Transfer functions, branch refinement and call entry are monotone, and
 //!   contain the results of the machine's step.
-//! - A run has at most one meaning. If it exits within the budget, this is its program's meaning.
-//!   Its reply's code is its method's success, 4.00, 4.03, 4.04 or 5.00; the numbers in R0 that
-//!   give each are stated in literals.
+//! - A run has at most one meaning. If the run exits within the budget, this is its program's
+//!   meaning. Its reply's code is its method's success, 4.00, 4.03, 4.04 or 5.00; the numbers in R0
+//!   that give each code are stated in literals.
 //! - The value of each register at the entry is stated in literals. R4 is unset in version 1. In
 //!   version 2 it points to the readings, which can be read and not written.
 //!

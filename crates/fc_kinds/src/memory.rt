@@ -121,8 +121,8 @@ pub(crate) fn store(
 
 /// Returns the rule that a refused store breaks: `other`, or an unset register.
 ///
-/// An unset register, by its abstract value `stored`, comes before any other fault. The contract
-/// says only that the rule is one from 20 to 27.
+/// If `stored`, the register's abstract value, is unset, this fault is reported before any other.
+/// The contract says only that the rule is one from 20 to 27.
 fn store_fault(other: Rule, stored: Kind) -> Rule
     requires { (20 ≤ number_of other) × (number_of other ≤ 27) }
     ensures { (20 ≤ number_of result) × (number_of result ≤ 27) }

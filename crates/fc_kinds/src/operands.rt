@@ -40,8 +40,8 @@ pub(crate) fn num(s: Interval) -> Kind
 
 /// Returns the rule that two operands break if they aren't both numbers.
 ///
-/// An unset register comes before a pointer. The contract says only that the rule is one from 20 to
-/// 27.
+/// An unset register is reported before a pointer. The contract says only that the rule is one from
+/// 20 to 27.
 pub(crate) fn operand_fault(a: Kind, b: Kind) -> Rule
     ensures { (20 ≤ number_of result) × (number_of result ≤ 27) }
 {

@@ -44,7 +44,7 @@ pub(crate) fn distance(operand: Operand, b: Kind) -> Result<(i64, i64), Rule>
 
 /// Returns whether both ends are within 65,536 of the start of the region.
 ///
-/// The ends are those of a moved pointer's offsets: it may not move further.
+/// The ends are those of a moved pointer's offsets: the pointer may not move further.
 pub(crate) fn is_near(lo: i64, hi: i64) -> bool
     ensures { result ≡ (int_le (negsuc 65535) lo && int_le hi (pos 65536)) }
 {

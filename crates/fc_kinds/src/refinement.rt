@@ -32,7 +32,8 @@ fn relation_of(jump: &Jump, taken: bool) -> Relation
 
 /// Returns whether a jump's operands can be refined.
 ///
-/// They can if it compares two different whole registers, or a whole register and an immediate.
+/// They can be refined if the jump compares two different whole registers, or a whole register and
+/// an immediate.
 fn refines(jump: &Jump) -> bool
     ensures { result ≡ refines jump.now }
 {

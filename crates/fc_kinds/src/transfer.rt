@@ -130,7 +130,7 @@ fn after_access(insn: Insn, regs: &mut Regs, vars_size: u16) -> Result<(), Rule>
 /// Such a jump has no effect on the state.
 ///
 /// # Errors
-/// Returns the broken rule if one of them is unset or a pointer.
+/// Returns the broken rule if one of the operands is unset or a pointer.
 #[tactic(auto, unfolding(crate::specs::Transfer::transfer))]
 fn jump_if(jump: &Jump, regs: &Regs) -> Result<(), Rule>
     requires { AreKinds regs.now }

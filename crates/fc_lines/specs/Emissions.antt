@@ -6,7 +6,7 @@ use Rattle.coap_msg.specs.declared.types.Endpoint.{Endpoint}
 use Rattle.coap_msg.specs.declared.types.Emission.{Emission}
 use Rattle.fc_lines.specs.Fields.{space}
 
--- a peer is 127.0.0.peer, at CoAP's port.
+-- the endpoint of a peer: 127.0.0.peer, at CoAP's port.
 abbrev pub peer_endpoint : ℕ → Endpoint
 peer_endpoint peer = record { ip = 127 ∷ 0 ∷ 0 ∷ peer ∷ []; port = 5683 }
 

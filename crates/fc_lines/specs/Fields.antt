@@ -12,7 +12,7 @@ dash = 45 ∷ []
 abbrev pub device : List ℕ
 device = 100 ∷ 101 ∷ 118 ∷ []
 
--- no byte of it is a space.
+-- no byte of the text is a space.
 abbrev pub IsUnspaced : List ℕ → Type 0
 IsUnspaced text = All (λ b. b ≢ space) text
 

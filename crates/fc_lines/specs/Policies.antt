@@ -8,7 +8,7 @@ use Rattle.fc_lines.specs.Fields.{IsNumber}
 abbrev pub slash : ℕ
 slash = 47
 
--- no byte of it is a slash.
+-- no byte of the text is a slash.
 abbrev pub IsUnslashed : List ℕ → Type 0
 IsUnslashed text = (i : ℕ) → i < length text → slice_index text i ≢ slash
 
@@ -36,7 +36,7 @@ AreNetworks texts ns = ⊥
 pub record AreNoNetworks (texts : List (List ℕ)) : Type 0 where
   pub none : (ns : List Network) → AreNetworks texts ns → ⊥
 
--- one to four texts are those of four networks: the last is repeated for those that are missing.
+-- one to four texts give four networks: the last network is repeated for the missing ones.
 abbrev pub AreManagers : List (List ℕ) → List Network → Type 0
 AreManagers (a ∷ []) ns = AreNetworks (a ∷ a ∷ a ∷ a ∷ []) ns
 AreManagers (a ∷ b ∷ []) ns = AreNetworks (a ∷ b ∷ b ∷ b ∷ []) ns

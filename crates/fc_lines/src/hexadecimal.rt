@@ -13,7 +13,7 @@ use std::io::Write;
 /// Decodes hex digits in upper or lower case, two for each byte.
 ///
 /// # Errors
-/// Returns `Bad` if they aren't such digits, and `NoMemory` if memory for the bytes can't be
+/// Returns `Bad` if `digits` aren't such digits, and `NoMemory` if memory for the bytes can't be
 /// allocated.
 pub fn decode(alloc: Global, digits: &[u8]) -> Result<Vec<u8>, LineError>
     ensures bytes { IfOk result (λ bytes. decode_of digits.now ≡ Ok bytes.items) }
@@ -34,7 +34,7 @@ const SHORT: usize = 64;
 
 /// Writes a datagram as hex digits in lower case, two for each byte.
 ///
-/// It has at most 1,280 bytes.
+/// The datagram has at most 1,280 bytes.
 ///
 /// # Errors
 /// Returns the writer's error.
@@ -50,7 +50,7 @@ pub fn write<W: Write>(out: &mut W, bytes: &[u8]) -> io::Result<()>
 }
 
 // Writes a datagram of at most 64 bytes, as most are. It needs no buffer for the digits of the
-// longest, which would be zeroed for each.
+// longest datagram, which would be zeroed for each call.
 fn write_short<W: Write>(out: &mut W, bytes: &[u8]) -> io::Result<()>
     requires { length bytes.now ≤ 64 }
     ensures { OnOk result (Appends (W.contents out.old) (W.contents out.new) (encode_lower bytes.now)) }

@@ -1,6 +1,6 @@
 //! Text that the programs read and print.
 //!
-//! It is lines, numbers, hex digits, a server's policy, and emissions as `peer hex`.
+//! It consists of lines, numbers, hex digits, a server's policy, and emissions as `peer hex`.
 //!
 //! # What is proved
 //!

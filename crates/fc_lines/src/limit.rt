@@ -10,10 +10,10 @@ use std::io::{ErrorKind, Read};
 /// UDP over IPv4. A space follows each of the first two.
 pub const LONGEST_LINE: usize = 20 + 1 + 3 + 1 + 2 * 65_507;
 
-/// A reader that passes on another's bytes, and fails if a line is too long.
+/// A reader that returns another reader's bytes, and fails if a line is too long.
 ///
-/// It reads no more of that line than shows that it is too long. Earlier reads have returned the
-/// bytes before the line.
+/// It reads only as much of that line as shows that the line is too long. Earlier reads have
+/// returned the bytes before the line.
 #[derive(Drop)]
 pub struct LineLimit<R: Read + Drop> {
     inner: R,
@@ -27,8 +27,8 @@ impl<R: Read + Drop> LineLimit<R> {
     }
 
     // Advances past `bytes`, and returns whether the line in which they begin is short enough.
-    // `read` passes at most one byte more than that line may still have, so later lines in them are
-    // short.
+    // `read` passes at most one byte more than that line may still have, so later lines in `bytes`
+    // are short.
     fn goes_on(&mut self, bytes: &[u8]) -> bool {
         let begun = match bytes.iter().position(is_line_feed) {
             Some(end) => self.length.saturating_add(end),

@@ -115,7 +115,7 @@ fn are_dashes(second: &[u8], third: &[u8]) -> bool
 
 /// Parses decimal digits as a number, without a sign.
 ///
-/// Returns `None` if `text` isn't such a number or it is 2^64 or more.
+/// Returns `None` if `text` isn't such a number, or if the number is 2^64 or more.
 pub fn number(text: &[u8]) -> Option<u64>
     ensures { MatchOption result (IsNoNumber text.now (2 ^ 64)) (IsNumber text.now) }
 {

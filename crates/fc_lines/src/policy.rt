@@ -44,8 +44,8 @@ pub fn policy(managers: &[&str], exchanges: usize, share: usize, seconds: u64) -
 
 /// Parses the texts of one to four networks.
 ///
-/// The last one is repeated for those that are missing. Returns `None` exactly if one of them isn't
-/// a network, or if there are none or more than four.
+/// The last network is repeated for the missing ones. Returns `None` exactly if one of the texts
+/// isn't a network, or if there are no texts or more than four.
 pub fn networks(texts: &[&str]) -> Option<Managers>
     ensures { let all = map (λ text. text.now) texts.now in MatchOption result (AreNoManagers all) (AreManagers all) }
 {
@@ -58,7 +58,7 @@ pub fn networks(texts: &[&str]) -> Option<Managers>
     }
 }
 
-// Parses four networks, or returns `None` if a text isn't one.
+// Parses four networks, or returns `None` if a text isn't a network.
 fn four(a: &str, b: &str, c: &str, d: &str) -> Option<Managers>
     ensures { let texts = a.now ∷ b.now ∷ c.now ∷ d.now ∷ [] in MatchOption result (AreNoNetworks texts) (AreNetworks texts) }
 {

@@ -17,7 +17,7 @@ pub struct Frame {
 }
 
 impl Frame {
-    /// Makes a frame. No run can observe the contents that an earlier one left.
+    /// Makes a frame. No run can observe the contents that an earlier run left.
     ///
     /// # Errors
     /// Returns `AllocError` if memory for the frame can't be allocated.

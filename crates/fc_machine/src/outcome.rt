@@ -11,7 +11,7 @@ use std::marker::Model;
 
 /// The outcome of a run.
 ///
-/// In contracts it is the inputs of the run: each part of an outcome is that of the meaning of
+/// Contracts see it as the inputs of the run: each part of an outcome is that of the meaning of
 /// these inputs.
 #[derive(Drop)]
 pub struct Outcome<'a> {
@@ -46,21 +46,21 @@ impl<'a> Outcome<'a> {
         self.program
     }
 
-    /// Returns the request that it handled.
+    /// Returns the request that the program handled.
     pub fn request(&self) -> &'a Request
         ensures { result.now ≡ self.now.input.request }
     {
         self.request
     }
 
-    /// Returns the variables that it found.
+    /// Returns the variables that the program found.
     pub fn found(&self) -> &'a Vars
         ensures { result.now ≡ self.now.input.vars }
     {
         self.found
     }
 
-    /// Returns the readings that it was given.
+    /// Returns the readings that the program was given.
     pub fn readings(&self) -> &'a Readings
         ensures { result.now ≡ self.now.input.readings }
     {

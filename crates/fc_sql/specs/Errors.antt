@@ -1,4 +1,4 @@
--- The error of an open, by the database's own.
+-- The error of an open, from the database's error.
 use Rattle.sqlite.specs.declared.error.Error.{Error}
 use Rattle.sqlite.specs.declared.error.Error.TheVariants.{SqliteFailure}
 use Rattle.sqlite.specs.declared.error.ErrorCode.{ErrorCode}

@@ -32,7 +32,7 @@ use Rattle.fc_sql.specs.declared.columns.Unread.TheVariants.{Memory, Bad}
 
 -- ---- a slot's row
 
--- the serial of the install isn't above the slot's own.
+-- the serial of the install isn't above the slot's own serial.
 abbrev pub IsSlotState : StoredSlot → Type 0
 IsSlotState s = IfSome s.program (λ (p : StoredProgram). p.version ≤ s.serial)
 
@@ -44,7 +44,7 @@ state_values s = Int (pos s.serial) ∷ program_values s.program
 abbrev pub state_columns : Row → Row
 state_columns r = column r 2 ∷ column r 3 ∷ column r 4 ∷ column r 5 ∷ []
 
--- the same of each row with this number.
+-- the same columns of each row with this number.
 abbrev pub rows_of : List Row → ℕ → List Row
 rows_of rows n = map state_columns (filter (has_rowid (pos n)) rows)
 
@@ -73,7 +73,7 @@ pub record StoresSlots (rows : List Row) (stored : StoredSlots) : Type 0 where
   pub numbers : AreSlotNumbers rows
   pub states : StoresStates rows stored
 
--- the same of a table, of its slots' rows alone.
+-- the table stores these slots; and, in the second, its slots' rows do, whatever other rows it has.
 abbrev pub TableStores : State → StoredSlots → Type 0
 TableStores s = StoresSlots (slot_rows s)
 
@@ -88,7 +88,7 @@ AreSlotRows s n = IsPermutation (rows_of (slot_rows s) n)
 abbrev pub StoresIn : Database → StoredSlots → Type 0
 StoresIn db stored = ((db.schema ≡ slot_schema) × StoresSlots (db.trees 0) stored) ⊎ ((db.schema ≡ no_schema) × AreSameSlots stored (λ _. blank_slot))
 
--- the table is there, as long as the medium is clean.
+-- the table exists, as long as the medium is clean.
 abbrev pub HasTable : State → Type 0
 HasTable s = HasCleanDisk s → s.now.schema ≡ slot_schema
 
@@ -105,7 +105,7 @@ abbrev pub is_half : Value → Value → Value → Bool
 is_half a b c = (is_null a || is_null b || is_null c) && not (is_null a && is_null b && is_null c)
 
 -- The reasons why the columns serial, version, image and vars aren't the state of a slot. The
--- serial isn't a number from 0 up. The version isn't NULL, and isn't such a number or is above the
+-- serial isn't a number from 0 up. The version is neither NULL nor such a number, or is above the
 -- serial. The image or the variables are neither NULL nor a blob. Some of version, image and vars
 -- are NULL, and some aren't.
 abbrev pub IsBadRow : BadRow → Row → Type 0
@@ -144,15 +144,15 @@ IsSameDatabase old new = (new.now ≡ old.now) × (new.committed ≡ old.committ
 abbrev pub RefusesRow : State → State → OpenError → Type 0
 RefusesRow old new e = (z : ℤ) × (why : BadRow) × (e ≡ error.Row z why) × HasBad (old.now.trees 0) z why × IsSameDatabase old new
 
--- Why rows are refused: one isn't the state of a slot, or a call of the database failed.
+-- Why rows are refused: a row isn't the state of a slot, or a call of the database failed.
 abbrev pub RefusesRows : State → State → OpenError → Type 0
 RefusesRows old new e = RefusesRow old new e ⊎ IsFailure e
 
--- the tables are neither none nor that of slots, and nothing was changed.
+-- the schema is neither empty nor that of the slots' table, and nothing was changed.
 abbrev pub RefusesForeign : State → State → OpenError → Type 0
 RefusesForeign old new e = (e ≡ error.Foreign) × (old.now.schema ≢ slot_schema) × (old.now.schema ≢ no_schema) × IsSameDatabase old new
 
--- Why tables are refused: they are others, or a call of the database failed.
+-- Why tables are refused: they are other tables, or a call of the database failed.
 abbrev pub OtherTables : State → State → OpenError → Type 0
 OtherTables old new e = RefusesForeign old new e ⊎ IsFailure e
 
@@ -165,11 +165,11 @@ RefusesDatabase old new e = RefusesForeign old new e ⊎ (((old.now.schema ≡ s
 abbrev pub Makes : State → Trees → Type 0
 Makes old db = (old.now.schema ≡ no_schema) × CommitsBy create_text [] old db
 
--- the table is there, and has no row.
+-- the table exists, and has no row.
 abbrev pub HasNoRow : State → Type 0
 HasNoRow s = (s.now.schema ≡ slot_schema) × (s.now.trees 0 ≡ [])
 
--- The table is there: it was, or it was made in an empty database, and has no row.
+-- The table exists: it existed before, or it was made in an empty database and has no row.
 abbrev pub IsTableMade : State → State → Type 0
 IsTableMade old new = ((old.now.schema ≡ slot_schema) × IsSameDatabase old new) ⊎ ((old.now.schema ≡ no_schema) × (new.now.schema ≡ slot_schema) × (new.now.trees 0 ≡ []))
 
@@ -183,7 +183,7 @@ slot_with serial version image vars = record { serial = serial; program = Some (
 abbrev pub column_values : Columns → Row
 column_values c = Int (pos c.serial) ∷ or_null (λ (n : ℕ). Int (pos n)) c.version ∷ or_null (λ b. Blob b.items) c.image ∷ or_null (λ b. Blob b.items) c.vars ∷ []
 
--- each row has as many columns.
+-- each row has this number of columns.
 abbrev pub AreWide : ℕ → List Row → Type 0
 AreWide n = All (λ (r : Row). length r ≡ n)
 
@@ -200,11 +200,11 @@ IsUnreadColumn is_readable r at why e = (e ≡ Memory) ⊎ ((e ≡ Bad why) × (
 abbrev pub AreUnread : ℕ → List Row → OpenError → Type 0
 AreUnread slot rows e = ((why : BadRow) × (e ≡ error.Row (pos slot) why) × (AreWide 4 rows → AreBad why rows)) ⊎ (e ≡ error.Memory)
 
--- the same of one row.
+-- the same for one row.
 abbrev pub IsUnreadRow : ℕ → Row → OpenError → Type 0
 IsUnreadRow slot r e = ((why : BadRow) × (e ≡ error.Row (pos slot) why) × (length r ≡ 4 → AreBad why (r ∷ []))) ⊎ (e ≡ error.Memory)
 
--- why the number of a row was refused: it isn't a slot's, or it wasn't read.
+-- why the number of a row was refused: it isn't a slot's number, or it wasn't read.
 abbrev pub IsOtherNumber : Row → OpenError → Type 0
 IsOtherNumber r e = ((z : ℤ) × (e ≡ error.Row z Number) × ¬ IsSlotNumber (Int z) × (rowid r ≡ Int z)) ⊎ IsFailure e
 

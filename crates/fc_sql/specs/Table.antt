@@ -99,7 +99,7 @@ abbrev pub program_if : Value → Value → Value → Option StoredProgram
 program_if (Int (pos v)) image vars = Some (record { version = v; image = blob_bytes image; vars = blob_bytes vars })
 program_if _ image vars = None
 
--- the slot that a row stores; without a row it is blank.
+-- the slot that a row stores; without a row the slot is blank.
 abbrev pub slot_in_row : Row → StoredSlot
 slot_in_row row = record { serial = nat_in (column row 2); program = program_if (column row 3) (column row 4) (column row 5) }
 

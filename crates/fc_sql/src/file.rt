@@ -1,4 +1,4 @@
-//! A store in a file. No program opens one yet.
+//! A store in a file. No program opens such a store yet.
 ghost use Rattle.std.specs.Prelude.{IfOk, IfErr, IsTrue};
 ghost use Rattle.sqlite.specs.State.{HasCleanDisk};
 ghost use Rattle.sqlite.specs.Files.{file_state, IsOpened};

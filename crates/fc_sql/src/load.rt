@@ -1,7 +1,8 @@
 //! Reading the stored slots of a database, as a store is opened.
 //!
 //! Clauses about the database suppose that the medium is clean at the end: it returned the data
-//! that was written to it. `survives` doesn't: it says which changes a crash may leave.
+//! that was written to it. The clause `survives` doesn't suppose this: it says which changes a
+//! crash may leave.
 ghost use Rattle.std.specs.Prelude.{◌≡◌, ◌⊎◌, ℤ, pos, [], length, ◌∷◌, IsTrue, IfOk, IfErr, OnOk};
 ghost use Rattle.std.specs.List.{All};
 ghost use Rattle.std.specs.List.Sorted.{IsPermutation};
@@ -190,7 +191,8 @@ fn rows_of_slot<S: Alter + Drop>(conn: &mut Connection<S>, slot: u8) -> Result<V
     }
 }
 
-// Returns the slot that its rows store, or `Row` if they are several or aren't the state of a slot.
+// Returns the slot that its rows store, or `Row` if there are several rows, or if they aren't the
+// state of a slot.
 fn slot_of(rows: &[Row], slot: u8) -> Result<StoredSlot, OpenError>
     ensures ok { IfOk result (λ s. AreWide 4 rows.now → AreOfSlot rows.now s) }
     ensures bad { IfErr result (AreUnread slot rows.now) }
@@ -214,7 +216,7 @@ fn read_row(row: &Row, slot: u8) -> Result<StoredSlot, OpenError>
     }
 }
 
-// Checks that each row is that of a slot, 0 to 63. Returns `Row` if there is another one.
+// Checks that each row is that of a slot, 0 to 63. Returns `Row` if there is another row.
 fn check_rows<S: Alter + Drop>(conn: &mut Connection<S>) -> Result<(), OpenError>
     requires table { HasTable (state S.Store conn.old) }
     ensures numbers { HasCleanDisk (state S.Store conn.new) → OnOk result (AreSlotNumbers (slot_rows (state S.Store conn.old))) }
@@ -244,7 +246,8 @@ fn numbers<S: Alter + Drop>(conn: &mut Connection<S>) -> Result<Vec<Row>, OpenEr
     }
 }
 
-// Checks that the first column of each row is the number of a slot. Returns `Row` if one isn't.
+// Checks that the first column of each row is the number of a slot. Returns `Row` if such a column
+// isn't.
 fn check_numbers(rows: &[Row]) -> Result<(), OpenError>
     ensures ok { OnOk result (AreSlotNumbers rows.now) }
     ensures bad { IfErr result (λ e. ((z : ℤ) × (e ≡ OpenError.Row z BadRow.Number) × HasOther rows.now z) ⊎ IsFailure e) }

@@ -85,7 +85,7 @@ impl<S: Alter + Drop> Store for SqlStore<S> {
         true
     }
 
-    // Writes the slot's row, and changes the copy in memory only if that is committed.
+    // Writes the slot's row, and changes the copy in memory only if the row is committed.
     fn save(&mut self, update: &SlotUpdate<'_>) -> bool {
         let slot = usize::from(update.slot);
         match self.slots[slot].after(self.alloc, update) {

@@ -17,7 +17,7 @@ use sqlite::{Alter, Connection, params};
 pub const TABLE: &str =
     "CREATE TABLE slot (number INTEGER PRIMARY KEY, serial INTEGER NOT NULL, version INTEGER, image BLOB, vars BLOB) STRICT";
 
-/// Writes the row of a slot, and replaces the one that it has.
+/// Writes the row of a slot, and replaces the row that the slot has.
 pub const PUT: &str =
     "INSERT OR REPLACE INTO slot (number, serial, version, image, vars) VALUES (?1, ?2, ?3, ?4, ?5)";
 

@@ -20,11 +20,11 @@ program_after serial Remove before = None
 abbrev pub slot_after : SlotUpdate → StoredSlot → StoredSlot
 slot_after u before = record { serial = u.serial; program = program_after u.serial u.program before.program }
 
--- all slots after an update of one.
+-- all slots after an update of one slot.
 abbrev pub slots_after : SlotUpdate → StoredSlots → StoredSlots
 slots_after u before n = if n == u.slot then slot_after u (before n) else before n
 
--- equal in each of the 64 slots.
+-- the two are equal in each of the 64 slots.
 abbrev pub AreSameSlots : StoredSlots → StoredSlots → Type 0
 AreSameSlots a b = (n : ℕ) → n < 64 → a n ≡ b n
 

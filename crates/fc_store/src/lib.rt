@@ -2,9 +2,9 @@
 //!
 //! A server saves an update of a slot before it makes the change. [`Store::save`] gets a
 //! [`SlotUpdate`]: the slot's next serial (its revision counter) and the change of its program. If
-//! it returns `true`, each start after a later crash finds the update, until the next one is saved.
-//! If it returns `false`, the stored slots don't change and the server must not make the change; a
-//! start after a crash may then find the slots with or without the update.
+//! the call returns `true`, each start after a later crash finds the update, until the next update
+//! is saved. If it returns `false`, the stored slots don't change and the server must not make the
+//! change; a start after a crash may then find the slots with or without the update.
 //!
 //! ```rust
 //! use fc_store::{ProgramUpdate, SlotUpdate, Store};
@@ -22,11 +22,11 @@
 //!
 //! # What is proved
 //!
-//! - A save that returns `true` stores just its update, of its slot alone. One that returns `false`
-//!   leaves all stored slots as they were.
+//! - A save that returns `true` stores just its update, of its slot alone. A save that returns
+//!   `false` leaves all stored slots as they were.
 //! - While the medium returns the data that was written to it, a start after a crash finds just the
-//!   stored slots if the last save returned `true`. If it returned `false`, a start finds slots
-//!   that it could find before the call, or the slots with that update.
+//!   stored slots if the last save returned `true`. If that save returned `false`, a start finds
+//!   slots that it could find before the call, or the slots with that update.
 //! - A store in memory and an optional store meet these clauses.
 //!
 //! By the contracts of `StoredSlot::after`, `MemoryStore::new`, the clauses of `Store`.

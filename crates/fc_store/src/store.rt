@@ -26,7 +26,7 @@ pub struct SlotUpdate<'a> {
 
 /// A store of a server's slots, which may be persistent.
 pub trait Store {
-    // Whether it stores anything.
+    // Whether the store stores anything.
     ghost persistent: { Self → Bool };
 
     // The stored slots.
@@ -38,13 +38,13 @@ pub trait Store {
     // The stored slots are those on the medium, and are committed there.
     ghost is_ready: { Self → Type 0 } = { λ _. ⊤ };
 
-    // No failure has shut it. A store that is shut refuses each update.
+    // No failure has shut the store. A store that is shut refuses each update.
     ghost is_open: { Self → Type 0 } = { λ _. ⊤ };
 
     // The slots that a start may find if the machine stops now.
     ghost may_recover: { Self → StoredSlots → Type 0 };
 
-    /// Returns whether it stores anything. If not, no update has to be saved.
+    /// Returns whether the store stores anything. If not, no update has to be saved.
     fn is_persistent(&self) -> bool
         ensures { result ≡ persistent self.now };
 

@@ -12,7 +12,7 @@ use Rattle.fc_cli.specs.declared.status.Status.TheVariants.{Done, Refused, Bad, 
 abbrev pub digest_text : List ℕ → List ℕ
 digest_text image = encode_lower (sha256 image)
 
--- the same in a line.
+-- the same digits, as a line.
 abbrev pub digest_line : List ℕ → List ℕ
 digest_line image = digest_text image ++ 10 ∷ []
 
@@ -20,7 +20,8 @@ digest_line image = digest_text image ++ 10 ∷ []
 abbrev pub longest_image : ℕ
 longest_image = 524296
 
--- the bytes that are read of an input: all, but at most one more than an image has.
+-- the bytes that are read of an input: all of them, but at most one more than the longest image
+-- has.
 abbrev pub read_of : List ℕ → List ℕ
 read_of input = take (longest_image + 1) input
 
@@ -31,12 +32,13 @@ pub record IsDigested (input : Option (List ℕ)) (before after : Option (List �
   pub short : length image ≤ longest_image
   pub text : Appends before after (digest_line image)
 
--- the input has more bytes than an image, and nothing was printed.
+-- the input has more bytes than the longest image, and nothing was printed.
 pub record IsTooLong (input : Option (List ℕ)) (before after : Option (List ℕ)) : Type 0 where
   pub long : IfSome input (λ bytes. longest_image < length bytes)
   pub same : after ≡ before
 
--- the reason why no line was printed. Unless it is an error of the output, nothing was printed.
+-- the reason why no line was printed; for every reason except an error of the output, nothing at
+-- all was printed.
 abbrev pub IsDigestFault : Option (List ℕ) → Option (List ℕ) → Option (List ℕ) → DigestError → Type 0
 IsDigestFault input before after error.Long = IsTooLong input before after
 IsDigestFault input before after (error.Output reason) = Unit {0}

@@ -5,7 +5,7 @@ use Rattle.fc_isa.specs.declared.insn.Insn.{Insn}
 use Rattle.fc_isa.specs.declared.insn.Insn.TheVariants.{WideSecond}
 use Rattle.fc_asm.specs.Listing.{line_of}
 
--- an instruction's line after its slot number; the second half of a wide load has none.
+-- an instruction's line after its slot number; the second half of a wide load has no line.
 abbrev pub numbered_line : ℕ → Insn → List ℕ
 numbered_line slot WideSecond = []
 numbered_line slot insn = decimal slot ++ (codes ": " ++ line_of insn)

@@ -30,7 +30,7 @@ pub record IsImageOf (text : List ℕ) (vars_size budget : ℕ) (version : Image
   pub limits : limit_fault (program_head vars_size budget version program) ≡ None
   pub bytes_are : image ≡ head_bytes (program_head vars_size budget version program) ++ encoded program
 
--- the image's budget is the number of steps of the program's longest path.
+-- the same, with the number of steps of the program's longest path as the budget.
 pub record IsPricedImageOf (text : List ℕ) (vars_size : ℕ) (version : ImageVersion) (image : List ℕ) : Type 0 where
   pub budget : ℕ
   pub image_is : IsImageOf text vars_size budget version image

@@ -12,7 +12,7 @@ pub enum Budget {
     Auto,
 }
 
-/// The error that a text isn't a budget.
+/// The error for a text that isn't a budget.
 #[derive(Clone, Copy, Debug, PartialEq, Eq, Drop, Error)]
 #[error("a budget is 1 to 65536, or `auto`")]
 pub struct BudgetError;

@@ -29,7 +29,7 @@ pub const GREATEST_BUDGET: u32 = 65_536;
 pub struct Diagnosis {
     /// The first broken rule, and its slot.
     ///
-    /// If only the typing is missing, some rule from 20 to 28.
+    /// If only the typing is missing, it is some rule from 20 to 28.
     pub fault: Fault,
     /// The evidence.
     pub cause: Cause,
@@ -63,7 +63,7 @@ pub enum Cause {
     Flow(Insn),
     /// The slot's instruction, a jump that leads to no later slot.
     ///
-    /// With the reason why it isn't the jump of a counted loop.
+    /// It comes with the reason why it isn't the jump of a counted loop.
     Back {
         insn: Insn,
         reason: Uncounted,
@@ -72,15 +72,15 @@ pub enum Cause {
     Frames,
     /// The cost and the budget, in steps.
     ///
-    /// The cost is the number of steps of the longest path. It is `None` if that is above the
-    /// greatest budget, or if another rule of the control flow is broken.
+    /// The cost is the number of steps of the longest path. The cost is `None` if that number is
+    /// above the greatest budget, or if another rule of the control flow is broken.
     Cost {
         cost: Option<u32>,
         budget: u32,
     },
     /// The slot's instruction, and the precondition that doesn't hold.
     ///
-    /// With the registers' abstract values before the instruction.
+    /// The registers' abstract values before the instruction come with them.
     Typing {
         insn: Insn,
         known: Regs,
@@ -235,7 +235,8 @@ fn shape_cause(head: &Head, code: &[Insn], fault: Fault) -> Cause
 
 /// Returns the evidence that the jump at a slot goes back without a counted loop.
 ///
-/// The jump leads to no later slot. The evidence has the reason why it isn't a counted loop's.
+/// The jump leads to no later slot. The evidence has the reason why the jump isn't a counted
+/// loop's.
 #[tactic(auto, unfolding(fc_image::specs::ShapeRules::breaks_shape))]
 fn back(head: &Head, code: &[Insn], slot: usize) -> Cause
     requires count { length code.now ≡ head.now.count }
@@ -254,7 +255,7 @@ fn back(head: &Head, code: &[Insn], slot: usize) -> Cause
 
 /// Returns the cost of a program, if it is at most the greatest budget.
 ///
-/// Returns `None` if it is more, or if another rule of the control flow is broken.
+/// Returns `None` if the cost is more, or if another rule of the control flow is broken.
 fn cost_of(head: &Head, code: &[Insn]) -> Option<u32>
     requires count { length code.now ≡ head.now.count }
     requires whole { is_program code.now ≡ true }

@@ -63,8 +63,8 @@ pub fn digest_of(alloc: Global, image: &[u8]) -> Result<String, AllocError>
 
 /// Reads an image and writes its digest in a line.
 ///
-/// The digest is that of [`digest_of`]. At most 524,297 bytes are read, one more than an image has.
-/// Returns:
+/// The digest is that of [`digest_of`]. At most 524,297 bytes are read, one more than the longest
+/// image has. Returns:
 ///
 /// - `Done` if the line is written;
 /// - `Refused` if the input has more than 524,296 bytes, which no image has; nothing is written to
@@ -88,7 +88,7 @@ pub fn digest<R: Read, W: Write, E: Write>(
 
 // Reads an image and writes its digest in a line.
 //
-// Unless writing fails, nothing is written before an error.
+// For every error except one of writing, nothing at all is written.
 fn write_digest<R: Read, W: Write>(
     alloc: Global,
     input: &mut R,

@@ -65,7 +65,7 @@ pub fn explain_form<W: Write>(out: &mut W, text: &[u8], bad: BadForm) -> io::Res
     writeln!(out, "change: {}", bad.form.correction())
 }
 
-// Writes the line with this number; nothing if there is none, or no UTF-8.
+// Writes the line with this number, or nothing if it is missing or isn't UTF-8.
 fn write_line<W: Write>(out: &mut W, text: &[u8], line: usize) -> io::Result<()> {
     match line_of(text, line) {
         Some(code) => writeln!(out, "line {line}: {code}"),
@@ -186,7 +186,7 @@ fn write_registers<W: Write>(out: &mut W, insn: Insn, known: &Regs) -> io::Resul
     }
 }
 
-// Writes the second register, unless it is the first one again.
+// Writes the second register, unless it is the same as the first.
 fn write_second<W: Write>(out: &mut W, first: Reg, second: Reg, known: &Regs) -> io::Result<()> {
     if second == first {
         Ok(())

@@ -3,7 +3,7 @@
 //! # What is proved
 //!
 //! - An image consists of a header of the requested version and the slots of the source's program.
-//!   Its budget is the given one, or the steps of the longest path.
+//!   Its budget is the given budget, or the steps of the longest path.
 //! - A disassembly is that of the program that the image's slots encode, also with slot numbers.
 //! - The diagnosis of a refused image is a fault that the verifier may report, with the evidence
 //!   for its rule. For V06 to V10 that is the slot's bytes. For V11 to V14 and V17 it is the slot's
@@ -15,7 +15,7 @@
 //! - A run's report is that of the meaning of the program, request, readings and variables.
 //! - A digest is the SHA-256 (FIPS 180-4) of all bytes of the image, in 64 lowercase hex digits.
 //!   `fcasm digest` prints it in a line for an input of at most 524,296 bytes. It refuses a longer
-//!   one, of which 524,297 bytes are read, and prints nothing.
+//!   input, reads 524,297 bytes of it, and prints nothing.
 //!
 //! By the contracts of `tools::image_of`, `priced_image_of`, `listing_of`, `numbered_listing_of`,
 //! `diagnosis::diagnose`, `runner::report`, `digest::digest_of`, `digest`, `tools::image_bytes`,

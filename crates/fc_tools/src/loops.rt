@@ -29,7 +29,7 @@ impl fmt::Display for CountedLoop {
 
 /// Writes why a backward jump isn't the jump of a counted loop.
 ///
-/// If another instruction prevents it, writes that too, on a line of its own.
+/// If another instruction prevents a counted loop, writes that instruction too, on its own line.
 pub(crate) fn write_reason<W: Write>(
     alloc: Global,
     out: &mut W,

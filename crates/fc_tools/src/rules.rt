@@ -25,7 +25,7 @@ pub fn broken_text(diagnosis: &Diagnosis) -> &'static str {
 
 /// Returns the change to make in an image that breaks a rule.
 ///
-/// If the budget is the greatest already, the change isn't a greater one.
+/// If the budget is the greatest already, the change isn't a greater budget.
 pub fn remedy(diagnosis: &Diagnosis) -> &'static str {
     match &diagnosis.cause {
         Cause::Cost { budget, .. } if *budget == GREATEST_BUDGET =>
@@ -46,7 +46,7 @@ pub fn remedy(diagnosis: &Diagnosis) -> &'static str {
 
 /// Returns the change to make in an image that breaks this rule.
 ///
-/// For some causes `remedy` has a more exact one.
+/// For some causes `remedy` has a more exact change.
 fn rule_remedy(rule: Rule) -> &'static str {
     match rule {
         Rule::Format => "write the image by `fcasm image`, and hand it on whole",

@@ -117,7 +117,7 @@ impl From<Rejection> for ToolError {
 ///   rule;
 /// - `Failed` if reading or writing fails, or if memory can't be allocated.
 ///
-/// Writes the reason to `err`: a line with the mistake or the rule, and then those of
+/// Writes the reason to `err`: a line with the mistake or the rule, and then the lines of
 /// `explain_line` or `explain`.
 pub fn image<R: Read, W: Write, E: Write>(
     alloc: Global,
@@ -172,7 +172,7 @@ pub fn expand<R: Read, W: Write, E: Write>(
 /// - `Refused` if the header or a slot breaks a rule;
 /// - `Failed` if reading or writing fails, or if memory can't be allocated.
 ///
-/// Writes the reason to `err`: a line with the rule, and then those of `explain`.
+/// Writes the reason to `err`: a line with the rule, and then the lines of `explain`.
 pub fn list<R: Read, W: Write, E: Write>(
     alloc: Global,
     input: &mut R,
@@ -305,7 +305,7 @@ fn read_image<R: Read>(alloc: Global, input: &mut R) -> Result<Vec<u8>, ToolErro
 
 /// Reads an image.
 ///
-/// Of an image that is too long for its slots to be counted, reads one byte more than the maximum.
+/// If an image is too long for its slots to be counted, reads one byte more than the maximum.
 ///
 /// # Errors
 /// Returns an error if reading fails, or if memory can't be allocated.
@@ -318,7 +318,7 @@ pub fn image_bytes<R: Read>(alloc: Global, input: &mut R) -> io::Result<Vec<u8>>
     Ok(image)
 }
 
-// Reads a source; of one that is too long, one byte more than the maximum.
+// Reads a source; if it is too long, reads one byte more than the maximum.
 //
 // Returns the error `LongText` for such a source.
 fn read_text<R: Read>(alloc: Global, input: &mut R) -> Result<Vec<u8>, ToolError> {
@@ -451,10 +451,10 @@ fn diagnosis_of(alloc: Global, image: &[u8]) -> Result<Diagnosis, AllocError>
 /// In a source that isn't UTF-8, the first line has an unknown word.
 ///
 /// # Errors
-/// Returns the first line with a mistake, and the first of these that it has: an unknown first word
-/// (A1), a bad operand (A2), a value out of range (A3). If there is no mistake, returns the first
-/// rule of the header that a number breaks. Returns `Memory` if memory can't be allocated and no
-/// such fault was found before.
+/// Returns the first line with a mistake, and the first of these mistakes that the line has: an
+/// unknown first word (A1), a bad operand (A2), a value out of range (A3). If there is no mistake,
+/// returns the first rule of the header that a number breaks. Returns `Memory` if memory can't be
+/// allocated and no such fault was found before.
 pub fn image_of(
     alloc: Global,
     text: &[u8],
@@ -474,8 +474,8 @@ pub fn image_of(
 /// That is the least budget that the program may have.
 ///
 /// # Errors
-/// Returns the errors of `image_of`. After the header's rules, returns the first rule of the
-/// control flow, 11 to 17, that the program breaks with the greatest budget.
+/// Returns the errors of `image_of`. If no rule of the header is broken, returns the first rule of
+/// the control flow, 11 to 17, that the program breaks with the greatest budget.
 pub fn priced_image_of(
     alloc: Global,
     text: &[u8],

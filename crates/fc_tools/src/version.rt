@@ -6,8 +6,8 @@ use fc_isa::ImageVersion;
 
 /// Parses the version for a new image.
 ///
-/// It is that of the word `1` or `2`, and version 1 without a word. Returns `None` for another
-/// word.
+/// The word `1` or `2` names the version; without a word it is version 1. Returns `None` for any
+/// other word.
 pub fn version_named(word: Option<&str>) -> Option<ImageVersion>
     ensures { IfSome result (NamesVersion (option_copied word.entry)) }
 {

@@ -1,4 +1,4 @@
--- The accepted images, and the first broken rule of the others.
+-- The accepted images, and the first broken rule of all other images.
 use Rattle.std.specs.Prelude.{◌≡◌, ℕ, ◌≤◌, List, drop, Some, None, ◌⊎◌}
 use Rattle.fc_isa.specs.declared.rule.Rule.{Rule}
 use Rattle.fc_isa.specs.Encoding.{Spells, IsFirstFault}
@@ -30,13 +30,13 @@ pub record IsShapely (image : List ℕ) (p : Program) : Type 0 where
   pub cost : IsLongest p.version p.code p.cost
   pub within : p.cost ≤ p.budget
 
--- an accepted image: also some typing exists.
+-- an accepted image: in addition, some typing of the program exists.
 pub record IsAccepted (image : List ℕ) (p : Program) : Type 0 where
   pub shapely : IsShapely image p
   pub states : States
   pub typing : IsTypingOf p.version p.vars_size p.code states
 
--- the control flow of the program breaks a rule, and this one first.
+-- the control flow of the program breaks a rule; this rule is the first that it breaks.
 pub record BreaksShape (image : List ℕ) (rule : Rule) (slot : ℕ) : Type 0 where
   pub p : Program
   pub program : IsProgramOf image p
@@ -47,7 +47,7 @@ pub record BreaksSlot (image : List ℕ) (rule : Rule) (slot : ℕ) : Type 0 whe
   pub head : head_fault image ≡ None
   pub fault : IsFirstFault (slots_of image) rule slot
 
--- the header breaks a rule, which names slot 0.
+-- the header breaks this rule, and the slot is 0.
 pub record BreaksHead (image : List ℕ) (rule : Rule) (slot : ℕ) : Type 0 where
   pub fault : head_fault image ≡ Some rule
   pub slot_is : slot ≡ 0

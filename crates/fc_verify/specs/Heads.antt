@@ -49,8 +49,8 @@ abbrev pub enters : Loop → Kind → Bool
 enters l (Num lo hi) = nat_lt hi l.bound
 enters l k = false
 
--- the state of a slot in the pass: at the head of a loop the loop invariant, or none if the loop's
--- counter doesn't start below its bound.
+-- the state of a slot in the pass. At the head of a loop it is the loop invariant, or none if the
+-- loop's counter doesn't start below its bound.
 unfoldable pub settled : List Insn → Option Loop → List Kind → Option (List Kind)
 settled code None kinds = Some kinds
 settled code (Some l) kinds = where_met (enters l (kind_at kinds l.counter)) (formed code l kinds)
@@ -64,8 +64,8 @@ abbrev pub is_inside : List Loop → ℕ → Bool
 is_inside [] slot = false
 is_inside (l ∷ loops) slot = is_in l slot || is_inside loops slot
 
--- the slot after the last of the bodies that begin so far, including that of the loop that begins
--- at a slot.
+-- the slot after the last of the bodies that begin so far, including the body of the loop that
+-- begins at a slot.
 abbrev pub reached : ℕ → Option Loop → ℕ
 reached reach None = reach
 reached reach (Some l) = max reach (l.last + 1)

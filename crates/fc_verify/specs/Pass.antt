@@ -25,7 +25,7 @@ joined_in (Some state) kinds = Some (joined state kinds)
 abbrev pub meet_at : States → ℕ → List Kind → States
 meet_at states slot kinds = slice_set states slot (joined_in (state_at states slot) kinds)
 
--- joined only if the slot is later than the one from which the flow comes.
+-- the states are joined only if the slot is later than the one from which the flow comes.
 abbrev pub met_later : ℕ → States → ℕ → List Kind → States
 met_later from states slot kinds = if nat_lt from slot then meet_at states slot kinds else states
 
@@ -46,7 +46,7 @@ abbrev pub met_by : ℕ → Bool → ℕ → Insn → List Kind → States → O
 met_by vars inside slot insn kinds states = with_some (transfer vars insn kinds) (λ after. passed_on inside slot insn kinds after states)
 
 -- the states after a slot that is found with the state `found`; `beginning` is the loop that begins
--- at the slot, and `inside` says whether it is in a body.
+-- at the slot, and `inside` says whether the slot is in a body.
 abbrev pub passed_by : ℕ → List Insn → Option Loop → Bool → ℕ → Insn → List Kind → States → Option States
 passed_by vars code beginning inside slot insn found states = with_some (settled code beginning found) (λ kinds. met_by vars inside slot insn kinds states)
 

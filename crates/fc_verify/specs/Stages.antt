@@ -24,7 +24,7 @@ use Rattle.fc_verify.specs.declared.untyped.Demand.{Demand}
 use Rattle.fc_verify.specs.declared.untyped.Demand.TheVariants.{Operands, Number, Counter}
 use Rattle.fc_verify.specs.declared.untyped.Untyped.{Untyped}
 
--- the header breaks no rule, and is this one.
+-- the header breaks no rule, and is this header.
 pub record IsHeadOf (image : List ℕ) (head : Head) : Type 0 where
   pub fault : head_fault image ≡ None
   pub stated_is : head ≡ stated image
@@ -53,23 +53,24 @@ pub record GivesNoNumber (inside : Bool) (insn : Insn) (after : List Kind) (dema
   pub other : is_number (kind_at after register) ≡ false
   pub demand_is : demand ≡ Number register (kind_at after register)
 
--- outside of bodies, or if the register is a number, there is no demand; else it is this one.
+-- the broken demand: none outside of bodies or if the register is a number, and else this one.
 abbrev pub IsUnnumbered : Bool → Insn → List Kind → Option Demand → Type 0
 IsUnnumbered inside insn after None = (inside && not (gives_number (computes insn) after)) ≡ false
 IsUnnumbered inside insn after (Some demand) = GivesNoNumber inside insn after demand
 
--- the demand that an instruction breaks in this state: it has no state after it; or in a loop's
--- body the register that it computes isn't a number.
+-- the demand that an instruction breaks in this state: there is no state after the instruction; or
+-- in a loop's body the register that it computes isn't a number.
 pub data Fails (vars : ℕ) (inside : Bool) (insn : Insn) (kinds : List Kind) (demand : Demand) : Type 0 where
   Unmet : transfer vars insn kinds ≡ None → demand ≡ Operands → Fails vars inside insn kinds demand
   NoNumber :
       (after : List Kind) → transfer vars insn kinds ≡ Some after → GivesNoNumber inside insn after demand
       → Fails vars inside insn kinds demand
 
--- the demand at which the pass stops, at a slot found with this state: the instruction isn't passed
--- in the slot's state; or there is no loop invariant, since the counter of the loop that begins at
--- the slot doesn't start below the bound; then the instruction's own preconditions don't hold in
--- the loop's iterations, or they do and the counter's demand isn't met.
+-- the demand at which the pass stops, at a slot found with this state. Either the instruction isn't
+-- passed in the slot's state. Or there is no loop invariant, since the counter of the loop that
+-- begins at the slot doesn't start below the bound. In that case the instruction's own
+-- preconditions don't hold in the loop's iterations, or they hold and the counter's demand isn't
+-- met.
 pub data Stops (vars : ℕ) (code : List Insn) (beginning : Option Loop) (inside : Bool) (insn : Insn) (found known : List Kind) (demand : Demand) : Type 0 where
   AtInsn :
       settled code beginning found ≡ Some known → Fails vars inside insn known demand

@@ -31,9 +31,9 @@ abbrev pub AllLead : States → List Way → Type 0
 AllLead states [] = Unit {0}
 AllLead states (w ∷ ws) = Leads states w.target w.kinds × AllLead states ws
 
--- at a slot with this state the instruction's preconditions hold, and each of its branches, also
--- one back, leads to a state that contains it; in a loop's body the register that the instruction
--- computes is a number.
+-- at a slot with this state the instruction's preconditions hold, and each of its branches, also a
+-- backward one, leads to a slot whose state contains the branch's state; in a loop's body the
+-- register that the instruction computes is a number.
 pub record IsWellTypedAt (vars : ℕ) (loops : List Loop) (states : States) (slot : ℕ) (insn : Insn) (kinds : List Kind) : Type 0 where
   pub after : List Kind
   pub effect : transfer vars insn kinds ≡ Some after

@@ -1,6 +1,6 @@
 //! The verifier: accepts exactly the images that keep the rules and have a typing.
 //!
-//! The rules include that the longest path is within the budget, and the typing is of the program's
+//! One of the rules is that the longest path is within the budget. The typing is of the program's
 //! registers.
 //!
 //! An accepted program runs without any check that it could fail.
@@ -25,17 +25,17 @@
 //! - Short programs show which registers a program may use at its entry, and how far it may read
 //!   and write from each.
 //! - An accepted image is acceptable. Each refusal names the first broken rule and its slot, or
-//!   reports that memory can't be allocated, the latter only for an image whose header keeps its
-//!   rules. If only the typing is missing, the refusal names some slot of the program.
+//!   reports that memory can't be allocated. The latter is reported only for an image whose header
+//!   keeps its rules. If only the typing is missing, the refusal names some slot of the program.
 //!   `pass::typed` then returns the registers' abstract values at the slot and the precondition
 //!   that doesn't hold: the instruction's own, a number in a loop's body, or a loop's counter below
 //!   its bound.
 //! - An accepted program runs to its exit within its budget for every request. Each typed program
 //!   runs to its exit in at most the steps of its longest path, which count all iterations of its
 //!   loops.
-//! - An accepted program has one operation for each slot, which executes the slot's instruction. It
-//!   executes the next one too exactly if the two are one of six pairs, and the next isn't the
-//!   first of another pair.
+//! - An accepted program has one operation for each slot, which executes the slot's instruction.
+//!   The operation executes the next instruction too exactly if the two are one of six pairs, and
+//!   the next one isn't the first of another pair.
 //!
 //! By the contracts of `verify`, `pass::typed`, `Verified::ops`, `laws::judgement_is_right`,
 //! `laws::judgement_is_only`, `laws::typings_are_found`, `laws::accepted_programs_run`,

@@ -1,6 +1,6 @@
 //! The verifier's pass over the slots of a program: computes their states by joins.
 //!
-//! At the head of a counted loop it forms the loop invariant when it reaches the slot.
+//! When the pass reaches the head of a counted loop, it forms the loop invariant.
 ghost use Rattle.std.specs.Prelude.{Bool, IfErr, IfOk, List, None, Some, [], false, length, not, true, ℕ, ◌&&◌, ◌<◌, ◌≡◌, ◌≤◌};
 ghost use Rattle.std.specs.Vec.{vec_capacity};
 ghost use Rattle.fc_isa.specs.Flow.{flow, landing};
@@ -37,8 +37,8 @@ use fc_kinds::{Regs, after, enter, entry, join, refine};
 ///
 /// # Errors
 /// Returns the first slot with a precondition that doesn't hold, and a rule from 20 to 28 that it
-/// breaks. The registers' abstract values before it are the evidence. The program then has no
-/// typing.
+/// breaks. The registers' abstract values before the slot's instruction are the evidence. The
+/// program then has no typing.
 pub fn typed(
     version: ImageVersion,
     vars_size: u16,
@@ -61,7 +61,7 @@ pub fn typed(
     Ok(states)
 }
 
-/// Returns the first states, in `room`: only the entry has one.
+/// Returns the first states, in `room`: only the entry has a state.
 ///
 /// Any other slot has `None` until the pass leads to it.
 fn first_states(version: ImageVersion, code: &[Insn], room: Vec<Option<Regs>>) -> Vec<Option<Regs>>
@@ -135,8 +135,8 @@ fn pass_slots(
 
 /// Returns the slot after the last body among those that begin so far.
 ///
-/// `reach` is that of the slots before, and `beginning` the loop that begins here. A slot is in a
-/// body if it is before the result.
+/// `reach` is the result for the slots before, and `beginning` the loop that begins at this slot. A
+/// slot is in a body if it is before the result.
 fn reached(reach: usize, beginning: &Option<Loop>) -> usize
     requires { AreLow 1024 beginning.now }
     ensures { result ≡ reached reach beginning.now }
@@ -149,9 +149,9 @@ fn reached(reach: usize, beginning: &Option<Loop>) -> usize
 
 /// Passes over a slot that is found with the state `regs`.
 ///
-/// `beginning` is the loop that begins at the slot, and `inside` says whether it is in a loop's
-/// body. At the head of a loop the loop invariant is formed. If the preconditions hold, the states
-/// on the slot's branches are joined to those of the later slots to which they lead. Returns
+/// `beginning` is the loop that begins at the slot, and `inside` says whether the slot is in a
+/// loop's body. At the head of a loop the loop invariant is formed. If the preconditions hold, the
+/// states on the slot's branches are joined to those of the later slots to which they lead. Returns
 /// whether the loop's counter starts below its bound and the preconditions hold; if not, the states
 /// don't change. `regs` is scratch space after the call.
 fn pass(
@@ -251,7 +251,8 @@ fn pass_on(
 /// Applies an instruction to the registers before it, if its demands are met.
 ///
 /// The demands are its preconditions and, in a counted loop's body (`inside`), a number in the
-/// register that it computes. Returns whether they are met. If not, nothing is promised of `regs`.
+/// register that it computes. Returns whether they are met. If not, the contract doesn't say what
+/// `regs` has.
 fn meet_demands(vars_size: u16, insn: &Insn, inside: bool, regs: &mut Regs) -> bool
     requires kinds { AreKinds regs.old }
     requires insn { IsInsn insn.now }
@@ -320,8 +321,8 @@ fn at_insn(vars_size: u16, slot: usize, insn: &Insn, inside: bool, kinds: &Regs)
 
 /// Returns why a loop's head isn't passed with the state `regs` on entry.
 ///
-/// A precondition of the loop's first instruction doesn't hold in its iterations, or else its
-/// counter doesn't start below the bound.
+/// A precondition of the loop's first instruction doesn't hold in the loop's iterations, or else
+/// the loop's counter doesn't start below the bound.
 fn at_head(
     vars_size: u16,
     code: &[Insn],
@@ -428,8 +429,8 @@ fn spread(slot: usize, insn: Insn, after: &mut Regs, states: &mut [Option<Regs>]
 
 /// Joins the states on a conditional jump's branches to those of later slots.
 ///
-/// A branch that no values take has none. `regs` is the state at the jump, and scratch space after
-/// the call.
+/// A branch that no values take has no state. `regs` is the state at the jump, and scratch space
+/// after the call.
 fn branch(slot: usize, jump: &Jump, regs: &mut Regs, states: &mut [Option<Regs>])
     requires kinds { AreKinds regs.old }
     requires slot { slot < 1024 }

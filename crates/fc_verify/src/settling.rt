@@ -39,7 +39,7 @@ fn enters(counted: &Loop, kind: &Kind) -> bool
 
 /// Returns the loop invariant for a head, whether or not the counter starts right.
 ///
-/// It is that of `settled` if the counter starts below the bound. If not, its state explains a
+/// It is the result of `settled` if the counter starts below the bound. If not, it explains a
 /// refusal.
 pub(crate) fn formed(code: &[Insn], counted: &Loop, regs: &Regs) -> Regs
     requires { IsLoopOf code.now (Some counted.now) }

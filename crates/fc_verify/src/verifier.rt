@@ -18,7 +18,7 @@ use std::alloc::Global;
 
 /// Verifies an image.
 ///
-/// It is the sixteen bytes of its header, and its slots of eight bytes each.
+/// An image consists of a header of sixteen bytes, and slots of eight bytes each.
 ///
 /// # Errors
 /// Returns the first rule that the image breaks, with its slot. If only the typing is missing,

@@ -230,7 +230,7 @@ fn use_image<I: Read, W: Write, E: Write>(
 
 // Writes the image with the numbers of the command line.
 //
-// Returns `Bad` if one of them is missing or malformed.
+// Returns `Bad` if one of the numbers is missing or malformed.
 fn write_image<R: Read, W: Write, E: Write>(
     alloc: Global,
     input: &mut R,

@@ -168,7 +168,7 @@ fn flag<'a>(alloc: Global, name: &'static str, help: &'static str) -> Arg<'a> {
         .help(help)
 }
 
-// Reads the words of the command line and obeys them. Returns `Bad` if one isn't UTF-8.
+// Reads the words of the command line and obeys them. Returns `Bad` if a word isn't UTF-8.
 fn run<R: Runtime + AllocGlobal + Net + RandomSource, E: Write>(
     rt: &R,
     err: &mut E,
