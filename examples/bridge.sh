@@ -1,7 +1,7 @@
 #!/bin/bash
 # A bridge between a server and a device such as a relay. Once a second it POSTs to a resource, so
-# that the program reads its sensors. It runs a command with the state in the response, unless that is
-# the state of the last successful run.
+# that the program reads its sensors. The bridge runs a command with the state in the response,
+# unless the last successful run of the command had the same state.
 #
 # Use: examples/bridge.sh [-s STATE] [-t SECONDS] PORT PATH COMMAND..
 #      examples/bridge.sh -l [-s STATE] [-t SECONDS] URI COMMAND..

@@ -1,4 +1,4 @@
-/* A device that is none: a temperature that rises by a tenth of a degree each second, and a relay that prints. */
+/* A simulated device: its temperature rises by 0.1 degrees each second, and its relay prints. */
 #include <stdio.h>
 
 #include "device.h"

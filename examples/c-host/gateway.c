@@ -4,8 +4,8 @@
  *
  *   gateway PORT [DATAGRAMS [IMAGE]]
  *
- * It ends after so many datagrams, if they aren't 0, or at SIGTERM or SIGINT. The program of IMAGE is
- * in slot 1 from the start. Clients upload others.
+ * The gateway ends after DATAGRAMS datagrams if that isn't 0, or at SIGTERM or SIGINT. The program
+ * of IMAGE is in slot 1 from the start. Clients upload others.
  *
  * A program of version 2 reads the milliseconds since the start in bytes 0 to 7 of the sensor
  * input, and the sensor's value in bytes 8 and 9, the low byte first. If a program answers `on` or

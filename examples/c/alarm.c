@@ -1,7 +1,7 @@
 /* An alarm. A POST has a value, two bytes, the lowest first; with the query `limit` it sets the
-   limit instead. Above the limit the alarm is raised, and remains so until a POST with the query
-   `ack`; then it is normal again when the value is no longer above the limit. All reply `normal`,
-   `raised` or `acked`. Observers are notified when that changes. */
+   limit instead. Above the limit the alarm is raised, and stays raised until a POST with the query
+   `ack`. After that it is normal when the value is no longer above the limit. All reply `normal`,
+   `raised` or `acked`. Observers are notified when this state changes. */
 #include <fc.h>
 
 enum { NORMAL, RAISED, ACKED };

@@ -1,5 +1,5 @@
 /* The average of the last four readings. A POST has a reading as decimal text, `0` to `9999`; any
-   other is answered 4.00. A GET replies with the average of the last readings, at most four, as
+   other payload gets 4.00. A GET replies with the average of the last readings, at most four, as
    decimal text, rounded down, and is answered 4.04 if there is none. Observers are notified of each
    reading. */
 #include <fc.h>

@@ -1,7 +1,7 @@
 /* A thermostat. A POST has the temperature, a byte in whole degrees: below the target the heating
-   is switched on, above it off. A POST with the query `target` sets the target instead; it is 20
-   while none is set. Both reply `on` or `off`, and so does a GET. Observers are notified when it
-   changes. */
+   is switched on, above the target it is switched off. A POST with the query `target` sets the
+   target instead; until then the target is 20. Each POST and GET replies `on` or `off`. Observers
+   are notified when this state changes. */
 #include <fc.h>
 
 struct state {

@@ -2,8 +2,8 @@
 """Makes the programs of this folder from C and from assembly, uploads both to a server, and sends
 them requests.
 
-It also compares runs of those of loops/ with the same C compiled for this computer, by `cc`; then
-it shows the refused programs.
+It also runs the programs of loops/, and compares the results with those of the same C compiled for
+this computer, by `cc`. Then it shows the refused programs.
 
 Use: examples/c/try.py [CLANG], at the top of the repository, whose fcasm and fcd are built, or on
 the path. CLANG is `clang` if not given. The status is 0 if no response was wrong, and no corrected

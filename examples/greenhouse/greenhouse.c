@@ -2,7 +2,7 @@
 
    A POST without a payload looks at the sensors; the bridge sends one each second. It replies "heater=on vent=off alarm=off", as a GET does, and observers
    are notified of each change. POST "ack" ends the alarm. A POST to a program without a state is answered 4.04, so that no relay moves; POST "start" gives it
-   one. An update by PUT with `?keep` has the state of the program before. */
+   a state. A program that is uploaded by PUT with `?keep` has the state of the previous program. */
 #include <fc.h>
 
 #ifndef DAY
@@ -14,10 +14,10 @@ enum { EVENING = 22 * 60, MORNING = 6 * 60, MINIMUM = 5000, STALE = 4000 };     
 struct sensors {
     fc_i16 inside, outside;
     fc_u16 humidity, minute;
-    fc_u8 counter; /* never 0, and another one in each second */
+    fc_u8 counter; /* never 0, and different in each second */
 };
 struct relay {
-    fc_u64 since, is_on; /* the clock when it was switched, and whether it is on */
+    fc_u64 since, is_on; /* the clock when the relay was last switched, and whether it is on */
 };
 struct state {
     struct relay heater, vent;

@@ -4,8 +4,8 @@
 #
 # Use: sensors.sh VALUES READINGS
 #
-# VALUES has a line `INSIDE OUTSIDE HUMIDITY [MINUTE]`, in tenths; without MINUTE it is that of the
-# host's clock.
+# VALUES has a line `INSIDE OUTSIDE HUMIDITY [MINUTE]`, in tenths; without MINUTE the minute is
+# that of the host's clock.
 byte() {
     printf "\\x$(printf %02x $(($1 & 255)))"
 }

@@ -1,7 +1,7 @@
 #!/bin/bash
 # Puts another program into a slot and keeps the variables of the earlier one, so that no relay moves.
 # The same command restores the earlier program. An image with another size of variables is refused,
-# since it would lose them.
+# since the variables would be lost.
 #
 # Use: update.sh PORT N IMAGE      FCREQ names the client, if it isn't the built one
 ask() {

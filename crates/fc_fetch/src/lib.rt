@@ -52,10 +52,10 @@
 //! - Between the registration and the deregistration an observer begins waits and receives. It
 //!   sends only the acknowledgement of each confirmable notification, and requests for further
 //!   blocks. With `--seconds S` it begins one wait, of S seconds, and after such requests one of
-//!   what is left of them, rounded up. The observation ends by its time only if its wait is over, if
-//!   nothing was left after such requests, or after at least 2^64 - 1 calls on the peer. Without it, each wait is of
-//!   a day, and none ends the observation before 2^64 - 1 waits. After the deregistration, or an
-//!   error or a response without a sequence number, nothing is called.
+//!   what is left of them, rounded up. The observation ends by its time only if its wait is over,
+//!   if nothing was left after such requests, or after at least 2^64 - 1 calls on the peer. Without
+//!   it, each wait is of a day, and none ends the observation before 2^64 - 1 waits. After the
+//!   deregistration, or an error or a response without a sequence number, nothing is called.
 //! - An observation fails for one of these reasons. No response, or a Reset message, came to its
 //!   registration or its deregistration. The message that came last can't be shown. It is a state,
 //!   and memory for it can't be allocated. A line can't be written. Memory for a request can't be

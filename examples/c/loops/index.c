@@ -1,4 +1,4 @@
-/* The same by an index: each iteration makes a pointer, so the iterations are written out. */
+/* A sum like sum.c, by an index: each iteration makes a pointer, so the iterations are written out. */
 #include <fc.h>
 fc_u64 run(const struct fc_request *request, fc_u64 *vars, fc_u64 length)
 {

@@ -1,4 +1,4 @@
-/* The sum again, by `do`, with a counter that clang can't look through. */
+/* A sum like sum.c, by `do`, with a counter that clang can't look through. */
 #include <fc.h>
 fc_u64 run(const struct fc_request *request, fc_u64 *vars, fc_u64 length)
 {

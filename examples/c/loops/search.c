@@ -1,4 +1,4 @@
-/* The range of the payload's length, one of twelve. The loop is left with the result, or comes to
+/* The range of the payload's length, one of twelve. The loop is left with the result, or reaches
    its end. */
 #include <fc.h>
 static const fc_u16 ends[12] = {1, 3, 5, 9, 20, 21, 22, 40, 80, 100, 120, 200};

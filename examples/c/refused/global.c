@@ -1,4 +1,4 @@
-/* A global is in .bss or .data. Lasting data belong into the variables. */
+/* A global is in .bss or .data. Data that last between runs belong in the variables. */
 #include <fc.h>
 #ifndef MENDED
 static fc_u64 count;

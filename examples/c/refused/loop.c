@@ -1,4 +1,4 @@
-/* As many iterations as a variable says: no bound is known. */
+/* A variable determines the number of iterations: no bound is known. */
 #include <fc.h>
 fc_u64 run(const struct fc_request *request, fc_u64 *vars, fc_u64 length)
 {

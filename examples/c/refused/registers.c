@@ -1,4 +1,4 @@
-/* Four registers are kept over a call: other values needed after it are stored to the stack, and a pointer can't be. */
+/* Four registers are kept over a call: other values needed after it are stored on the stack, and a pointer can't be stored there. */
 #include <fc.h>
 fc_u64 run(const struct fc_request *request, fc_u64 *vars, fc_u64 length)
 {
