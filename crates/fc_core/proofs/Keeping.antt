@@ -23,7 +23,7 @@ use Rattle.fc_registry.specs.Slots.{Slot, new_slot}
 use Rattle.fc_registry.specs.Changes.{Change, after_changes}
 use Rattle.fc_registry.specs.Record.{IsChain}
 use Rattle.fc_core.specs.declared.event.Event.{Event}
-use Rattle.fc_core.specs.declared.event.Event.TheVariants.{Deliver, Due}
+use Rattle.fc_core.specs.declared.event.Event.TheVariants.{Deliver, Due, Fire}
 use Rattle.fc_core.specs.Stage.{Stage}
 use Rattle.fc_core.specs.declared.stage.Task.{Task}
 use Rattle.fc_core.specs.Exchanges.{FrontState}
@@ -35,6 +35,7 @@ use Rattle.fc_core.specs.Policies.{is_allowed}
 use Rattle.fc_core.specs.Receiving as x
 use Rattle.fc_core.specs.Sound.{AllSafe, IsSafelySeen, IsSoundlySeen}
 use Rattle.fc_core.specs.Stages.{new_task}
+use Rattle.fc_core.specs.Timers.{timer_job}
 use Rattle.fc_core.specs.Rows.{task_moved, names, row}
 use Rattle.fc_core.proofs.Calling.{turns_within, watched_after}
 use Rattle.fc_core.proofs.Lists.{Each, appended_all, written_all}
@@ -101,6 +102,9 @@ pub received_within : (f : FrontState) (to : Endpoint) (bytes : List ℕ) (o : O
 unfolding received
 received_within f to bytes o = read_within f (reading_of bytes) o to
 
+timer_within : (n : ℕ) → JobWithin (timer_job n)
+timer_within n = (omega arith, (omega arith, omega arith))
+
 -- ---- the changes of a slot after an event
 
 pub record Grows (s : Seen) (e : Event) (o : Option ℕ) (n : ℕ) : Type 0 where
@@ -160,6 +164,7 @@ new_fit s e o (j ∷ js) w = ((w.0, first_fits j (slot_after o e s j.origin.slot
 brought_fit : (s : Seen) (o : Option ℕ) (e d : Event) → IsSoundlySeen s → Each (FitsAfter o e s) (tasks_brought d s)
 brought_fit s o e (Deliver now to b) a = new_fit s e o _ (received_within _ to b.now (next_opening (front_at s now)))
 brought_fit s o e (Due shard now) a = subst (Each (FitsAfter o e s)) (sym (append-nil (turns_by (AsksTurn shard now) s))) (new_fit s e o _ (turns_within s shard (max (s.shard_time shard) now) a))
+brought_fit s o e (Fire slot now) a = new_fit s e o (timer_job slot ∷ []) (timer_within slot, tt)
 brought_fit s o e other a = tt
 
 all_fit : (s : Seen) (e : Event) (o : Option ℕ) → IsSoundlySeen s → (k : ℕ) → FitsAfter o e s (task_at (tasks_moved o e s ++ tasks_brought e s) k)

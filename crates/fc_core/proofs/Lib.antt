@@ -8,6 +8,7 @@ pub mod TurnSnapshots
 pub mod Calling
 pub mod Keeping
 pub mod OnShards
+pub mod Unsent
 pub mod Watches
 pub mod ByStep
 mod Authorizing

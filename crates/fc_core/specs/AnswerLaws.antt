@@ -8,7 +8,7 @@ use Rattle.fc_registry.specs.declared.receipt.Receipt.{Receipt as Facts}
 use Rattle.fc_registry.specs.Calls.{meaning_at, wants}
 use Rattle.fc_registry.specs.Slots.{Slot, Present, Ticket}
 use Rattle.fc_core.specs.declared.event.Event.{Event}
-use Rattle.fc_core.specs.declared.event.Event.TheVariants.{Deliver, Peek, Take, Commit, Install, Remove, Receipt, Answer, Due, Fresh, Note, GiveUp, Tick, ShardTick}
+use Rattle.fc_core.specs.declared.event.Event.TheVariants.{Deliver, Peek, Take, Commit, Install, Remove, Receipt, Answer, Due, Fire, Fresh, Note, GiveUp, Tick, ShardTick}
 use Rattle.fc_core.specs.Stage.{Stage}
 use Rattle.fc_core.specs.TurnStage as turns
 use Rattle.arrayvec.specs.ArrayVec.{ArrayVec}
@@ -147,10 +147,11 @@ abbrev pub draw_time : Stage → ℕ → List ℕ
 draw_time (ToTell turn (turns.ToDraw found)) now = now ∷ []
 draw_time other now = []
 
--- time that an event passes to the front: that of a delivery, of a tick, of an answer at its stage,
--- or of a lease that draws a message ID, whether or not one is available.
+-- time that an event passes to the front: that of a delivery, of a timer, of a tick, of an answer at
+-- its stage, or of a lease that draws a message ID, whether or not one is available.
 abbrev pub times_in : Event → Seen → List ℕ
 times_in (Deliver now to bytes) s = now ∷ []
+times_in (Fire slot now) s = now ∷ []
 times_in (Tick now) s = now ∷ []
 times_in (Answer k now) s = answer_time (stage s k) now
 times_in (Fresh k now) s = draw_time (stage s k) now

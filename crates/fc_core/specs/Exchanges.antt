@@ -1,5 +1,5 @@
 -- State of a front.
-use Rattle.std.specs.Prelude.{ℕ, ◌+◌, Bool, nat_lt, List, [], filter, max}
+use Rattle.std.specs.Prelude.{ℕ, ◌+◌, ◌&&◌, Bool, nat_lt, List, [], filter, max}
 use Rattle.coap_dedup.specs.Exchanges.{Exchange}
 use Rattle.coap_dedup.specs.declared.exchange.Limits.{Limits}
 use Rattle.coap_msg.specs.Windows.{window}
@@ -10,9 +10,13 @@ use Rattle.fc_core.specs.Ids.{Ids, first_ids}
 use Rattle.fc_core.specs.declared.policy.Network.{Network}
 use Rattle.fc_core.specs.declared.policy.Policy.{Policy}
 
+-- whether this is the opening of an exchange: fewer than 2^64 - 1 are ever opened.
+abbrev pub has_exchange : Opening → Bool
+has_exchange opening = nat_lt opening.number 18446744073709551615
+
 -- whether an exchange was opened less than EXCHANGE_LIFETIME before.
 abbrev pub opening_is_live : ℕ → Opening → Bool
-opening_is_live now opening = nat_lt now (opening.at + window)
+opening_is_live now opening = has_exchange opening && nat_lt now (opening.at + window)
 
 -- state of a front: the managers of its server, its limits, its time, the number of exchanges that
 -- it opened, the live exchanges, the transfers, and the message IDs that it draws.

@@ -17,7 +17,7 @@ use Rattle.fc_registry.specs.Changes.{Change, after_changes}
 use Rattle.fc_registry.specs.Turns.{turn_given_to}
 use Rattle.fc_registry.specs.Watches.{place_from, signal_call}
 use Rattle.fc_core.specs.declared.event.Event.{Event}
-use Rattle.fc_core.specs.declared.event.Event.TheVariants.{Deliver, Answer, Due, Fresh, Signal, Tick, ShardTick}
+use Rattle.fc_core.specs.declared.event.Event.TheVariants.{Deliver, Answer, Due, Fire, Fresh, Signal, Tick, ShardTick}
 use Rattle.fc_core.specs.Stage.{Stage}
 use Rattle.fc_core.specs.Stage.{Gone}
 use Rattle.fc_core.specs.declared.stage.Task.{Task}
@@ -28,6 +28,7 @@ use Rattle.fc_core.specs.Policies.{default_policy}
 use Rattle.fc_core.specs.declared.policy.Policy.{Policy}
 use Rattle.fc_core.specs.Receiving.{Received, added_by, received, opened_by, kept_of, drawn_by, brought, next_opening}
 use Rattle.fc_core.specs.Heads.{no_words}
+use Rattle.fc_core.specs.Timers.{timer_job}
 use Rattle.fc_core.specs.Stages.{needs_id, new_task, content_at}
 use Rattle.fc_core.specs.Rows.{Around, Common, Inputs, names, inputs_at, row, task_moved, handed, words_after}
 
@@ -129,11 +130,12 @@ answered_in number None exchanges = exchanges
 answered_in number (Some emission) exchanges = map (λ e. answered_if (e.number == number) emission.bytes e) exchanges
 
 -- effect of an event on the front: it receives a datagram, answers a job, draws a message ID for a
--- lease, lets time pass, or has no effect there.
+-- lease, fires the timer of a slot, lets time pass, or has no effect there.
 pub data AtFront : Type 0 where
   Receives : (now : ℕ) (to : Endpoint) (bytes : List ℕ) → AtFront
   Answers : (job now : ℕ) → AtFront
   Draws : (job now : ℕ) → AtFront
+  Fires : (slot now : ℕ) → AtFront
   Passes : (now : ℕ) → AtFront
   Rests : AtFront
 
@@ -141,6 +143,7 @@ abbrev pub at_front : Event → AtFront
 at_front (Deliver now to bytes) = Receives now to bytes.now
 at_front (Answer k now) = Answers k now
 at_front (Fresh k now) = Draws k now
+at_front (Fire slot now) = Fires slot now
 at_front (Tick now) = Passes now
 at_front other = Rests
 
@@ -148,6 +151,7 @@ abbrev pub time_by : AtFront → Seen → ℕ
 time_by (Receives now to bytes) s = max s.time now
 time_by (Answers k now) s = if is_some (content_at (stage s k)) then max s.time now else s.time
 time_by (Draws k now) s = if needs_id (stage s k) then max s.time now else s.time
+time_by (Fires slot now) s = max s.time now
 time_by (Passes now) s = max s.time now
 time_by Rests s = s.time
 
@@ -160,6 +164,7 @@ abbrev pub exchanges_by : AtFront → Option Emission → Seen → List Exchange
 exchanges_by (Receives now to bytes) emitted s = exchanges_received (received_at s now to bytes) to emitted s now
 exchanges_by (Answers k now) emitted s = if is_some (content_at (stage s k)) then answered_in (job s k).origin.opening.number emitted s.exchanges else s.exchanges
 exchanges_by (Draws k now) emitted s = s.exchanges
+exchanges_by (Fires slot now) emitted s = s.exchanges
 exchanges_by (Passes now) emitted s = s.exchanges
 exchanges_by Rests emitted s = s.exchanges
 
@@ -178,12 +183,14 @@ abbrev pub ids_by : AtFront → Seen → Ids
 ids_by (Receives now to bytes) s = drawn_by (received_at s now to bytes) s.ids (max s.time now)
 ids_by (Answers k now) s = ids_answered (content_at (stage s k)) (opening_is_live (max s.time now) (job s k).origin.opening) (job s k).confirmable s.ids (max s.time now)
 ids_by (Draws k now) s = if needs_id (stage s k) then drawn s.ids (max s.time now) else s.ids
+ids_by (Fires slot now) s = s.ids
 ids_by (Passes now) s = s.ids
 ids_by Rests s = s.ids
 
 -- jobs that the front produces.
 abbrev pub tasks_by : AtFront → Seen → List Task
 tasks_by (Receives now to bytes) s = map new_task (brought (received_at s now to bytes) (next_opening (front_at s now)) to)
+tasks_by (Fires slot now) s = new_task (timer_job slot) ∷ []
 tasks_by other s = []
 
 -- ---- the jobs and their slots
@@ -275,7 +282,7 @@ abbrev pub turns_by : AtShard → Seen → List Task
 turns_by (AsksTurn shard now) s = map new_task (option_to_list (turn_at (due_in s shard (max (s.shard_time shard) now)) s shard (max (s.shard_time shard) now)))
 turns_by other s = []
 
--- jobs that an event produces: that of a lease, or that of a request.
+-- jobs that an event produces: that of a lease, of a request, or of a timer.
 abbrev pub tasks_brought : Event → Seen → List Task
 tasks_brought e s = turns_by (at_shard e) s ++ tasks_by (at_front e) s
 

@@ -5,7 +5,7 @@ use Rattle.fc_registry.specs.Slots.{Present, Ticket}
 use Rattle.fc_registry.specs.Changes.{Change}
 use Rattle.fc_registry.specs.Calls.{is_out_at, meaning_at, ticket_of, wants}
 use Rattle.fc_core.specs.declared.event.Event.{Event}
-use Rattle.fc_core.specs.declared.event.Event.TheVariants.{Deliver, Peek, Take, Commit, Install, Remove, Receipt, Raise, Answer, Due, Fresh, Note, GiveUp, Signal, Tick, ShardTick, Lose}
+use Rattle.fc_core.specs.declared.event.Event.TheVariants.{Deliver, Peek, Take, Commit, Install, Remove, Receipt, Raise, Answer, Due, Fire, Fresh, Note, GiveUp, Signal, Tick, ShardTick, Lose}
 use Rattle.fc_core.specs.Stage.{Stage}
 use Rattle.fc_core.specs.Stage.{ToMatch, ToTake, ToCommit, ToInstall, ToRemove, ToDescribe, ToList, ToRaise, ToAnswer, ToTell, Gone}
 use Rattle.fc_core.specs.TurnStage as turns
@@ -40,6 +40,7 @@ is_noop_at (GiveUp k now) own (ToTell turn needs) = false
 is_noop_at (Lose k) own Gone = true
 is_noop_at (Lose k) own other = false
 is_noop_at (Deliver now to bytes) own at = false
+is_noop_at (Fire slot now) own at = false
 is_noop_at (Tick now) own at = false
 is_noop_at (Due shard now) own at = false
 is_noop_at (Signal shard to id reset) own at = false

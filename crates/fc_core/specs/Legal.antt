@@ -21,7 +21,7 @@ use Rattle.fc_core.specs.Exchanges.{FrontState, opening_is_live}
 use Rattle.fc_core.specs.Receiving.{sent, id_in}
 use Rattle.fc_core.specs.Stages.{content_at}
 use Rattle.fc_core.specs.Rows.{Inputs, names, sends}
-use Rattle.fc_core.specs.History.{AtFront, Receives, Answers, Draws, Passes, Rests, AtShard, Ticks, History, Begins, Then, Seen, seen, at_front, at_shard, front_at, received_at, job, overdue_in, stage, inputs, watch}
+use Rattle.fc_core.specs.History.{AtFront, Receives, Answers, Draws, Fires, Passes, Rests, AtShard, Ticks, History, Begins, Then, Seen, seen, at_front, at_shard, front_at, received_at, job, overdue_in, stage, inputs, watch}
 
 -- a job's answer is sent while its exchange is live and a message ID is available, and not
 -- otherwise.
@@ -61,6 +61,7 @@ abbrev pub EmitsBy : AtFront → Event → Seen → Option Emission → Type 0
 EmitsBy (Receives now to bytes) e s emitted = emitted ≡ sent (received_at s now to bytes) (front_at s now) to
 EmitsBy (Answers k now) e s emitted = AnswerEmits (content_at (stage s k)) (job s k) (front_at s now) emitted
 EmitsBy (Draws k now) e s emitted = emitted ≡ None
+EmitsBy (Fires slot now) e s emitted = emitted ≡ None
 EmitsBy (Passes now) e s emitted = emitted ≡ None
 EmitsBy Rests e s emitted = emitted ≡ sends_in (names e) e s
 

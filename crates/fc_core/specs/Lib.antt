@@ -13,6 +13,7 @@ pub mod TurnStage
 pub mod Stage
 pub mod Room
 pub mod Stages
+pub mod Timers
 pub mod Steps
 pub mod Rows
 pub mod Fits

@@ -15,6 +15,11 @@ pub enum Event<'a> {
         endpoint: Endpoint,
         bytes: &'a [u8],
     },
+    /// The timer of a slot fires. The slot is taken modulo 64.
+    Fire {
+        slot: u8,
+        now: u64,
+    },
     /// A job reads the head word of a slot.
     Peek {
         job: usize,

@@ -14,6 +14,7 @@ ghost use Rattle.coap_block.specs.Transfers.{after_addition};
 ghost use Rattle.coap_block.specs.Views.{add_seen};
 ghost use Rattle.fc_core.specs.Receiving.{add_in, addition_of, after_delivered, after_received, ask_by, emission_if, etags_by, handed_on, handled, handled_if, id_in, is_confirmable, job_of, look_in, next_opening, observes, opening_for, received_as, reply_or_nothing, request_asked, request_received, settled_front, told, initial_vars_by};
 ghost use Rattle.fc_core.specs.Receiving as receiving;
+ghost use Rattle.fc_core.specs.Timers.{timer_job, timer_request};
 ghost use Rattle.coap_reply.specs.Responses.{reset_of, settled_by};
 
 use crate::answer::Answer;
@@ -89,6 +90,18 @@ pub enum Responded {
     /// No message ID is available: nothing is sent.
     NoId,
 }
+
+/// The opening of a job without an exchange. No exchange has its number.
+const NO_OPENING: Opening = Opening {
+    number: u64::MAX,
+    at: 0,
+};
+
+/// The endpoint of a timer's job: 0.0.0.0:0, which no peer has (RFC 1122, section 3.2.1.3).
+const UNSPECIFIED: Endpoint = Endpoint {
+    ip: [0; 4],
+    port: 0,
+};
 
 /// The protocol front end.
 ///
@@ -181,6 +194,18 @@ impl Front {
     {
         self.hand(now);
         self.exchanges.expire(self.now);
+    }
+
+    /// Fires the timer of a slot, and writes its job over the caller's.
+    ///
+    /// `now` is in milliseconds, and the clock is advanced to it. The job is that of a POST from
+    /// 0.0.0.0:0. No exchange is opened for it, so its response goes to nobody.
+    pub fn fire(&mut self, slot: SlotNumber, now: u64, job: &mut Job)
+        ensures job { job.new ≡ timer_job slot }
+        ensures after { self.new ≡ advanced self.old now }
+    {
+        self.tick(now);
+        write_timer_job(job, slot);
     }
 
     /// Draws a message ID for a lease's notification (RFC 7252, section 4.4).
@@ -559,11 +584,12 @@ impl Front {
 
 /// Returns whether an exchange is live at `now`, in milliseconds.
 ///
-/// It is live for less than EXCHANGE_LIFETIME after it was opened (RFC 7252, section 4.8.2).
+/// It is live for less than EXCHANGE_LIFETIME after it was opened (RFC 7252, section 4.8.2). The
+/// opening of no exchange is never live.
 pub fn is_live(now: u64, opening: &Opening) -> bool
     ensures { result ≡ spec.opening_is_live now opening.now }
 {
-    now < opening.at || now - opening.at < WINDOW
+    opening.number < NO_OPENING.number && (now < opening.at || now - opening.at < WINDOW)
 }
 
 // Returns the result for a request that is answered immediately, if the response was written.
@@ -599,6 +625,36 @@ pub fn blank_job() -> Job {
         block: None,
         observe: None,
         ask: Ask::Run(blank_request()),
+    }
+}
+
+// Writes the job of a slot's timer.
+fn write_timer_job(job: &mut Job, slot: SlotNumber)
+    ensures { job.new ≡ timer_job slot }
+{
+    job.origin = Origin {
+        opening: NO_OPENING,
+        endpoint: UNSPECIFIED,
+        id: 0,
+        slot,
+    };
+    job.turn = None;
+    job.confirmable = false;
+    job.token.clear();
+    job.etags.clear();
+    job.block = None;
+    job.observe = None;
+    write_post(&mut job.ask, slot.number());
+}
+
+// Writes a POST without a query and a payload. The memory of an image isn't touched unless `ask`
+// had one.
+fn write_post(ask: &mut Ask, slot: u8)
+    ensures { ask.new ≡ Ask.Run (timer_request slot) }
+{
+    match ask {
+        Ask::Run(before) => before.write(Method::Post, slot, None, &[], &[]),
+        _ => *ask = Ask::Run(fc_help::Request::new(Method::Post, slot, None, &[], &[])),
     }
 }
 

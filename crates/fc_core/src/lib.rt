@@ -31,8 +31,10 @@
 //!   Only a success contains the requested block of its reply.
 //! - A PUT in blocks is executed exactly if its last block fits, with the joined payloads since
 //!   block number 0.
+//! - A timer that fires makes the job of a POST of its slot's resource. The job has no exchange, so
+//!   its answer sends nothing.
 //!
-//! By the contracts of `Front::deliver`, `handle`, `answer`, `respond`, `tick`, `fresh_id`,
+//! By the contracts of `Front::deliver`, `handle`, `answer`, `respond`, `tick`, `fire`, `fresh_id`,
 //! `Heads`, `Task`, `Answer::ran`.
 #![tactic(auto)]
 

@@ -19,3 +19,4 @@ pub mod Moving
 pub mod Shares
 pub mod Free
 pub mod AnswerCodes
+pub mod Timers

@@ -13,7 +13,7 @@ use Rattle.fc_core.specs.Receiving.{Settled, is_confirmable}
 use Rattle.fc_core.specs.Stage.{ToAnswer, ToTell}
 use Rattle.fc_core.specs.TurnStage as turns
 use Rattle.fc_laws.specs.BodyLaws.{Asks, asked_at}
-use Rattle.fc_laws.specs.ExchangeLaws.{FindsNoExchange}
+use Rattle.fc_laws.specs.ExchangeLaws.{FindsNoExchange, HasExchange}
 use Rattle.fc_laws.specs.KeptLaws.{opened_at}
 use Rattle.fc_laws.specs.ReplyLaws.{Refuses}
 
@@ -30,9 +30,9 @@ pub data IsAnsweredAtOnce (s : Seen) (e : Event) (m : Message) : Type 0 where
   IsSettled : (asked : Asked) (response : Response) (asks : Asks s e m asked) (settles : Settles s e m asked response) → IsAnsweredAtOnce s e m
 
 -- the event answers a request that isn't confirmable, on arrival or by its job less than 247,000 ms
--- later; or it draws the message ID of a lease's notification.
+-- after its exchange was opened; or it draws the message ID of a lease's notification.
 pub data NeedsId (s : Seen) (e : Event) : Type 0 where
   AnswersAtOnce : (m : Message) (kind : is_confirmable m.kind ≡ false) (answers : IsAnsweredAtOnce s e m) → NeedsId s e
-  AnswersInTime : (k now : ℕ) (content : Content) (event : e ≡ Answer k now) (at : stage s k ≡ ToAnswer content) (kind : (job s k).confirmable ≡ false)
+  AnswersInTime : (k now : ℕ) (content : Content) (event : e ≡ Answer k now) (at : stage s k ≡ ToAnswer content) (kind : (job s k).confirmable ≡ false) (opened : HasExchange (job s k))
       (in_time : max s.time now < opened_at s k + 247000) → NeedsId s e
   TellsTurn : (k now : ℕ) (turn : Turn) (found : Option Ticket) (event : e ≡ Fresh k now) (at : stage s k ≡ ToTell turn (turns.ToDraw found)) → NeedsId s e

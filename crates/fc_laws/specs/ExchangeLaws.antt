@@ -8,6 +8,7 @@ use Rattle.coap_msg.specs.Wire.{Message}
 use Rattle.coap_opts.specs.Verdict.{Verdict, IsAsked, IsRefused, IsSilent, verdict}
 use Rattle.coap_dedup.specs.Exchanges.{Exchange}
 use Rattle.coap_dedup.specs.Exchanges.{is_of, places_of, share_of}
+use Rattle.fc_registry.specs.declared.job.Job.{Job}
 use Rattle.fc_core.specs.declared.event.Event.{Event}
 use Rattle.fc_core.specs.declared.event.Event.TheVariants.{Deliver}
 use Rattle.coap_reply.specs.Responses.{bare}
@@ -145,6 +146,14 @@ pub record OpensOne (r : Entry) (s : Seen) : Type 0 where
   pub arrival : Arrival
   pub is : ArrivesBy s r.event arrival
   pub last : arrivals (and_then r s) ≡ arrivals s ++ arrival ∷ []
+
+-- the job has an exchange: fewer than 2^64 - 1 are ever opened.
+abbrev pub HasExchange : Job → Type 0
+HasExchange j = j.origin.opening.number < 18446744073709551615
+
+-- the job of a request: no lease, and no job of a timer, which has no exchange.
+abbrev pub IsOfRequest : Job → Type 0
+IsOfRequest j = (j.turn ≡ None) × HasExchange j
 
 -- ---- message IDs
 

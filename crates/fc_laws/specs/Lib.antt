@@ -11,3 +11,4 @@ pub mod ReplyLaws
 pub mod RefusalLaws
 pub mod ShardLaws
 pub mod PolicyLaws
+pub mod TimerLaws

@@ -1,6 +1,6 @@
 //! Laws of exchanges and message IDs: each function is a law with its contract.
 ghost use Rattle.coap_dedup.specs.Exchanges.{Exchange};
-ghost use Rattle.fc_laws.specs.ExchangeLaws.{AllBefore, AreApart, AreInOrder, FindsNoExchange, Opens, OpensOne, Repeats, arrivals, bare_by, draws_of, first_id, repeat_emits};
+ghost use Rattle.fc_laws.specs.ExchangeLaws.{AllBefore, AreApart, AreInOrder, FindsNoExchange, HasExchange, IsOfRequest, Opens, OpensOne, Repeats, arrivals, bare_by, draws_of, first_id, repeat_emits};
 ghost use Rattle.fc_core.specs.Contents.{Content};
 ghost use Rattle.fc_core.specs.History.{Entry, History, Seen, Then, and_then, did, job, seen, stage};
 ghost use Rattle.fc_laws.specs.DrawLaws.{NeedsId};
@@ -62,11 +62,11 @@ pub fn requests_without_room_are_unavailable()
 
 /// A request is executed at most once within its lifetime.
 ///
-/// Two jobs of requests with one endpoint and message ID arrived at least 247,000 ms apart. An
-/// observer's lease isn't a request.
+/// Two jobs of requests with one endpoint and message ID arrived at least 247,000 ms apart. Neither
+/// an observer's lease nor the job of a timer is a request's.
 pub fn requests_are_carried_out_once()
     ensures { (h : History) (j k : ℕ) → j < k → HasCome (seen h) k
-        → (job (seen h) j).turn ≡ None → (job (seen h) k).turn ≡ None
+        → IsOfRequest (job (seen h) j) → IsOfRequest (job (seen h) k)
         → (job (seen h) j).origin.endpoint ≡ (job (seen h) k).origin.endpoint
         → (job (seen h) j).origin.id ≡ (job (seen h) k).origin.id
         → (job (seen h) j).origin.opening.at + 247000 ≤ (job (seen h) k).origin.opening.at }
@@ -86,7 +86,7 @@ pub fn message_ids_come_in_order()
 /// An event draws a message ID exactly if it needs one and one is available.
 ///
 /// It needs one if it answers a request that isn't confirmable, either on arrival, or by its job
-/// less than 247,000 ms after the request was opened. It also needs one if it is the draw of a
+/// less than 247,000 ms after its exchange was opened. It also needs one if it is the draw of a
 /// lease, whose notification has its own message ID.
 pub fn message_ids_are_drawn_where_needed()
     ensures needed { (h : History) (r : Entry) (id : ℕ) → first_id h < 65536 → NeedsId (seen h) r.event
@@ -99,12 +99,12 @@ pub fn message_ids_are_drawn_where_needed()
 
 /// The answer of a job is sent less than 247,000 ms after its request was opened.
 ///
-/// It is never sent later. In that time it is sent if its request was confirmable or a message ID
-/// of the server is available.
+/// It is never sent later. In that time it is sent if the job has an exchange, and its request was
+/// confirmable or a message ID of the server is available.
 pub fn answers_go_out_in_time()
     ensures overdue { (s : Seen) (k now : ℕ) (e : Emission) → Emits s (Answer k now) (Some e)
         → max s.time now < opened_at s k + 247000 }
-    ensures in_time { (s : Seen) (k now : ℕ) (content : Content) (o : Option Emission) → stage s k ≡ ToAnswer content
+    ensures in_time { (s : Seen) (k now : ℕ) (content : Content) (o : Option Emission) → stage s k ≡ ToAnswer content → HasExchange (job s k)
         → max s.time now < opened_at s k + 247000 → HasId s k now → Emits s (Answer k now) o → is_some o ≡ true }
 {}
 

@@ -54,12 +54,15 @@
 //!   policy's limit, and for each address at most its share. A request above a share changes
 //!   nothing; a request below it finds space if a share for each address fits. By default each
 //!   endpoint is a manager's, and no address is above its share.
+//! - A timer that fires makes one job, a POST of its own slot's resource, and changes nothing else
+//!   but the time. The job has no exchange, so its answer is sent to nobody and draws no message ID.
+//!   The job of each request has one.
 //! - A notification is confirmable exactly if the policy's time has passed since its observer's
 //!   registration or last confirmable one, by default 86,400,000 ms.
 //!
 //! By the contracts of `laws`, `slot_laws`, `ask_laws`, `answer_laws`, `exchange_laws`,
 //! `body_laws`, `way_laws`, `reply_laws`, `response_laws`, `refusal_laws`, `observe_laws`,
-//! `policy_laws`, `shard_laws`, `turn_laws`.
+//! `policy_laws`, `shard_laws`, `timer_laws`, `turn_laws`.
 #![tactic(auto)]
 
 pub mod answer_laws;
@@ -74,5 +77,6 @@ pub mod reply_laws;
 pub mod response_laws;
 pub mod shard_laws;
 pub mod slot_laws;
+pub mod timer_laws;
 pub mod turn_laws;
 pub mod way_laws;

@@ -4,7 +4,7 @@ use Rattle.std.specs.Borrow.{Bor}
 use Rattle.std.specs.List.{Contains, slice_split}
 use Rattle.hex.specs.Hex.{decode_of, decode_sized}
 use Rattle.fc_core.specs.declared.event.Event.{Event}
-use Rattle.fc_core.specs.declared.event.Event.TheVariants.{Deliver, Peek, Take, Commit, Install, Remove, Receipt, Raise, Answer, Due, Fresh, Note, GiveUp, Signal, Tick, ShardTick, Lose}
+use Rattle.fc_core.specs.declared.event.Event.TheVariants.{Deliver, Peek, Take, Commit, Install, Remove, Receipt, Raise, Answer, Due, Fire, Fresh, Note, GiveUp, Signal, Tick, ShardTick, Lose}
 use Rattle.coap_msg.specs.declared.types.Endpoint.{Endpoint}
 use Rattle.fc_help.specs.Region.{no_readings}
 use Rattle.fc_registry.specs.Slots.{last_serial}
@@ -101,6 +101,7 @@ IsEventOf name parts (Receipt job) = IsForm name parts (codes "Receipt") 1 × Ha
 IsEventOf name parts (Raise job) = IsForm name parts (codes "Raise") 1 × HasJob parts job
 IsEventOf name parts (Answer job now) = IsForm name parts (codes "Answer") 2 × HasJob parts job × HasTime parts now
 IsEventOf name parts (Due shard now) = IsForm name parts (codes "Due") 2 × HasShard parts shard × HasTime parts now
+IsEventOf name parts (Fire slot now) = IsForm name parts (codes "Fire") 2 × HasNumber parts (codes "slot") 64 slot × HasTime parts now
 IsEventOf name parts (Fresh job now) = IsForm name parts (codes "Fresh") 2 × HasJob parts job × HasTime parts now
 IsEventOf name parts (Note job now random) =
     IsForm name parts (codes "Note") 3 × HasJob parts job × HasTime parts now × HasNumber parts (codes "random") 65536 random

@@ -14,7 +14,7 @@ use fc_lines::emission::endpoint;
 use fc_lines::hexadecimal::decode;
 use fc_lines::line::{LineError, byte, number, readings};
 use fc_lines::policy::{DEFAULT_SECONDS, policy};
-use fc_registry::LAST_SERIAL;
+use fc_registry::{LAST_SERIAL, SLOTS};
 use fc_server::Begin;
 use fc_world::Event;
 use std::alloc::{AllocError, Global};
@@ -262,6 +262,14 @@ fn octet(parts: &[&str], key: &str) -> Option<u8>
     byte(value(parts, key)?.as_bytes())
 }
 
+// Returns the slot of the part `slot=N`, or `None` if there is none below 64.
+fn slot(parts: &[&str]) -> Option<u8>
+    ensures { IfSome result (HasNumber (texts parts.now) (codes "slot") 64) }
+{
+    let slot = octet(parts, "slot")?;
+    if slot < SLOTS { Some(slot) } else { None }
+}
+
 // Returns the flag of the part `key=0` or `key=1`, or `None`.
 fn flag(parts: &[&str], key: &str) -> Option<bool>
     ensures { IfSome result (HasFlag (texts parts.now) key.now) }
@@ -313,6 +321,10 @@ fn with_two<'a>(name: &str, parts: &[&str]) -> Option<Event<'a>>
     match name {
         "Due" => Some(Event::Due {
             shard: octet(parts, "shard")?,
+            now: long(parts, "now")?,
+        }),
+        "Fire" => Some(Event::Fire {
+            slot: slot(parts)?,
             now: long(parts, "now")?,
         }),
         "ShardTick" => Some(Event::ShardTick {

@@ -1,5 +1,5 @@
 -- Each call as an event: for a job that arrived, for one that never did, and for none.
-use Rattle.std.proofs.Common.{◌≡◌, ℕ, ◌<◌, ◌≤◌, ◌%◌, arith, max, get_or, List, ◌++◌, length, set, Bool, true, false, Option, Some, None, refl, sym, ap, ◌∙◌, subst, Bor}
+use Rattle.std.proofs.Common.{◌≡◌, ℕ, ◌<◌, ◌≤◌, ◌%◌, arith, max, get_or, List, [], ◌∷◌, ◌++◌, length, set, Bool, true, false, Option, Some, None, refl, sym, ap, ◌∙◌, subst, Bor}
 use Rattle.std.specs.Prelude.{◌==◌, is_some}
 use Rattle.std.proofs.lemmas.List.{append-nil, get_or_default, get_or_past, set-get_or, set_past}
 use Rattle.coap_msg.specs.declared.types.Endpoint.{Endpoint}
@@ -7,7 +7,7 @@ use Rattle.coap_msg.specs.declared.types.Emission.{Emission}
 use Rattle.fc_registry.specs.Shards.{no_shard, shard_at, slot_in_shards}
 use Rattle.fc_registry.specs.Slots.{Shard, Slot}
 use Rattle.fc_core.specs.declared.event.Event.{Event}
-use Rattle.fc_core.specs.declared.event.Event.TheVariants.{Deliver, Answer, Due, Fresh, Note, Peek, Receipt, Signal, Tick, ShardTick, Lose}
+use Rattle.fc_core.specs.declared.event.Event.TheVariants.{Deliver, Answer, Due, Fire, Fresh, Note, Peek, Receipt, Signal, Tick, ShardTick, Lose}
 use Rattle.fc_core.specs.Stage.{Stage}
 use Rattle.fc_core.specs.Stage.{ToMatch, ToDescribe, ToList, ToAnswer, ToTell, Gone}
 use Rattle.fc_core.specs.TurnStage as turns
@@ -18,7 +18,8 @@ use Rattle.fc_core.specs.History.{AtFront, Rests, at_front, at_shard, no_task, t
 use Rattle.fc_core.specs.Legal.{AnswerEmits}
 use Rattle.fc_core.specs.Sound.{AllSafe}
 use Rattle.fc_core.specs.Heads.{word_at}
-use Rattle.fc_core.specs.Stages.{content_at, drew, ended, needs_id}
+use Rattle.fc_core.specs.Stages.{content_at, drew, ended, needs_id, new_task}
+use Rattle.fc_core.specs.Timers.{timer_job}
 use Rattle.fc_core.specs.Steps.{Call, Matches, Lists, next_stage}
 use Rattle.fc_core.specs.Rows.{around_of, Around, Move, Inputs, call_if, move_of, moves, names, row, inputs_at, sends, task_moved, words_after}
 use Rattle.fc_core.proofs.Rejections.{same_slot}
@@ -141,6 +142,7 @@ works_done (Fresh j now) k named old new tasks later was next out same is d =
     subst (λ (o : Option Emission). Done (Fresh j now) (with_tasks old tasks) o (with_tasks new later)) (sym d.1)
     (draws_done j now old new tasks later was next (same ∙ ap (task_at tasks) number) (is ∙ ap (λ (i : ℕ). set tasks i next) number) d.0)
 works_done (Deliver now to b) k named old new tasks later was next out same is d = absurd (let n = named in cc)
+works_done (Fire slot now) k named old new tasks later was next out same is d = absurd (let n = named in cc)
 works_done (Tick now) k named old new tasks later was next out same is d = absurd (let n = named in cc)
 works_done (Due shard now) k named old new tasks later was next out same is d = absurd (let n = named in cc)
 works_done (Signal shard to id reset) k named old new tasks later was next out same is d = absurd (let n = named in cc)
@@ -156,6 +158,7 @@ true_isnt e = absurd (cc e)
 
 pub idles : (e : Event) (s : ServerState) (task : Task) → is_some (names e) ≡ false → Works e s task s task None
 idles (Deliver now to b) s task none = idles_by (Deliver now to b) s task refl refl
+idles (Fire slot now) s task none = idles_by (Fire slot now) s task refl refl
 idles (Tick now) s task none = idles_by (Tick now) s task refl refl
 idles (Due shard now) s task none = idles_by (Due shard now) s task refl refl
 idles (Signal shard to id reset) s task none = idles_by (Signal shard to id reset) s task refl refl
@@ -169,6 +172,9 @@ delivered_done now to b old new out d = record { front = d.front; tasks = d.task
 
 pub ticked_done : (now : ℕ) (old new : ServerState) (tasks : List Task) → new.front ≡ advanced old.front now → new.shards ≡ old.shards → new.words ≡ old.words → Done (Tick now) (with_tasks old tasks) None (with_tasks new tasks)
 ticked_done now old new tasks front shards words = record { front = front; tasks = sym (append-nil tasks); shards = shards; words = words; emits = refl; safe = tt }
+
+pub fired_done : (slot now : ℕ) (old new : ServerState) (tasks : List Task) → new.front ≡ advanced old.front now → new.shards ≡ old.shards → new.words ≡ old.words → Done (Fire slot now) (with_tasks old tasks) None (with_tasks new (tasks ++ new_task (timer_job slot) ∷ []))
+fired_done slot now old new tasks front shards words = record { front = front; tasks = refl; shards = shards; words = words; emits = refl; safe = tt }
 
 -- an event that names no job and has no effect on the front has the effect of its own shard.
 pub shard_done : (e : Event) (old new : ServerState) (tasks : List Task) (out : Option Emission) → names e ≡ None → at_front e ≡ Rests → new.front ≡ old.front → new.words ≡ old.words → new.shards ≡ shard_by (at_shard e) old.shards → out ≡ resent_by (at_shard e) old.shards → Done e (with_tasks old tasks) out (with_tasks new (tasks ++ turns_at (at_shard e) old.shards))

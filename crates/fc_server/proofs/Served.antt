@@ -13,7 +13,7 @@ use Rattle.fc_registry.specs.Shards.{shard_at}
 use Rattle.fc_registry.specs.Slots.{Slot}
 use Rattle.fc_registry.specs.Watches.{signal_call, signalled}
 use Rattle.fc_core.specs.declared.event.Event.{Event}
-use Rattle.fc_core.specs.declared.event.Event.TheVariants.{Deliver, Peek, Take, Commit, Install, Remove, Receipt, Raise, Answer, Due, Fresh, Note, GiveUp, Signal, Tick, ShardTick}
+use Rattle.fc_core.specs.declared.event.Event.TheVariants.{Deliver, Peek, Take, Commit, Install, Remove, Receipt, Raise, Answer, Due, Fire, Fresh, Note, GiveUp, Signal, Tick, ShardTick}
 use Rattle.fc_core.specs.declared.front.Delivered.{Delivered}
 use Rattle.fc_core.specs.declared.front.Delivered.TheVariants.{Reply, Job as Brings, Signal as Signals}
 use Rattle.fc_registry.specs.Taken.{SlotSnapshot}
@@ -27,12 +27,14 @@ use Rattle.fc_core.specs.Fits.{FitsStage}
 use Rattle.fc_core.specs.History.{History, Seen, seen, task_at, no_task}
 use Rattle.fc_core.specs.Receiving as x
 use Rattle.fc_core.specs.Receiving.{Received, after_delivered, brought, delivered, handed_on, next_opening, received, reply_or_nothing, sent}
+use Rattle.fc_core.specs.Stage.{ToTake}
 use Rattle.fc_core.specs.Stages.{first_stage, new_task}
+use Rattle.fc_core.specs.Timers.{timer_job}
 use Rattle.fc_server.specs.Agreement.{Agrees, Parts}
-use Rattle.fc_server.specs.Serving.{TurnGiven, Delivers, Handled, Handles, IsReachable, AsksForTurn, Passes, TicksShard, Serves, next, signalled_below, turned, with_tasks, worked, IsBegun, IsSignalled, WorksOff}
+use Rattle.fc_server.specs.Serving.{TurnGiven, Delivers, FiresTimer, Handled, Handles, IsReachable, AsksForTurn, Passes, TicksShard, Serves, next, signalled_below, turned, with_tasks, worked, IsBegun, IsSignalled, WorksOff}
 use Rattle.fc_server.specs.States.{Responds, AtWork, Does, DrawsId, ServerState}
 use Rattle.fc_server.specs.Steps.{DeliveredTo, Done, IsOfJob, IsReached, resent_if, shard_asked, shard_changed, shard_resent, shard_ticked, shard_turn, turn_if}
-use Rattle.fc_server.proofs.Others.{delivered_done, does_done, draws_done, responds_done, shard_done, ticked_done}
+use Rattle.fc_server.proofs.Others.{delivered_done, does_done, draws_done, fired_done, responds_done, shard_done, ticked_done}
 use Rattle.fc_server.proofs.Stepping.{goes_on}
 
 -- an event on a task leaves its job
@@ -253,6 +255,20 @@ ticked_on now old new front shards words h tasks v = serves_on h (Tick now) old 
 
 pub passed_served : (now : ℕ) (old new : ServerState) → IsReachable old → Passes now old new → IsReachable new
 passed_served now old new s passes = record { history = next s.history (Tick now) None; tasks = s.tasks; serves = passes s.history s.tasks s.serves }
+
+-- ---- a timer
+
+module _ (slot now : ℕ) (old mid : ServerState) (front : mid.front ≡ advanced old.front now) (shards : mid.shards ≡ old.shards) (words : mid.words ≡ old.words) where
+  pub fired_on : (h : History) (tasks : List Task) → Serves h old tasks → Serves (next h (Fire slot now) None) mid (tasks ++ new_task (timer_job slot) ∷ [])
+  fired_on h tasks v = serves_on h (Fire slot now) old tasks None mid (tasks ++ new_task (timer_job slot) ∷ []) (fired_done slot now old mid tasks front shards words) v
+
+  pub fired_begun : IsReachable old → IsBegun mid (new_task (timer_job slot))
+  fired_begun s = record { history = next s.history (Fire slot now) None; rest = s.tasks; serves = fired_on s.history s.tasks s.serves }
+
+pub fired_served : (readings : List ℕ) (slot now : ℕ) (old new : ServerState) → IsReachable old → FiresTimer readings slot now old new → IsReachable new
+fired_served readings slot now old new s fires =
+    let w = fires s.history s.tasks s.serves in
+    record { history = worked readings (ToTake 0) slot (length s.tasks) w.memory now None (next s.history (Fire slot now) None); tasks = w.tasks; serves = w.serves }
 
 -- ---- a lease
 

@@ -22,7 +22,7 @@ use Rattle.fc_core.specs.Answering.{after_answered_by}
 use Rattle.fc_core.specs.Contents.{Content}
 use Rattle.fc_core.specs.Exchanges.{FrontState, opening_is_live}
 use Rattle.fc_core.specs.Fits.{FitsSlot}
-use Rattle.fc_core.specs.History.{AtFront, Receives, Answers, Draws, Passes, Rests, AtShard, Calm, Seen, additions_by, and_then, answered_in, at_front, at_shard, calls_by, calls_named, changes_after, common, did, exchanges_by, front_at, front_in, hands_by, ids_answered, ids_by, job, time_by, received_at, inputs, shard_time_after, stage, task_at, tasks_by, tasks_moved, watch, words_seen}
+use Rattle.fc_core.specs.History.{AtFront, Receives, Answers, Draws, Fires, Passes, Rests, AtShard, Calm, Seen, additions_by, and_then, answered_in, at_front, at_shard, calls_by, calls_named, changes_after, common, did, exchanges_by, front_at, front_in, hands_by, ids_answered, ids_by, job, time_by, received_at, inputs, shard_time_after, stage, task_at, tasks_by, tasks_moved, watch, words_seen}
 use Rattle.fc_core.specs.Ids.{drawn, drawn_for}
 use Rattle.fc_core.specs.Legal.{AnswerEmits, EmitsBy, sends_in, FindsMeaning, FoundMeans, IsAnswered, TakesMeaning}
 use Rattle.fc_core.specs.Receiving.{AskWithin, added_by, after_added, after_received, brought, drawn_by, id_in, keeping, kept_of, next_opening, opened_by, received, sent}
@@ -210,6 +210,7 @@ module _ (s : Seen) (shards : List Shard) (a : ShardsAgree s shards) (sound : Is
   emits_agree (Receives now to bytes) e w = subst (λ (f : FrontState). out ≡ sent (received f to bytes) f to) (front_advances s now) w
   emits_agree (Answers k now) e w = subst (λ (f : FrontState). AnswerEmits (content_at (stage s k)) (job s k) f out) (front_advances s now) w
   emits_agree (Draws k now) e w = w
+  emits_agree (Fires slot now) e w = w
   emits_agree (Passes now) e w = w
   emits_agree Rests e w = w ∙ sends_agree (names e) e
 
@@ -217,6 +218,7 @@ module _ (s : Seen) (shards : List Shard) (a : ShardsAgree s shards) (sound : Is
   front_agrees (Receives now to bytes) e w = ap (λ (f : FrontState). after_received (received f to bytes) f to) (front_advances s now) ∙ front_received s now to bytes out w
   front_agrees (Answers k now) e w = front_answered s now (job s k) out (opening_is_live (max s.time now) (job s k).origin.opening) (content_at (stage s k)) refl w
   front_agrees (Draws k now) e w = front_drew s now (needs_id (stage s k))
+  front_agrees (Fires slot now) e w = front_advances s now
   front_agrees (Passes now) e w = front_advances s now
   front_agrees Rests e w = refl
 

@@ -12,7 +12,7 @@ use Rattle.fc_registry.specs.Shards.{shard_at}
 use Rattle.fc_registry.specs.Slots.{Shard, slot_in}
 use Rattle.fc_registry.specs.Watches.{watch_at}
 use Rattle.fc_core.specs.declared.event.Event.{Event}
-use Rattle.fc_core.specs.declared.event.Event.TheVariants.{Deliver, Peek, Take, Commit, Install, Remove, Receipt, Raise, Answer, Due, Fresh, Note, GiveUp, Signal, Tick, ShardTick}
+use Rattle.fc_core.specs.declared.event.Event.TheVariants.{Deliver, Peek, Take, Commit, Install, Remove, Receipt, Raise, Answer, Due, Fire, Fresh, Note, GiveUp, Signal, Tick, ShardTick}
 use Rattle.fc_core.specs.declared.front.Delivered.{Delivered}
 use Rattle.fc_core.specs.declared.front.Delivered.TheVariants.{Job as Brings, Signal as Signals}
 use Rattle.fc_core.specs.Stage.{Stage}
@@ -105,6 +105,11 @@ pub record Reaches (h : History) (new : ServerState) : Type 0 where
 -- time passes: a tick, and nothing is sent.
 abbrev pub Passes : ℕ → ServerState → ServerState → Type 0
 Passes now old new = (h : History) → (tasks : List Task) → Serves h old tasks → Serves (next h (Tick now) None) new tasks
+
+-- the timer of a slot fires, and its job, which gets the next number, runs; nothing is sent.
+abbrev pub FiresTimer : List ℕ → ℕ → ℕ → ServerState → ServerState → Type 0
+FiresTimer readings slot now old new = (h : History) → (tasks : List Task) → Serves h old tasks
+    → Worked readings (next h (Fire slot now) None) (length tasks) (ToTake 0) slot now new None
 
 -- a shard is ticked, and retransmits a notification that has timed out.
 abbrev pub TicksShard : ℕ → ℕ → ServerState → ServerState → Option Emission → Type 0

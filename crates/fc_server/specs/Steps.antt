@@ -1,5 +1,5 @@
 -- Effect of an event on a server and its jobs, and its agreement with the history.
-use Rattle.std.specs.Prelude.{◌≡◌, ℕ, Bool, true, false, nat_lt, List, [], ◌++◌, map, Option, Some, None, slice_set}
+use Rattle.std.specs.Prelude.{◌≡◌, ℕ, Bool, true, false, nat_lt, List, [], ◌∷◌, ◌++◌, map, Option, Some, None, slice_set}
 use Rattle.std.specs.Option.{option_to_list}
 use Rattle.coap_msg.specs.declared.types.Endpoint.{Endpoint}
 use Rattle.coap_msg.specs.declared.types.Emission.{Emission}
@@ -12,11 +12,12 @@ use Rattle.fc_registry.specs.Watches.{after_due, shard_after_tick, due_place, at
 use Rattle.fc_core.specs.declared.event.Event.{Event}
 use Rattle.fc_core.specs.declared.stage.Task.{Task}
 use Rattle.fc_core.specs.Exchanges.{FrontState, advanced}
-use Rattle.fc_core.specs.History.{AtFront, Receives, Answers, Draws, Passes, Rests, AtShard, AsksTurn, Signals, Ticks, Calm, Seen, and_then, at_front, at_shard, did, task_at}
+use Rattle.fc_core.specs.History.{AtFront, Receives, Answers, Draws, Fires, Passes, Rests, AtShard, AsksTurn, Signals, Ticks, Calm, Seen, and_then, at_front, at_shard, did, task_at}
 use Rattle.fc_core.specs.Legal.{AnswerEmits, Emits, TakesMeaning, resent}
 use Rattle.fc_core.specs.Receiving.{after_received, brought, next_opening, received, sent}
 use Rattle.fc_core.specs.Sound.{AllSafe}
 use Rattle.fc_core.specs.Stages.{content_at, needs_id, new_task}
+use Rattle.fc_core.specs.Timers.{timer_job}
 use Rattle.fc_core.specs.Rows.{Move, names, row, sends, task_moved, words_after}
 use Rattle.fc_server.specs.Agreement.{Agrees, Parts}
 use Rattle.fc_server.specs.States.{ServerState, front_after, front_drawn, inputs_in, shards_moved}
@@ -27,11 +28,13 @@ abbrev pub front_by : AtFront → Parts → Option Emission → FrontState
 front_by (Receives now to bytes) p emitted = after_received (received (advanced p.front now) to bytes) (advanced p.front now) to
 front_by (Answers k now) p emitted = front_after (content_at (task_at p.tasks k).stage) (task_at p.tasks k).job emitted p.front now
 front_by (Draws k now) p emitted = front_drawn (needs_id (task_at p.tasks k).stage) p.front now
+front_by (Fires slot now) p emitted = advanced p.front now
 front_by (Passes now) p emitted = advanced p.front now
 front_by Rests p emitted = p.front
 
 abbrev pub brought_by : AtFront → Parts → List Task
 brought_by (Receives now to bytes) p = map new_task (brought (received (advanced p.front now) to bytes) (next_opening (advanced p.front now)) to)
+brought_by (Fires slot now) p = new_task (timer_job slot) ∷ []
 brought_by other p = []
 
 -- ---- by the job that it names
@@ -115,6 +118,7 @@ abbrev pub EmitsAt : AtFront → Event → Parts → Option Emission → Type 0
 EmitsAt (Receives now to bytes) e p emitted = emitted ≡ sent (received (advanced p.front now) to bytes) (advanced p.front now) to
 EmitsAt (Answers k now) e p emitted = AnswerEmits (content_at (task_at p.tasks k).stage) (task_at p.tasks k).job (advanced p.front now) emitted
 EmitsAt (Draws k now) e p emitted = emitted ≡ None
+EmitsAt (Fires slot now) e p emitted = emitted ≡ None
 EmitsAt (Passes now) e p emitted = emitted ≡ None
 EmitsAt Rests e p emitted = emitted ≡ sends_at (names e) e p
 

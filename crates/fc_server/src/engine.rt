@@ -7,11 +7,11 @@ ghost use Rattle.coap_msg.specs.declared.types.Emission.{Emission as Emitted};
 ghost use Rattle.fc_registry.specs.Shards.{shard_at, slot_in_shards};
 ghost use Rattle.fc_registry.specs.Watches.{StaysIdleUntil, at_time, is_idle};
 ghost use Rattle.fc_core.specs.Stage.{Stage};
-ghost use Rattle.fc_core.specs.Exchanges.{advanced};
+ghost use Rattle.fc_core.specs.Exchanges.{advanced, has_exchange};
 ghost use Rattle.fc_core.specs.Ids.{free_id};
 ghost use Rattle.fc_core.specs.Receiving.{delivered, emission_if};
 ghost use Rattle.fc_core.specs.Legal.{resent};
-ghost use Rattle.fc_server.specs.Serving.{FindsProgram, Handles, IsBegun, IsOutToTake, IsReachable, AsksForTurn, Passes, TicksShard, Serves, Turns, WorksOff, WorksOffUnread};
+ghost use Rattle.fc_server.specs.Serving.{FindsProgram, Handles, IsBegun, IsOutToTake, IsReachable, AsksForTurn, FiresTimer, Passes, TicksShard, Serves, Turns, WorksOff, WorksOffUnread};
 ghost use Rattle.fc_server.specs.Notified.{Starved, Unsent, is_given, notification_in, notified_as};
 ghost use Rattle.fc_server.specs.Serving.{IsSignalled};
 ghost use Rattle.fc_server.specs.Shown.{IsShown};
@@ -21,10 +21,11 @@ ghost use Rattle.fc_server.specs.Steps.{shard_told};
 use crate::server::{Begin, Server};
 use crate::witness::Witness;
 use coap_msg::{Emission, Endpoint};
+use fc_core::front::blank_emission;
 use fc_core::{Handled, Step, Task};
 use fc_help::Readings;
 use fc_observe::Ticked;
-use fc_registry::{SHARDS, SLOTS};
+use fc_registry::{SHARDS, SLOTS, SlotNumber};
 use std::alloc::{AllocError, Global};
 use std::marker::Model;
 
@@ -131,6 +132,20 @@ impl Engine {
         ensures { Passes now self.old self.new }
     {
         self.server.tick(now);
+    }
+
+    /// Fires the timer of a slot at `now`, in milliseconds, and runs its job.
+    ///
+    /// The job's snapshot gets `readings`. The effect is the events `Fire`, `Take`, `Commit`,
+    /// `Raise` and `Answer`, which send nothing.
+    pub fn fire(&mut self, slot: SlotNumber, now: u64, readings: &Readings)
+        ensures { FiresTimer readings.now slot now self.old self.new }
+    {
+        let mut reply = blank_emission();
+        let task = &mut self.task;
+        self.server.fire(slot, now, &mut task.job);
+        task.begin();
+        run(&mut self.server, now, task, readings, &mut reply);
     }
 
     /// Advances a shard, 0 to 7, to `now` in milliseconds: the event `ShardTick`.
@@ -327,6 +342,7 @@ fn run(
     requires { IsBegun server.old task.old }
     ensures works { (count : ℕ) → WorksOff readings.now (Stage.ToTake count) now server.old task.old server.new (emission_if result reply.new) }
     ensures job { task.new.job ≡ task.old.job }
+    ensures unsent { has_exchange task.old.job.origin.opening ≡ false → result ≡ false }
 {
     server.take(readings, task);
     server.commit(now, task);

@@ -39,6 +39,7 @@
 //! - **A witness** observes the job of each request once, with the emission of its answer, and
 //!   nothing else.
 //! - A signal goes to each shard.
+//! - A timer that fires runs one job of its slot, and sends nothing.
 //! - A shard that is ticked returns its retransmission, the removal of an observer, or that no
 //!   notification has timed out.
 //! - A shard grants a lease exactly if one of its observers has a pending notification. The lease
@@ -52,7 +53,7 @@
 //!   message ID was available. The time that `flush::idle_until` returns is the earliest of those
 //!   that the shards return.
 //!
-//! By the contracts of `Server`, `Engine::handle`, `tick`, `resend`, `notify`, `idle_until`,
+//! By the contracts of `Server`, `Engine::handle`, `tick`, `fire`, `resend`, `notify`, `idle_until`,
 //! `SingleThread`, `Flushing::begin`, `step`, `flush::idle_until`.
 #![tactic(auto)]
 

@@ -10,6 +10,7 @@ ghost use Rattle.fc_core.specs.declared.event.Event.{Event};
 ghost use Rattle.fc_core.specs.Exchanges.{advanced, first_front};
 ghost use Rattle.fc_core.specs.Heads.{no_words};
 ghost use Rattle.fc_core.specs.Receiving.{after_delivered, delivered, emission_if, handled};
+ghost use Rattle.fc_core.specs.Timers.{timer_job};
 ghost use Rattle.fc_server.specs.States.{Responds, AtWork, CanBegin, Does, DrawsId, Works};
 ghost use Rattle.fc_server.specs.Steps.{shard_asked, shard_ticked, shard_told, shard_turn};
 
@@ -19,7 +20,7 @@ use fc_core::{DEFAULT_POLICY, Event, Front, Handled, Heads, Policy, Responded, T
 use fc_help::Readings;
 use fc_machine::Frame;
 use fc_observe::Ticked;
-use fc_registry::{Job, Shard, make_shards};
+use fc_registry::{Job, Shard, SlotNumber, make_shards};
 use std::alloc::{AllocError, Global};
 use std::marker::Model;
 
@@ -105,6 +106,16 @@ impl Server {
         ensures words { self.new.words ≡ self.old.words }
     {
         self.front.tick(now);
+    }
+
+    /// Fires the timer of a slot at `now`, in milliseconds. Its job is written over `job`.
+    pub fn fire(&mut self, slot: SlotNumber, now: u64, job: &mut Job)
+        ensures job { job.new ≡ timer_job slot }
+        ensures front { self.new.front ≡ advanced self.old.front now }
+        ensures shards { self.new.shards ≡ self.old.shards }
+        ensures words { self.new.words ≡ self.old.words }
+    {
+        self.front.fire(slot, now, job);
     }
 
     /// Requests the lease of an observer of a shard that has a pending notification.

@@ -11,7 +11,7 @@ use coap_msg::{Emission, Endpoint};
 use fc_core::front::blank_emission;
 use fc_core::{Event, Handled, Task};
 use fc_observe::Ticked;
-use fc_registry::SHARDS;
+use fc_registry::{SHARDS, SLOTS, SlotNumber};
 use fc_server::{Begin, Server};
 use std::alloc::{AllocError, Global};
 
@@ -49,6 +49,19 @@ impl WorldState {
                 Ok(None)
             }
         }
+    }
+
+    // Fires the timer of a slot, whose job becomes the last task. `slot` is below 64: a greater one
+    // counts modulo 64. The error is that memory for the task can't be allocated.
+    fn fire(&mut self, slot: u8, now: u64) -> Result<(), AllocError>
+        ensures { OnOk result (Done (Event.Fire slot now) (parts self.old) None (parts self.new)) }
+    {
+        let slot = SlotNumber::new(slot % SLOTS);
+        let mut task = Task::blank();
+        self.server.fire(slot, now, &mut task.job);
+        task.begin();
+        self.tasks.push(task)?;
+        Ok(())
     }
 
     // Requests a lease of a shard. If one is granted, its job becomes the last task. Nothing
@@ -144,6 +157,10 @@ impl WorldState {
             }
             Event::Tick { now } => {
                 self.server.tick(now);
+                Ok(None)
+            }
+            Event::Fire { slot, now } => {
+                self.fire(slot, now)?;
                 Ok(None)
             }
             Event::Due { shard, now } => {

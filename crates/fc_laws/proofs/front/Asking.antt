@@ -41,7 +41,7 @@ use Rattle.fc_core.specs.declared.stage.Task.{Task}
 use Rattle.fc_laws.specs.AskLaws.{BringsJob, IsPlain, Requests, core_path, program_path, request_in, run_path}
 use Rattle.fc_laws.specs.BodyLaws.{Asks, asked_at}
 use Rattle.fc_core.specs.Exchanges.{FrontState}
-use Rattle.fc_core.specs.History.{Entry, Seen, front_at, no_task, tasks_brought, tasks_moved}
+use Rattle.fc_core.specs.History.{Entry, Seen, front_at, received_at, no_task, tasks_brought, tasks_moved}
 use Rattle.fc_core.specs.Policies.{is_allowed}
 use Rattle.fc_core.specs.Receiving.{Received, Opened, Refused, Silenced, add_in, ask_by, brought, etags_by, is_confirmable, job_of, look_in, looked, named_block, next_opening, observes, over_share, received, received_added, received_as, request_asked, request_received, slot_asked, slot_of_resource, received_if, initial_vars_by}
 use Rattle.fc_core.specs.Stages.{new_task}
@@ -139,12 +139,15 @@ job_received f to bytes m j read e =
     let c = carried_out f to m (verdict m) o.message o.asked o.body (sym (received_of f to bytes (Ok m) read) ∙ o.opened) in
     record { asked = o.asked; body = o.body; asks = c.asks; allowed = c.allowed; whole = c.whole; is = subst (λ (x : Message). j ≡ job_of (next_opening f) to x o.asked o.body) (sym c.message) o.is }
 
-pub job_brought : (r : Entry) (s : Seen) (from : Endpoint) (m : Message) (j : Job) (b : BringsJob r s from m j) → IsJobOf (front_at s b.now) from m j
-job_brought r s from m j b =
+pub brought_is : (r : Entry) (s : Seen) (from : Endpoint) (m : Message) (j : Job) (b : BringsJob r s from m j) → brought (received_at s b.now from b.bytes.now) (next_opening (front_at s b.now)) from ≡ j ∷ []
+brought_is r s from m j b =
     let brings : Event → Type 0 = λ e. tasks_moved (names e) e s ++ tasks_brought e s ≡ s.tasks ++ (new_task j ∷ []) in
     let front = front_at s b.now in
     let new = brought (received front from b.bytes.now) (next_opening front) from in
-    job_received front from b.bytes.now m j b.read (one_job new j (append_cancel_left s.tasks (map new_task new) (new_task j ∷ []) (subst brings b.delivers b.comes)))
+    one_job new j (append_cancel_left s.tasks (map new_task new) (new_task j ∷ []) (subst brings b.delivers b.comes))
+
+pub job_brought : (r : Entry) (s : Seen) (from : Endpoint) (m : Message) (j : Job) (b : BringsJob r s from m j) → IsJobOf (front_at s b.now) from m j
+job_brought r s from m j b = job_received (front_at s b.now) from b.bytes.now m j b.read (brought_is r s from m j b)
 
 -- ---- by code and path
 

@@ -21,7 +21,7 @@ use Rattle.coap_block.specs.Uploads.{Add, add_of, block_added, Continues, IsWhol
 use Rattle.fc_registry.specs.declared.job.Ask.TheVariants.{Install as Installs}
 use Rattle.fc_registry.specs.declared.job.Opening.{Opening}
 use Rattle.fc_core.specs.declared.event.Event.{Event}
-use Rattle.fc_core.specs.declared.event.Event.TheVariants.{Deliver, Answer, Fresh, Tick}
+use Rattle.fc_core.specs.declared.event.Event.TheVariants.{Deliver, Answer, Fire, Fresh, Tick}
 use Rattle.coap_reply.specs.Blocks.{cut_for}
 use Rattle.fc_laws.specs.BodyLaws.{Asks, BringsInstall, FitsBy, IsAskedAnew, PutsBlock, addition_at, addition_by, asked_at, continue_by}
 use Rattle.fc_laws.specs.ExchangeLaws.{IsOnRequest}
@@ -52,6 +52,7 @@ rises_on : (e : Event) (s : Seen) → RisesTo s.time s.additions → RisesTo (ti
 rises_on (Deliver now to bytes) s w = with_added (received_at s now to bytes.now) (max s.time now) to s.additions (rises_later s.time (max s.time now) s.additions (le-max_left s.time now) w)
 rises_on (Answer k now) s w = answered_rises (is_some (content_at (stage s k))) s.time now s.additions w
 rises_on (Fresh k now) s w = answered_rises (needs_id (stage s k)) s.time now s.additions w
+rises_on (Fire slot now) s w = rises_later s.time (max s.time now) s.additions (le-max_left s.time now) w
 rises_on (Tick now) s w = rises_later s.time (max s.time now) s.additions (le-max_left s.time now) w
 rises_on other s w = w
 

@@ -1,9 +1,9 @@
 -- An event draws a message ID exactly if it needs one, and one is available.
-use Rattle.std.proofs.Common.{◌≡◌, ℕ, ◌+◌, ◌<◌, ◌≤◌, ◌∷◌, ◌⊎◌, inl, inr, List, length, Bool, true, false, Option, Some, None, Result, Ok, Err, refl, sym, ap, ◌∙◌, subst, max, if◌then◌else◌}
+use Rattle.std.proofs.Common.{◌≡◌, ℕ, ◌+◌, ◌<◌, ◌∷◌, ◌⊎◌, inl, inr, List, length, Bool, true, false, Option, Some, None, Result, Ok, Err, refl, sym, ap, ◌∙◌, subst, max, if◌then◌else◌}
 use Rattle.std.specs.Borrow.{Bor}
-use Rattle.std.specs.Prelude.{◌==◌, ◌&&◌, filter, is_some, nat_lt}
+use Rattle.std.specs.Prelude.{◌==◌, ◌&&◌, is_some, nat_lt}
 use borrow.Author.Tests.{ltb-false, ltb-true, lt-ltb}
-use Rattle.std.proofs.lemmas.Bool.{eq-eqb}
+use Rattle.std.proofs.lemmas.Bool.{and_from, and_parts, eq-eqb}
 use Rattle.arrayvec.specs.ArrayVec.{ArrayVec}
 use Rattle.coap_msg.specs.declared.types.Bad.{Bad}
 use Rattle.coap_msg.specs.declared.types.Bad.TheVariants as bad
@@ -21,7 +21,7 @@ use Rattle.fc_registry.specs.Slots.{Ticket}
 use Rattle.fc_core.specs.declared.event.Event.{Event}
 use Rattle.fc_core.specs.declared.event.Event.TheVariants.{Answer, Deliver, Fresh}
 use Rattle.fc_core.specs.Contents.{Content}
-use Rattle.fc_core.specs.Exchanges.{opening_is_live}
+use Rattle.fc_core.specs.Exchanges.{has_exchange, opening_is_live}
 use Rattle.fc_core.specs.History.{Entry, History, Then, Seen, seen, at_front, front_at, ids_answered, ids_by, job, time_by, stage}
 use Rattle.fc_core.specs.Ids.{Ids, drawn, drawn_for, free_id, is_recent, last_drawn}
 use Rattle.fc_core.specs.Policies.{is_allowed}
@@ -30,8 +30,8 @@ use Rattle.fc_core.specs.Stage.{Stage, ToAnswer, ToTell}
 use Rattle.fc_core.specs.Stages.{content_at, needs_id}
 use Rattle.fc_core.specs.TurnStage as turns
 use Rattle.fc_laws.specs.DrawLaws.{AnswersAtOnce, AnswersInTime, FindsNoRoom, IsAnsweredAtOnce, IsRefused as IsRefusedAtOnce, IsSettled, NeedsId, TellsTurn}
-use Rattle.fc_laws.specs.ExchangeLaws.{Draw, HasNoPlace, IsCrowdedOut, IsOnRequest, draws_by, draws_of, first_id, held_at, is_within, repeated, shared_at}
-use Rattle.fc_laws.specs.KeptLaws.{opened_at}
+use Rattle.fc_laws.specs.ExchangeLaws.{Draw, HasNoPlace, IsCrowdedOut, IsOnRequest, draws_by, draws_of, first_id, held_at, repeated, shared_at}
+use Rattle.fc_laws.specs.KeptLaws.{exchange_of_job, opened_at}
 use Rattle.fc_laws.proofs.front.Bodies.{anew_is}
 use Rattle.fc_laws.proofs.front.DrawnIds.{by_test, kept_where_none_free, next_small}
 use Rattle.fc_laws.proofs.front.Refusing.{refused_is}
@@ -78,9 +78,9 @@ turn_draws_one st turn found ids m now at =
 
 needed_draws : (s : Seen) (e : Event) → NeedsId s e → DrawsOne s e
 needed_draws s e (AnswersAtOnce m kind answers) = at_once_draws s e m kind answers
-needed_draws s e (AnswersInTime k now content event at kind in_time) = subst (DrawsOne s) (sym event)
+needed_draws s e (AnswersInTime k now content event at kind opened in_time) = subst (DrawsOne s) (sym event)
     (answered_draws (stage s k) content (opening_is_live (max s.time now) (job s k).origin.opening) (job s k).confirmable s.ids s.time now at
-    (lt-ltb (max s.time now) (opened_at s k + 247000) in_time) kind)
+    (and_from (has_exchange (job s k).origin.opening) (nat_lt (max s.time now) (opened_at s k + 247000)) (lt-ltb (exchange_of_job s k) 18446744073709551615 opened) (lt-ltb (max s.time now) (opened_at s k + 247000) in_time)) kind)
 needed_draws s e (TellsTurn k now turn found event at) = subst (DrawsOne s) (sym event) (turn_draws_one (stage s k) turn found s.ids s.time now at)
 
 -- ---- if none is needed
@@ -202,7 +202,9 @@ others_keep s (Deliver now to bytes) not =
     ∙ read_keeps s now to bytes (reading_of bytes.now) refl not
 others_keep s (Answer k now) not =
     answered_keeps (stage s k) (opening_is_live (max s.time now) (job s k).origin.opening) (job s k).confirmable s.ids (max s.time now)
-    (λ content at live kind. not (AnswersInTime k now content refl at kind (ltb-true (max s.time now) (opened_at s k + 247000) live)))
+    (λ content at live kind.
+    let both = and_parts (has_exchange (job s k).origin.opening) (nat_lt (max s.time now) (opened_at s k + 247000)) live in
+    not (AnswersInTime k now content refl at kind (ltb-true (exchange_of_job s k) 18446744073709551615 both.0) (ltb-true (max s.time now) (opened_at s k + 247000) both.1)))
 others_keep s (Fresh k now) not = turn_keeps (stage s k) (drawn s.ids (max s.time now)) s.ids (λ turn found at. not (TellsTurn k now turn found refl at))
 others_keep s other not = refl
 

@@ -6,7 +6,7 @@ use Rattle.std.proofs.lemmas.Bool.{cases_eq, eq-eqb, le-ltb, ne_eqb}
 use Rattle.std.proofs.lemmas.List.{get_or-replicate, get_or-set_same, get_or-set_other, length-replicate}
 use Rattle.std.proofs.Math.Nat.{le-max_left}
 use Rattle.fc_core.specs.declared.event.Event.{Event}
-use Rattle.fc_core.specs.declared.event.Event.TheVariants.{Deliver, Answer, Fresh, Tick}
+use Rattle.fc_core.specs.declared.event.Event.TheVariants.{Deliver, Answer, Fire, Fresh, Tick}
 use Rattle.coap_msg.specs.declared.types.Emission.{Emission}
 use Rattle.fc_observe.specs.declared.entry.Turn.{Turn}
 use Rattle.fc_registry.specs.Slots.{Ticket}
@@ -137,6 +137,7 @@ rises_if false m now = omega arith
 
 time_rises : (e : Event) (s : Seen) → s.time ≤ time_by (at_front e) s
 time_rises (Deliver now to bytes) s = le-max_left s.time now
+time_rises (Fire slot now) s = le-max_left s.time now
 time_rises (Tick now) s = le-max_left s.time now
 time_rises (Answer k now) s = rises_if (is_some (content_at (stage s k))) s.time now
 time_rises (Fresh k now) s = rises_if (needs_id (stage s k)) s.time now

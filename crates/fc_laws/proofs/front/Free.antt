@@ -1,11 +1,11 @@
 -- A share is kept for each address.
-use Rattle.std.proofs.Common.{◌≡◌, ℕ, zero, suc, ◌+◌, ◌*◌, ◌<◌, ◌≤◌, ◌⊎◌, inl, inr, List, [], ◌∷◌, Bool, true, false, cond, length, refl, sym, ap, subst, ⊎_elim, arith, max}
+use Rattle.std.proofs.Common.{◌≡◌, ℕ, suc, ◌+◌, ◌*◌, ◌<◌, ◌≤◌, inl, inr, List, [], ◌∷◌, Bool, true, false, cond, length, refl, sym, ap, subst, ⊎_elim, arith, max}
 use Rattle.std.specs.Prelude.{filter}
 use Rattle.std.proofs.Math.Nat.{suc-mul}
 use Rattle.coap_msg.specs.declared.types.Endpoint.{Endpoint}
 use Rattle.coap_msg.specs.Wire.{Message}
 use Rattle.coap_dedup.specs.Exchanges.{Exchange, is_at, places_of, share_of}
-use Rattle.fc_core.specs.History.{History, Seen, seen}
+use Rattle.fc_core.specs.History.{History, seen}
 use Rattle.fc_laws.specs.ExchangeLaws.{IsCrowdedOut, held_at}
 use Rattle.fc_laws.specs.PolicyLaws.{AreAmong, IsAmong, IsOneOf}
 use Rattle.fc_laws.proofs.front.Shares.{within_share}

@@ -1,7 +1,7 @@
 -- The time when the answer of a job is sent, and its stored bytes.
 use Rattle.std.proofs.Common.{◌≡◌, ℕ, zero, suc, ◌+◌, ◌<◌, List, [], ◌∷◌, ◌++◌, length, map, set, Bool, true, false, Option, Some, None, refl, sym, ap, ◌∙◌, subst, ◌⊎◌, inl, inr, arith, max, if◌then◌else◌}
-use Rattle.std.specs.Prelude.{is_some, ◌==◌}
-use Rattle.std.proofs.lemmas.Bool.{eq-eqb, ne_eqb, ltb-true, lt-ltb}
+use Rattle.std.specs.Prelude.{is_some, nat_lt, ◌==◌}
+use Rattle.std.proofs.lemmas.Bool.{and_from, and_parts, eq-eqb, ne_eqb, ltb-true, lt-ltb}
 use Rattle.std.proofs.lemmas.List.{append-nil, length-map, map-append}
 use Rattle.std.proofs.Math.Seq.{set-append_seam}
 use Rattle.arrayvec.specs.ArrayVec.{ArrayVec}
@@ -18,8 +18,8 @@ use Rattle.fc_core.specs.declared.event.Event.{Event}
 use Rattle.fc_core.specs.declared.event.Event.TheVariants.{Answer, Deliver}
 use Rattle.fc_core.specs.Stage.{Stage}
 use Rattle.fc_core.specs.Stage.{ToAnswer}
-use Rattle.fc_core.specs.Exchanges.{FrontState, opening_is_live}
-use Rattle.fc_laws.specs.ExchangeLaws.{Opens}
+use Rattle.fc_core.specs.Exchanges.{FrontState, has_exchange, opening_is_live}
+use Rattle.fc_laws.specs.ExchangeLaws.{HasExchange, Opens}
 use Rattle.fc_core.specs.History.{Entry, History, Begins, Then, Seen, seen, answered_in, did, exchanges_received, front_at, job, received_at, stage, at_front, exchanges_by}
 use Rattle.fc_core.specs.Ids.{free_id}
 use Rattle.fc_laws.specs.KeptLaws.{AnswersJob, HasId, answers, answers_with, emitted_bytes, exchange_of_job, opened_at}
@@ -37,7 +37,8 @@ overdue_by false id j c e w = absurd (cc w)
 
 overdue_at : (c : Option Content) (j : Job) (f : FrontState) (e : Emission) → AnswerEmits c j f (Some e) → f.now < j.origin.opening.at + 247000
 overdue_at None j f e w = absurd (cc w)
-overdue_at (Some c) j f e w = ltb-true f.now (j.origin.opening.at + 247000) (overdue_by (opening_is_live f.now j.origin.opening) (id_in f j.confirmable j.origin.id) j c e w)
+overdue_at (Some c) j f e w = ltb-true f.now (j.origin.opening.at + 247000)
+    (and_parts (has_exchange j.origin.opening) (nat_lt f.now (j.origin.opening.at + 247000)) (overdue_by (opening_is_live f.now j.origin.opening) (id_in f j.confirmable j.origin.id) j c e w)).1
 
 pub in_window : (s : Seen) (k now : ℕ) (e : Emission) → Emits s (Answer k now) (Some e) → max s.time now < opened_at s k + 247000
 in_window s k now e w = overdue_at (content_at (stage s k)) (job s k) (front_at s now) e w
@@ -53,12 +54,13 @@ out_by true (Some id) j c None live has w = absurd w
 out_by true None j c o live has w = absurd (cc has)
 out_by false id j c o live has w = absurd (cc live)
 
-out_at : (c : Option Content) (content : Content) (j : Job) (f : FrontState) (o : Option Emission) → c ≡ Some content → f.now < j.origin.opening.at + 247000 → (j.confirmable ≡ true) ⊎ (is_some (free_id f.ids f.now) ≡ true) → AnswerEmits c j f o → is_some o ≡ true
-out_at None content j f o is lt has w = absurd (cc is)
-out_at (Some c) content j f o is lt has w = out_by (opening_is_live f.now j.origin.opening) (id_in f j.confirmable j.origin.id) j c o (lt-ltb f.now (j.origin.opening.at + 247000) lt) (id_by j.confirmable j.origin.id f has) w
+out_at : (c : Option Content) (content : Content) (j : Job) (f : FrontState) (o : Option Emission) → c ≡ Some content → HasExchange j → f.now < j.origin.opening.at + 247000 → (j.confirmable ≡ true) ⊎ (is_some (free_id f.ids f.now) ≡ true) → AnswerEmits c j f o → is_some o ≡ true
+out_at None content j f o is opened lt has w = absurd (cc is)
+out_at (Some c) content j f o is opened lt has w = out_by (opening_is_live f.now j.origin.opening) (id_in f j.confirmable j.origin.id) j c o
+    (and_from (has_exchange j.origin.opening) (nat_lt f.now (j.origin.opening.at + 247000)) (lt-ltb j.origin.opening.number 18446744073709551615 opened) (lt-ltb f.now (j.origin.opening.at + 247000) lt)) (id_by j.confirmable j.origin.id f has) w
 
-pub goes_out : (s : Seen) (k now : ℕ) (content : Content) (o : Option Emission) → stage s k ≡ ToAnswer content → max s.time now < opened_at s k + 247000 → HasId s k now → Emits s (Answer k now) o → is_some o ≡ true
-goes_out s k now content o is lt has w = out_at (content_at (stage s k)) content (job s k) (front_at s now) o (ap content_at is) lt has w
+pub goes_out : (s : Seen) (k now : ℕ) (content : Content) (o : Option Emission) → stage s k ≡ ToAnswer content → HasExchange (job s k) → max s.time now < opened_at s k + 247000 → HasId s k now → Emits s (Answer k now) o → is_some o ≡ true
+goes_out s k now content o is opened lt has w = out_at (content_at (stage s k)) content (job s k) (front_at s now) o (ap content_at is) opened lt has w
 
 -- ---- numbers are positions
 

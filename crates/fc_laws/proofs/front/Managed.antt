@@ -1,7 +1,6 @@
 -- A job that changes a program belongs to a manager.
-use Rattle.std.proofs.Common.{◌≡◌, ℕ, zero, suc, ◌+◌, ◌*◌, ◌<◌, List, [], ◌∷◌, ◌++◌, Bool, true, false, length, map, Option, Some, None, Result, Ok, Err, refl, sym, ap, ◌∙◌, subst, arith, max, append-nil}
+use Rattle.std.proofs.Common.{◌≡◌, ℕ, zero, suc, ◌+◌, ◌*◌, ◌<◌, List, [], ◌∷◌, ◌++◌, Bool, true, false, length, map, Option, Some, None, Result, Ok, Err, refl, sym, subst, arith, append-nil}
 use Rattle.std.specs.Prelude.{slice_index_or, slice_set}
-use Rattle.std.specs.Borrow.{Bor}
 use Rattle.std.specs.Option.{option_map, option_to_list}
 use Rattle.coap_msg.specs.declared.types.Bad.{Bad}
 use Rattle.coap_msg.specs.declared.types.Bad.TheVariants as bad
@@ -22,11 +21,11 @@ use Rattle.fc_registry.specs.declared.job.Opening.{Opening}
 use Rattle.fc_observe.specs.Views.{interest_of}
 use Rattle.fc_registry.specs.Turns.{job_of_turn, turn_job}
 use Rattle.fc_core.specs.declared.event.Event.{Event}
-use Rattle.fc_core.specs.declared.event.Event.TheVariants.{Deliver, Due}
+use Rattle.fc_core.specs.declared.event.Event.TheVariants.{Deliver, Due, Fire}
 use Rattle.fc_core.specs.declared.policy.Network.{Network}
 use Rattle.fc_core.specs.declared.stage.Task.{Task}
 use Rattle.fc_core.specs.Exchanges.{FrontState}
-use Rattle.fc_core.specs.History.{AsksTurn, Begins, Entry, History, Seen, Then, and_then, due_in, front_at, job, no_task, inputs, seen, slot_at, task_at, tasks_brought, tasks_moved, turn_at, turns_by, watch}
+use Rattle.fc_core.specs.History.{AsksTurn, Begins, History, Seen, Then, front_at, job, no_task, inputs, seen, slot_at, task_at, tasks_brought, tasks_moved, turn_at, turns_by, watch}
 use Rattle.fc_core.specs.Laws.{HasCome}
 use Rattle.fc_core.specs.Policies.{is_allowed, is_manager}
 use Rattle.fc_core.specs.Receiving.{Received, add_in, ask_by, brought, job_of, look_in, looked, next_opening, received, received_added, received_as, received_if, received_read, request_received}
@@ -135,6 +134,7 @@ new_managed managers (j ∷ js) w = (w.0, new_managed managers js w.1)
 brought_managed : (s : Seen) (e : Event) → AllManaged s.policy.managers (tasks_brought e s)
 brought_managed s (Deliver now to bytes) = new_managed s.policy.managers _ (received_managed (front_at s now) to bytes.now (next_opening (front_at s now)))
 brought_managed s (Due shard now) = subst (AllManaged s.policy.managers) (sym (append-nil (turns_by (AsksTurn shard now) s))) (new_managed s.policy.managers _ (due_managed s _ _ _))
+brought_managed s (Fire slot now) = (λ asks. absurd (cc asks), tt)
 brought_managed s other = tt
 
 moved_managed : (s : Seen) (e : Event) (o : Option ℕ) → AllManaged s.policy.managers s.tasks → AllManaged s.policy.managers (tasks_moved o e s)

@@ -26,9 +26,9 @@ use Rattle.fc_registry.specs.declared.job.Job.{Job}
 use Rattle.fc_registry.specs.declared.job.Opening.{Opening}
 use Rattle.fc_registry.specs.declared.job.Origin.{Origin}
 use Rattle.fc_core.specs.declared.event.Event.{Event}
-use Rattle.fc_core.specs.declared.event.Event.TheVariants.{Deliver, Due, Answer}
+use Rattle.fc_core.specs.declared.event.Event.TheVariants.{Deliver, Due, Fire, Answer}
 use Rattle.fc_core.specs.declared.stage.Task.{Task}
-use Rattle.fc_laws.specs.ExchangeLaws.{is_within, repeated}
+use Rattle.fc_laws.specs.ExchangeLaws.{IsOfRequest, is_within, repeated}
 use Rattle.fc_core.specs.History.{Entry, History, Begins, Then, Seen, seen, and_then, answered_in, due_in, front_at, job, no_task, received_at, slot_at, stage, tasks_brought, tasks_moved, turn_at, watch, at_front, exchanges_by}
 use Rattle.fc_core.specs.Laws.{HasCome}
 use Rattle.coap_block.specs.Uploads.{Add, Continues, IsWhole, IsIncomplete, IsBadLength, IsTooLarge, IsFull}
@@ -164,15 +164,15 @@ module _ (s : Seen) (now : ℕ) (to : Endpoint) where
   new_tasks x emitted (j ∷ js) w = (record { time = w.0.time; none = w.0.none; at_is = w.0.at_is; opened = kept_in j.origin (length s.exchanges) (kept_of x emitted) (s.exchanges ++ opened_by x opening to) (any_right (IsOf j.origin) s.exchanges (opened_by x opening to) w.0.opened) }, new_tasks x emitted js w.1)
 
 -- a lease is no request.
-turn_isnt : (s : Seen) (es : List Exchange) (n number : ℕ) (o : Option Interest) → Each (λ t. t.job.turn ≡ None → IsNewJob s es t.job) (map new_task (option_to_list (option_map (turn_job n number) o)) ++ [])
+turn_isnt : (s : Seen) (es : List Exchange) (n number : ℕ) (o : Option Interest) → Each (λ t. IsOfRequest t.job → IsNewJob s es t.job) (map new_task (option_to_list (option_map (turn_job n number) o)) ++ [])
 turn_isnt s es n number None = tt
-turn_isnt s es n number (Some o) = (λ is. absurd (cc is), tt)
+turn_isnt s es n number (Some o) = (λ is. absurd (cc is.0), tt)
 
-turns_arent : (s : Seen) (es : List Exchange) (n : ℕ) (turn : Option Turn) (w : ObserverList) → Each (λ t. t.job.turn ≡ None → IsNewJob s es t.job) (map new_task (option_to_list (job_of_turn n turn w)) ++ [])
+turns_arent : (s : Seen) (es : List Exchange) (n : ℕ) (turn : Option Turn) (w : ObserverList) → Each (λ t. IsOfRequest t.job → IsNewJob s es t.job) (map new_task (option_to_list (job_of_turn n turn w)) ++ [])
 turns_arent s es n None w = tt
 turns_arent s es n (Some turn) w = turn_isnt s es n turn.number (option_map interest_of (entry_out turn w))
 
-due_isnt : (s : Seen) (es : List Exchange) (i at : ℕ) (p : Option ℕ) → Each (λ t. t.job.turn ≡ None → IsNewJob s es t.job) (map new_task (option_to_list (turn_at p s i at)) ++ [])
+due_isnt : (s : Seen) (es : List Exchange) (i at : ℕ) (p : Option ℕ) → Each (λ t. IsOfRequest t.job → IsNewJob s es t.job) (map new_task (option_to_list (turn_at p s i at)) ++ [])
 due_isnt s es i at None = tt
 due_isnt s es i at (Some k) =
     let n = 8 * k + i in
@@ -182,14 +182,15 @@ each_weaker : {X : Type 0} (P Q : X → Type 0) (xs : List X) → ((x : X) → P
 each_weaker P Q [] f w = tt
 each_weaker P Q (x ∷ xs) f w = (f x w.0, each_weaker P Q xs f w.1)
 
-brought_new : (e : Event) (emitted : Option Emission) (s : Seen) → Each (λ t. t.job.turn ≡ None → IsNewJob s (exchanges_by (at_front e) emitted s) t.job) (tasks_brought e s)
+brought_new : (e : Event) (emitted : Option Emission) (s : Seen) → Each (λ t. IsOfRequest t.job → IsNewJob s (exchanges_by (at_front e) emitted s) t.job) (tasks_brought e s)
 brought_new (Deliver now to bytes) emitted s =
     let es = exchanges_by (at_front (Deliver now to bytes)) emitted s in
-    each_weaker (λ t. IsNewJob s es t.job) (λ t. t.job.turn ≡ None → IsNewJob s es t.job) (tasks_brought (Deliver now to bytes) s) (λ t w is. w)
+    each_weaker (λ t. IsNewJob s es t.job) (λ t. IsOfRequest t.job → IsNewJob s es t.job) (tasks_brought (Deliver now to bytes) s) (λ t w is. w)
     (new_tasks s now to (received_at s now to bytes.now) emitted (brought (received_at s now to bytes.now) (next_opening (front_at s now)) to) (new_in s now to bytes.now))
 brought_new (Due shard now) emitted s =
     let at = max (s.shard_time shard) now in
     due_isnt s (exchanges_by (at_front (Due shard now)) emitted s) shard at (due_in s shard at)
+brought_new (Fire slot now) emitted s = (λ is. absurd (omega (arith, is.1)), tt)
 brought_new other emitted s = tt
 
 one_turn : (o : Option Job) → length (map new_task (option_to_list o) ++ []) ≤ 1
@@ -203,25 +204,26 @@ one_job other o to = omega arith
 one_brought : (e : Event) (s : Seen) → length (tasks_brought e s) ≤ 1
 one_brought (Deliver now to bytes) s = one_job (received_at s now to bytes.now) (next_opening (front_at s now)) to
 one_brought (Due shard now) s = let at = max (s.shard_time shard) now in one_turn (turn_at (due_in s shard at) s shard at)
+one_brought (Fire slot now) s = omega arith
 one_brought other s = omega arith
 
 length_after : (r : Entry) (s : Seen) → length (and_then r s).tasks ≡ length s.tasks + length (tasks_brought r.event s)
 length_after r s = length-append (tasks_moved (names r.event) r.event s) (tasks_brought r.event s) ∙ ap (λ (n : ℕ). n + length (tasks_brought r.event s)) (moved_length r.event s (names r.event))
 
-new_job : (r : Entry) (s : Seen) (k : ℕ) → length s.tasks ≤ k → HasCome (and_then r s) k → (job (and_then r s) k).turn ≡ None → IsNewJob s (and_then r s).exchanges (job (and_then r s) k)
+new_job : (r : Entry) (s : Seen) (k : ℕ) → length s.tasks ≤ k → HasCome (and_then r s) k → IsOfRequest (job (and_then r s) k) → IsNewJob s (and_then r s).exchanges (job (and_then r s) k)
 new_job r s k le come =
     let before : length (tasks_moved (names r.event) r.event s) ≡ length s.tasks = moved_length r.event s (names r.event) in
-    subst (λ (t : Task). t.job.turn ≡ None → IsNewJob s (and_then r s).exchanges t.job) (sym (get_or-append_right (tasks_moved (names r.event) r.event s) (tasks_brought r.event s) k no_task (omega arith)))
-    (each_at (λ t. t.job.turn ≡ None → IsNewJob s (and_then r s).exchanges t.job) (tasks_brought r.event s) (k - length (tasks_moved (names r.event) r.event s)) no_task (brought_new r.event r.emitted s) (omega (arith, length_after r s, before, come)))
+    subst (λ (t : Task). IsOfRequest t.job → IsNewJob s (and_then r s).exchanges t.job) (sym (get_or-append_right (tasks_moved (names r.event) r.event s) (tasks_brought r.event s) k no_task (omega arith)))
+    (each_at (λ t. IsOfRequest t.job → IsNewJob s (and_then r s).exchanges t.job) (tasks_brought r.event s) (k - length (tasks_moved (names r.event) r.event s)) no_task (brought_new r.event r.emitted s) (omega (arith, length_after r s, before, come)))
 
-opened_after : (r : Entry) (s : Seen) (k : ℕ) → HasCome (and_then r s) k → (job (and_then r s) k).turn ≡ None → (HasCome s k → (job s k).turn ≡ None → Any (IsOf (job s k).origin) s.exchanges) → Any (IsOf (job (and_then r s) k).origin) (and_then r s).exchanges
+opened_after : (r : Entry) (s : Seen) (k : ℕ) → HasCome (and_then r s) k → IsOfRequest (job (and_then r s) k) → (HasCome s k → IsOfRequest (job s k) → Any (IsOf (job s k).origin) s.exchanges) → Any (IsOf (job (and_then r s) k).origin) (and_then r s).exchanges
 opened_after r s k come asks w = ⊎_elim
-    (λ (lt : k < length s.tasks). subst (λ (j : Job). Any (IsOf j.origin) (and_then r s).exchanges) (sym (job_stays r s k lt)) (still_open (job s k).origin r.event r.emitted s (w lt (subst (λ (j : Job). j.turn ≡ None) (job_stays r s k lt) asks))))
+    (λ (lt : k < length s.tasks). subst (λ (j : Job). Any (IsOf j.origin) (and_then r s).exchanges) (sym (job_stays r s k lt)) (still_open (job s k).origin r.event r.emitted s (w lt (subst (λ (j : Job). IsOfRequest j) (job_stays r s k lt) asks))))
     (λ (le : length s.tasks ≤ k). (new_job r s k le come asks).opened)
     (cases_lt k (length s.tasks))
 
 -- the job of each request has its exchange
-opened_for : (h : History) (k : ℕ) → HasCome (seen h) k → (job (seen h) k).turn ≡ None → Any (IsOf (job (seen h) k).origin) (seen h).exchanges
+opened_for : (h : History) (k : ℕ) → HasCome (seen h) k → IsOfRequest (job (seen h) k) → Any (IsOf (job (seen h) k).origin) (seen h).exchanges
 unfolding seen
 opened_for (Begins serial id policy) k come asks = absurd (omega arith)
 opened_for (Then h r) k come asks = opened_after r (seen h) k come asks (opened_for h k)
@@ -250,10 +252,10 @@ past_window s at o p none a to id =
 
 -- two jobs of requests with one endpoint and message ID are a lifetime apart.
 abbrev AreApart : Seen → ℕ → ℕ → Type 0
-AreApart s j k = (job s j).turn ≡ None → (job s k).turn ≡ None → (job s j).origin.endpoint ≡ (job s k).origin.endpoint → (job s j).origin.id ≡ (job s k).origin.id → (job s j).origin.opening.at + 247000 ≤ (job s k).origin.opening.at
+AreApart s j k = IsOfRequest (job s j) → IsOfRequest (job s k) → (job s j).origin.endpoint ≡ (job s k).origin.endpoint → (job s j).origin.id ≡ (job s k).origin.id → (job s j).origin.opening.at + 247000 ≤ (job s k).origin.opening.at
 
 abbrev ApartJobs : Job → Job → Type 0
-ApartJobs a b = a.turn ≡ None → b.turn ≡ None → a.origin.endpoint ≡ b.origin.endpoint → a.origin.id ≡ b.origin.id → a.origin.opening.at + 247000 ≤ b.origin.opening.at
+ApartJobs a b = IsOfRequest a → IsOfRequest b → a.origin.endpoint ≡ b.origin.endpoint → a.origin.id ≡ b.origin.id → a.origin.opening.at + 247000 ≤ b.origin.opening.at
 
 apart_after : (h : History) (r : Entry) (j k : ℕ) → j < k → HasCome (and_then r (seen h)) k → (HasCome (seen h) k → AreApart (seen h) j k) → AreApart (and_then r (seen h)) j k
 apart_after h r j k lt come w =
@@ -268,7 +270,7 @@ apart_after h r j k lt come w =
     (λ first second to id. let new = new_job r s k le come second in subst (λ (n : ℕ). (job s j).origin.opening.at + 247000 ≤ n) (sym new.at_is) (past_window s new.time (job s j).origin (job (and_then r s) k).origin new.none (opened_for h j here first) to id)))
     (cases_lt k (length s.tasks))
 
-pub jobs_apart : (h : History) (j k : ℕ) → j < k → HasCome (seen h) k → (job (seen h) j).turn ≡ None → (job (seen h) k).turn ≡ None → (job (seen h) j).origin.endpoint ≡ (job (seen h) k).origin.endpoint → (job (seen h) j).origin.id ≡ (job (seen h) k).origin.id → (job (seen h) j).origin.opening.at + 247000 ≤ (job (seen h) k).origin.opening.at
+pub jobs_apart : (h : History) (j k : ℕ) → j < k → HasCome (seen h) k → IsOfRequest (job (seen h) j) → IsOfRequest (job (seen h) k) → (job (seen h) j).origin.endpoint ≡ (job (seen h) k).origin.endpoint → (job (seen h) j).origin.id ≡ (job (seen h) k).origin.id → (job (seen h) j).origin.opening.at + 247000 ≤ (job (seen h) k).origin.opening.at
 unfolding seen
 jobs_apart (Begins serial id policy) j k lt come = absurd (omega arith)
 jobs_apart (Then h r) j k lt come = apart_after h r j k lt come (jobs_apart h j k lt)

@@ -1,8 +1,8 @@
 -- A new request without space is answered immediately, and so is a confirmable one above its
 -- address's share; neither has another effect.
-use Rattle.std.proofs.Common.{◌≡◌, ◌≤◌, ℕ, ◌∙◌, List, ◌++◌, length, map, Bool, true, false, refl, None, subst, sym, Option, ap, ◌⊎◌, inl, inr, max}
+use Rattle.std.proofs.Common.{◌≡◌, ℕ, ◌∙◌, List, ◌++◌, length, map, Bool, true, false, refl, None, Option, ap, inl, inr, max}
 use Rattle.std.specs.Borrow.{Bor}
-use Rattle.std.specs.Prelude.{filter, nat_lt}
+use Rattle.std.specs.Prelude.{nat_lt}
 use borrow.Author.Tests.{lt-ltb}
 use Rattle.std.proofs.lemmas.Bool.{and_left, and_right, le-ltb}
 use Rattle.std.proofs.lemmas.List.{append-nil}
@@ -11,7 +11,6 @@ use Rattle.coap_msg.specs.declared.types.Emission.{Emission}
 use Rattle.coap_msg.specs.declared.types.Endpoint.{Endpoint}
 use Rattle.coap_opts.specs.Verdict.{verdict}
 use Rattle.coap_dedup.specs.Exchanges.{has_place, has_share, look_by, places_of, room_by}
-use Rattle.coap_dedup.specs.declared.exchanges.Room.{Room}
 use Rattle.coap_dedup.specs.declared.exchanges.Room.TheVariants as rooms
 use Rattle.fc_core.specs.declared.event.Event.{Event}
 use Rattle.fc_core.specs.declared.event.Event.TheVariants.{Deliver}

@@ -1,7 +1,6 @@
 -- At most as many exchanges are stored as the limit, and of each address at most its share.
-use Rattle.std.proofs.Common.{◌≡◌, ℕ, zero, suc, ◌+◌, ◌*◌, ◌<◌, ◌≤◌, List, [], ◌∷◌, ◌++◌, Bool, true, false, cond, length, map, refl, sym, ap, ◌∙◌, subst, ⊎_elim, inl, inr, arith, max}
+use Rattle.std.proofs.Common.{◌≡◌, ℕ, suc, ◌+◌, ◌<◌, ◌≤◌, List, [], ◌∷◌, ◌++◌, Bool, true, false, cond, length, map, refl, sym, ap, ◌∙◌, subst, ⊎_elim, arith, max}
 use Rattle.std.specs.Prelude.{filter, nat_eq, nat_lt}
-use Rattle.std.specs.List.{Contains}
 use Rattle.std.specs.declared.cmp.Ordering.{Ordering}
 use Rattle.std.specs.declared.cmp.Ordering.TheVariants.{Less, Equal, Greater}
 use Rattle.std.specs.Ordering.{is_eq, nat_cmp}
@@ -13,9 +12,9 @@ use Rattle.coap_dedup.specs.Exchanges.{Exchange, is_at, places_of, share_of}
 use Rattle.fc_core.specs.declared.event.Event.{Event}
 use Rattle.fc_core.specs.declared.event.Event.TheVariants.{Deliver}
 use Rattle.fc_core.specs.declared.policy.Policy.{Policy}
-use Rattle.fc_core.specs.History.{AtFront, Receives, Answers, Draws, Passes, Rests, Begins, Entry, History, Seen, Then, and_then, at_front, time_by, seen}
+use Rattle.fc_core.specs.History.{Begins, Entry, History, Seen, Then, and_then, at_front, time_by, seen}
 use Rattle.fc_core.specs.Policies.{default_policy}
-use Rattle.fc_laws.specs.ExchangeLaws.{Arrival, ArrivesBy, ExceedsShare, Opens, OpensOne, arrival_of, arrivals, held_at, is_within, shared_at}
+use Rattle.fc_laws.specs.ExchangeLaws.{Arrival, ArrivesBy, ExceedsShare, Opens, arrival_of, arrivals, held_at, is_within, shared_at}
 use Rattle.fc_laws.proofs.front.Repeats.{others_open_nothing, requests_open}
 use Rattle.fc_laws.proofs.front.Moving.{time_rises}
 

@@ -4,7 +4,7 @@ use Rattle.std.specs.Prelude.{is_some, nat_lt, ◌%◌, ◌==◌, ◌&&◌}
 use Rattle.fc_registry.specs.declared.job.Job.{Job}
 use Rattle.fc_registry.specs.Slots.{Slot}
 use Rattle.fc_core.specs.declared.event.Event.{Event}
-use Rattle.fc_core.specs.declared.event.Event.TheVariants.{Deliver, Answer, Tick, Fresh, Due, ShardTick}
+use Rattle.fc_core.specs.declared.event.Event.TheVariants.{Deliver, Answer, Tick, Fire, Fresh, Due, ShardTick}
 use Rattle.fc_core.specs.Stage.{Stage}
 use Rattle.fc_core.specs.Stage.{ToAnswer, ToTell}
 use Rattle.fc_core.specs.TurnStage as turns
@@ -26,6 +26,7 @@ draw_handed other m now ms is = is
 
 front_handed : (e : Event) (s : Seen) (ms : List ℕ) → s.time ≡ greatest ms → time_by (at_front e) s ≡ greatest (times_in e s ++ ms)
 front_handed (Deliver now to bytes) s ms is = ap (λ (x : ℕ). max x now) is
+front_handed (Fire slot now) s ms is = ap (λ (x : ℕ). max x now) is
 front_handed (Tick now) s ms is = ap (λ (x : ℕ). max x now) is
 front_handed (Answer k now) s ms is = answer_handed (stage s k) s.time now ms is
 front_handed (Fresh k now) s ms is = draw_handed (stage s k) s.time now ms is

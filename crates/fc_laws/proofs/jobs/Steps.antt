@@ -7,12 +7,13 @@ use Rattle.std.proofs.Math.Seq.{get_or-append_right}
 use Rattle.fc_registry.specs.declared.job.Job.{Job}
 use Rattle.fc_registry.specs.Slots.{Slot}
 use Rattle.fc_core.specs.declared.event.Event.{Event}
-use Rattle.fc_core.specs.declared.event.Event.TheVariants.{Deliver, Due, Lose}
+use Rattle.fc_core.specs.declared.event.Event.TheVariants.{Deliver, Due, Fire, Lose}
 use Rattle.fc_core.specs.Stage.{Gone}
 use Rattle.fc_core.specs.declared.stage.Task.{Task}
 use Rattle.fc_core.specs.History.{AsksTurn, around, due_in, Entry, Seen, and_then, front_at, no_task, received_at, inputs, slot_at, task_at, tasks_brought, tasks_moved, turn_at, turns_by}
 use Rattle.fc_core.specs.Receiving.{brought, next_opening}
 use Rattle.fc_core.specs.Stages.{new_task}
+use Rattle.fc_core.specs.Timers.{timer_job}
 use Rattle.fc_core.specs.Rows.{Around, task_moved, names, row, inputs_at}
 
 -- the task with a number after an event: the event changes it, it is unchanged, or it is new.
@@ -62,6 +63,7 @@ module _ (e : Event) (s : Seen) where
   brings (Due shard now) o k i le =
       let at = max (s.shard_time shard) now in
       subst (λ (ts : List Task). Becomes o e s k (task_at ts i)) (sym (append-nil (turns_by (AsksTurn shard now) s))) (new (option_to_list (turn_at (due_in s shard at) s shard at)) o k i le)
+  brings (Fire slot now) o k i le = new (timer_job slot ∷ []) o k i le
   brings other o k i le = past o k no_task le refl
 
   becomes_by : (o : Option ℕ) (k : ℕ) → Becomes o e s k (task_at (tasks_moved o e s ++ tasks_brought e s) k)

@@ -6,7 +6,7 @@ use Rattle.coap_msg.specs.declared.types.Emission.{Emission}
 use Rattle.fc_registry.specs.declared.job.Job.{Job}
 use Rattle.fc_registry.specs.Slots.{Slot}
 use Rattle.fc_core.specs.declared.event.Event.{Event}
-use Rattle.fc_core.specs.declared.event.Event.TheVariants.{Deliver, Peek, Take, Commit, Install, Remove, Receipt, Raise, Answer, Signal, Tick, ShardTick, Lose, Fresh, Note, GiveUp, Due}
+use Rattle.fc_core.specs.declared.event.Event.TheVariants.{Deliver, Peek, Take, Commit, Install, Remove, Receipt, Raise, Answer, Signal, Tick, ShardTick, Lose, Fresh, Note, GiveUp, Due, Fire}
 use Rattle.fc_core.specs.Stage.{Stage}
 use Rattle.fc_core.specs.Stage.{ToAnswer, Gone, ToTell}
 use Rattle.fc_core.specs.TurnStage as turns
@@ -96,6 +96,7 @@ named_still s e o k is noop m x p d b g q =
 noop_still : (e : Event) (o : Option Emission) (s : Seen) → is_noop s e ≡ true → and_then (did e o) s ≡ s
 noop_still (Deliver now to bytes) o s e = absurd (cc)
 noop_still (Tick now) o s e = absurd (cc)
+noop_still (Fire slot now) o s e = absurd (cc)
 noop_still (Signal shard to id reset) o s e = absurd (cc)
 noop_still (Due shard now) o s e = absurd (cc)
 noop_still (ShardTick shard now) o s e = absurd (cc)

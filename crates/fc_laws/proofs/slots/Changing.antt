@@ -12,7 +12,7 @@ use Rattle.fc_registry.specs.declared.commit.CommitOutcome.TheVariants.{Writes, 
 use Rattle.fc_registry.specs.Slots.{Slot, Present, Ticket, last_serial}
 use Rattle.fc_registry.specs.Calls.{clear_by, outcome, put_by, receipt_of, snapshot, readings_if, initial_vars_of}
 use Rattle.fc_core.specs.declared.event.Event.{Event}
-use Rattle.fc_core.specs.declared.event.Event.TheVariants.{Deliver, Due, ShardTick, Signal, Take, Tick}
+use Rattle.fc_core.specs.declared.event.Event.TheVariants.{Deliver, Due, Fire, ShardTick, Signal, Take, Tick}
 use Rattle.fc_core.specs.Stage.{Stage}
 use Rattle.fc_core.specs.Stage.{ToMatch, ToTake, ToCommit, ToInstall, ToRemove, ToList, ToRaise, ToAnswer, Gone, ToTell}
 use Rattle.fc_core.specs.TurnStage as turns
@@ -219,6 +219,7 @@ named_noop (Deliver now to bytes) own k e = absurd (cc)
 named_noop (Due shard now) own k e = absurd (cc)
 named_noop (Signal shard to id reset) own k e = absurd (cc)
 named_noop (Tick now) own k e = absurd (cc)
+named_noop (Fire slot now) own k e = absurd (cc)
 named_noop (ShardTick shard now) own k e = absurd (cc)
 named_noop other own k e = refl
 

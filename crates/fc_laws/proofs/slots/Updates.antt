@@ -1,5 +1,5 @@
 -- The variables that an install leaves, and their effect on everything else.
-use Rattle.std.proofs.Common.{◌≡◌, ℕ, Bool, true, false, List, [], ◌∷◌, ◌++◌, length, replicate, Option, Some, None, refl, sym, ap, ◌∙◌}
+use Rattle.std.proofs.Common.{◌≡◌, ℕ, Bool, true, false, List, [], ◌∷◌, ◌++◌, length, replicate, Option, None, refl, sym, ap, ◌∙◌}
 use Rattle.std.specs.Prelude.{nat_lt}
 use Rattle.std.proofs.lemmas.Bool.{lt-ltb}
 use Rattle.arrayvec.specs.ArrayVec.{ArrayVec}
@@ -17,9 +17,9 @@ use Rattle.fc_registry.proofs.Installs.{empty_vars, kept_answer, kept_vars, othe
 use Rattle.fc_core.specs.declared.event.Event.TheVariants.{Install}
 use Rattle.fc_core.specs.History.{Seen, and_then, did, job, inputs, slot_at}
 use Rattle.fc_core.specs.Laws.{slot_of}
-use Rattle.fc_core.specs.Rows.{Inputs, handed, install_call, install_if, row}
+use Rattle.fc_core.specs.Rows.{Inputs, install_call, install_if, row}
 use Rattle.fc_core.specs.Stage.{Stage, ToInstall}
-use Rattle.fc_core.specs.Stages.{image_of, made}
+use Rattle.fc_core.specs.Stages.{made}
 use Rattle.fc_core.specs.Steps.{Installs, changes_told, next_stage}
 use Rattle.fc_core.proofs.Calling.{verified_calls}
 use Rattle.fc_laws.specs.SlotLaws.{IsToInstall, inputs_installing, vars_at}

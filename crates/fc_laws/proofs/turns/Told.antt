@@ -20,7 +20,7 @@ use Rattle.fc_registry.specs.Slots.{Present, Slot, Ticket}
 use Rattle.fc_registry.specs.Turns.{job_of_turn, turn_job}
 use Rattle.fc_registry.proofs.Noticed.{noticed_within}
 use Rattle.fc_core.specs.declared.event.Event.{Event}
-use Rattle.fc_core.specs.declared.event.Event.TheVariants.{Deliver, Due}
+use Rattle.fc_core.specs.declared.event.Event.TheVariants.{Deliver, Due, Fire}
 use Rattle.fc_core.specs.Stage.{Stage}
 use Rattle.fc_core.specs.Stage.{ToTell}
 use Rattle.fc_core.specs.declared.stage.Task.{Task}
@@ -32,6 +32,7 @@ use Rattle.fc_core.specs.Laws.{slot_of}
 use Rattle.fc_core.specs.Receiving.{Received, Opened, brought, job_of, next_opening}
 use Rattle.fc_core.specs.Sound.{IsSoundlySeen}
 use Rattle.fc_core.specs.Stages.{first_stage, new_task, turn_took, with_id}
+use Rattle.fc_core.specs.Timers.{timer_job}
 use Rattle.fc_core.specs.Rows.{Common, Around, Inputs, names, row, task_moved}
 use Rattle.fc_core.proofs.ByStep.{Step, by_move, move_by, stage_by}
 use Rattle.fc_core.proofs.ByStep as steps
@@ -236,6 +237,7 @@ module _ (r : Entry) (s : Seen) where
   brought_known : (d : Event) → e ≡ d → Each (KnowsTask after) (tasks_brought d s)
   brought_known (Deliver now to bytes) is = brought_asked (received_at s now to bytes.now) (next_opening (front_at s now)) to
   brought_known (Due shard now) is = due_known shard now is (due_in s shard (max (s.shard_time shard) now)) refl
+  brought_known (Fire slot now) is = (asked_known (timer_job slot) refl, tt)
   brought_known other is = tt
 
   module _ (a : IsSoundlySeen s) (own : (k number : ℕ) → (job s k).turn ≡ Some number → IsToldOf (turn_of (job s k) number) (stage s k)) (before : (k : ℕ) → KnowsTask s (task_at s.tasks k)) where

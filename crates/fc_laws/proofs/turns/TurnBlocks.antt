@@ -20,7 +20,7 @@ use Rattle.fc_registry.specs.Calls.{is_out_at, meaning_at, turn_of, turn_snapsho
 use Rattle.fc_registry.specs.Slots.{Present, Slot, Ticket}
 use Rattle.fc_registry.specs.Turns.{first_block, job_of_turn, turn_job}
 use Rattle.fc_core.specs.declared.event.Event.{Event}
-use Rattle.fc_core.specs.declared.event.Event.TheVariants.{Deliver, Due}
+use Rattle.fc_core.specs.declared.event.Event.TheVariants.{Deliver, Due, Fire}
 use Rattle.fc_core.specs.Stage.{Stage}
 use Rattle.fc_core.specs.Stage.{ToTell}
 use Rattle.fc_core.specs.declared.stage.Task.{Task}
@@ -72,6 +72,7 @@ due_first s i m (Some k) =
 all_brought : (e : Event) (s : Seen) → Each (λ t. AsksFirst t.job) (tasks_brought e s)
 all_brought (Deliver now to bytes) s = brought_first (received_at s now to bytes.now) (next_opening (front_at s now)) to
 all_brought (Due shard now) s = let m = max (s.shard_time shard) now in due_first s shard m (due_in s shard m)
+all_brought (Fire slot now) s = (λ number is. absurd (cc is), tt)
 all_brought other s = tt
 
 all_moved : (e : Event) (s : Seen) (o : Option ℕ) → ((k : ℕ) → AsksFirst (job s k)) → (k : ℕ) → AsksFirst (task_at (tasks_moved o e s) k).job

@@ -1,4 +1,4 @@
-use Rattle.std.proofs.Common.{◌≡◌, ◌∙◌, ℕ, ◌/◌, ◌<◌, Bool, false, ◌||◌, ap, refl, arith}
+use Rattle.std.proofs.Common.{◌/◌, Bool, false, ◌||◌, ap, refl, arith}
 use Rattle.std.proofs.lemmas.Bool.{eq-eqb}
 use Rattle.coap_dedup.specs.Keys.{address_number}
 use Rattle.fc_core.specs.Policies.{any_address, is_in}

@@ -1,4 +1,4 @@
-use Rattle.std.proofs.Common.{◌≡◌, ◌∙◌, ap, refl, inr, Bool, not, ◌||◌}
+use Rattle.std.proofs.Common.{refl, inr, not, ◌||◌}
 use Rattle.fc_laws.proofs.policy_laws.forbidden_changes_are_refused.Goals as goal
 
 pub returns : goal.returns

@@ -1,4 +1,4 @@
-use Rattle.std.proofs.Common.{◌≡◌, ℕ, ◌/◌, ◌<◌, List, refl, arith}
+use Rattle.std.proofs.Common.{◌/◌, refl, arith}
 use Rattle.std.proofs.lemmas.Bool.{eq-eqb}
 use Rattle.coap_dedup.specs.Keys.{address_number}
 use Rattle.fc_laws.proofs.policy_laws.networks_are_prefixes.Goals as goal

@@ -1,4 +1,9 @@
-use Rattle.std.proofs.Common.{length, ◌++◌, ◌∷◌, [], ◌∙◌}
+use Rattle.std.proofs.Common.{◌≡◌, length, ◌++◌, ◌∷◌, [], ◌∙◌, Bool, true, false, None, refl, ap}
+use Rattle.coap_msg.specs.declared.types.Emission.{Emission}
+use Rattle.fc_core.specs.Exchanges.{has_exchange}
+use Rattle.fc_core.specs.Receiving.{emission_if}
+use Rattle.fc_core.proofs.Unsent.{unsent}
+use Rattle.fc_registry.specs.declared.job.Job.{Job}
 use Rattle.fc_server.proofs.Served.{answered_on, at_work, committed_on, kept_by, kept_by_answer, raised_on, took_on}
 use Rattle.fc_server.proofs.engine.run.Goals as goal
 
@@ -29,6 +34,16 @@ returns-clause-works c = λ count h rest v.
     let committed = committed_on rest took c.args.now (c.commit.ensures (length rest)) in
     let raised = raised_on rest committed (c.raise.ensures (length rest)) in
     record { memory = c.take.result; tasks = rest ++ c.respond.new.task ∷ []; serves = answered_on rest raised c.args.now _ c.respond.ensures }
+
+-- nothing that is sent was written.
+none_sent : (b : Bool) (e : Emission) → emission_if b e ≡ None → b ≡ false
+none_sent true e is = absurd (cc is)
+none_sent false e is = refl
+
+pub returns-clause-unsent : goal.returns-clause-unsent
+returns-clause-unsent c = λ none.
+    let same = kept_by (c.raise.ensures 0) ∙ (kept_by (c.commit.ensures 0) ∙ kept_by (c.take.ensures 0)) in
+    none_sent c.respond.result c.respond.new.reply (unsent _ _ _ _ (ap (λ (j : Job). has_exchange j.origin.opening) same ∙ none) c.respond.ensures.emits)
 
 pub returns-clause-job : goal.returns-clause-job
 returns-clause-job c = kept_by_answer c.respond.ensures ∙ (kept_by (c.raise.ensures 0) ∙ (kept_by (c.commit.ensures 0) ∙ kept_by (c.take.ensures 0)))

@@ -20,6 +20,9 @@ returns-in-Tick c =
 pub returns-in_ok-due-in-Due : goal.returns-in_ok-due-in-Due
 returns-in_ok-due-in-Due c = subst (λ (e : Event). Steps e (parts c.args.self.now) None (parts c.due.new.self)) (sym c.in-Due.is) (goes_on _ (parts c.args.self.now) (parts c.due.new.self) None c.in_ok-due-in-Due.ensures)
 
+pub returns-in_ok-fire-in-Fire : goal.returns-in_ok-fire-in-Fire
+returns-in_ok-fire-in-Fire c = subst (λ (e : Event). Steps e (parts c.args.self.now) None (parts c.fire.new.self)) (sym c.in-Fire.is) (goes_on _ (parts c.args.self.now) (parts c.fire.new.self) None c.in_ok-fire-in-Fire.ensures)
+
 pub returns-in-Signal : goal.returns-in-Signal
 returns-in-Signal c = subst (λ (e : Event). Steps e (parts c.args.self.now) None (parts c.signal.new.self)) (sym c.in-Signal.is) (goes_on _ (parts c.args.self.now) (parts c.signal.new.self) None c.signal.ensures)
 
