@@ -72,7 +72,7 @@ pub enum Handled {
 pub enum Answered {
     /// The response to send.
     Sent(Emission),
-    /// The exchange's lifetime has passed: nothing is sent.
+    /// The job has no exchange, or the exchange's lifetime has passed: nothing is sent.
     Late,
     /// No message ID is available: nothing is sent.
     NoId,
@@ -85,7 +85,7 @@ pub enum Answered {
 pub enum Responded {
     /// The response is to be sent, and was written.
     Sent,
-    /// The exchange's lifetime has passed: nothing is sent.
+    /// The job has no exchange, or the exchange's lifetime has passed: nothing is sent.
     Late,
     /// No message ID is available: nothing is sent.
     NoId,
