@@ -118,6 +118,10 @@ HandlesAt now from bytes brings before after =
 unfoldable pub AdvancesTo : ℕ → FrontState → FrontState → Type 0
 AdvancesTo now before after = after ≡ advanced before now
 
+-- the timer of a slot fires at this time. Its job depends on the slot alone.
+unfoldable pub FiresAt : ℕ → FrontState → FrontState → Type 0
+FiresAt now before after = after ≡ advanced before now
+
 -- a message ID is drawn at this time, or none is available.
 abbrev pub DrawsAt : ℕ → Option ℕ → FrontState → FrontState → Type 0
 DrawsAt now id before after =

@@ -24,6 +24,8 @@ pub data LoggedCall : Type 0 where
   HandlesDatagram : (now : ℕ) (from : Endpoint) (bytes : List ℕ) (brings : Delivered) → LoggedCall
   -- the front is advanced to this time.
   AdvancesFront : (now : ℕ) → LoggedCall
+  -- the timer of a slot fires at this time.
+  FiresTimer : (slot now : ℕ) → LoggedCall
   -- a message ID is drawn at this time, or none is available.
   DrawsId : (now : ℕ) (id : Option ℕ) → LoggedCall
   -- a job is answered at this time, and this emission, or nothing, is to be sent.

@@ -4,7 +4,7 @@ use Rattle.std.specs.Prelude.{if◌then◌else◌}
 use Rattle.fc_book.specs.declared.view.Track.{Track}
 use Rattle.fc_book.specs.declared.view.BookView.{BookView}
 use Rattle.fc_book.specs.Tracks.{HasKey}
-use Rattle.fc_calls.specs.Logged.{HandlesDatagram, AdvancesFront, DrawsId, AnswersRequest, TellsReceipt, GivesReadings, LooksAt, RaisesWord}
+use Rattle.fc_calls.specs.Logged.{HandlesDatagram, AdvancesFront, FiresTimer, DrawsId, AnswersRequest, TellsReceipt, GivesReadings, LooksAt, RaisesWord}
 use Rattle.fc_calls.specs.Logged.{TakesForJob, CommitsRun, InstallsProgram, RemovesProgram, HandsSignal, AdvancesIdle, AdvancesShard, GivesTurn, NotesTurn, GivesUpTurn}
 use Rattle.fc_linear.specs.Operations.{Operation, Logged, RejectsImage, LacksMemory, ServerPart, FrontPart, ShardPart, WordsPart, NoPart, IsEvent, part_of}
 use Rattle.fc_filed.specs.declared.entry.FiledEntry.{FiledEntry}
@@ -19,6 +19,7 @@ IsLow other = Unit {0}
 pub low_of : (operation : Operation) → IsEvent operation → IsLow (part_of operation)
 low_of (Logged (HandlesDatagram now from bytes brings)) p = tt
 low_of (Logged (AdvancesFront now)) p = tt
+low_of (Logged (FiresTimer slot now)) p = tt
 low_of (Logged (DrawsId now id)) p = tt
 low_of (Logged (AnswersRequest now job content sent)) p = tt
 low_of (Logged (TellsReceipt job receipt)) p = omega arith

@@ -4,7 +4,7 @@ use Rattle.std.proofs.Common.{◌≡◌, ℕ, Bool, true, false, List, [], ◌�
 use Rattle.std.specs.Prelude.{if◌then◌else◌}
 use Rattle.std.specs.List.{filter}
 use Rattle.fc_core.specs.Exchanges.{FrontState, advanced}
-use Rattle.fc_calls.specs.Doings.{AdvancesTo}
+use Rattle.fc_calls.specs.Doings.{AdvancesTo, FiresAt}
 use Rattle.fc_linear.specs.Operations.{Operation, WordsDo, is_words, part_of}
 use Rattle.fc_linear.specs.Parts.{LeadInOrder}
 use Rattle.fc_filed.specs.declared.entry.FiledEntry.{FiledEntry}
@@ -39,3 +39,7 @@ heads_log first_job (e ∷ es) ws vs r = head_more first_job (is_words (part_of 
 pub advances : (now : ℕ) (f g : FrontState) → g ≡ advanced f now → AdvancesTo now f g
 unfolding AdvancesTo
 advances now f g is = is
+
+pub fires : (now : ℕ) (f g : FrontState) → g ≡ advanced f now → FiresAt now f g
+unfolding FiresAt
+fires now f g is = is

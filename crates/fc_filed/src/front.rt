@@ -3,9 +3,10 @@ ghost use Rattle.std.specs.Prelude.{◌≡◌, ◌≤◌, ◌++◌, ◌∷◌, [
 ghost use Rattle.fc_core.specs.Answering.{emission_of, responded};
 ghost use Rattle.fc_core.specs.Contents.{IsOf};
 ghost use Rattle.fc_core.specs.Receiving.{handled};
+ghost use Rattle.fc_core.specs.Timers.{timer_job};
 ghost use Rattle.fc_book.specs.Tracks.{part_view, with_part};
-ghost use Rattle.fc_calls.specs.Doings.{AdvancesTo, AnswersAt, DrawsAt, HandlesAt};
-ghost use Rattle.fc_calls.specs.Logged.{AdvancesFront, AnswersRequest, DrawsId, HandlesDatagram};
+ghost use Rattle.fc_calls.specs.Doings.{AdvancesTo, AnswersAt, DrawsAt, FiresAt, HandlesAt};
+ghost use Rattle.fc_calls.specs.Logged.{AdvancesFront, AnswersRequest, DrawsId, FiresTimer, HandlesDatagram};
 ghost use Rattle.fc_linear.specs.Operations.{FrontDoes, Logged};
 ghost use Rattle.fc_linear.specs.Parts.{first_server};
 ghost use Rattle.fc_filed.specs.Entries.{OperationsLead};
@@ -16,7 +17,7 @@ use crate::view::FiledName;
 use coap_msg::{Emission, Endpoint};
 use fc_book::Part;
 use fc_core::{Answer, Front, Handled, Responded};
-use fc_registry::Job;
+use fc_registry::{Job, SlotNumber};
 use std::marker::{Brand, Model, PhantomData};
 
 /// The front of a book's server, as a part: its key is 0.
@@ -149,6 +150,29 @@ impl<J: ServerName> FiledFront<J> {
         file_tick::<Brand, J>(book, tracks, &mut self.track, who, now);
     }
 
+    /// Fires the timer of a slot at `now` ms, as [`Front::fire`] does, and files that.
+    ///
+    /// Its job begins no track: the entry is on the one that is first.
+    #[tactic(auto, unfolding(fc_calls::specs::Doings::FiresAt))]
+    pub fn fire_for_first(
+        &mut self,
+        book: &ServerBook<J>,
+        tracks: &mut ServerTracks<J>,
+        who: u64,
+        slot: SlotNumber,
+        now: u64,
+        job: &mut Job,
+    )
+        requires thread { HasOwnTrack J.first_job who tracks.old }
+        requires job { HasJobFirst J.first_job tracks.old }
+        ensures job { job.new ≡ timer_job slot }
+        ensures fired { FiresAt now self.old.front self.new.front }
+        ensures filed { tracks.new ≡ did_by who (Logged (FiresTimer slot now)) tracks.old }
+    {
+        self.front.fire(slot, now, job);
+        file_fire::<Brand, J>(book, tracks, &mut self.track, who, slot, now);
+    }
+
     /// Draws a message ID at `now` ms, as [`Front::fresh_id`] does, and files that.
     pub fn fresh_id(
         &mut self,
@@ -272,6 +296,27 @@ fn file_tick<X: FiledName, J: ServerName>(
     ensures track { track.new ≡ track.old ++ X.entry ∷ [] }
     ensures filed { tracks.new ≡ did_by who X.entry.operation tracks.old }
 {
+    let _ = now;
+    file_as::<X, J, FrontOf<J>>(book, tracks, track, who);
+}
+
+/// Files the firing of a timer, with the entry named by `X`.
+///
+/// See [`FiledFront::fire_for_first`]. Only the clauses use the slot and the time.
+fn file_fire<X: FiledName, J: ServerName>(
+    book: &ServerBook<J>,
+    tracks: &mut ServerTracks<J>,
+    track: &mut FiledTrack<FrontOf<J>>,
+    who: u64,
+    slot: SlotNumber,
+    now: u64,
+)
+    requires entry { X.entry ≡ entry_by who tracks.old (Logged (FiresTimer slot now)) }
+    requires may { MayFile J.first_job who tracks.old (Logged (FiresTimer slot now)) }
+    ensures track { track.new ≡ track.old ++ X.entry ∷ [] }
+    ensures filed { tracks.new ≡ did_by who X.entry.operation tracks.old }
+{
+    let _ = slot;
     let _ = now;
     file_as::<X, J, FrontOf<J>>(book, tracks, track, who);
 }

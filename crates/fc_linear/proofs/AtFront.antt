@@ -21,17 +21,22 @@ use Rattle.fc_core.specs.Stage.{Stage}
 use Rattle.fc_core.specs.Stage.{ToAnswer, ToTell}
 use Rattle.fc_core.specs.TurnStage as turns
 use Rattle.fc_core.specs.Stages.{content_at, drew, ended, needs_id, new_task}
-use Rattle.fc_calls.specs.Logged.{AdvancesFront, AnswersRequest, DrawsId, HandlesDatagram}
-use Rattle.fc_calls.specs.Doings.{AdvancesTo, AnswersAt}
+use Rattle.fc_core.specs.Timers.{timer_job}
+use Rattle.fc_calls.specs.Logged.{AdvancesFront, AnswersRequest, DrawsId, FiresTimer, HandlesDatagram}
+use Rattle.fc_calls.specs.Doings.{AdvancesTo, AnswersAt, FiresAt}
 use Rattle.fc_server.specs.Serving.{Serves, next}
 use Rattle.fc_server.specs.States.{DrawsId as Draws, Responds, ServerState, front_after, front_drawn}
 use Rattle.fc_server.proofs.Others.{draws_done, responds_done, ticked_done}
-use Rattle.fc_server.proofs.Served.{delivered_on, jobs_by, sent_by}
+use Rattle.fc_server.proofs.Served.{delivered_on, fired_on, jobs_by, sent_by}
 use Rattle.fc_linear.specs.Operations.{Operation, Logged, LogEntry, borrowed, job_in, reply_in}
 use Rattle.fc_linear.specs.Parts.{HaveNextNumbers, BringsItsJob, RightByParts, FollowsStages}
 use Rattle.fc_linear.proofs.Afters.{After}
 use Rattle.fc_linear.proofs.Firsts.{brought, entry_for, named, spared}
 use Rattle.fc_linear.proofs.OnJob.{served_on}
+
+fired : (now : ℕ) (f g : FrontState) → FiresAt now f g → g ≡ advanced f now
+unfolding FiresAt
+fired now f g is = is
 
 ticked : (now : ℕ) (f g : FrontState) → AdvancesTo now f g → g ≡ advanced f now
 unfolding AdvancesTo
@@ -88,6 +93,19 @@ module _ (k : ℕ) (es : List LogEntry) (h : History) (end s : ServerState) (tas
         server = t;
         tasks = tasks ++ new_task job ∷ [];
         serves = delivered_on now from (borrowed bytes) s t (Brings job) (sym r.1.0) r.1.1 refl refl h tasks v;
+        rest = record { front = r.2; shards = st.shards; words = st.words; jobs = b.jobs; to_come = b.to_come; numbered = b.numbered; events = st.events.1 };
+      }
+
+  pub after_fire : (slot now : ℕ) → RightByParts end s tasks (entry_for k (Logged (FiresTimer slot now)) ∷ es) → After k (Logged (FiresTimer slot now)) es h end
+  after_fire slot now st =
+      let op : Operation = Logged (FiresTimer slot now) in
+      let r = st.front in
+      let t : ServerState = record s { front = r.0 } in
+      let b = brought k op (timer_job slot) end s tasks es refl refl st in
+      record {
+        server = t;
+        tasks = tasks ++ new_task (timer_job slot) ∷ [];
+        serves = fired_on slot now s t (fired now s.front r.0 r.1) refl refl h tasks v;
         rest = record { front = r.2; shards = st.shards; words = st.words; jobs = b.jobs; to_come = b.to_come; numbered = b.numbered; events = st.events.1 };
       }
 

@@ -2,7 +2,7 @@
 use Rattle.std.proofs.Common.{ℕ, ◌%◌, List, [], ◌∷◌, refl, sym, ap, ◌∙◌}
 use Rattle.fc_core.specs.declared.stage.Task.{Task}
 use Rattle.fc_core.specs.History.{History}
-use Rattle.fc_calls.specs.Logged.{HandlesDatagram, AdvancesFront, DrawsId, AnswersRequest, TellsReceipt, GivesReadings, LooksAt, TakesForJob, CommitsRun, InstallsProgram, RemovesProgram, HandsSignal, AdvancesIdle, AdvancesShard, GivesTurn, NotesTurn, GivesUpTurn, RaisesWord}
+use Rattle.fc_calls.specs.Logged.{HandlesDatagram, AdvancesFront, FiresTimer, DrawsId, AnswersRequest, TellsReceipt, GivesReadings, LooksAt, TakesForJob, CommitsRun, InstallsProgram, RemovesProgram, HandsSignal, AdvancesIdle, AdvancesShard, GivesTurn, NotesTurn, GivesUpTurn, RaisesWord}
 use Rattle.fc_registry.specs.Slots.{Shard, slot_in}
 use Rattle.fc_registry.specs.Watches.{watch_at}
 use Rattle.fc_server.specs.declared.server.Begin.{Begin}
@@ -13,7 +13,7 @@ use Rattle.fc_linear.specs.Operations.{Operation, Logged, LogEntry, LacksMemory,
 use Rattle.fc_linear.specs.Parts.{IsHistoryOf, LeavesServer, RightByParts, first_server, history_on}
 use Rattle.fc_linear.proofs.Afters.{After}
 use Rattle.fc_linear.proofs.Firsts.{entry_for}
-use Rattle.fc_linear.proofs.AtFront.{after_answer, after_draw, after_handle, after_tick}
+use Rattle.fc_linear.proofs.AtFront.{after_answer, after_draw, after_fire, after_handle, after_tick}
 use Rattle.fc_linear.proofs.AtShards.{after_due, after_idle, after_shard_tick, after_signal}
 use Rattle.fc_linear.proofs.ForJobs.{after_look, after_raise, after_take, below_eight}
 use Rattle.fc_linear.proofs.ForSlots.{after_give_up, after_install, after_lack, after_note, after_receipt, after_reject, after_remove, after_run}
@@ -22,6 +22,7 @@ module _ (k : ℕ) (es : List LogEntry) (h : History) (end s : ServerState) (tas
   after_first : (op : Operation) → RightByParts end s tasks (entry_for k op ∷ es) → After k op es h end
   after_first (Logged (HandlesDatagram now from bytes brings)) st = after_handle k es h end s tasks v now from bytes brings st
   after_first (Logged (AdvancesFront now)) st = after_tick k es h end s tasks v now st
+  after_first (Logged (FiresTimer slot now)) st = after_fire k es h end s tasks v slot now st
   after_first (Logged (DrawsId now id)) st = after_draw k es h end s tasks v now id st
   after_first (Logged (AnswersRequest now job content sent)) st = after_answer k es h end s tasks v now job content sent st
   after_first (Logged (GivesReadings readings)) st = absurd st.events.0

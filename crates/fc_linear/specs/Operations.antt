@@ -16,7 +16,7 @@ use Rattle.fc_registry.specs.Calls.{receipt_of, run_of}
 use Rattle.fc_registry.specs.Notes.{sent_of}
 use Rattle.fc_registry.specs.Slots.{Shard, Ticket}
 use Rattle.fc_core.specs.declared.event.Event.{Event}
-use Rattle.fc_core.specs.declared.event.Event.TheVariants.{Deliver, Peek, Take, Commit, Install, Remove, Receipt, Raise, Answer, Due, Fresh, Note, GiveUp, Signal, Tick, ShardTick}
+use Rattle.fc_core.specs.declared.event.Event.TheVariants.{Deliver, Peek, Take, Commit, Install, Remove, Receipt, Raise, Answer, Due, Fire, Fresh, Note, GiveUp, Signal, Tick, ShardTick}
 use Rattle.fc_core.specs.declared.front.Delivered.{Delivered}
 use Rattle.fc_core.specs.declared.front.Delivered.TheVariants.{Job as Brings, Reply}
 use Rattle.fc_core.specs.Stage.{Stage}
@@ -30,10 +30,11 @@ use Rattle.fc_core.specs.Fits.{IsSafe}
 use Rattle.fc_core.specs.Heads.{word_at, word_raised}
 use Rattle.fc_core.specs.Legal.{resent}
 use Rattle.fc_core.specs.Stages.{after_commit, had_memory, image_of, listed, made, matched, removed, told, took, turn_took, with_id}
+use Rattle.fc_core.specs.Timers.{timer_job}
 use Rattle.fc_calls.specs.Logged.{LoggedCall}
-use Rattle.fc_calls.specs.Logged.{HandlesDatagram, AdvancesFront, DrawsId, AnswersRequest, TellsReceipt, GivesReadings, LooksAt, RaisesWord}
+use Rattle.fc_calls.specs.Logged.{HandlesDatagram, AdvancesFront, FiresTimer, DrawsId, AnswersRequest, TellsReceipt, GivesReadings, LooksAt, RaisesWord}
 use Rattle.fc_calls.specs.Logged.{TakesForJob, CommitsRun, InstallsProgram, RemovesProgram, HandsSignal, AdvancesIdle, AdvancesShard, GivesTurn, NotesTurn, GivesUpTurn}
-use Rattle.fc_calls.specs.Doings.{AdvancesTo, AnswersAt, CommitsAt, DescribesTo, DrawsAt, GivesTurnAt, GivesUpAt, HandsOn, HandlesAt, InstallsTo, NotesAt, PassesIfIdle, RemovesFrom, TakesTo, TicksAt}
+use Rattle.fc_calls.specs.Doings.{AdvancesTo, AnswersAt, CommitsAt, DescribesTo, DrawsAt, FiresAt, GivesTurnAt, GivesUpAt, HandsOn, HandlesAt, InstallsTo, NotesAt, PassesIfIdle, RemovesFrom, TakesTo, TicksAt}
 use Rattle.fc_calls.specs.Doings.{SaysFound}
 
 -- a call that a thread's log has, or an image that isn't installed: it breaks a rule, or memory is
@@ -60,6 +61,7 @@ pub data ServerPart : Type 0 where
 abbrev pub part_by : LoggedCall → ServerPart
 part_by (HandlesDatagram now from bytes brings) = FrontPart
 part_by (AdvancesFront now) = FrontPart
+part_by (FiresTimer slot now) = FrontPart
 part_by (DrawsId now id) = FrontPart
 part_by (AnswersRequest now job content sent) = FrontPart
 part_by (TellsReceipt job receipt) = ShardPart (job.origin.slot % 8)
@@ -99,6 +101,7 @@ is_shard i other = false
 abbrev pub FrontDoes : Operation → FrontState → FrontState → Type 0
 FrontDoes (Logged (HandlesDatagram now from bytes brings)) f g = HandlesAt now from bytes brings f g
 FrontDoes (Logged (AdvancesFront now)) f g = AdvancesTo now f g
+FrontDoes (Logged (FiresTimer slot now)) f g = FiresAt now f g
 FrontDoes (Logged (DrawsId now id)) f g = DrawsAt now id f g
 FrontDoes (Logged (AnswersRequest now job content sent)) f g = AnswersAt now job content sent f g
 FrontDoes other f g = ⊥
@@ -141,6 +144,7 @@ job_in other = None
 -- the new job that the operation produces, if any.
 abbrev pub job_brought : Operation → Option Job
 job_brought (Logged (HandlesDatagram now from bytes brings)) = job_in brings
+job_brought (Logged (FiresTimer slot now)) = Some (timer_job slot)
 job_brought (Logged (GivesTurn shard now turn)) = turn
 job_brought other = None
 
@@ -148,6 +152,7 @@ job_brought other = None
 abbrev pub is_for_job : Operation → Bool
 is_for_job (Logged (HandlesDatagram now from bytes brings)) = false
 is_for_job (Logged (AdvancesFront now)) = false
+is_for_job (Logged (FiresTimer slot now)) = false
 is_for_job (Logged (GivesReadings readings)) = false
 is_for_job (Logged (HandsSignal shard from id reset)) = false
 is_for_job (Logged (AdvancesIdle shard now)) = false
@@ -193,6 +198,7 @@ borrowed bytes = record { ref_ptr = (0, 0); now = bytes }
 abbrev pub event_by : ℕ → LoggedCall → Event
 event_by k (HandlesDatagram now from bytes brings) = Deliver now from (borrowed bytes)
 event_by k (AdvancesFront now) = Tick now
+event_by k (FiresTimer slot now) = Fire slot now
 event_by k (DrawsId now id) = Fresh k now
 event_by k (AnswersRequest now job content sent) = Answer k now
 event_by k (TellsReceipt job receipt) = Receipt k

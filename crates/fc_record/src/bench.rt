@@ -58,6 +58,17 @@ impl<'a, B: Bench, C: Recorder> Bench for RecordedBench<'a, B, C> {
         self.bench.tick(rt, now, log);
     }
 
+    fn fire<R: Wait>(
+        &self,
+        rt: &R,
+        slot: SlotNumber,
+        now: u64,
+        job: &mut Job,
+        log: &mut TrackLog<B::Book>,
+    ) {
+        self.bench.fire(rt, slot, now, job, log);
+    }
+
     fn fresh_id<R: Wait>(&self, rt: &R, now: u64, log: &mut TrackLog<B::Book>) -> Option<u16> {
         self.bench.fresh_id(rt, now, log)
     }

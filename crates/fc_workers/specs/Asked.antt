@@ -9,9 +9,9 @@ use Rattle.fc_workers.specs.Logs.{IsUnfiled, TrackedLog, with_filed_call}
 use Rattle.fc_registry.specs.Slots.{Shard}
 use Rattle.fc_workers.specs.Called.{BenchCall, LeavesUnquiet, LooksAhead}
 use Rattle.fc_calls.specs.Logged.{LoggedCall, HandlesDatagram, DrawsId, AnswersRequest, TakesForJob, CommitsRun, InstallsProgram, RemovesProgram, TellsReceipt}
-use Rattle.fc_calls.specs.Logged.{GivesReadings, LooksAt, AdvancesFront, HandsSignal, AdvancesIdle, AdvancesShard, GivesTurn, NotesTurn, GivesUpTurn, RaisesWord}
+use Rattle.fc_calls.specs.Logged.{GivesReadings, LooksAt, AdvancesFront, FiresTimer, HandsSignal, AdvancesIdle, AdvancesShard, GivesTurn, NotesTurn, GivesUpTurn, RaisesWord}
 use Rattle.fc_calls.specs.Kept.{confirm_times}
-use Rattle.fc_calls.specs.Doings.{AdvancesTo, AnswersAt, CommitsAt, DescribesTo, DrawsAt, GivesTurnAt, GivesUpAt, HandsOn, HandlesAt, InstallsTo, NotesAt, PassesIfIdle, RemovesFrom, TakesTo, TellsIdleUntil, TicksAt}
+use Rattle.fc_calls.specs.Doings.{AdvancesTo, AnswersAt, CommitsAt, DescribesTo, DrawsAt, FiresAt, GivesTurnAt, GivesUpAt, HandsOn, HandlesAt, InstallsTo, NotesAt, PassesIfIdle, RemovesFrom, TakesTo, TellsIdleUntil, TicksAt}
 
 -- a call with this effect was made on the shard with this index, 0 to 7, of a server that began so.
 pub record IsAsked (first : Beginning) (index : ℕ) (Does : Shard → Shard → Type 0) : Type 0 where
@@ -51,6 +51,7 @@ IsLoggedCall first AreReadings (TellsReceipt job receipt) before after = IsShard
 IsLoggedCall first AreReadings (LooksAt slot word) before after = after ≡ before
 IsLoggedCall first AreReadings (HandlesDatagram now from bytes brings) before after = IsFrontCall first.front (HandlesAt now from bytes brings) (HandlesDatagram now from bytes brings) before after
 IsLoggedCall first AreReadings (AdvancesFront now) before after = IsFrontCall first.front (AdvancesTo now) (AdvancesFront now) before after
+IsLoggedCall first AreReadings (FiresTimer slot now) before after = IsFrontCall first.front (FiresAt now) (FiresTimer slot now) before after
 IsLoggedCall first AreReadings (DrawsId now drawn) before after = IsFrontCall first.front (DrawsAt now drawn) (DrawsId now drawn) before after
 IsLoggedCall first AreReadings (AnswersRequest now job content sent) before after = IsFrontCall first.front (AnswersAt now job content sent) (AnswersRequest now job content sent) before after
 IsLoggedCall first AreReadings (TakesForJob job readings taken) before after = IsShardCall first (job.origin.slot % 8) (λ x y. TakesTo job readings x taken y) before after

@@ -6,6 +6,7 @@ use Rattle.fc_core.specs.declared.front.Delivered.{Delivered}
 use Rattle.fc_core.specs.declared.front.Delivered.TheVariants.{Job as Brings, Signal}
 use Rattle.fc_core.specs.declared.front.Handled.{Handled}
 use Rattle.fc_core.specs.Receiving.{handled}
+use Rattle.fc_core.specs.Timers.{timer_job}
 use Rattle.fc_jobs.specs.Ends.{with_sent}
 use Rattle.fc_registry.specs.declared.job.Job.{Job}
 use Rattle.fc_registry.specs.declared.receipt.Receipt.{Receipt}
@@ -15,7 +16,7 @@ use Rattle.fc_workers.specs.declared.dispatcher.Offload.{Offload}
 use Rattle.fc_workers.specs.declared.dispatcher.Offload.TheVariants.{Every, Expensive, Never}
 use Rattle.fc_workers.specs.Logs.{TrackedLog}
 use Rattle.fc_workers.specs.Answers.{IsSomeDelivery, IsSomeTurn, saturated}
-use Rattle.fc_calls.specs.Logged.{GivesTurn, HandsSignal, HandlesDatagram, TellsReceipt}
+use Rattle.fc_calls.specs.Logged.{FiresTimer, GivesTurn, HandsSignal, HandlesDatagram, TellsReceipt}
 use Rattle.fc_workers.specs.Called.{WorkerView}
 use Rattle.fc_workers.specs.Steps.{AsksRun, HasTaken}
 use Rattle.fc_workers.specs.Work.{IsReplied}
@@ -106,6 +107,12 @@ module _ {T : Type 0} (s : WorkerView T) where
     pub handles : s.logged (HandlesDatagram now from bytes (handled result job reply)) before.share.log log
     pub delivery : IsSomeDelivery now from bytes (handled result job reply)
     pub done : IsDone offload from (handled result job reply) (logged_at log before) after
+
+  -- the timer of a slot fired at this time, and its job is dispatched.
+  pub record IsTimerFired (offload : Offload) (slot now : ℕ) (before after : Dispatched T) : Type 0 where
+    pub log : TrackedLog
+    pub fires : s.logged (FiresTimer slot now) before.share.log log
+    pub done : IsDispatched offload (timer_job slot) (logged_at log before) after
 
   -- the job of a lease is dispatched; if no lease was granted, no job is.
   abbrev pub IsTurnDone : Offload → Option Job → Bool → Dispatched T → Dispatched T → Type 0

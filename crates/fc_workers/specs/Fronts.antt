@@ -7,7 +7,7 @@ use Rattle.fc_core.specs.Contents.{Content}
 use Rattle.fc_core.specs.Exchanges.{FrontState, first_front}
 use Rattle.fc_core.specs.declared.policy.Policy.{Policy}
 use Rattle.fc_registry.specs.declared.job.Job.{Job}
-use Rattle.fc_calls.specs.Doings.{AdvancesTo, AnswersAt, DrawsAt, HandlesAt}
+use Rattle.fc_calls.specs.Doings.{AdvancesTo, AnswersAt, DrawsAt, FiresAt, HandlesAt}
 
 -- the initial state of a server: its front, and the time in ms after which a notification of its
 -- shards is confirmable again (RFC 7641, section 4.5).
@@ -19,11 +19,12 @@ pub record Beginning : Type 0 where
 abbrev pub beginning : Policy → ℕ → Beginning
 beginning policy id = record { front = first_front policy id; confirm_after = policy.confirm_after }
 
--- a call of a front: a datagram is handled, the clock advances, a message ID is drawn, or a job is
--- answered.
+-- a call of a front: a datagram is handled, the clock advances, the timer of a slot fires, a message
+-- ID is drawn, or a job is answered.
 pub data FrontCall (before after : FrontState) : Type 0 where
   Handles : (now : ℕ) (from : Endpoint) (bytes : List ℕ) (brings : Delivered) → HandlesAt now from bytes brings before after → FrontCall before after
   Passes : (now : ℕ) → AdvancesTo now before after → FrontCall before after
+  Fires : (slot now : ℕ) → FiresAt now before after → FrontCall before after
   Draws : (now : ℕ) (id : Option ℕ) → DrawsAt now id before after → FrontCall before after
   Answers : (now : ℕ) (job : Job) (content : Content) (sent : Option Emission) → AnswersAt now job content sent before after → FrontCall before after
 

@@ -6,8 +6,9 @@ ghost use Rattle.std.specs.Prelude.{◌≡◌, []};
 ghost use Rattle.fc_core.specs.Answering.{emission_of, responded};
 ghost use Rattle.fc_core.specs.Contents.{IsOf};
 ghost use Rattle.fc_core.specs.Receiving.{handled};
-ghost use Rattle.fc_calls.specs.Doings.{AdvancesTo, AnswersAt, DrawsAt, HandlesAt};
-ghost use Rattle.fc_calls.specs.Logged.{AdvancesFront, AnswersRequest, DrawsId, HandlesDatagram};
+ghost use Rattle.fc_core.specs.Timers.{timer_job};
+ghost use Rattle.fc_calls.specs.Doings.{AdvancesTo, AnswersAt, DrawsAt, FiresAt, HandlesAt};
+ghost use Rattle.fc_calls.specs.Logged.{AdvancesFront, AnswersRequest, DrawsId, FiresTimer, HandlesDatagram};
 ghost use Rattle.fc_linear.specs.Parts.{first_server};
 ghost use Rattle.fc_workers.specs.Asked.{IsFrontCall};
 ghost use Rattle.fc_workers.specs.Fronts.{BeganAt};
@@ -17,7 +18,7 @@ use crate::track_log::TrackLog;
 use coap_msg::{Emission, Endpoint};
 use fc_core::{Answer, Front, Handled, Responded};
 use fc_filed::{FiledFront, FiledTrack, FrontOf, ServerBook};
-use fc_registry::Job;
+use fc_registry::{Job, SlotNumber};
 use std::marker::PhantomData;
 
 /// A front that started as its server's first front.
@@ -77,6 +78,23 @@ impl<B: Books> BegunFront<B> {
         ensures { IsFrontCall B.first.front (AdvancesTo now) (AdvancesFront now) log.old log.new }
     {
         self.filed.tick(book, &mut log.tracks, log.who, now);
+    }
+
+    /// Fires the timer of a slot, and files the call. See [`Front::fire`].
+    pub(crate) fn fire(
+        &mut self,
+        book: &ServerBook<ServerOf<B>>,
+        log: &mut TrackLog<ServerOf<B>>,
+        slot: SlotNumber,
+        now: u64,
+        job: &mut Job,
+    )
+        ensures job { job.new ≡ timer_job slot }
+        ensures fires { IsFrontCall B.first.front (FiresAt now) (FiresTimer slot now) log.old log.new }
+    {
+        let tracks = &mut log.tracks;
+        self.filed
+            .fire_for_first(book, tracks, log.who, slot, now, job);
     }
 
     /// Draws a message ID, and files the call. See [`Front::fresh_id`].

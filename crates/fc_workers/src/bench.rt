@@ -1,6 +1,7 @@
 //! The backend: a server's shared parts, as workers call them.
 ghost use Rattle.std.specs.Prelude.{◌≡◌, ℕ, ◌+◌, ◌<◌, ◌≤◌, ⊤, MatchBool};
 ghost use Rattle.atomic_table.specs.Seated.{TableId};
+ghost use Rattle.fc_core.specs.Timers.{timer_job};
 ghost use Rattle.fc_core.specs.Contents.{IsOf};
 ghost use Rattle.fc_core.specs.Receiving.{emission_if, handled};
 ghost use Rattle.fc_registry.specs.Calls.{initial_vars_of};
@@ -9,7 +10,7 @@ ghost use Rattle.fc_registry.specs.Turns.{written_if};
 ghost use Rattle.fc_registry.specs.Views.{HasSize, taken_with};
 ghost use Rattle.fc_heads.specs.Heads.{IsRaised, fresh, peeked, word_of};
 ghost use Rattle.fc_workers.specs.Called.{BenchCall, LeavesUnquiet, LooksAhead};
-ghost use Rattle.fc_calls.specs.Logged.{AdvancesFront, AdvancesIdle, GivesReadings, HandsSignal, LooksAt};
+ghost use Rattle.fc_calls.specs.Logged.{AdvancesFront, AdvancesIdle, FiresTimer, GivesReadings, HandsSignal, LooksAt};
 ghost use Rattle.fc_calls.specs.Logged.{AdvancesShard, AnswersRequest, CommitsRun, DrawsId, GivesTurn, GivesUpTurn, HandlesDatagram};
 ghost use Rattle.fc_calls.specs.Logged.{InstallsProgram};
 ghost use Rattle.fc_calls.specs.Logged.{LoggedCall, NotesTurn, RaisesWord, RemovesProgram, TakesForJob, TellsReceipt};
@@ -92,6 +93,20 @@ pub trait Bench {
     /// See [`Front::tick`](fc_core::Front::tick).
     fn tick<R: Wait>(&self, rt: &R, now: u64, log: &mut TrackLog<Self::Book>)
         ensures { logged (AdvancesFront now) log.old log.new };
+
+    /// Fires the timer of a slot, at a time in milliseconds. Its job is written over `job`.
+    ///
+    /// See [`Front::fire`](fc_core::Front::fire).
+    fn fire<R: Wait>(
+        &self,
+        rt: &R,
+        slot: SlotNumber,
+        now: u64,
+        job: &mut Job,
+        log: &mut TrackLog<Self::Book>,
+    )
+        ensures job { job.new ≡ timer_job slot }
+        ensures logged { logged (FiresTimer slot now) log.old log.new };
 
     /// Draws a message ID of the server's own, at a time in milliseconds.
     ///

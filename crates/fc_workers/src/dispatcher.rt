@@ -6,7 +6,7 @@ ghost use Rattle.fc_jobs.specs.Ends.{with_sent};
 ghost use Rattle.fc_workers.specs.Answers.{IsSomeIdle, IsSomeTick};
 ghost use Rattle.fc_calls.specs.Logged.{AdvancesFront, AdvancesIdle, AdvancesShard};
 ghost use Rattle.fc_workers.specs.Called.{LeavesUnquiet, LooksAhead, worker_view};
-ghost use Rattle.fc_workers.specs.Dispatch.{AreSignalled, HasCalled, IsExpensive, IsExpensiveAt, IsDispatched, IsPriced, IsTakenIn, IsTurnAsked, IsWorkedHere, MayGo, logged_at};
+ghost use Rattle.fc_workers.specs.Dispatch.{AreSignalled, HasCalled, IsExpensive, IsExpensiveAt, IsDispatched, IsPriced, IsTakenIn, IsTimerFired, IsTurnAsked, IsWorkedHere, MayGo, logged_at};
 ghost use Rattle.fc_workers.specs.Logs.{TrackedLog as Log};
 ghost use Rattle.fc_workers.specs.declared.dispatcher.Offload.TheVariants.{Expensive};
 ghost use Rattle.fc_workers.specs.Shares.{new_share};
@@ -22,7 +22,7 @@ use fc_core::front::blank_job;
 use fc_core::{Handled, Step};
 use fc_jobs::{Jobs, Sent};
 use fc_observe::Ticked;
-use fc_registry::{Ask, Job, SHARDS};
+use fc_registry::{Ask, Job, SHARDS, SlotNumber};
 use std::mem;
 use std::sync::Wait;
 
@@ -157,6 +157,17 @@ impl<'a, B: Bench, G: Gate, W: Wire, M: TimeSource> Dispatcher<'a, B, G, W, M> {
     {
         let log = &mut self.done.share.log;
         self.context.bench.tick(rt, now, log);
+    }
+
+    /// Fires the timer of a slot at a time in milliseconds, and dispatches its job.
+    pub fn fire<R: Wait>(&mut self, rt: &R, slot: SlotNumber, now: u64)
+        ensures fired { IsTimerFired (worker_view B.changes B.ended B.called B.logged M.is_time M.is_random G.passed W.called)
+            self.old.offload slot now self.old.done self.new.done }
+        ensures offload { self.new.offload ≡ self.old.offload }
+    {
+        let log = &mut self.done.share.log;
+        self.context.bench.fire(rt, slot, now, &mut self.job, log);
+        self.dispatch(rt);
     }
 
     /// Advances a shard, 0 to 7, to a time in milliseconds.

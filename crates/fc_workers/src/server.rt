@@ -372,6 +372,18 @@ impl<'a, B: Books, D: Device> Bench for Locked<'a, B, D> {
         front.tick(&self.book, log, now);
     }
 
+    fn fire<R: Wait>(
+        &self,
+        rt: &R,
+        slot: SlotNumber,
+        now: u64,
+        job: &mut Job,
+        log: &mut TrackLog<ServerOf<B>>,
+    ) {
+        let mut front = self.front.lock(rt);
+        front.fire(&self.book, log, slot, now, job);
+    }
+
     fn fresh_id<R: Wait>(&self, rt: &R, now: u64, log: &mut TrackLog<ServerOf<B>>) -> Option<u16> {
         let mut front = self.front.lock(rt);
         front.fresh_id(&self.book, log, now)
