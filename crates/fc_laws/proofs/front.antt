@@ -7,6 +7,7 @@ pub mod Times
 pub mod Repeats
 pub mod DrawnIds
 pub mod Drawing
+pub mod NewJobs
 pub mod Once
 pub mod FirstBlocks
 pub mod Bodies

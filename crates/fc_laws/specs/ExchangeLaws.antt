@@ -151,9 +151,17 @@ pub record OpensOne (r : Entry) (s : Seen) : Type 0 where
 abbrev pub HasExchange : Job → Type 0
 HasExchange j = j.origin.opening.number < 18446744073709551615
 
+-- the exchange of a request's job, without its answer, by the job.
+abbrev pub arrival_of_job : Job → Arrival
+arrival_of_job j = record { endpoint = j.origin.endpoint; id = j.origin.id; confirmable = j.confirmable; at = j.origin.opening.at }
+
 -- the job of a request: no lease, and no job of a timer, which has no exchange.
 abbrev pub IsOfRequest : Job → Type 0
 IsOfRequest j = (j.turn ≡ None) × HasExchange j
+
+-- the job of an observer's lease, with the lease's number.
+abbrev pub IsOfLease : Job → Type 0
+IsOfLease j = (number : ℕ) × (j.turn ≡ Some number)
 
 -- ---- message IDs
 

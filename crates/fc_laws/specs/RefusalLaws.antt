@@ -48,8 +48,8 @@ pub data IsTurnedDown (s : Seen) (e : Event) : Type 0 where
 -- the event's call for job k is refused. No ticket: the slot is empty, or memory can't be
 -- allocated. No commit: the slot has changed, or is at its last serial. No install: the image isn't
 -- accepted, memory can't be allocated, or the slot is at its last serial. Nothing is removed or
--- described. No answer is sent: its exchange's lifetime has passed, or it has no message ID. A
--- lease gets no message ID, or isn't active any more.
+-- described. No answer is sent: its exchange's lifetime has passed, the job has no exchange, or it
+-- has no message ID. A lease gets no message ID, or isn't active any more.
 pub data IsRefusedCall (s : Seen) (k : ℕ) (e : Event) (emitted : Option Emission) : Type 0 where
   NothingTaken : (count : ℕ) (memory : Bool) (readings : List ℕ) (event : e ≡ Take k memory readings) (at : stage s k ≡ ToTake count)
       (why : (memory ≡ false) ⊎ ((slot_at s (slot_of s k)).present ≡ None)) → IsRefusedCall s k e emitted

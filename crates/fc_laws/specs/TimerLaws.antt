@@ -1,8 +1,13 @@
 -- Definitions for the laws of timers.
-use Rattle.std.specs.Prelude.{◌≡◌, ℕ, false, [], ◌∷◌, None}
+use Rattle.std.specs.Prelude.{◌≡◌, ℕ, false, List, [], ◌∷◌, length, Option, None}
+use Rattle.coap_msg.specs.declared.types.Emission.{Emission}
 use Rattle.fc_help.specs.declared.request.Method.TheVariants.{Post}
 use Rattle.fc_registry.specs.declared.job.Ask.TheVariants.{Run}
 use Rattle.fc_registry.specs.declared.job.Job.{Job}
+use Rattle.fc_core.specs.declared.event.Event.{Event}
+use Rattle.fc_core.specs.declared.event.Event.TheVariants.{Fire}
+use Rattle.fc_core.specs.History.{Entry, History, Begins, Then, did, seen}
+use Rattle.fc_core.specs.Laws.{followed_by}
 use Rattle.fc_laws.specs.ExchangeLaws.{HasExchange}
 
 -- the job is that of a POST of slot n's resource from 0.0.0.0:0, which isn't confirmable. It has
@@ -19,3 +24,23 @@ pub record IsPostOfTimer (n : ℕ) (j : Job) : Type 0 where
   pub block : j.block ≡ None
   pub observe : j.observe ≡ None
   pub ask : j.ask ≡ Run (record { method = Post; slot = n; content_format = None; query = []; payload = [] })
+
+-- the timer of slot n made the job with this number: it fired earlier in the history, when as many
+-- jobs had arrived.
+pub record IsOfFire (n k : ℕ) (h : History) : Type 0 where
+  pub before : History
+  pub now : ℕ
+  pub emitted : Option Emission
+  pub since : List Entry
+  pub is : h ≡ followed_by (Then before (did (Fire n now) emitted)) since
+  pub number : k ≡ length (seen before).tasks
+
+-- the event isn't that of a timer that fires.
+abbrev pub IsNoFire : Event → Type 0
+IsNoFire (Fire slot now) = ⊥
+IsNoFire other = Unit {0}
+
+-- no timer has fired in the history.
+abbrev pub HasNoFire : History → Type 0
+HasNoFire (Begins serial id policy) = Unit {0}
+HasNoFire (Then h r) = IsNoFire r.event × HasNoFire h

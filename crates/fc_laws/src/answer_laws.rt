@@ -59,9 +59,9 @@ pub fn empty_slots_are_missing()
 
 /// The time of the front, and of a shard, is the latest time passed to it.
 ///
-/// Deliveries, ticks, and, at their stage, answers and leases that draw a message ID pass a time to
-/// the front. Requests for a lease, and ticks, pass a time to a shard. So do the jobs of its slots
-/// that commit, notify or release their lease at their stage.
+/// Deliveries, ticks and timers that fire pass a time to the front. So do, at their stage, answers,
+/// and leases that draw a message ID. Requests for a lease, and ticks, pass a time to a shard. So
+/// do the jobs of its slots that commit, notify or release their lease at their stage.
 pub fn times_are_the_greatest()
     ensures front { (h : History) → (seen h).time ≡ greatest (times_of h) }
     ensures shard { (h : History) (i : ℕ) → (seen h).shard_time i ≡ greatest (shard_times_of i h) }

@@ -4,6 +4,7 @@ ghost use Rattle.fc_laws.specs.ExchangeLaws.{AllBefore, AreApart, AreInOrder, Fi
 ghost use Rattle.fc_core.specs.Contents.{Content};
 ghost use Rattle.fc_core.specs.History.{Entry, History, Seen, Then, and_then, did, job, seen, stage};
 ghost use Rattle.fc_laws.specs.DrawLaws.{NeedsId};
+ghost use Rattle.fc_laws.specs.TimerLaws.{HasNoFire};
 ghost use Rattle.fc_laws.specs.KeptLaws.{AnswersJob, HasId, answers, answers_with, emitted_bytes, exchange_of_job, opened_at};
 ghost use Rattle.fc_core.specs.declared.event.Event.TheVariants.{Answer};
 ghost use Rattle.fc_core.specs.Stage.{ToAnswer};
@@ -12,7 +13,7 @@ ghost use Rattle.coap_msg.specs.declared.types.Emission.{Emission};
 ghost use Rattle.fc_core.specs.Laws.{HasCome};
 ghost use Rattle.fc_core.specs.Ids.{free_id};
 ghost use Rattle.fc_core.specs.Legal.{Emits};
-ghost use Rattle.std.specs.Prelude.{ℕ, ◌+◌, ◌%◌, ◌<◌, ◌≤◌, ◌≡◌, ◌↔◌, ◌++◌, ◌∷◌, [], None, Option, Some, is_some, length, max, true};
+ghost use Rattle.std.specs.Prelude.{ℕ, ◌+◌, ◌%◌, ◌<◌, ◌≤◌, ◌≡◌, ◌↔◌, ◌++◌, ◌∷◌, [], None, Option, Some, is_some, false, length, max, true};
 
 /// A duplicate opens no exchange, makes no job, and adds and draws nothing.
 ///
@@ -63,10 +64,16 @@ pub fn requests_without_room_are_unavailable()
 /// A request is executed at most once within its lifetime.
 ///
 /// Two jobs of requests with one endpoint and message ID arrived at least 247,000 ms apart. Neither
-/// an observer's lease nor the job of a timer is a request's.
+/// an observer's lease nor the job of a timer is a request's. If no timer has fired, each job
+/// without a lease is a request's.
 pub fn requests_are_carried_out_once()
-    ensures { (h : History) (j k : ℕ) → j < k → HasCome (seen h) k
+    ensures requests { (h : History) (j k : ℕ) → j < k → HasCome (seen h) k
         → IsOfRequest (job (seen h) j) → IsOfRequest (job (seen h) k)
+        → (job (seen h) j).origin.endpoint ≡ (job (seen h) k).origin.endpoint
+        → (job (seen h) j).origin.id ≡ (job (seen h) k).origin.id
+        → (job (seen h) j).origin.opening.at + 247000 ≤ (job (seen h) k).origin.opening.at }
+    ensures without_timers { (h : History) (j k : ℕ) → HasNoFire h → j < k → HasCome (seen h) k
+        → (job (seen h) j).turn ≡ None → (job (seen h) k).turn ≡ None
         → (job (seen h) j).origin.endpoint ≡ (job (seen h) k).origin.endpoint
         → (job (seen h) j).origin.id ≡ (job (seen h) k).origin.id
         → (job (seen h) j).origin.opening.at + 247000 ≤ (job (seen h) k).origin.opening.at }
@@ -87,7 +94,8 @@ pub fn message_ids_come_in_order()
 ///
 /// It needs one if it answers a request that isn't confirmable, either on arrival, or by its job
 /// less than 247,000 ms after its exchange was opened. It also needs one if it is the draw of a
-/// lease, whose notification has its own message ID.
+/// lease, whose notification has its own message ID. The answer of a timer's job, which has no
+/// exchange, needs none.
 pub fn message_ids_are_drawn_where_needed()
     ensures needed { (h : History) (r : Entry) (id : ℕ) → first_id h < 65536 → NeedsId (seen h) r.event
         → free_id (seen h).ids (seen (Then h r)).time ≡ Some id
@@ -95,17 +103,25 @@ pub fn message_ids_are_drawn_where_needed()
     ensures none_free { (h : History) (r : Entry) → free_id (seen h).ids (seen (Then h r)).time ≡ None
         → draws_of (Then h r) ≡ draws_of h }
     ensures others { (h : History) (r : Entry) → (NeedsId (seen h) r.event → ⊥) → draws_of (Then h r) ≡ draws_of h }
+    ensures without_timers { (h : History) (k now : ℕ) (content : Content) → HasNoFire h
+        → stage (seen h) k ≡ ToAnswer content → (job (seen h) k).confirmable ≡ false
+        → max (seen h).time now < opened_at (seen h) k + 247000 → NeedsId (seen h) (Answer k now) }
 {}
 
 /// The answer of a job is sent less than 247,000 ms after its request was opened.
 ///
 /// It is never sent later. In that time it is sent if the job has an exchange, and its request was
-/// confirmable or a message ID of the server is available.
+/// confirmable or a message ID of the server is available. If no timer has fired, each job that is
+/// to be answered has an exchange.
 pub fn answers_go_out_in_time()
     ensures overdue { (s : Seen) (k now : ℕ) (e : Emission) → Emits s (Answer k now) (Some e)
         → max s.time now < opened_at s k + 247000 }
     ensures in_time { (s : Seen) (k now : ℕ) (content : Content) (o : Option Emission) → stage s k ≡ ToAnswer content → HasExchange (job s k)
         → max s.time now < opened_at s k + 247000 → HasId s k now → Emits s (Answer k now) o → is_some o ≡ true }
+    ensures without_timers { (h : History) (k now : ℕ) (content : Content) (o : Option Emission)
+        → HasNoFire h → stage (seen h) k ≡ ToAnswer content
+        → max (seen h).time now < opened_at (seen h) k + 247000 → HasId (seen h) k now
+        → Emits (seen h) (Answer k now) o → is_some o ≡ true }
 {}
 
 /// The stored answer of an exchange consists of the bytes that were sent.

@@ -1,22 +1,23 @@
 //! Laws of timers: each function is a law, stated by its contract.
-ghost use Rattle.std.specs.Prelude.{ℕ, ◌≡◌, ◌<◌, ◌++◌, ◌∷◌, [], None, Option, max};
+ghost use Rattle.std.specs.Prelude.{ℕ, ◌≡◌, ◌⊎◌, ◌%◌, ◌++◌, ◌∷◌, [], None, Option, length, max};
 ghost use Rattle.coap_msg.specs.Wire.{Message};
 ghost use Rattle.coap_msg.specs.declared.types.Emission.{Emission};
 ghost use Rattle.coap_msg.specs.declared.types.Endpoint.{Endpoint};
-ghost use Rattle.fc_core.specs.History.{Entry, Seen, and_then, did, job};
+ghost use Rattle.fc_core.specs.History.{Entry, History, Seen, and_then, did, job, seen};
+ghost use Rattle.fc_core.specs.Laws.{HasCome, slot_of};
 ghost use Rattle.fc_core.specs.Legal.{Emits};
 ghost use Rattle.fc_core.specs.Stage.{ToTake};
 ghost use Rattle.fc_core.specs.declared.event.Event.TheVariants.{Answer, Fire};
 ghost use Rattle.fc_laws.specs.AskLaws.{BringsJob};
-ghost use Rattle.fc_laws.specs.ExchangeLaws.{HasExchange};
-ghost use Rattle.fc_laws.specs.TimerLaws.{IsPostOfTimer};
+ghost use Rattle.fc_laws.specs.ExchangeLaws.{HasExchange, IsOfLease, IsOfRequest, arrival_of_job, arrivals};
+ghost use Rattle.fc_laws.specs.TimerLaws.{HasNoFire, IsOfFire, IsPostOfTimer};
 ghost use Rattle.fc_registry.specs.declared.job.Job.{Job};
 
 /// A timer that fires makes one job, that of a POST of its slot's resource.
 ///
-/// The job is the newest one, and begins with a snapshot.
+/// The slot is taken modulo 64. The job is the newest one, and begins with a snapshot.
 pub fn timers_make_one_job()
-    ensures { (s : Seen) (n now : ℕ) (o : Option Emission) → n < 64 → (j : Job) × IsPostOfTimer n j
+    ensures { (s : Seen) (n now : ℕ) (o : Option Emission) → (j : Job) × IsPostOfTimer (n % 64) j
         × ((and_then (did (Fire n now) o) s).tasks ≡ s.tasks ++ record { job = j; stage = ToTake 0 } ∷ []) }
 {}
 
@@ -40,12 +41,48 @@ pub fn timers_change_the_time()
 /// It is stored in no exchange, and draws no message ID.
 pub fn answers_without_exchanges_are_dropped()
     ensures emitted { (s : Seen) (k now : ℕ) (o : Option Emission) → (HasExchange (job s k) → ⊥) → Emits s (Answer k now) o → o ≡ None }
-    ensures exchanges { (s : Seen) (k now : ℕ) → (and_then (did (Answer k now) None) s).exchanges ≡ s.exchanges }
+    ensures exchanges { (s : Seen) (k now : ℕ) (o : Option Emission) → (HasExchange (job s k) → ⊥)
+        → Emits s (Answer k now) o → (and_then (did (Answer k now) o) s).exchanges ≡ s.exchanges }
     ensures ids { (s : Seen) (k now : ℕ) (o : Option Emission) → (HasExchange (job s k) → ⊥)
         → (and_then (did (Answer k now) o) s).ids ≡ s.ids }
 {}
 
-/// The job of each request has an exchange.
+/// The answer of a timer's job is sent to nobody, whatever events came since the timer fired.
+///
+/// The job remains a POST of its slot's resource, without an exchange. Its answer is stored in no
+/// exchange, and draws no message ID.
+pub fn answers_of_timers_are_dropped()
+    ensures post { (h : History) (n k : ℕ) → IsOfFire n k h
+        → IsPostOfTimer (n % 64) (job (seen h) k) }
+    ensures emitted { (h : History) (n k now : ℕ) (o : Option Emission) → IsOfFire n k h
+        → Emits (seen h) (Answer k now) o → o ≡ None }
+    ensures exchanges { (h : History) (n k now : ℕ) (o : Option Emission) → IsOfFire n k h
+        → Emits (seen h) (Answer k now) o
+        → (and_then (did (Answer k now) o) (seen h)).exchanges ≡ (seen h).exchanges }
+    ensures ids { (h : History) (n k now : ℕ) (o : Option Emission) → IsOfFire n k h
+        → (and_then (did (Answer k now) o) (seen h)).ids ≡ (seen h).ids }
+{}
+
+/// A delivery that makes a job opens the job's exchange, as the newest.
+///
+/// The exchange has the job's endpoint, message ID and type, and is opened at the job's time. The
+/// job has the exchange's number, which is its position: fewer than 2^64 - 1 were opened before.
 pub fn requests_have_exchanges()
-    ensures { (r : Entry) (s : Seen) (from : Endpoint) (m : Message) (j : Job) → BringsJob r s from m j → HasExchange j }
+    ensures opened { (r : Entry) (s : Seen) (from : Endpoint) (m : Message) (j : Job)
+        → BringsJob r s from m j → arrivals (and_then r s) ≡ arrivals s ++ arrival_of_job j ∷ [] }
+    ensures number { (r : Entry) (s : Seen) (from : Endpoint) (m : Message) (j : Job)
+        → BringsJob r s from m j → j.origin.opening.number ≡ length (arrivals s) }
+    ensures few { (r : Entry) (s : Seen) (from : Endpoint) (m : Message) (j : Job)
+        → BringsJob r s from m j → HasExchange j }
+{}
+
+/// Each job is that of an observer's lease, of a request, or of its slot's timer.
+///
+/// If no timer has fired, no job is that of a timer.
+pub fn jobs_are_of_requests_leases_or_timers()
+    ensures any { (h : History) (k : ℕ) → HasCome (seen h) k
+        → IsOfLease (job (seen h) k)
+        ⊎ (IsOfRequest (job (seen h) k) ⊎ IsPostOfTimer (slot_of (seen h) k) (job (seen h) k)) }
+    ensures without_timers { (h : History) (k : ℕ) → HasNoFire h → HasCome (seen h) k
+        → IsOfLease (job (seen h) k) ⊎ IsOfRequest (job (seen h) k) }
 {}

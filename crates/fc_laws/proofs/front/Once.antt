@@ -1,11 +1,9 @@
 -- Jobs with one endpoint and message ID arrive at least a lifetime apart.
-use Rattle.std.proofs.Common.{◌≡◌, ℕ, zero, suc, ◌+◌, ◌*◌, ◌-◌, ◌<◌, ◌≤◌, List, [], ◌∷◌, ◌++◌, length, map, Bool, true, false, cond, Option, Some, None, Result, Ok, Err, refl, sym, ap, ◌∙◌, subst, ◌⊎◌, inl, inr, ⊎_elim, arith, max, get_or, length-append}
+use Rattle.std.proofs.Common.{◌≡◌, ℕ, ◌+◌, ◌<◌, ◌≤◌, List, [], ◌∷◌, ◌++◌, length, map, Bool, true, false, cond, Option, Some, None, Result, Ok, Err, refl, sym, ◌∙◌, subst, ◌⊎◌, inl, inr, ⊎_elim, arith, max}
 use Rattle.std.specs.Prelude.{nat_eq, ◌==◌, ◌&&◌, find, is_some, if◌then◌else◌}
-use Rattle.std.specs.Option.{option_map, option_to_list}
 use Rattle.std.specs.Cmp.Lexicographic.{pointwise}
 use borrow.Author.Tests.{ltb-false}
 use Rattle.std.proofs.lemmas.Bool.{cases_lt, eq-eqb, and_from}
-use Rattle.std.proofs.Math.Seq.{get_or-append_right}
 use Rattle.coap_msg.specs.declared.types.Bad.{Bad}
 use Rattle.coap_msg.specs.declared.types.Bad.TheVariants as bad
 use Rattle.arrayvec.specs.ArrayVec.{ArrayVec}
@@ -17,29 +15,22 @@ use Rattle.coap_opts.specs.Verdict.{Asked, Verdict, IsAsked, IsRefused, IsSilent
 use Rattle.coap_dedup.specs.Exchanges.{Exchange}
 use Rattle.coap_dedup.specs.Exchanges.{Look, IsNew, IsBusy, IsAgain, IsSilent as IsAnsweredNon, IsFull, IsOverShare, answered_if, is_of}
 use Rattle.coap_msg.specs.Endpoints.{same_endpoint}
-use Rattle.fc_observe.specs.declared.entry.Turn.{Turn}
-use Rattle.fc_observe.specs.Calls.{NextDue, observers_after}
-use Rattle.fc_observe.specs.Observers.{ObserverList, list_at_time, entry_out, next_turn}
-use Rattle.fc_observe.specs.Views.{Interest, interest_of}
-use Rattle.fc_registry.specs.Turns.{job_of_turn, turn_job}
 use Rattle.fc_registry.specs.declared.job.Job.{Job}
 use Rattle.fc_registry.specs.declared.job.Opening.{Opening}
 use Rattle.fc_registry.specs.declared.job.Origin.{Origin}
 use Rattle.fc_core.specs.declared.event.Event.{Event}
 use Rattle.fc_core.specs.declared.event.Event.TheVariants.{Deliver, Due, Fire, Answer}
-use Rattle.fc_core.specs.declared.stage.Task.{Task}
 use Rattle.fc_laws.specs.ExchangeLaws.{IsOfRequest, is_within, repeated}
-use Rattle.fc_core.specs.History.{Entry, History, Begins, Then, Seen, seen, and_then, answered_in, due_in, front_at, job, no_task, received_at, slot_at, stage, tasks_brought, tasks_moved, turn_at, watch, at_front, exchanges_by}
+use Rattle.fc_core.specs.History.{Entry, History, Begins, Then, Seen, seen, and_then, answered_in, due_in, front_at, job, received_at, stage, tasks_brought, at_front, exchanges_by}
 use Rattle.fc_core.specs.Laws.{HasCome}
 use Rattle.coap_block.specs.Uploads.{Add, Continues, IsWhole, IsIncomplete, IsBadLength, IsTooLarge, IsFull}
 use Rattle.fc_core.specs.Policies.{is_allowed}
-use Rattle.fc_core.specs.Receiving.{Received, Silenced, Refused, Opened, add_in, received_added, request_received, brought, is_confirmable, kept_of, look_in, looked, next_opening, opened_by, over_share, received_as, received_read, received_if}
+use Rattle.fc_core.specs.Receiving.{Received, Silenced, Refused, add_in, received_added, request_received, brought, is_confirmable, kept_of, look_in, looked, next_opening, opened_by, over_share, received_as, received_read, received_if}
 use Rattle.fc_core.specs.Stages.{content_at, new_task}
-use Rattle.fc_core.specs.Rows.{names}
 use Rattle.fc_core.proofs.Lists.{Each}
 use Rattle.fc_laws.proofs.jobs.Others.{job_stays}
 use Rattle.fc_laws.proofs.front.Repeats.{look_is, new_look, received_of, room_in}
-use Rattle.fc_laws.proofs.jobs.Steps.{moved_length}
+use Rattle.fc_laws.proofs.front.NewJobs.{due_has, length_after, new_has, one_brought}
 
 -- a property of one of them.
 abbrev Any : {X : Type 0} → (X → Type 0) → List X → Type 0
@@ -69,11 +60,6 @@ not_found_if P p y ys false is rest e (inr there) = rest e there
 not_found : {X : Type 0} (P : X → Type 0) (p : X → Bool) (xs : List X) → find p xs ≡ None → Any P xs → (x : X) × P x × (p x ≡ false)
 not_found P p [] e a = absurd a
 not_found P p (x ∷ xs) e a = not_found_if P p x xs (p x) refl (not_found P p xs) e a
-
-each_at : {X : Type 0} (P : X → Type 0) (xs : List X) (i : ℕ) (d : X) → Each P xs → i < length xs → P (get_or xs i d)
-each_at P [] i d e lt = absurd (omega arith)
-each_at P (x ∷ xs) zero d e lt = e.0
-each_at P (x ∷ xs) (suc i) d e lt = each_at P xs i d e.1 (omega arith)
 
 -- ---- the exchange of a job
 
@@ -163,21 +149,6 @@ module _ (s : Seen) (now : ℕ) (to : Endpoint) where
   new_tasks x emitted [] w = tt
   new_tasks x emitted (j ∷ js) w = (record { time = w.0.time; none = w.0.none; at_is = w.0.at_is; opened = kept_in j.origin (length s.exchanges) (kept_of x emitted) (s.exchanges ++ opened_by x opening to) (any_right (IsOf j.origin) s.exchanges (opened_by x opening to) w.0.opened) }, new_tasks x emitted js w.1)
 
--- a lease is no request.
-turn_isnt : (s : Seen) (es : List Exchange) (n number : ℕ) (o : Option Interest) → Each (λ t. IsOfRequest t.job → IsNewJob s es t.job) (map new_task (option_to_list (option_map (turn_job n number) o)) ++ [])
-turn_isnt s es n number None = tt
-turn_isnt s es n number (Some o) = (λ is. absurd (cc is.0), tt)
-
-turns_arent : (s : Seen) (es : List Exchange) (n : ℕ) (turn : Option Turn) (w : ObserverList) → Each (λ t. IsOfRequest t.job → IsNewJob s es t.job) (map new_task (option_to_list (job_of_turn n turn w)) ++ [])
-turns_arent s es n None w = tt
-turns_arent s es n (Some turn) w = turn_isnt s es n turn.number (option_map interest_of (entry_out turn w))
-
-due_isnt : (s : Seen) (es : List Exchange) (i at : ℕ) (p : Option ℕ) → Each (λ t. IsOfRequest t.job → IsNewJob s es t.job) (map new_task (option_to_list (turn_at p s i at)) ++ [])
-due_isnt s es i at None = tt
-due_isnt s es i at (Some k) =
-    let n = 8 * k + i in
-    turns_arent s es n (next_turn (slot_at s n).notify_serial (list_at_time at (watch s n))) (observers_after (NextDue at (slot_at s n).notify_serial) (watch s n))
-
 each_weaker : {X : Type 0} (P Q : X → Type 0) (xs : List X) → ((x : X) → P x → Q x) → Each P xs → Each Q xs
 each_weaker P Q [] f w = tt
 each_weaker P Q (x ∷ xs) f w = (f x w.0, each_weaker P Q xs f w.1)
@@ -189,32 +160,14 @@ brought_new (Deliver now to bytes) emitted s =
     (new_tasks s now to (received_at s now to bytes.now) emitted (brought (received_at s now to bytes.now) (next_opening (front_at s now)) to) (new_in s now to bytes.now))
 brought_new (Due shard now) emitted s =
     let at = max (s.shard_time shard) now in
-    due_isnt s (exchanges_by (at_front (Due shard now)) emitted s) shard at (due_in s shard at)
+    let es = exchanges_by (at_front (Due shard now)) emitted s in
+    -- a lease is no request.
+    due_has (λ t. IsOfRequest t.job → IsNewJob s es t.job) (λ j lease is. absurd (cc (is.0, lease.1))) s shard at (due_in s shard at)
 brought_new (Fire slot now) emitted s = (λ is. absurd (omega (arith, is.1)), tt)
 brought_new other emitted s = tt
 
-one_turn : (o : Option Job) → length (map new_task (option_to_list o) ++ []) ≤ 1
-one_turn None = omega arith
-one_turn (Some job) = omega arith
-
-one_job : (x : Received) (o : Opening) (to : Endpoint) → length (map new_task (brought x o to)) ≤ 1
-one_job (Opened m asked body) o to = omega arith
-one_job other o to = omega arith
-
-one_brought : (e : Event) (s : Seen) → length (tasks_brought e s) ≤ 1
-one_brought (Deliver now to bytes) s = one_job (received_at s now to bytes.now) (next_opening (front_at s now)) to
-one_brought (Due shard now) s = let at = max (s.shard_time shard) now in one_turn (turn_at (due_in s shard at) s shard at)
-one_brought (Fire slot now) s = omega arith
-one_brought other s = omega arith
-
-length_after : (r : Entry) (s : Seen) → length (and_then r s).tasks ≡ length s.tasks + length (tasks_brought r.event s)
-length_after r s = length-append (tasks_moved (names r.event) r.event s) (tasks_brought r.event s) ∙ ap (λ (n : ℕ). n + length (tasks_brought r.event s)) (moved_length r.event s (names r.event))
-
 new_job : (r : Entry) (s : Seen) (k : ℕ) → length s.tasks ≤ k → HasCome (and_then r s) k → IsOfRequest (job (and_then r s) k) → IsNewJob s (and_then r s).exchanges (job (and_then r s) k)
-new_job r s k le come =
-    let before : length (tasks_moved (names r.event) r.event s) ≡ length s.tasks = moved_length r.event s (names r.event) in
-    subst (λ (t : Task). IsOfRequest t.job → IsNewJob s (and_then r s).exchanges t.job) (sym (get_or-append_right (tasks_moved (names r.event) r.event s) (tasks_brought r.event s) k no_task (omega arith)))
-    (each_at (λ t. IsOfRequest t.job → IsNewJob s (and_then r s).exchanges t.job) (tasks_brought r.event s) (k - length (tasks_moved (names r.event) r.event s)) no_task (brought_new r.event r.emitted s) (omega (arith, length_after r s, before, come)))
+new_job r s k le come = new_has (λ t. IsOfRequest t.job → IsNewJob s (and_then r s).exchanges t.job) r s k le come (brought_new r.event r.emitted s)
 
 opened_after : (r : Entry) (s : Seen) (k : ℕ) → HasCome (and_then r s) k → IsOfRequest (job (and_then r s) k) → (HasCome s k → IsOfRequest (job s k) → Any (IsOf (job s k).origin) s.exchanges) → Any (IsOf (job (and_then r s) k).origin) (and_then r s).exchanges
 opened_after r s k come asks w = ⊎_elim

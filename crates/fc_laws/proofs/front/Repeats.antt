@@ -170,7 +170,7 @@ kept_arrivals : (n : ℕ) (o : Option Emission) (es : List Exchange) → map arr
 kept_arrivals n None es = refl
 kept_arrivals n (Some emission) es = answered_arrivals n emission.bytes es
 
-received_arrivals : (s : Seen) (now : ℕ) (to : Endpoint) (x : Received) (o : Option Emission) → map arrival_of (exchanges_received x to o s now) ≡ arrivals s ++ map arrival_of (opened_by x (next_opening (front_at s now)) to)
+pub received_arrivals : (s : Seen) (now : ℕ) (to : Endpoint) (x : Received) (o : Option Emission) → map arrival_of (exchanges_received x to o s now) ≡ arrivals s ++ map arrival_of (opened_by x (next_opening (front_at s now)) to)
 received_arrivals s now to x o = kept_arrivals (length s.exchanges) (kept_of x o) (s.exchanges ++ opened_by x (next_opening (front_at s now)) to) ∙ map-append arrival_of s.exchanges (opened_by x (next_opening (front_at s now)) to)
 
 -- the arrival of a message
