@@ -112,7 +112,7 @@ def serve(workers, logs):
 
 def report(received):
     """Returns the line of a report of as many datagrams, none of which is refused."""
-    return f"report received={received} forbidden=0 unavailable=0 notified=0 resent=0 removed=0 failed=0"
+    return f"report received={received} forbidden=0 unavailable=0 notified=0 resent=0 removed=0 sent={received} failed=0"
 
 
 def reports(workers):

@@ -17,10 +17,10 @@ pub trait Reporter {
     fn report(&self, report: &Report, log: &mut CallLog)
         ensures { reported report.now log.old log.new };
 
-    /// Counts a datagram that couldn't be sent.
+    /// Counts a datagram of the server's own: it was sent, or it couldn't be.
     ///
-    /// A later report may give the number of those counted so far.
-    fn count_failure(&self);
+    /// A later report may give the numbers of those counted so far.
+    fn count_sending(&self, out: bool);
 }
 
 /// A reporter that records nothing.
@@ -35,23 +35,28 @@ impl Reporter for NoReports {
         let _ = log;
     }
 
-    fn count_failure(&self) {}
+    fn count_sending(&self, out: bool) {
+        let _ = out;
+    }
 }
 
 /// A reporter that passes each report to a logger, as a record of level info.
 ///
-/// The record ends with the number of datagrams that couldn't be sent.
+/// The record ends with the numbers of datagrams that were sent and that couldn't be sent. Any
+/// thread counts its own, so no contract speaks of these two.
 #[derive(Drop)]
 pub struct LoggedReports<'a, L: Logger> {
     logger: &'a L,
+    sent: AtomicU64,
     failed: AtomicU64,
 }
 
 impl<'a, L: Logger> LoggedReports<'a, L> {
-    /// Makes a reporter that writes to `logger`, and has counted no failure.
+    /// Makes a reporter that writes to `logger`, and has counted no datagram.
     pub fn new(logger: &'a L) -> LoggedReports<'a, L> {
         LoggedReports {
             logger,
+            sent: AtomicU64::new(0),
             failed: AtomicU64::new(0),
         }
     }
@@ -62,11 +67,13 @@ impl<'a, L: Logger> Reporter for LoggedReports<'a, L> {
 
     fn report(&self, report: &Report, log: &mut CallLog) {
         let _ = log;
+        let sent = self.sent.load(Ordering::SeqCst);
         let failed = self.failed.load(Ordering::SeqCst);
-        info!(self.logger; target: "fcd", "{report} failed={failed}");
+        info!(self.logger; target: "fcd", "{report} sent={sent} failed={failed}");
     }
 
-    fn count_failure(&self) {
-        let _before = self.failed.fetch_add(1, Ordering::SeqCst);
+    fn count_sending(&self, out: bool) {
+        let count = if out { &self.sent } else { &self.failed };
+        let _before = count.fetch_add(1, Ordering::SeqCst);
     }
 }

@@ -21,7 +21,7 @@ pub struct Reports<'a, Q: Reporter> {
     pub reporter: &'a Q,
 }
 
-// A sink whose reporter counts the datagrams that couldn't be sent.
+// A sink whose reporter counts the datagrams, by whether they were sent.
 #[derive(Drop)]
 pub(crate) struct CountedSink<'a, K: Sink, Q: Reporter> {
     pub(crate) sink: &'a K,
@@ -33,9 +33,7 @@ impl<'a, K: Sink, Q: Reporter> Sink for CountedSink<'a, K, Q> {
 
     fn send(&self, emission: &Emission, log: &mut CallLog) -> bool {
         let out = self.sink.send(emission, log);
-        if !out {
-            self.reporter.count_failure();
-        }
+        self.reporter.count_sending(out);
         out
     }
 }

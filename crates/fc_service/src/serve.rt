@@ -221,11 +221,7 @@ pub fn serve_at<
     ensures { IfSome result (λ left. (replies : Counts)
         × IsServed Z.are_sensed (round_calls S.received (λ now before after. after ≡ before) K.went) C.recorded records.now.reports.every Q.reported extent (S.came source) (S.came left) replies) }
 {
-    let sink = &CountedSink {
-        sink,
-        reporter: records.reports.reporter,
-    };
-    match serve_to_end(rt, alloc, records, err, sensors, source, sink, extent) {
+    match serve_counted(rt, alloc, records, err, sensors, source, sink, extent) {
         Ok(Received { source, replies }) => {
             info!(records.end; "{replies}");
             Some(source)
@@ -242,6 +238,38 @@ pub fn serve_at<
 struct Received<S: Source + Drop> {
     source: S,
     replies: Replies,
+}
+
+// Serves to the end. If there are reports, the reporter counts what is passed to the sink.
+fn serve_counted<
+    R: Threads + Wait + Clock + Sync,
+    L: Log,
+    C: Recorder + Sync,
+    Q: Reporter + Sync,
+    E: Write,
+    Z: Sensors + Sync,
+    S: Source + Drop,
+    K: Sink + Sync,
+>(
+    rt: &R,
+    alloc: Global,
+    records: &Records<'_, L, C, Q>,
+    err: &mut E,
+    sensors: &Z,
+    source: S,
+    sink: &K,
+    extent: Extent,
+) -> Result<Received<S>, ServeStop>
+    ensures { IfOk result (λ r. IsServed Z.are_sensed (round_calls S.received (λ now before after. after ≡ before) K.went) C.recorded records.now.reports.every Q.reported extent (S.came source) (S.came r.source) r.replies) }
+{
+    if records.reports.every.is_none() {
+        return serve_to_end(rt, alloc, records, err, sensors, source, sink, extent);
+    }
+    let counted = CountedSink {
+        sink,
+        reporter: records.reports.reporter,
+    };
+    serve_to_end(rt, alloc, records, err, sensors, source, &counted, extent)
 }
 
 // Serves as `serve_at` does, and returns the source and the numbers of replies at the end. Returns

@@ -90,13 +90,13 @@ impl Sink for Lossy {
 
 // The reports before each of the seven rounds.
 const EXPECTED: &str = "\
-[INFO  fcd] report received=0 forbidden=0 unavailable=0 notified=0 resent=0 removed=0 failed=0
-[INFO  fcd] report received=0 forbidden=0 unavailable=0 notified=0 resent=0 removed=0 failed=0
-[INFO  fcd] report received=1 forbidden=1 unavailable=0 notified=0 resent=0 removed=0 failed=0
-[INFO  fcd] report received=2 forbidden=1 unavailable=0 notified=0 resent=0 removed=0 failed=1
-[INFO  fcd] report received=3 forbidden=1 unavailable=1 notified=0 resent=0 removed=0 failed=1
-[INFO  fcd] report received=4 forbidden=1 unavailable=1 notified=0 resent=0 removed=0 failed=2
-[INFO  fcd] report received=4 forbidden=1 unavailable=1 notified=0 resent=0 removed=0 failed=2
+[INFO  fcd] report received=0 forbidden=0 unavailable=0 notified=0 resent=0 removed=0 sent=0 failed=0
+[INFO  fcd] report received=0 forbidden=0 unavailable=0 notified=0 resent=0 removed=0 sent=0 failed=0
+[INFO  fcd] report received=1 forbidden=1 unavailable=0 notified=0 resent=0 removed=0 sent=1 failed=0
+[INFO  fcd] report received=2 forbidden=1 unavailable=0 notified=0 resent=0 removed=0 sent=1 failed=1
+[INFO  fcd] report received=3 forbidden=1 unavailable=1 notified=0 resent=0 removed=0 sent=2 failed=1
+[INFO  fcd] report received=4 forbidden=1 unavailable=1 notified=0 resent=0 removed=0 sent=2 failed=2
+[INFO  fcd] report received=4 forbidden=1 unavailable=1 notified=0 resent=0 removed=0 sent=2 failed=2
 ";
 
 // Returns the lines that a server with this many workers reports, with this period.
@@ -176,10 +176,12 @@ fn nothing_is_reported_before_it_is_due(rt: HostRuntime) -> Result<(), Fail> {
     Ok(())
 }
 
-// Reports these counts, after a datagram that couldn't be sent.
+// Reports these counts, after a datagram that couldn't be sent and two that were.
 fn report_after_a_failure<L: Log>(logger: &L, report: &Report) {
     let reporter = LoggedReports::new(logger);
-    reporter.count_failure();
+    reporter.count_sending(false);
+    reporter.count_sending(true);
+    reporter.count_sending(true);
     reporter.report(report, &mut CallLog::new());
 }
 
@@ -197,7 +199,7 @@ fn a_report_has_each_of_its_numbers(rt: HostRuntime) -> Result<(), Fail> {
     };
     report_after_a_failure(&logger, &report);
     let text =
-        "[INFO  fcd] report received=1204 forbidden=1 unavailable=3 notified=40 resent=2 removed=5 failed=1\n";
+        "[INFO  fcd] report received=1204 forbidden=1 unavailable=3 notified=40 resent=2 removed=5 sent=2 failed=1\n";
     assert!(rt; lines.into_inner().as_slice() == text.as_bytes());
     Ok(())
 }
