@@ -1,6 +1,6 @@
 -- Tracks of one history, and their owners, for entries of any form: a function returns the keys of
 -- each entry.
-use Rattle.std.specs.Prelude.{◌≡◌, ◌⊎◌, ℕ, ◌+◌, ◌<◌, ◌≤◌, ◌==◌, ◌||◌, Bool, true, false, List, [], ◌∷◌, ◌++◌, map}
+use Rattle.std.specs.Prelude.{◌≡◌, ◌⊎◌, ℕ, ◌+◌, ◌<◌, ◌≤◌, ◌==◌, ◌||◌, Bool, true, false, if◌then◌else◌, List, [], ◌∷◌, ◌++◌, map}
 use Rattle.std.specs.List.{filter}
 use lib.ListN.{get_elem?}
 use mathlib.Core.Option.{some}
@@ -38,6 +38,11 @@ module _ {E : Type 0} where
   abbrev pub entries_of : List (Track E) → List E
   entries_of [] = []
   entries_of (t ∷ ts) = t.entries
+
+  -- the entries on the track with this key, if one has it.
+  abbrev pub entries_at : ℕ → List (Track E) → List E
+  entries_at k [] = []
+  entries_at k (t ∷ ts) = if t.key == k then t.entries else entries_at k ts
 
   abbrev pub first_track : List (Track E) → List (Track E)
   first_track [] = []

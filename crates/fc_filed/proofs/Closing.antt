@@ -49,14 +49,14 @@ shard_key NoPart i who low le = sym (not_same who (i + 1) (λ e. absurd (omega (
 
 job_low : (first_job : ℕ) (e : FiledEntry) (b : Bool) → is_of_job e.operation ≡ b → IsKeyed first_job e → 9 ≤ e.job
 job_low first_job e true is k = let le = k.job is in let low = k.who.0 in let high = k.who.1 in omega (arith, le, low, high)
-job_low first_job e false is k = (k.none is).0
+job_low first_job e false is k = let same = k.none is in let low = k.who.0 in omega (arith, same, low)
 
 by_number : (first_job j k : ℕ) (b : Bool) → (b ≡ true → first_job ≤ j) → (b ≡ false → j < first_job) → (b && (j - first_job == k)) ≡ (j == first_job + k)
 by_number first_job j k true le lt = let h : first_job ≤ j = le refl in grind (h, arith, nat_tests)
 by_number first_job j k false le lt = let h : j < first_job = lt refl in sym (not_same j (first_job + k) (λ e. absurd (omega (arith, e, h))))
 
 module _ (first_job : ℕ) where
-  on_front_track : (e : FiledEntry) → IsKeyed first_job e → is_front (part_of e.operation) ≡ is_on entry_keys 0 e
+  pub on_front_track : (e : FiledEntry) → IsKeyed first_job e → is_front (part_of e.operation) ≡ is_on entry_keys 0 e
   on_front_track e k =
       let low = job_low first_job e (is_of_job e.operation) refl k in
       let who = k.who.0 in
@@ -74,7 +74,7 @@ module _ (first_job : ℕ) where
   on_job_track n e k =
       let part = part_of_keyed first_job e k in
       let high = k.who.1 in
-      by_number first_job e.job n (is_of_job e.operation) k.job (λ f. (k.none f).1)
+      by_number first_job e.job n (is_of_job e.operation) k.job (λ f. let same = k.none f in omega (arith, same, high))
       ∙ or_last (part_key e.who (part_of e.operation) == first_job + n) (e.who == first_job + n) (e.job == first_job + n)
       (not_same (part_key e.who (part_of e.operation)) (first_job + n) (λ z. absurd (omega (arith, z, part)))) (not_same e.who (first_job + n) (λ z. absurd (omega (arith, z, high))))
 

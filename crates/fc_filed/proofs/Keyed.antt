@@ -63,9 +63,9 @@ job_keyed : (first_job who first : ℕ) (b : Bool) → (b ≡ true → first_job
 job_keyed first_job who first true le is = le refl
 job_keyed first_job who first false le is = absurd (cc is)
 
-none_keyed : (first_job who first : ℕ) (b : Bool) → (9 ≤ who) × (who < first_job) → b ≡ false → (9 ≤ (if b then first else who)) × ((if b then first else who) < first_job)
-none_keyed first_job who first true low is = absurd (cc is)
-none_keyed first_job who first false low is = low
+none_keyed : (who first : ℕ) (b : Bool) → b ≡ false → (if b then first else who) ≡ who
+none_keyed who first true is = absurd (cc is)
+none_keyed who first false is = refl
 
 own_keyed : (who : ℕ) (b : Bool) (ts : List (Track FiledEntry)) → HasKey who ts → HasKey (if b then key_of_first ts else who) ts
 own_keyed who true ts h = has_first who ts h
@@ -76,7 +76,7 @@ module _ (first_job who : ℕ) (v : BookView FiledEntry) (operation : Operation)
   keyed_by = record {
     who = m.thread.key;
     job = job_keyed first_job who (key_of_first v.own) (is_of_job operation) m.job;
-    none = none_keyed first_job who (key_of_first v.own) (is_of_job operation) m.thread.key;
+    none = none_keyed who (key_of_first v.own) (is_of_job operation);
     event = m.event;
   }
 

@@ -4,3 +4,4 @@ pub mod Rule
 pub mod Closing
 pub mod Leading
 pub mod Shards
+pub mod ByThread

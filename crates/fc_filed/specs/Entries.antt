@@ -1,9 +1,10 @@
 -- Entries of a server's history: their keys, and their effects on parts.
 --
 -- The last section has their log, to which the law of fc_linear applies.
-use Rattle.std.specs.Prelude.{◌≡◌, ℕ, ◌+◌, ◌-◌, ◌<◌, ◌≤◌, ◌||◌, Bool, true, false, List, [], ◌∷◌, map, is_some}
+use Rattle.std.specs.Prelude.{◌≡◌, ℕ, ◌+◌, ◌-◌, ◌<◌, ◌≤◌, ◌==◌, ◌||◌, Bool, true, false, List, [], ◌∷◌, map, is_some}
+use Rattle.std.specs.List.{filter}
 use Rattle.fc_book.specs.Tracks.{EntryKeys}
-use Rattle.fc_linear.specs.Operations.{LogEntry, Operation, ServerPart, FrontPart, ShardPart, WordsPart, NoPart, IsEvent, WordsDo, is_for_job, is_words, job_brought, part_of}
+use Rattle.fc_linear.specs.Operations.{LogEntry, Operation, ServerPart, FrontPart, ShardPart, WordsPart, NoPart, IsEvent, WordsDo, is_for_job, is_front, is_words, job_brought, part_of}
 use Rattle.fc_filed.specs.declared.entry.FiledEntry.{FiledEntry}
 use Rattle.fc_filed.specs.Blank.{no_operation}
 
@@ -25,11 +26,11 @@ abbrev pub is_of_job : Operation → Bool
 is_of_job operation = is_for_job operation || is_some (job_brought operation)
 
 -- keys 0 to 8 belong to parts, the other keys below the first job's to threads, and all further
--- keys to jobs.
+-- keys to jobs. An operation of no job has the key of its thread.
 pub record IsKeyed (first_job : ℕ) (e : FiledEntry) : Type 0 where
   pub who : (9 ≤ e.who) × (e.who < first_job)
   pub job : is_of_job e.operation ≡ true → first_job ≤ e.job
-  pub none : is_of_job e.operation ≡ false → (9 ≤ e.job) × (e.job < first_job)
+  pub none : is_of_job e.operation ≡ false → e.job ≡ e.who
   pub event : IsEvent e.operation
 
 abbrev pub AreKeyed : ℕ → List FiledEntry → Type 0
@@ -38,6 +39,14 @@ AreKeyed first_job (e ∷ es) = IsKeyed first_job e × AreKeyed first_job es
 
 abbrev pub blank_entry : FiledEntry
 blank_entry = record { who = 0; job = 0; operation = no_operation }
+
+-- ---- the operations of a thread and of the front, in order
+
+abbrev pub entries_by : ℕ → List FiledEntry → List FiledEntry
+entries_by who log = filter (λ e. e.who == who) log
+
+abbrev pub front_entries : List FiledEntry → List FiledEntry
+front_entries log = filter (λ e. is_front (part_of e.operation)) log
 
 -- ---- the log of the entries, whose jobs have the numbers from 0 up
 

@@ -1,5 +1,5 @@
 -- The timers of a command line, text by text.
-use Rattle.std.proofs.Common.{◌≡◌, ◌≢◌, ◌∙◌, ℕ, zero, suc, ◌+◌, ◌<◌, ◌^◌, ◌⊎◌, List, [], ◌∷◌, ◌++◌, ◌≤◌, ap, arith, drop, length, map, refl, subst, sym, take, ⊎_elim, Bor}
+use Rattle.std.proofs.Common.{◌≡◌, ◌≢◌, ◌∙◌, ℕ, zero, suc, ◌+◌, ◌<◌, ◌^◌, List, [], ◌∷◌, ◌++◌, ◌≤◌, ap, arith, drop, length, map, refl, subst, sym, take, Bor}
 use Rattle.std.specs.Prelude.{Err, Ok, Result, slice_index, slice_index_or}
 use Rattle.std.specs.Result.{IfErr, IsErrAnd}
 use Rattle.std.specs.Char.{digit_value}

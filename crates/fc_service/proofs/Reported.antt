@@ -1,6 +1,6 @@
 -- A server whose counts are reported.
 use Rattle.std.proofs.Common.{◌≡◌, ℕ, ◌+◌, ◌≤◌, Bool, List, [], Option, Some, None, ap, refl, subst, sym, Bor}
-use Rattle.std.specs.Prelude.{MatchBool, false}
+use Rattle.std.specs.Prelude.{MatchBool}
 use Rattle.std.proofs.lemmas.Bool.{le-ltb}
 use Rattle.coap_msg.specs.declared.types.Emission.{Emission}
 use Rattle.coap_msg.specs.declared.types.Endpoint.{Endpoint}

@@ -5,6 +5,7 @@ use Rattle.std.specs.Borrow.{Bor}
 use Rattle.coap_msg.specs.declared.types.Emission.{Emission}
 use Rattle.coap_msg.specs.declared.types.Endpoint.{Endpoint}
 use Rattle.fc_core.specs.declared.front.Handled.{Handled}
+use Rattle.fc_core.specs.Exchanges.{FrontState}
 use Rattle.fc_observe.specs.declared.observers.Ticked.{Ticked}
 use Rattle.fc_server.specs.Notified.{Notified, is_given, notification_in}
 use Rattle.fc_workers.specs.Answers.{IsSomeIdle, IsSomeTick}
@@ -18,12 +19,14 @@ use Rattle.fc_workers.specs.Shares.{AreSharesOf, new_share}
 use Rattle.fc_jobs.specs.Ends.{Channel, nothing_got, nothing_sent}
 use Rattle.fc_workers.specs.declared.call_log.CallLog.{CallLog}
 use Rattle.fc_workers.specs.Logs.{TrackedLog}
+use Rattle.fc_workers.specs.OneOrder.{HaveOneOrder, IsNewLog, logs_of}
 use Rattle.fc_workers.specs.Workers.{Dispatched, WorkerSeed, Share}
 use Rattle.fc_workers.specs.declared.dispatcher.Offload.{Offload}
 use Rattle.fc_workers.specs.declared.dispatcher.Offload.TheVariants.{Never}
 use Rattle.fc_service.specs.Counting.{both_replies, replies_by, replies_of}
 use Rattle.fc_service.specs.declared.replies.Replies.{Replies}
 use Rattle.fc_server.specs.Ingresses.{IngressCalls}
+use Rattle.fc_server.specs.declared.server.Begin.{Begin}
 use Rattle.fc_record.specs.ProgramRequests.{Requested}
 use Rattle.fc_record.specs.Recording.{IsRecordedCall}
 
@@ -43,6 +46,7 @@ pub record IsNew {T : Type 0} (channel : Channel) (offload : Offload) (d : Poole
   pub offload_is : d.offload ≡ offload
   pub tallies : T
   pub log : TrackedLog
+  pub new_log : IsNewLog log
   pub done : d.done ≡ record { sent = nothing_sent channel; share = new_share (nothing_got channel) tallies log }
 
 module _ {T : Type 0} (s : WorkerView T) where
@@ -84,6 +88,7 @@ module _ {T : Type 0} (s : WorkerView T) where
   pub record AreSharesAt (channel : Channel) (shares : List (Share T)) : Type 0 where
     pub seats : List (WorkerSeed T)
     pub new : All (λ (seat : WorkerSeed T). seat.got ≡ nothing_got channel) seats
+    pub new_logs : All (λ (seat : WorkerSeed T). IsNewLog seat.log) seats
     pub worked : AreSharesOf s seats shares
 
   -- a driver fed a new dispatcher of this channel and policy, and returned this. The dispatcher has
@@ -103,13 +108,15 @@ module _ {T : Type 0} (s : WorkerView T) where
     pub shares_are : AreSharesAt channel shares
 
   -- the driver fed the dispatcher in this way, with this number of workers. The replies are those
-  -- of the dispatcher's own jobs and of the workers'.
-  pub record IsFedBeside {F X : Type 0} (Drives : IngressCalls (PooledIngress T) → F → PooledIngress T → PooledIngress T → X → Type 0) (offload : Offload) (workers : ℕ) (driver : F) (given : X) (replies : Replies) : Type 0 where
+  -- of the dispatcher's own jobs and of the workers'. The calls that the workers and the dispatcher
+  -- filed have one order, and the front's led from the server's first front to this one.
+  pub record IsFedBeside {F X : Type 0} (Drives : IngressCalls (PooledIngress T) → F → PooledIngress T → PooledIngress T → X → Type 0) (begin : Begin) (offload : Offload) (workers : ℕ) (driver : F) (given : X) (replies : Replies) (front : FrontState) : Type 0 where
     pub own : Share T
     pub shares : List (Share T)
     pub fed : IsFed Drives offload driver given own shares
     pub count : length shares ≡ workers
     pub counted : replies ≡ both_replies (replies_of shares) (replies_by own)
+    pub order : HaveOneOrder begin (logs_of shares own) front
 
 -- a worker context whose jobs are never delayed.
 abbrev pub open_view : {T : Type 0} → (T → ℕ → ℕ) → (T → ℕ) → (BenchCall → Type 0) → (LoggedCall → TrackedLog → TrackedLog → Type 0)

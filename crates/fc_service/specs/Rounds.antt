@@ -9,6 +9,8 @@ use Rattle.fc_jobs.specs.Ends.{Channel}
 use Rattle.fc_workers.specs.declared.call_log.CallLog.{CallLog}
 use Rattle.fc_workers.specs.Called.{WorkerView}
 use Rattle.fc_workers.specs.Fronts.{Beginning, beginning}
+use Rattle.fc_workers.specs.OneOrder.{HaveOneOrder, logs_of}
+use Rattle.fc_core.specs.Exchanges.{FrontState}
 use Rattle.fc_server.specs.Ingresses.{IngressCalls}
 use Rattle.fc_server.specs.Serving.{Serves}
 use Rattle.fc_server.specs.Flushing.{AreIdleUntil, AreFlushed, AreStepsBy, FlushingStep, sent_in_steps}
@@ -196,27 +198,33 @@ served_view sensors e Recorded begin = locked_view begin (AreReadAt e.time senso
 -- this number of datagrams was received, each in a round of one dispatcher, which began new. Runs
 -- of 6,000 instructions and more may be sent to the workers, or no job if no worker was started.
 -- The replies are those of the rounds, of the jobs of this number of workers, and of the
--- dispatcher's jobs.
-pub record HasServedPooled (every : Option ℕ) (Reported : Report → CallLog → CallLog → Type 0) (sensors : List ℕ → Type 0) (e : RoundCalls) (Recorded : Requested → CallLog → CallLog → Type 0) (workers limit : ℕ) (begin : Beginning) (before after : Option (List Receive)) (replies : Replies) : Type 0 where
+-- dispatcher's jobs. The calls that the workers and the dispatcher filed have one order, and the
+-- front's led from the server's first front to its last.
+pub record HasServedPooled (every : Option ℕ) (Reported : Report → CallLog → CallLog → Type 0) (sensors : List ℕ → Type 0) (e : RoundCalls) (Recorded : Requested → CallLog → CallLog → Type 0) (workers limit : ℕ) (begin : Begin) (before after : Option (List Receive)) (replies : Replies) : Type 0 where
   pub channel : Channel
   pub first : PooledIngress Tallies
   pub last : PooledIngress Tallies
   pub has_workers : Bool
   pub new : IsNew channel (offload_where has_workers (Expensive 6000)) first
   pub at_once : Replies
-  pub run : HasReceivedBy every Reported (λ now old new. new ≡ old) (pooled_calls (served_view sensors e Recorded begin)) e limit before after first last at_once
+  pub run : HasReceivedBy every Reported (λ now old new. new ≡ old) (pooled_calls (served_view sensors e Recorded (beginning begin.policy begin.id))) e limit before after first last at_once
   pub shares : List (Share Tallies)
-  pub worked : AreSharesAt (served_view sensors e Recorded begin) channel shares
+  pub worked : AreSharesAt (served_view sensors e Recorded (beginning begin.policy begin.id)) channel shares
   pub count : length shares ≡ workers
   pub all : replies ≡ both_replies at_once (both_replies (replies_of shares) (replies_by last.done.share))
+  pub front : FrontState
+  pub order : HaveOneOrder begin (logs_of shares last.done.share) front
 
 -- ---- a server with this number of workers: one is the receiving thread. Its slots begin at the
 -- serial of its start
 
+abbrev pub begin_by : Extent → Begin
+begin_by extent = record { serial = serial_of_start extent.started; id = extent.first_id; policy = extent.policy }
+
 abbrev pub IsServed : (List ℕ → Type 0) → RoundCalls → (Requested → CallLog → CallLog → Type 0) → Option ℕ → (Report → CallLog → CallLog → Type 0) → Extent → Option (List Receive) → Option (List Receive) → Replies → Type 0
 IsServed sensors e Recorded every Reported extent before after replies =
-    ((extent.workers ≡ 1) × HasServedBy every Reported sensors e Recorded extent.limit (record { serial = serial_of_start extent.started; id = extent.first_id; policy = extent.policy }) before after replies)
-    ⊎ ((extent.workers ≡ 1 → ⊥) × HasServedPooled every Reported sensors e Recorded extent.workers extent.limit (beginning extent.policy extent.first_id) before after replies)
+    ((extent.workers ≡ 1) × HasServedBy every Reported sensors e Recorded extent.limit (begin_by extent) before after replies)
+    ⊎ ((extent.workers ≡ 1 → ⊥) × HasServedPooled every Reported sensors e Recorded extent.workers extent.limit (begin_by extent) before after replies)
 
 -- ---- timers together with a source
 

@@ -71,15 +71,19 @@
 //!   dispatcher is new: it has sent nothing, and its log is new. It sends runs of 6,000
 //!   instructions and more to the workers, if it sends any.
 //! - **Shares**: the contract names one share for each worker, of some handles at the dispatcher's
-//!   channel (`AreSharesAt`). It doesn't say that they are those of the started threads. Each call
-//!   of a front uses some front that began with the server's policy and message ID. Since then only
-//!   calls of a front were made to that front, any of them (`BeganAt`). The contract doesn't say
-//!   that all calls use the same front and shards, nor that a sent job is received. For a
+//!   channel (`AreSharesAt`). It doesn't say that they are those of the started threads. The
+//!   contract doesn't say that all calls use the same shards, nor that a sent job is received. For a
 //!   dispatcher over any backend, `fc_workers` shows that it calls its own backend. A worker's
 //!   emission is passed to the sink once, by the worker's own log (`Wire::called`). The contract
 //!   doesn't say in which order several threads pass theirs.
-//! - **A pool** returns at its end eight shards, the serials that each began with, and changes. The
-//!   serials of each shard have risen by exactly these changes, which are reported up to 2^64 - 1.
+//! - **One front**: the calls of the front that the workers and the dispatcher filed have one order,
+//!   with each thread's calls in its own order. They lead from the server's first front to its last
+//!   (`run_pool`, by `HaveOneOrder`). `serve_at` says so of its dispatcher and of *some* shares of
+//!   its workers, to *some* last front; with reports it says nothing of its dispatcher's calls.
+//!   `play_by_workers` doesn't name its dispatcher's calls.
+//! - **A pool** returns at its end the front, eight shards, the serials that each began with, and
+//!   changes. The serials of each shard have risen by exactly these changes, which are reported up
+//!   to 2^64 - 1.
 //!   The contract doesn't say that its workers used these shards. Its driver's dispatcher sends
 //!   jobs by the pool's dispatch policy. If the pool reports that no worker was started, the
 //!   dispatcher sends no job to a worker (`offload_where`). A test shows that it reports this only

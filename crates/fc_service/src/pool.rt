@@ -3,6 +3,7 @@
 //! `fcd play --workers` drives one with lines. `fcd serve` with two workers or more drives one with
 //! the datagrams of a socket.
 ghost use Rattle.std.specs.Prelude.{◌≡◌, ◌+◌, ◌<◌, ◌≤◌, ℕ, ⊤, List, vec_len, IfOk};
+ghost use Rattle.std.specs.List.{All};
 ghost use Rattle.fc_workers.specs.Fronts.{beginning};
 ghost use Rattle.fc_server.specs.States.{CanBegin};
 ghost use Rattle.fc_jobs.specs.Ends.{nothing_got, nothing_sent};
@@ -12,11 +13,14 @@ ghost use Rattle.fc_service.specs.Pooled.{DrivesTo, IsFed, IsFedBeside, offload_
 ghost use Rattle.fc_workers.specs.Called.{worker_view};
 ghost use Rattle.fc_workers.specs.Closing.{HasCountedAll};
 ghost use Rattle.fc_workers.specs.Naming.{AreNamed};
+ghost use Rattle.fc_workers.specs.Shares.{AreNewSeats};
+ghost use Rattle.fc_workers.specs.OneOrder.{HaveOneOrder, IsNewLog, logs_of};
 
 use crate::replies::Replies;
 use coap_msg::{Emission, Endpoint};
 use fc_core::Handled;
-use fc_filed::NewServerBook;
+use fc_filed::{NewServerBook, ServerName};
+use fc_jobs::{Jobs, Sent};
 use fc_observe::Ticked;
 use fc_record::{RecordedBench, Recorder};
 use fc_server::Begin;
@@ -24,8 +28,8 @@ pub use fc_server::Ingress;
 use fc_server::engine::NotifyOutcome;
 use fc_workers::{
     Bench, Blanks, Books, CallLog, ClosedServer, Context, Device, Dispatcher, Gate, Locked,
-    Offload, ServerOf, Share, Tallies, TimeSource, TrackLog, Unassigned, Wire, drive_workers,
-    make_seats,
+    Offload, ServerOf, Share, Tallies, TimeSource, TrackLog, Unassigned, Wire, WorkerSeed,
+    drive_workers, make_seats,
 };
 use std::alloc::{AllocError, Global};
 use std::io::Write;
@@ -238,7 +242,7 @@ pub fn run_pool<
     requires { CanBegin pool.now.begin }
     ensures counted { IfOk result (λ fed. HasCountedAll fed.closed) }
     ensures fed { let worker_view = locked_view (beginning pool.now.begin.policy pool.now.begin.id) D.are_readings M.is_time M.is_random W.called C.recorded in
-        IfOk result (λ fed. IsFedBeside worker_view (F.drives _) (offload_where fed.has_workers pool.now.offload) pool.now.workers driver fed.given fed.replies) }
+        IfOk result (λ fed. IsFedBeside worker_view (F.drives _) pool.now.begin (offload_where fed.has_workers pool.now.offload) pool.now.workers driver fed.given fed.replies fed.closed.front) }
 {
     let blanks = Blanks::new(u64::from(pool.workers) + 2);
     let book = NewServerBook::new(alloc, u16::from(pool.workers) + 1)?;
@@ -277,7 +281,7 @@ fn run_named<
     requires book_begin { B.begin ≡ pool.now.begin }
     ensures counted { IfOk result (λ fed. HasCountedAll fed.closed) }
     ensures fed { let worker_view = locked_view B.first D.are_readings M.is_time M.is_random W.called C.recorded in
-        IfOk result (λ fed. IsFedBeside worker_view (F.drives _) (offload_where fed.has_workers pool.now.offload) pool.now.workers driver fed.given fed.replies) }
+        IfOk result (λ fed. IsFedBeside worker_view (F.drives _) pool.now.begin (offload_where fed.has_workers pool.now.offload) pool.now.workers driver fed.given fed.replies fed.closed.front) }
 {
     let Begun {
         server,
@@ -314,6 +318,7 @@ fn begin<'a, B: Books, D: Device>(
     requires book_begin { B.begin ≡ begin }
     ensures count { IfOk result (λ b. vec_len b.tallies ≡ workers + 1) }
     ensures logs { IfOk result (λ b. vec_len b.logs ≡ vec_len b.tallies) }
+    ensures new_logs { IfOk result (λ b. All IsNewLog b.logs.items) }
     ensures parts { IfOk result (λ b. b.unassigned.parts + vec_len b.tallies ≡ B.parts) }
 {
     let (server, mut unassigned, logs) = Locked::<B, D>::new(
@@ -336,16 +341,17 @@ fn begin<'a, B: Books, D: Device>(
 
 // Closes a server whose workers have ended, and sums their replies. `unassigned` has the unassigned
 // shares that their change counters were split from.
-fn close<B: Books, D: Device, X: Drop, L: Drop>(
+fn close<B: Books, D: Device, X: Drop>(
     server: Locked<'_, B, D>,
     mut unassigned: Unassigned<B>,
-    ended: Ended<X, Tallies<B>, L>,
+    ended: Ended<X, Tallies<B>, TrackLog<ServerOf<B>>>,
 ) -> Fed<X>
     requires { unassigned.parts + vec_len ended.shares + 1 ≡ B.parts }
     ensures counted { HasCountedAll result.closed }
     ensures given { result.given ≡ ended.given }
     ensures workers { result.has_workers ≡ ended.has_workers }
     ensures replies { result.replies ≡ both_replies (replies_of ended.shares.items) (replies_by ended.own) }
+    ensures order { 9 + (vec_len ended.shares + 1) ≡ B.first_job → HaveOneOrder B.begin (logs_of ended.shares.items ended.own) result.closed.front }
 {
     let Ended {
         given,
@@ -354,15 +360,31 @@ fn close<B: Books, D: Device, X: Drop, L: Drop>(
         shares,
     } = ended;
     let replies = Replies::of(&shares).plus(Replies::by(&own));
-    unassigned.merge(own.tallies);
-    unassigned.merge_each(shares);
-    let closed = server.close(&mut unassigned);
+    let tracks = server.merge_each(&mut unassigned, own, shares);
+    let closed = server.close(&mut unassigned, tracks);
     Fed {
         given,
         has_workers,
         replies,
         closed,
     }
+}
+
+// Makes a channel of jobs, and a seat for each of these tallies with one of the new logs. See
+// [`make_seats`].
+fn make_new_seats<T: Drop, J: ServerName>(
+    alloc: Global,
+    tallies: Vec<T>,
+    logs: Vec<TrackLog<J>>,
+) -> Result<(Jobs, Sent, Vec<WorkerSeed<T, TrackLog<J>>>), AllocError>
+    requires count { vec_len logs ≡ vec_len tallies }
+    requires new_logs { All IsNewLog logs.items }
+    ensures sent { IfOk result (λ r. r.1 ≡ nothing_sent r.0) }
+    ensures seats { IfOk result (λ r. AreNewSeats r.0 tallies.items logs.items r.2.items) }
+    ensures new_logs { IfOk result (λ r. All (λ s. IsNewLog s.log) r.2.items) }
+{
+    let (jobs, sent, seats) = make_seats(alloc, tallies, logs)?;
+    Ok((jobs, sent, seats))
 }
 
 // Runs a worker for each change counter except the last, and the driver with the last. Each has one
@@ -393,11 +415,12 @@ where
     B::Book: Send,
     requires some { 0 < vec_len tallies }
     requires logs { vec_len logs ≡ vec_len tallies }
+    requires new_logs { All IsNewLog logs.items }
     ensures shares { IfOk result (λ ended. vec_len ended.shares + 1 ≡ vec_len tallies) }
     ensures fed { let worker_view = open_view B.changes B.ended B.called B.logged M.is_time M.is_random W.called in
         IfOk result (λ ended. IsFed worker_view (F.drives _) (offload_where ended.has_workers pool.now.offload) driver ended.given ended.own ended.shares.items) }
 {
-    let (jobs, sent, mut seats) = make_seats(alloc, tallies, logs)?;
+    let (jobs, sent, mut seats) = make_new_seats(alloc, tallies, logs)?;
     let Some(own) = seats.pop() else {
         unreachable!();
     };
@@ -422,6 +445,7 @@ where
         move |has_workers| -> (X, bool, Share<B::Tallies, TrackLog<B::Book>>)
             requires sent { sent ≡ nothing_sent channel.now }
             requires got { own.got ≡ nothing_got channel.now }
+            requires new_log { IsNewLog own.log }
             ensures { let worker_view = open_view B.changes B.ended B.called B.logged M.is_time M.is_random W.called in
                 DrivesTo worker_view (F.drives _) channel.entry.now (offload_where result.1 offload) driver result.0 result.2 }
         {

@@ -12,3 +12,4 @@ pub mod Steps
 pub mod Shares
 pub mod Dispatch
 pub mod Naming
+pub mod OneOrder

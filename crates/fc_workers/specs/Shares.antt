@@ -13,10 +13,12 @@ use Rattle.fc_workers.specs.Work.{IsReplied}
 abbrev pub new_share : {T : Type 0} → Got → T → TrackedLog → Share T
 new_share got tallies log = record { tallies = tallies; log = log; got = got; sent = 0; failed = 0; refusals = 0; overtakings = 0 }
 
--- a worker seed for each of these tallies; its worker has received nothing yet.
-pub record AreNewSeats {T : Type 0} (channel : Channel) (tallies : List T) (seats : List (WorkerSeed T)) : Type 0 where
+-- a worker seed for each of these tallies; its worker has received nothing yet. The worker seeds have
+-- these logs, the first one the last log.
+pub record AreNewSeats {T : Type 0} (channel : Channel) (tallies : List T) (logs : List TrackedLog) (seats : List (WorkerSeed T)) : Type 0 where
   pub got : All (λ (s : WorkerSeed T). s.got ≡ nothing_got channel) seats
   pub tallies_are : map (λ (s : WorkerSeed T). s.tallies) seats ≡ tallies
+  pub logs_are : map (λ (s : WorkerSeed T). s.log) seats ≡ reverse logs
 
 module _ {T : Type 0} (s : WorkerView T) where
   -- the worker received a job, ran it under its number, and ended it. Its reply is sent and

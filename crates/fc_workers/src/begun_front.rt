@@ -2,7 +2,7 @@
 //!
 //! [`Locked`](crate::server::Locked) calls it for the workers, under the front's lock. Times are in
 //! milliseconds.
-ghost use Rattle.std.specs.Prelude.{◌≡◌, []};
+ghost use Rattle.std.specs.Prelude.{◌≡◌, ◌+◌, [], List, length};
 ghost use Rattle.fc_core.specs.Answering.{emission_of, responded};
 ghost use Rattle.fc_core.specs.Contents.{IsOf};
 ghost use Rattle.fc_core.specs.Receiving.{handled};
@@ -12,12 +12,14 @@ ghost use Rattle.fc_calls.specs.Logged.{AdvancesFront, AnswersRequest, DrawsId, 
 ghost use Rattle.fc_linear.specs.Parts.{first_server};
 ghost use Rattle.fc_workers.specs.Asked.{IsFrontCall};
 ghost use Rattle.fc_workers.specs.Fronts.{BeganAt};
+ghost use Rattle.fc_workers.specs.Logs.{TrackedLog};
+ghost use Rattle.fc_workers.specs.OneOrder.{HasTracksOf, HaveOneOrder};
 
 use crate::books::{Books, ServerOf};
 use crate::track_log::TrackLog;
 use coap_msg::{Emission, Endpoint};
 use fc_core::{Answer, Front, Handled, Responded};
-use fc_filed::{FiledFront, FiledTrack, FrontOf, ServerBook};
+use fc_filed::{FiledFront, FiledTrack, FrontOf, ServerBook, ServerTracks};
 use fc_registry::{Job, SlotNumber};
 use std::marker::PhantomData;
 
@@ -130,5 +132,20 @@ impl<B: Books> BegunFront<B> {
         let tracks = &mut log.tracks;
         self.filed
             .respond(book, tracks, log.who, now, job, answer, reply)
+    }
+
+    /// Closes the front. `tracks` has the tracks of all threads' logs.
+    ///
+    /// All calls that were filed have one order, and the front's led to this front.
+    pub(crate) fn close(
+        self,
+        book: &ServerBook<ServerOf<B>>,
+        mut tracks: ServerTracks<ServerOf<B>>,
+    ) -> Front
+        ensures { (logs : List TrackedLog) → HasTracksOf B.first_job logs tracks → 9 + length logs ≡ B.first_job → HaveOneOrder B.begin logs result }
+    {
+        let front = self.filed.close(book, &mut tracks);
+        tracks.attest(book);
+        front
     }
 }

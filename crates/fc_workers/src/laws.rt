@@ -1,10 +1,13 @@
 //! Laws about workers and their server.
 //!
 //! Each law is the contract of an empty function.
-ghost use Rattle.std.specs.Prelude.{◌≡◌, ◌<◌, ◌≤◌, ℕ, Bool};
+ghost use Rattle.std.specs.Prelude.{◌≡◌, ◌<◌, ◌≤◌, ◌⊎◌, ℕ, Bool, Some, [], ◌∷◌};
 ghost use Rattle.coap_msg.specs.declared.types.Endpoint.{Endpoint};
 ghost use Rattle.fc_core.specs.declared.front.Delivered.TheVariants.{Signal};
-ghost use Rattle.fc_calls.specs.Logged.{HandsSignal, NotesTurn};
+ghost use Rattle.fc_calls.specs.Logged.{DrawsId, HandsSignal, NotesTurn};
+ghost use Rattle.fc_core.specs.Exchanges.{FrontState};
+ghost use Rattle.fc_core.specs.declared.policy.Policy.{Policy};
+ghost use Rattle.fc_linear.specs.Operations.{Logged};
 ghost use Rattle.fc_core.specs.Policies.{default_policy};
 ghost use Rattle.fc_observe.specs.Observers.{ObserverList};
 ghost use Rattle.fc_observe.specs.declared.entry.Turn.{Turn};
@@ -16,6 +19,7 @@ ghost use Rattle.fc_workers.specs.Fronts.{beginning};
 ghost use Rattle.fc_workers.specs.Called.{worker_view};
 ghost use Rattle.fc_workers.specs.Dispatch.{IsDone};
 ghost use Rattle.fc_workers.specs.Logs.{TrackedLog as Log};
+ghost use Rattle.fc_workers.specs.OneOrder.{HaveOneOrder, filed_in};
 ghost use Rattle.fc_workers.specs.Workers.{Dispatched};
 ghost use Rattle.fc_workers.specs.declared.dispatcher.Offload.{Offload};
 
@@ -46,4 +50,16 @@ pub fn locked_shards_confirm_in_time<B: Books, D: Device>()
     ensures noted { (turn : Turn) (id now random : ℕ) (told : Notification) (noted : Noted) (before after : Log)
         → turn.slot < 64 → IsLoggedCall B.first D.are_readings (NotesTurn turn id now random told noted) before after
         → (watch : ObserverList) × (serial : ℕ) × (at : ℕ) × (watch.confirm_after ≡ B.first.confirm_after) × (now ≤ at) × IsNoted told turn id at serial watch noted }
+{}
+
+/// Two threads of a server that draw a message ID each draw two.
+///
+/// They call its front for nothing else. If the server draws 7 first, one of them gets 7, and the
+/// other gets 8.
+pub fn two_threads_draw_two_ids()
+    ensures { (policy : Policy) (serial : ℕ) (one other : Log) (j k a b : ℕ) (front : FrontState)
+        → HaveOneOrder (record { serial = serial; id = 7; policy = policy }) (one ∷ other ∷ []) front
+        → filed_in one ≡ record { who = one.who; job = j; operation = Logged (DrawsId 0 (Some a)) } ∷ []
+        → filed_in other ≡ record { who = other.who; job = k; operation = Logged (DrawsId 0 (Some b)) } ∷ []
+        → ((a ≡ 7) × (b ≡ 8)) ⊎ ((a ≡ 8) × (b ≡ 7)) }
 {}

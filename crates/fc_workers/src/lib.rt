@@ -109,6 +109,10 @@
 //!   and its result. It is then the last entry on the tracks of the front and of the caller, and the
 //!   front's entries lead from the server's first front to the one under the lock. No other call is
 //!   filed. So two calls are of one front, the server's own, in one order.
+//! - **One order**: at the end of a server there is one list of all filed calls. Each thread has
+//!   filed exactly the calls in the list with its key, in that order, and no call is of another
+//!   thread. The calls of the front lead from the server's first front to its last
+//!   (`HaveOneOrder`). So two threads that draw a message ID each draw two (`laws`).
 //! - The readings that a server returns are those of some call of its device
 //!   (`Device::are_readings`).
 //! - A head word that a worker reads is no less than the worker has seen of that slot. After a raise

@@ -21,8 +21,8 @@ use std::thread::{Promise, Threads};
 
 /// Makes a channel of jobs, and a worker seed for each of `tallies`.
 ///
-/// Each worker seed has one of `logs`; there are as many logs as tallies. Returns the channel, its
-/// sending end and the worker seeds.
+/// The first worker seed gets the last of `logs`, and so on; there are as many logs as tallies. Returns
+/// the channel, its sending end and the worker seeds.
 ///
 /// # Errors
 /// Returns `AllocError` if memory can't be allocated.
@@ -33,7 +33,7 @@ pub fn make_seats<T: Drop, J: ServerName>(
 ) -> Result<(Jobs, Sent, Vec<WorkerSeed<T, TrackLog<J>>>), AllocError>
     requires { vec_len logs ≡ vec_len tallies }
     ensures sent { IfOk result (λ r. r.1 ≡ nothing_sent r.0) }
-    ensures seats { IfOk result (λ r. AreNewSeats r.0 tallies.items r.2.items) }
+    ensures seats { IfOk result (λ r. AreNewSeats r.0 tallies.items logs.items r.2.items) }
 {
     let (jobs, sent, gots) = Jobs::new(alloc, tallies.len())?;
     let seats = seats_at(alloc, &jobs, gots, tallies, logs)?;
@@ -52,7 +52,7 @@ fn seats_at<T: Drop, J: ServerName>(
     requires got { All (λ g. g ≡ nothing_got jobs.now) gots.items }
     requires count { vec_len gots ≡ vec_len tallies }
     requires logs { vec_len logs ≡ vec_len tallies }
-    ensures { IfOk result (λ v. AreNewSeats jobs.now tallies.items v.items) }
+    ensures { IfOk result (λ v. AreNewSeats jobs.now tallies.items logs.items v.items) }
 {
     let _ = jobs;
     let mut seats = Vec::with_capacity(alloc, tallies.len())?;

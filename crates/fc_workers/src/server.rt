@@ -16,8 +16,9 @@
 //!
 //! No type in that function's signature may name a ledger. The function opens the server, splits
 //! the unassigned shares into the tallies of its workers, and runs them. Then it merges their
-//! tallies, and closes the server.
-ghost use Rattle.std.specs.Prelude.{◌≡◌, ◌+◌, ◌*◌, ◌-◌, ◌<◌, ◌≤◌, ◌%◌, true, map, slice_index, take, vec_len, IfOk};
+//! tallies and the tracks of their logs, and closes the server.
+ghost use Rattle.std.specs.Prelude.{◌≡◌, ◌+◌, ◌*◌, ◌-◌, ◌<◌, ◌≤◌, ◌%◌, true, List, length, map, slice_index, take, vec_len, IfOk};
+ghost use Rattle.std.specs.List.{All};
 ghost use Rattle.coap_msg.specs.declared.types.Emission.{Emission as Emitted};
 ghost use Rattle.fc_core.specs.Answering.{emission_of, responded};
 ghost use Rattle.fc_core.specs.Contents.{IsOf};
@@ -30,7 +31,9 @@ ghost use Rattle.fc_registry.specs.Turns.{written_if};
 ghost use Rattle.fc_registry.specs.Views.{HasSize, taken_with};
 ghost use Rattle.fc_workers.specs.Asked.{IsAsked, IsLoggedCall, IsServerCall};
 ghost use Rattle.fc_workers.specs.Fronts.{beginning};
+ghost use Rattle.fc_workers.specs.Logs.{TrackedLog};
 ghost use Rattle.fc_workers.specs.Naming.{AreNamed};
+ghost use Rattle.fc_workers.specs.OneOrder.{HasTracksOf, HaveOneOrder, IsNewLog, logs_of};
 ghost use Rattle.fc_workers.specs.Counts.{no_changes, sums};
 ghost use Rattle.fc_calls.specs.Kept.{commit_changes, install_changes, removal_changes, serials};
 ghost use Rattle.fc_workers.specs.Answers.{AreTallied, IsSomeCommit, IsSomeInstall, IsSomeNote, IsSomeReceipt, IsSomeRemoval, IsSomeSnapshot};
@@ -43,6 +46,7 @@ use crate::books::{BookOf, Books, ServerOf};
 use crate::closed::ClosedServer;
 use crate::device::Device;
 use crate::locked_shard::LockedShard;
+use crate::share::Share;
 use crate::tallies::Tallies;
 use crate::tally::Tally;
 use crate::track_log::{TrackLog, begin_logs};
@@ -134,7 +138,8 @@ fn begin_front<B: Books>(
     requires threads { book.first_job ≡ B.first_job }
     requires first { B.first ≡ beginning policy.now first_id }
     requires begin { (first_server B.begin).front ≡ B.first.front }
-    ensures { IfOk result (λ p. 9 + vec_len p.logs ≡ B.first_job) }
+    ensures count { IfOk result (λ p. 9 + vec_len p.logs ≡ B.first_job) }
+    ensures new_logs { IfOk result (λ p. All IsNewLog p.logs.items) }
 {
     let threads = book.threads();
     let (book, mut first) = book.with_name::<ServerOf<B>>();
@@ -189,7 +194,7 @@ impl<'a, B: Books, D: Device> Locked<'a, B, D> {
     /// It has this policy, and draws `first_id` first. Its programs get the readings of `device`.
     /// It opens the ledgers, and the unassigned shares are all their parts. The calls of its front
     /// are filed in `book`. Returns the server, the unassigned shares, and a log for each thread of
-    /// the book.
+    /// the book, in which nothing is filed yet.
     ///
     /// # Errors
     /// Returns `AllocError` if memory for the server can't be allocated.
@@ -211,6 +216,7 @@ impl<'a, B: Books, D: Device> Locked<'a, B, D> {
         requires begin { B.begin ≡ record { serial = first_serial; id = first_id; policy = policy.now } }
         ensures unassigned { IfOk result (λ r. r.1 ≡ record { parts = blanks.parts; changes = no_changes; ended = 0 }) }
         ensures logs { IfOk result (λ r. 9 + vec_len r.2 ≡ B.first_job) }
+        ensures new_logs { IfOk result (λ r. All IsNewLog r.2.items) }
     {
         let (heads, _seat) = Heads::new(alloc)?;
         let FrontParts { book, front, logs } = begin_front::<B>(alloc, policy, first_id, book)?;
@@ -306,15 +312,43 @@ impl<'a, B: Books, D: Device> Locked<'a, B, D> {
         }
     }
 
+    /// Merges the statistics of threads that have ended: `own` and those of `workers`.
+    ///
+    /// Their tallies are merged into `unassigned`. The result has the tracks of all their logs.
+    pub fn merge_each(
+        &self,
+        unassigned: &mut Unassigned<B>,
+        own: Share<Tallies<B>, TrackLog<ServerOf<B>>>,
+        mut workers: Vec<Share<Tallies<B>, TrackLog<ServerOf<B>>>>,
+    ) -> ServerTracks<ServerOf<B>>
+        ensures parts { unassigned.new.parts ≡ unassigned.old.parts + vec_len workers + 1 }
+        ensures tracks { HasTracksOf B.first_job (logs_of workers.items own) result }
+    {
+        unassigned.merge(own.tallies);
+        let mut tracks = own.log.into_tracks();
+        while let Some(worker) = workers.pop() {
+            unassigned.merge(worker.tallies);
+            tracks.merge(&self.book, worker.log.into_tracks());
+        }
+        tracks
+    }
+
     /// Closes the server. All parts must be unassigned again.
     ///
     /// The serials of each shard have risen by the changes that were counted. The result has these
-    /// counts.
-    pub fn close(self, unassigned: &mut Unassigned<B>) -> ClosedServer
+    /// counts. If `tracks` has the tracks of all threads' logs, the filed calls have one order: each
+    /// thread's calls are in its order, and the front's led from the first front to the result's.
+    pub fn close(
+        self,
+        unassigned: &mut Unassigned<B>,
+        tracks: ServerTracks<ServerOf<B>>,
+    ) -> ClosedServer
         requires { unassigned.old.parts ≡ B.parts }
         ensures risen { map serials result.shards ≡ sums (map (λ n. 8 * n) result.first_serials) unassigned.old.changes }
         ensures shown { result.changes ≡ map saturated unassigned.old.changes }
+        ensures order { (logs : List TrackedLog) → HasTracksOf B.first_job logs tracks → 9 + length logs ≡ B.first_job → HaveOneOrder B.begin logs result.front }
     {
+        let front = self.front.into_inner().close(&self.book, tracks);
         let (shard0, first0) = self.shard0.close(&mut unassigned.tally0);
         let (shard1, first1) = self.shard1.close(&mut unassigned.tally1);
         let (shard2, first2) = self.shard2.close(&mut unassigned.tally2);
@@ -324,6 +358,7 @@ impl<'a, B: Books, D: Device> Locked<'a, B, D> {
         let (shard6, first6) = self.shard6.close(&mut unassigned.tally6);
         let (shard7, first7) = self.shard7.close(&mut unassigned.tally7);
         ClosedServer {
+            front,
             shards: [
                 shard0, shard1, shard2, shard3, shard4, shard5, shard6, shard7,
             ],

@@ -1,6 +1,9 @@
 //! The log of a worker, with its tracks in the server's book.
 ghost use Rattle.std.specs.Prelude.{◌≡◌, ◌+◌, ◌<◌, ◌≤◌, [], true, vec_len, IfOk};
+ghost use Rattle.std.specs.List.{All};
 ghost use Rattle.fc_book.specs.Tracks.{own_view, with_next};
+ghost use Rattle.fc_workers.specs.Logs.{MayFileAll};
+ghost use Rattle.fc_workers.specs.OneOrder.{IsNewLog};
 
 use crate::call_log::CallLog;
 use fc_filed::{ServerBook, ServerName, ServerTracks};
@@ -52,6 +55,7 @@ impl<J: ServerName> TrackLog<J> {
         requires may_begin { first.old.may_begin ≡ true }
         requires next { J.first_job ≤ first.old.next }
         ensures kept { first.new ≡ with_next first.old }
+        ensures new_log { IsNewLog result }
     {
         let ThreadTrack { who, mut tracks } = thread;
         let jobs = first.begin_tracks(book);
@@ -61,6 +65,14 @@ impl<J: ServerName> TrackLog<J> {
             who,
             tracks,
         }
+    }
+
+    /// Returns its tracks. The thread's own track is among them.
+    pub(crate) fn into_tracks(self) -> ServerTracks<J>
+        ensures tracks { result ≡ self.tracks }
+        ensures may_file { MayFileAll J.first_job self.who self.tracks }
+    {
+        self.tracks
     }
 }
 
@@ -80,7 +92,8 @@ pub(crate) fn begin_logs<J: ServerName>(
     requires may_begin { first.old.may_begin ≡ true }
     requires next { first.old.next ≡ 9 }
     requires threads { J.first_job ≡ 9 + threads }
-    ensures { IfOk result (λ v. vec_len v ≡ threads) }
+    ensures count { IfOk result (λ v. vec_len v ≡ threads) }
+    ensures new_logs { IfOk result (λ v. All IsNewLog v.items) }
 {
     let began = begin_threads(alloc, book, first, threads)?;
     let mut logs = Vec::with_capacity(alloc, began.len())?;

@@ -7,7 +7,6 @@ ghost use Rattle.fc_workers.specs.Answers.{saturated};
 ghost use Rattle.fc_workers.specs.Counts.{no_changes, no_tallies, sums};
 
 use crate::books::{BookOf, Books};
-use crate::share::Share;
 use crate::tallies::Tallies;
 use crate::tally::Tally;
 use std::alloc::{AllocError, Global};
@@ -125,17 +124,6 @@ impl<B: Books> Unassigned<B> {
         self.tally6.merge(tally6);
         self.tally7.merge(tally7);
         self.ended = self.ended.saturating_add(ended);
-    }
-
-    /// Merges the tallies of all these workers.
-    ///
-    /// The clause counts the parts. It doesn't say which changes and jobs the tallies add.
-    pub fn merge_each<L: Drop>(&mut self, mut workers: Vec<Share<Tallies<B>, L>>)
-        ensures { self.new.parts ≡ self.old.parts + vec_len workers }
-    {
-        while let Some(worker) = workers.pop() {
-            self.merge(worker.tallies);
-        }
     }
 
     /// Returns the changes of shards 0 to 7, each up to 2^64 - 1.

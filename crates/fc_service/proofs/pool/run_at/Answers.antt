@@ -4,6 +4,7 @@ use Rattle.fc_jobs.specs.Ends.{nothing_got}
 use Rattle.fc_workers.specs.Shares.{AreSharesOf}
 use Rattle.fc_workers.specs.Workers.{WorkerSeed}
 use Rattle.fc_service.specs.Pooled.{open_view}
+use Rattle.fc_workers.specs.OneOrder.{IsNewLog}
 use Rattle.fc_service.proofs.Seats.{all_before}
 use Rattle.fc_service.proofs.pool.run_at.Goals as goal
 
@@ -18,6 +19,7 @@ returns-clause-fed g c =
       shares_are = record {
         seats = c.pop.new.self.items;
         new = all_before (λ (seat : WorkerSeed _). seat.got ≡ nothing_got channel) (vec_len c.in_ok-jobs.seats - 1) c.in_ok-jobs.seats.items c.pop.ensures.rest c.in_ok-jobs.ensures.seats.got;
+        new_logs = all_before (λ (seat : WorkerSeed _). IsNewLog seat.log) (vec_len c.in_ok-jobs.seats - 1) c.in_ok-jobs.seats.items c.pop.ensures.rest c.in_ok-jobs.ensures.new_logs;
         worked = subst (λ r. IfOk r (λ v. AreSharesOf s c.pop.new.self.items v.items)) c.in_ok-shares.was c.drive_workers-given.ensures.shares;
       };
     }

@@ -1,5 +1,4 @@
 use Rattle.std.proofs.Math.Logic.{∥∥₁_map}
-use Rattle.fc_core.specs.Receiving.{handled}
 use Rattle.fc_calls.specs.Logged.{HandlesDatagram}
 use Rattle.fc_linear.specs.Operations.{Logged}
 use Rattle.fc_workers.specs.Fronts.{Handles}

@@ -2,7 +2,6 @@ use Rattle.std.proofs.Common.{◌∙◌, ap, inr, subst, sym}
 use Rattle.fc_registry.specs.declared.job.Job.{Job}
 use Rattle.fc_workers.specs.Called.{worker_view}
 use Rattle.fc_workers.specs.Dispatch.{IsPriced, IsWorkedHere, logged_at}
-use Rattle.fc_workers.specs.Logs.{TrackedLog}
 use Rattle.fc_workers.specs.Workers.{Dispatched}
 use Rattle.fc_workers.proofs.dispatcher.Dispatcher.dispatch_whole.Goals as goal
 

@@ -10,6 +10,7 @@ returns g c = record {
     offload_is = c.new.ensures.offload ∙ c.offload_where-offload.ensures;
     tallies = c.captures.own.tallies;
     log = c.captures.own.log;
+    new_log = c.requires.new_log;
     done = c.new.ensures.done ∙ (λ i. record { sent = c.requires.sent i; share = new_share (c.requires.got i) c.captures.own.tallies c.captures.own.log });
   };
   drives = c.drive-given.ensures;

@@ -1,0 +1,56 @@
+-- A thread's track has the thread's operations, and the front's track has the front's.
+use Rattle.std.proofs.Common.{◌≡◌, ◌≢◌, ◌⊎◌, ℕ, zero, suc, ◌+◌, ◌<◌, ◌≤◌, Bool, true, false, if◌then◌else◌, List, [], ◌∷◌, length, refl, sym, ap, ⊎_elim, inl, inr, arith}
+use Rattle.std.specs.Prelude.{◌==◌, ◌||◌}
+use Rattle.std.specs.List.{All, filter}
+use Rattle.std.proofs.lemmas.Bool.Decides.{nat_tests}
+use Rattle.std.proofs.lemmas.List.Elements.{All-cons, All-nil}
+use Rattle.fc_book.specs.Tracks.{is_on, on}
+use Rattle.fc_linear.specs.Operations.{ServerPart, FrontPart, ShardPart, WordsPart, NoPart, is_front, part_of}
+use Rattle.fc_filed.specs.declared.entry.FiledEntry.{FiledEntry}
+use Rattle.fc_filed.specs.Entries.{AreKeyed, IsKeyed, entries_by, entry_keys, front_entries, is_of_job, part_key}
+use Rattle.fc_filed.proofs.Closing.{on_front_track}
+use Rattle.fc_filed.proofs.Keyed.{IsLow, low_of}
+
+unlike : (m n : ℕ) → m ≢ n → (m == n) ≡ false
+unlike m n d = grind (d, arith, nat_tests)
+
+-- a test that fails, or is this one.
+or_same : (x b y : Bool) → (x ≡ false) ⊎ (x ≡ b) → (y ≡ false) ⊎ (y ≡ b) → (x || (b || y)) ≡ b
+or_same true true y h k = refl
+or_same false true y h k = refl
+or_same true false y h k = absurd (⊎_elim (λ (e : true ≡ false). cc e) (λ (e : true ≡ false). cc e) h)
+or_same false false true h k = absurd (⊎_elim (λ (e : true ≡ false). cc e) (λ (e : true ≡ false). cc e) k)
+or_same false false false h k = refl
+
+part_or_thread : (p : ServerPart) (who t : ℕ) → IsLow p → 9 ≤ t → ((part_key who p == t) ≡ false) ⊎ ((part_key who p == t) ≡ (who == t))
+part_or_thread FrontPart who t low le = inl (unlike 0 t (λ e. absurd (omega (arith, e, le))))
+part_or_thread (ShardPart i) who t low le = inl (unlike (i + 1) t (λ e. absurd (omega (arith, e, low, le))))
+part_or_thread WordsPart who t low le = inr refl
+part_or_thread NoPart who t low le = inr refl
+
+module _ (first_job : ℕ) where
+  job_or_thread : (e : FiledEntry) (t : ℕ) (b : Bool) → is_of_job e.operation ≡ b → IsKeyed first_job e → t < first_job → ((e.job == t) ≡ false) ⊎ ((e.job == t) ≡ (e.who == t))
+  job_or_thread e t true is k lt = let high = k.job is in inl (unlike e.job t (λ z. absurd (omega (arith, z, high, lt))))
+  job_or_thread e t false is k lt = inr (ap (λ (n : ℕ). n == t) (k.none is))
+
+  by_thread : (t : ℕ) → 9 ≤ t → t < first_job → (e : FiledEntry) → IsKeyed first_job e → is_on entry_keys t e ≡ (e.who == t)
+  by_thread t le lt e k = or_same (part_key e.who (part_of e.operation) == t) (e.who == t) (e.job == t)
+      (part_or_thread (part_of e.operation) e.who t (low_of e.operation k.event) le)
+      (job_or_thread e t (is_of_job e.operation) refl k lt)
+
+  same_filter : (p q : FiledEntry → Bool) (log : List FiledEntry) → AreKeyed first_job log → ((e : FiledEntry) → IsKeyed first_job e → p e ≡ q e) → filter p log ≡ filter q log
+  same_filter p q [] k same = refl
+  same_filter p q (e ∷ es) k same =
+      let here = same e k.0 in
+      let rest = same_filter p q es k.1 same in
+      (λ i. if here i then e ∷ rest i else rest i)
+
+  pub thread_track : (t : ℕ) (log : List FiledEntry) → 9 ≤ t → t < first_job → AreKeyed first_job log → on entry_keys t log ≡ entries_by t log
+  thread_track t log le lt k = same_filter (is_on entry_keys t) (λ e. e.who == t) log k (by_thread t le lt)
+
+  pub front_track : (log : List FiledEntry) → AreKeyed first_job log → on entry_keys 0 log ≡ front_entries log
+  front_track log k = same_filter (is_on entry_keys 0) (λ e. is_front (part_of e.operation)) log k (λ e y. sym (on_front_track first_job e y))
+
+  pub all_keyed : (log : List FiledEntry) → AreKeyed first_job log → All (λ (e : FiledEntry). IsKeyed first_job e) log
+  all_keyed [] k = All-nil (λ (x : FiledEntry). IsKeyed first_job x)
+  all_keyed (e ∷ es) k = All-cons (λ (x : FiledEntry). IsKeyed first_job x) e es k.0 (all_keyed es k.1)
