@@ -8,6 +8,7 @@ pub mod Repeats
 pub mod DrawnIds
 pub mod Drawing
 pub mod NewJobs
+pub mod Placed
 pub mod Once
 pub mod FirstBlocks
 pub mod Bodies

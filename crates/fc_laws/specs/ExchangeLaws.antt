@@ -155,6 +155,13 @@ HasExchange j = j.origin.opening.number < 18446744073709551615
 abbrev pub arrival_of_job : Job → Arrival
 arrival_of_job j = record { endpoint = j.origin.endpoint; id = j.origin.id; confirmable = j.confirmable; at = j.origin.opening.at }
 
+-- the exchange of the job is among all arrivals, and the job's number is its position.
+pub record IsInPlace (all : List Arrival) (j : Job) : Type 0 where
+  pub before : List Arrival
+  pub after : List Arrival
+  pub is : all ≡ before ++ arrival_of_job j ∷ after
+  pub number : length before ≡ j.origin.opening.number
+
 -- the job of a request: no lease, and no job of a timer, which has no exchange.
 abbrev pub IsOfRequest : Job → Type 0
 IsOfRequest j = (j.turn ≡ None) × HasExchange j

@@ -25,8 +25,7 @@ pub record IsPostOfTimer (n : ℕ) (j : Job) : Type 0 where
   pub observe : j.observe ≡ None
   pub ask : j.ask ≡ Run (record { method = Post; slot = n; content_format = None; query = []; payload = [] })
 
--- the timer of slot n made the job with this number: it fired earlier in the history, when as many
--- jobs had arrived.
+-- the timer of slot n made job k: it fired earlier in the history, when k jobs had arrived.
 pub record IsOfFire (n k : ℕ) (h : History) : Type 0 where
   pub before : History
   pub now : ℕ

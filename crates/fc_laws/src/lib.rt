@@ -57,9 +57,9 @@
 //! - A timer that fires makes one job, a POST of its own slot's resource, and changes nothing else
 //!   but the time. The job has no exchange, so its answer is sent to nobody, is stored nowhere and
 //!   draws no message ID, whatever events came in between.
-//! - A delivery that makes a job opens the job's exchange. Each job is that of an observer's lease,
-//!   of a request with an exchange, or of its slot's timer; if no timer has fired, of a lease or of
-//!   a request.
+//! - A delivery that makes a job opens the job's exchange, which stays in its place. Each job is
+//!   that of an observer's lease, of a request with an exchange, or of its slot's timer. It is no
+//!   timer's if no timer has fired.
 //! - A notification is confirmable exactly if the policy's time has passed since its observer's
 //!   registration or last confirmable one, by default 86,400,000 ms.
 //!

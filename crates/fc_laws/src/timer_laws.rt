@@ -9,7 +9,7 @@ ghost use Rattle.fc_core.specs.Legal.{Emits};
 ghost use Rattle.fc_core.specs.Stage.{ToTake};
 ghost use Rattle.fc_core.specs.declared.event.Event.TheVariants.{Answer, Fire};
 ghost use Rattle.fc_laws.specs.AskLaws.{BringsJob};
-ghost use Rattle.fc_laws.specs.ExchangeLaws.{HasExchange, IsOfLease, IsOfRequest, arrival_of_job, arrivals};
+ghost use Rattle.fc_laws.specs.ExchangeLaws.{HasExchange, IsInPlace, IsOfLease, IsOfRequest, arrival_of_job, arrivals};
 ghost use Rattle.fc_laws.specs.TimerLaws.{HasNoFire, IsOfFire, IsPostOfTimer};
 ghost use Rattle.fc_registry.specs.declared.job.Job.{Job};
 
@@ -67,6 +67,7 @@ pub fn answers_of_timers_are_dropped()
 ///
 /// The exchange has the job's endpoint, message ID and type, and is opened at the job's time. The
 /// job has the exchange's number, which is its position: fewer than 2^64 - 1 were opened before.
+/// The exchange of a request's job stays in its place, whatever events follow.
 pub fn requests_have_exchanges()
     ensures opened { (r : Entry) (s : Seen) (from : Endpoint) (m : Message) (j : Job)
         → BringsJob r s from m j → arrivals (and_then r s) ≡ arrivals s ++ arrival_of_job j ∷ [] }
@@ -74,6 +75,8 @@ pub fn requests_have_exchanges()
         → BringsJob r s from m j → j.origin.opening.number ≡ length (arrivals s) }
     ensures few { (r : Entry) (s : Seen) (from : Endpoint) (m : Message) (j : Job)
         → BringsJob r s from m j → HasExchange j }
+    ensures stays { (h : History) (k : ℕ) → HasCome (seen h) k → IsOfRequest (job (seen h) k)
+        → IsInPlace (arrivals (seen h)) (job (seen h) k) }
 {}
 
 /// Each job is that of an observer's lease, of a request, or of its slot's timer.

@@ -48,6 +48,14 @@ each_at P [] i d e lt = absurd (omega arith)
 each_at P (x ∷ xs) zero d e lt = e.0
 each_at P (x ∷ xs) (suc i) d e lt = each_at P xs i d e.1 (omega arith)
 
+pub each_weaker : {X : Type 0} (P Q : X → Type 0) (xs : List X) → ((x : X) → P x → Q x) → Each P xs → Each Q xs
+each_weaker P Q [] f w = tt
+each_weaker P Q (x ∷ xs) f w = (f x w.0, each_weaker P Q xs f w.1)
+
+pub tasks_each : (P : Job → Type 0) (js : List Job) → Each P js → Each (λ t. P t.job) (map new_task js)
+tasks_each P [] w = tt
+tasks_each P (j ∷ js) w = (w.0, tasks_each P js w.1)
+
 module _ (P : Task → Type 0) where
   -- a job with a new number has the property of each job that the event makes.
   pub new_has : (r : Entry) (s : Seen) (k : ℕ) → length s.tasks ≤ k → HasCome (and_then r s) k → Each P (tasks_brought r.event s) → P (task_at (and_then r s).tasks k)

@@ -30,7 +30,7 @@ use Rattle.fc_core.specs.Stages.{content_at, new_task}
 use Rattle.fc_core.proofs.Lists.{Each}
 use Rattle.fc_laws.proofs.jobs.Others.{job_stays}
 use Rattle.fc_laws.proofs.front.Repeats.{look_is, new_look, received_of, room_in}
-use Rattle.fc_laws.proofs.front.NewJobs.{due_has, length_after, new_has, one_brought}
+use Rattle.fc_laws.proofs.front.NewJobs.{due_has, each_weaker, length_after, new_has, one_brought}
 
 -- a property of one of them.
 abbrev Any : {X : Type 0} → (X → Type 0) → List X → Type 0
@@ -148,10 +148,6 @@ module _ (s : Seen) (now : ℕ) (to : Endpoint) where
   new_tasks : (x : Received) (emitted : Option Emission) (js : List Job) → Each (IsNewJob s (opened_by x opening to)) js → Each (λ t. IsNewJob s (answered_in (length s.exchanges) (kept_of x emitted) (s.exchanges ++ opened_by x opening to)) t.job) (map new_task js)
   new_tasks x emitted [] w = tt
   new_tasks x emitted (j ∷ js) w = (record { time = w.0.time; none = w.0.none; at_is = w.0.at_is; opened = kept_in j.origin (length s.exchanges) (kept_of x emitted) (s.exchanges ++ opened_by x opening to) (any_right (IsOf j.origin) s.exchanges (opened_by x opening to) w.0.opened) }, new_tasks x emitted js w.1)
-
-each_weaker : {X : Type 0} (P Q : X → Type 0) (xs : List X) → ((x : X) → P x → Q x) → Each P xs → Each Q xs
-each_weaker P Q [] f w = tt
-each_weaker P Q (x ∷ xs) f w = (f x w.0, each_weaker P Q xs f w.1)
 
 brought_new : (e : Event) (emitted : Option Emission) (s : Seen) → Each (λ t. IsOfRequest t.job → IsNewJob s (exchanges_by (at_front e) emitted s) t.job) (tasks_brought e s)
 brought_new (Deliver now to bytes) emitted s =

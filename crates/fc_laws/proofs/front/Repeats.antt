@@ -286,7 +286,7 @@ read_opens s now to bytes (Ok m) o read not = asked_opens s now to bytes m (verd
 read_opens s now to bytes (Err bad.Ignore) o read not = refl
 read_opens s now to bytes (Err (bad.Reset id)) o read not = refl
 
-same_arrivals : (o : Option Emission) (es : List Exchange) (b : Bool) (i : ℕ) → map arrival_of (if b then answered_in i o es else es) ≡ map arrival_of es
+pub same_arrivals : (o : Option Emission) (es : List Exchange) (b : Bool) (i : ℕ) → map arrival_of (if b then answered_in i o es else es) ≡ map arrival_of es
 same_arrivals o es true i = kept_arrivals i o es
 same_arrivals o es false i = refl
 

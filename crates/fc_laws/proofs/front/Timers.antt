@@ -33,7 +33,7 @@ use Rattle.fc_laws.specs.KeptLaws.{HasId, opened_at}
 use Rattle.fc_laws.specs.TimerLaws.{HasNoFire, IsNoFire, IsOfFire, IsPostOfTimer}
 use Rattle.fc_laws.proofs.front.Asking.{brought_is, exchange_is}
 use Rattle.fc_laws.proofs.front.Kept.{goes_out}
-use Rattle.fc_laws.proofs.front.NewJobs.{due_has, new_has}
+use Rattle.fc_laws.proofs.front.NewJobs.{due_has, each_weaker, new_has, tasks_each}
 use Rattle.fc_laws.proofs.front.Once.{jobs_apart}
 use Rattle.fc_laws.proofs.front.Repeats.{opened_none, received_arrivals}
 use Rattle.fc_laws.proofs.jobs.Others.{is_here, job_stays, still_here}
@@ -167,12 +167,10 @@ FiresMake P (Then h r) = ((n now : ℕ) → r.event ≡ Fire n now → P (timer_
 
 -- a property of leases, of requests, and of the jobs of the timers that fired, holds of each job.
 module _ (P : Job → Type 0) (lease : (j : Job) → IsOfLease j → P j) (request : (j : Job) → IsOfRequest j → P j) where
-  tasks_have : (js : List Job) → Each IsOfRequest js → Each (λ t. P t.job) (map new_task js)
-  tasks_have [] w = tt
-  tasks_have (j ∷ js) w = (request j w.0, tasks_have js w.1)
-
   brought_have : (e : Event) (s : Seen) → ((n now : ℕ) → e ≡ Fire n now → P (timer_job n)) → Each (λ t. P t.job) (tasks_brought e s)
-  brought_have (Deliver now to bytes) s timer = tasks_have (brought (received_at s now to bytes.now) (next_opening (front_at s now)) to) (delivered_requests s now to bytes.now)
+  brought_have (Deliver now to bytes) s timer =
+      let js = brought (received_at s now to bytes.now) (next_opening (front_at s now)) to in
+      tasks_each P js (each_weaker IsOfRequest P js request (delivered_requests s now to bytes.now))
   brought_have (Due shard now) s timer = let at = max (s.shard_time shard) now in due_has (λ t. P t.job) lease s shard at (due_in s shard at)
   brought_have (Fire slot now) s timer = (timer slot now refl, tt)
   brought_have other s timer = tt
