@@ -72,8 +72,8 @@
 //!   instructions and more to the workers, if it sends any.
 //! - **Shares**: the contract names one share for each worker, of some handles at the dispatcher's
 //!   channel (`AreSharesAt`). It doesn't say that they are those of the started threads. The
-//!   contract doesn't say that all calls use the same shards, nor that a sent job is received. For a
-//!   dispatcher over any backend, `fc_workers` shows that it calls its own backend. A worker's
+//!   contract doesn't say that all calls use the same shards, nor that a sent job is received. For
+//!   a dispatcher over any backend, `fc_workers` shows that it calls its own backend. A worker's
 //!   emission is passed to the sink once, by the worker's own log (`Wire::called`). The contract
 //!   doesn't say in which order several threads pass theirs.
 //! - **One front**: the calls of the front that the workers and the dispatcher filed have one order,

@@ -336,8 +336,8 @@ impl<'a, B: Books, D: Device> Locked<'a, B, D> {
     /// Closes the server. All parts must be unassigned again.
     ///
     /// The serials of each shard have risen by the changes that were counted. The result has these
-    /// counts. If `tracks` has the tracks of all threads' logs, the filed calls have one order: each
-    /// thread's calls are in its order, and the front's led from the first front to the result's.
+    /// counts. If `tracks` has the tracks of all threads' logs, the filed calls have one order.
+    /// Each thread's calls are in its order, and the front's led from the first front to the result's.
     pub fn close(
         self,
         unassigned: &mut Unassigned<B>,
