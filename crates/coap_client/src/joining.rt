@@ -1,6 +1,6 @@
 //! The joining of a state's blocks: the state's notification has the first block.
 //!
-//! See RFC 7959, section 2.6. It is for observers. `fcreq observe` doesn't call it yet.
+//! See RFC 7959, section 2.6. `fcreq observe` calls it for each state of several blocks.
 ghost use Rattle.std.specs.Prelude.{◌≡◌, ◌≤◌, IfErr, IfOk, OnOk, length, max, take};
 ghost use Rattle.coap_client.specs.Notices.{notice_after};
 ghost use Rattle.coap_client.specs.Fetching.{after_reply, going_on};

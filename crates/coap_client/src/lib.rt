@@ -55,8 +55,8 @@
 //! - The body consists of the payloads of the notification and of the responses to these requests,
 //!   joined. All have one ETag, or none, each begins at the end of those before it, and none
 //!   follows the last (RFC 7959, sections 2.4 and 2.6).
-//! - A newer state ends the joining, and is recorded as shown. The last response ends it too. An
-//!   older state, and a duplicate, change nothing.
+//! - A notification that ends the joining is a newer state, which is recorded as shown, or the last
+//!   response. No clause says that each newer state ends it, nor which message IDs are used.
 //! - The reason why a state's blocks can't be fetched has an exact text.
 //!
 //! *A fetch that fails, in terms of its calls:*
@@ -98,7 +98,7 @@
 //! - A registration has no response, or a deregistration no acknowledgement: it was sent by the
 //!   whole schedule.
 //! - A request is rejected: the last datagram received is a Reset message with its ID.
-//! - Out of memory: no call was made.
+//! - Out of memory: no call was made, unless the blocks of a state were requested.
 //! - During the wait for a notification: the last notification can't be shown, or is a newer state
 //!   for which there was no memory. So an older notification never ends the observation.
 //! - Or a call on the peer returned an error.

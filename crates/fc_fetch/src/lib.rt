@@ -43,8 +43,9 @@
 //!   section 3.4). No message is a duplicate, by its message ID within 247 s, of one before it. Each
 //!   can be shown, and each but the last is a state.
 //! - A note whose message is whole has one line. A state of several blocks has one line with its
-//!   blocks, which were requested and are joined; or none, if a newer notification arrived
-//!   meanwhile; or none but a line on standard error with the reason, if they can't be fetched.
+//!   blocks, which were requested and are joined; or none; or none but a line on standard error with
+//!   a reason. No clause says that a state without any line was superseded, nor that the reason is
+//!   the right one. No clause says which blocks a request names.
 //! - An observation that ends by its count has printed exactly that many lines, and one that ends
 //!   by its time has printed fewer. In both cases the last message is a state as well, and the
 //!   deregistration was sent and acknowledged. Otherwise the last is an error or has no sequence
@@ -52,15 +53,17 @@
 //! - Between the registration and the deregistration an observer begins waits and receives. It
 //!   sends only the acknowledgement of each confirmable notification, and requests for further
 //!   blocks. With `--seconds S` it begins one wait, of S seconds, and after such requests one of
-//!   what is left of them, rounded up. The observation ends by its time only if its wait is over,
-//!   if nothing was left after such requests, or after at least 2^64 - 1 calls on the peer. Without
-//!   it, each wait is of a day, and none ends the observation before 2^64 - 1 waits. After the
-//!   deregistration, or an error or a response without a sequence number, nothing is called.
+//!   what is left of them, rounded up. (The clause allows that also after a note that is whole.)
+//!   The observation ends by its time only if its wait is over, if nothing was left after such
+//!   requests, or after at least 2^64 - 1 calls on the peer. Without it, each wait is of a day, and
+//!   none ends the observation before 2^64 - 1 waits. After the deregistration, or an error or a
+//!   response without a sequence number, nothing is called.
 //! - An observation fails for one of these reasons. No response, or a Reset message, came to its
-//!   registration or its deregistration. The message that came last can't be shown. It is a state,
-//!   and memory for it can't be allocated. A line can't be written. Memory for a request can't be
+//!   registration or its deregistration. The message that came last can't be shown. Memory for a
+//!   state can't be allocated. A line can't be written. Memory for a request can't be
 //!   allocated, and nothing was called. Or a call of the peer failed. While further blocks are
-//!   requested, it fails if a notification can't be shown, for memory, or by its peer.
+//!   requested, it fails if a notification can't be shown, for memory, or by its peer; no clause
+//!   says which calls were made since the last note then, nor that memory was exhausted.
 //!   Even then its deregistration was passed to the peer, unless nothing was called, or the
 //!   registration was rejected or got no response. The deregistration was sent until it was
 //!   acknowledged or rejected, or by its whole schedule, unless a call of the peer failed.
