@@ -299,7 +299,8 @@ impl<J: ServerName> ServerTracks<J> {
 
 /// Files the operation that `X` names, which belongs to no part.
 ///
-/// It becomes the last entry on the tracks of thread `who` and of the job whose track is first.
+/// It becomes the last entry on two tracks: that of thread `who`, and that of the job whose track is
+/// the first in `tracks`.
 fn file_alone_as<X: FiledName, J: ServerName>(
     book: &ServerBook<J>,
     tracks: &mut ServerTracks<J>,

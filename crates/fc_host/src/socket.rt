@@ -98,7 +98,7 @@ impl<'a> Receiving<'a> {
 impl<'a> Source for Receiving<'a> {
     ghost received = { λ receive before after. after ≡ before };
 
-    // A datagram of an IPv6 address is dropped.
+    // A datagram from an IPv6 address is dropped, and the result is `None`.
     fn receive(
         &mut self,
         wait: Option<u64>,

@@ -53,7 +53,7 @@ const FLOW_RULES: [Rule; 7] = [
     Rule::Helper,
 ];
 
-/// Returns the fault of the first of these rules that a slot breaks, or `None`.
+/// Returns the fault of the first rule in `rules` that any slot breaks, or `None`.
 ///
 /// Its slot is the first that breaks the rule. `tables` are those of the program.
 fn first_broken(code: &[Insn], tables: &Tables, head: &Head, rules: &[Rule]) -> Option<Fault>

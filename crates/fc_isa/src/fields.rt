@@ -469,7 +469,7 @@ impl Fields {
 
     /// Returns the conditional jump.
     ///
-    /// It compares the destination register with the operand.
+    /// It compares the destination register with the immediate or the source register, by `source`.
     fn jump_if(self, width: Width, relation: Relation, source: SourceOperand) -> Insn
         requires dst { self.dst < 11 }
         requires src { self.src < 11 }

@@ -408,7 +408,8 @@ impl Shard {
     /// registration or the last confirmable one (RFC 7641, section 4.5). A confirmable notification
     /// waits for an acknowledgement, with a timeout that `random` determines.
     ///
-    /// `Stale` is tested before `Stranger`. Neither changes an observer.
+    /// Returns the message, for the caller to send. Otherwise returns the reason why nothing is sent
+    /// (see [`Noted`]): `Stale` is tested before `Stranger`, and neither changes an observer.
     pub fn note(
         &mut self,
         turn: Turn,

@@ -150,8 +150,9 @@ impl Engine {
 
     /// Advances a shard, 0 to 7, to `now` in milliseconds: the event `ShardTick`.
     ///
-    /// The shard retransmits the first notification that has timed out, or removes its observer.
-    /// Returns which of the two happened, or that no notification has timed out.
+    /// Returns the first notification that has timed out, which the caller sends again; or that its
+    /// observer was removed, since it acknowledged no transmission; or that no notification has
+    /// timed out.
     pub fn resend(&mut self, shard: u8, now: u64) -> Ticked
         requires { shard < 8 }
         ensures told { result ≡ shard_told now (shard_at self.old.shards shard) }

@@ -81,13 +81,13 @@
 //!   (`run_pool`, by `HaveOneOrder`). `serve_at` says so of its dispatcher and of *some* shares of
 //!   its workers, to *some* last front; with reports it says nothing of its dispatcher's calls.
 //!   `play_by_workers` doesn't name its dispatcher's calls.
-//! - **A pool** returns at its end the front, eight shards, the serials that each began with, and
-//!   changes. The serials of each shard have risen by exactly these changes, which are reported up
-//!   to 2^64 - 1.
-//!   The contract doesn't say that its workers used these shards. Its driver's dispatcher sends
-//!   jobs by the pool's dispatch policy. If the pool reports that no worker was started, the
-//!   dispatcher sends no job to a worker (`offload_where`). A test shows that it reports this only
-//!   if no thread could be created.
+//! - **A pool** returns at its end the front and eight shards. For each shard it also returns the
+//!   serial that its slots began with, and the number of their changes. The serials of each shard
+//!   have risen by exactly these numbers, which are reported up to 2^64 - 1. The contract doesn't
+//!   say that its workers used these shards. Its driver's dispatcher sends jobs by the pool's
+//!   dispatch policy. If the pool reports that no worker was started, the dispatcher sends no job
+//!   to a worker (`offload_where`). A test shows that it reports this only if no thread could be
+//!   created.
 //! - **Each request to change a program that a job answers is recorded once**, after its response
 //!   is made. Nothing else is recorded (`serve_at`, by `HasServed` and `HasServedPooled`, whose
 //!   calls are `recorded_calls` and `IsRecordedCall` of `fc_record`). A test shows that a logger
