@@ -17,12 +17,12 @@ use Rattle.fc_core.specs.Stage.{ToMatch, ToTake, ToCommit, ToInstall, ToRemove, 
 use Rattle.fc_core.specs.TurnStage.{TurnStage}
 use Rattle.fc_core.specs.TurnStage as turns
 use Rattle.fc_core.specs.Contents.{Content}
-use Rattle.fc_core.specs.AnswerLaws.{row_time}
+use Rattle.fc_core.specs.AnswerLaws.{transition_time}
 use Rattle.fc_core.specs.Laws.{gives, is_answered, is_noop_at}
 use Rattle.fc_core.specs.Heads.{word_at}
-use Rattle.fc_core.specs.Rows.{Around, Move, Inputs, call_if, install_if, move_of, moves, names, row, call_at}
+use Rattle.fc_core.specs.Transitions.{Around, Effect, Inputs, call_if, install_if, effect_of, goes_to, names, transition, call_at}
 use Rattle.fc_core.specs.Stages.{after_commit, image_of}
-use Rattle.fc_core.specs.Steps.{Call, changes_told}
+use Rattle.fc_core.specs.Steps.{Call, changes_of_call}
 use Rattle.fc_core.specs.Steps as calls
 
 abbrev at : Job → Slot → Around → Stage → Inputs
@@ -111,14 +111,14 @@ names_job k (Matches n) = refl
 names_job k other = refl
 
 -- transition of a step.
-abbrev pub move_by : Step → Job → Slot → Around → Move
-move_by c job slot ws = move_of (event_by 0 c) (at job slot ws (stage_by c)) (Some (call_by c job slot ws))
+abbrev pub effect_by : Step → Job → Slot → Around → Effect
+effect_by c job slot ws = effect_of (event_by 0 c) (at job slot ws (stage_by c)) (Some (call_by c job slot ws))
 
 -- transition of a commit, by its outcome at a slot of this serial.
-abbrev pub committed : CommitOutcome → ℕ → Ticket → ℕ → ℕ → Around → Move
+abbrev pub committed : CommitOutcome → ℕ → Ticket → ℕ → ℕ → Around → Effect
 committed o count t now serial ws = record {
   stage = after_commit count t (commits o t serial ws.watch).answer;
-  changes = (changes_told (calls.Commits count t (commits o t serial ws.watch).answer));
+  changes = (changes_of_call (calls.Commits count t (commits o t serial ws.watch).answer));
   calls = commit_calls (commits o t serial ws.watch).answer (max ws.time now) t;
   hands = Some now;
   raises = None;
@@ -132,10 +132,10 @@ pub record Rests (e : Event) (job : Job) (s : Stage) : Type 0 where
   pub none : (slot : Slot) (ws : Around) → call_at e (at job slot ws s) (at job slot ws s).stage ≡ None
   pub noop : (k : ℕ) → names e ≡ Some k → is_noop_at e job.origin.slot s ≡ true
   pub answered : is_answered e s ≡ false
-  pub times : row_time e s ≡ []
+  pub times : transition_time e s ≡ []
   pub given : (slot : Slot) (ws : Around) (cs : List Change) → gives e (at job slot ws s) cs ≡ []
 
-rests : {e : Event} {job : Job} {s : Stage} → ((slot : Slot) (ws : Around) → call_at e (at job slot ws s) (at job slot ws s).stage ≡ None) → ((k : ℕ) → names e ≡ Some k → is_noop_at e job.origin.slot s ≡ true) → is_answered e s ≡ false → row_time e s ≡ [] → ((slot : Slot) (ws : Around) (cs : List Change) → gives e (at job slot ws s) cs ≡ []) → Rests e job s
+rests : {e : Event} {job : Job} {s : Stage} → ((slot : Slot) (ws : Around) → call_at e (at job slot ws s) (at job slot ws s).stage ≡ None) → ((k : ℕ) → names e ≡ Some k → is_noop_at e job.origin.slot s ≡ true) → is_answered e s ≡ false → transition_time e s ≡ [] → ((slot : Slot) (ws : Around) (cs : List Change) → gives e (at job slot ws s) cs ≡ []) → Rests e job s
 rests none noop answered times given = record { none = none; noop = noop; answered = answered; times = times; given = given }
 
 no_job : {A : Type 0} {k : ℕ} → None ≡ Some k → A
@@ -143,18 +143,18 @@ no_job e = absurd (cc e)
 
 -- ---- one column
 
-module _ (P : Event → Stage → Move → Type 0) (job : Job) (slot : Slot) (ws : Around) (step : (k : ℕ) (c : Step) → IsAsked c job → P (event_by k c) (stage_by c) (move_by c job slot ws)) (rest : (e : Event) (s : Stage) → Rests e job s → P e s (moves s)) where
-  matches : (k n : ℕ) (b : Bool) → (n == job.origin.slot) ≡ b → P (Peek k n) ToMatch (move_of (Peek k n) (at job slot ws ToMatch) (call_if b (call_by (Matches n) job slot ws)))
+module _ (P : Event → Stage → Effect → Type 0) (job : Job) (slot : Slot) (ws : Around) (step : (k : ℕ) (c : Step) → IsAsked c job → P (event_by k c) (stage_by c) (effect_by c job slot ws)) (rest : (e : Event) (s : Stage) → Rests e job s → P e s (goes_to s)) where
+  matches : (k n : ℕ) (b : Bool) → (n == job.origin.slot) ≡ b → P (Peek k n) ToMatch (effect_of (Peek k n) (at job slot ws ToMatch) (call_if b (call_by (Matches n) job slot ws)))
   matches k n true is = step k (Matches n) is
   matches k n false is = rest (Peek k n) ToMatch (rests (λ slot ws. ap (λ (b : Bool). call_if b (call_by (Matches n) job slot ws)) is) (λ j named. ap not is) refl refl (λ slot ws cs. refl))
 
-  lists : (k n : ℕ) (seen : ArrayVec ℕ) (b : Bool) → (n == length seen.items) ≡ b → P (Peek k n) (ToList seen) (move_of (Peek k n) (at job slot ws (ToList seen)) (call_if b (call_by (Lists n seen) job slot ws)))
+  lists : (k n : ℕ) (seen : ArrayVec ℕ) (b : Bool) → (n == length seen.items) ≡ b → P (Peek k n) (ToList seen) (effect_of (Peek k n) (at job slot ws (ToList seen)) (call_if b (call_by (Lists n seen) job slot ws)))
   lists k n seen true is = step k (Lists n seen) is
   lists k n seen false is = rest (Peek k n) (ToList seen) (rests (λ slot ws. ap (λ (b : Bool). call_if b (call_by (Lists n seen) job slot ws)) is) (λ j named. ap not is) refl refl (λ slot ws cs. refl))
 
   -- a property of each step with its transition, and of each event that is none and changes
   -- nothing, holds for each transition.
-  pub by_step : (e : Event) (s : Stage) → P e s (row e (at job slot ws s))
+  pub by_step : (e : Event) (s : Stage) → P e s (transition e (at job slot ws s))
   by_step (Peek k n) ToMatch = matches k n (n == job.origin.slot) refl
   by_step (Peek k n) (ToList seen) = lists k n seen (n == length seen.items) refl
   by_step (Peek k n) other = rest (Peek k n) other (rests (λ slot ws. refl) (λ j is. refl) refl refl (λ slot ws cs. refl))
@@ -184,5 +184,5 @@ module _ (P : Event → Stage → Move → Type 0) (job : Job) (slot : Slot) (ws
   by_step other s = rest other s (rests (λ slot ws. refl) (λ j is. no_job is) refl refl (λ slot ws cs. refl))
 
 -- the same for a property that doesn't mention the event.
-pub by_move : (P : Stage → Move → Type 0) (job : Job) (slot : Slot) (ws : Around) → ((c : Step) → IsAsked c job → P (stage_by c) (move_by c job slot ws)) → ((s : Stage) → P s (moves s)) → (e : Event) (s : Stage) → P s (row e (at job slot ws s))
-by_move P job slot ws step rest e s = by_step (λ d st m. P st m) job slot ws (λ k c asked. step c asked) (λ d st w. rest st) e s
+pub by_effect : (P : Stage → Effect → Type 0) (job : Job) (slot : Slot) (ws : Around) → ((c : Step) → IsAsked c job → P (stage_by c) (effect_by c job slot ws)) → ((s : Stage) → P s (goes_to s)) → (e : Event) (s : Stage) → P s (transition e (at job slot ws s))
+by_effect P job slot ws step rest e s = by_step (λ d st m. P st m) job slot ws (λ k c asked. step c asked) (λ d st w. rest st) e s

@@ -38,8 +38,8 @@ use Rattle.fc_core.specs.History.{AtShard, AsksTurn, Signals, Ticks, Calm, Seen,
 use Rattle.fc_core.specs.Receiving.{AskWithin, JobWithin, RequestWithin}
 use Rattle.fc_core.specs.Sound.{IsSoundlySeen}
 use Rattle.fc_core.specs.Stages.{image_of}
-use Rattle.fc_core.specs.Rows.{Around, Inputs, names, row, calls_told, install_call, install_if}
-use Rattle.fc_core.proofs.ByStep.{Step, by_step, event_by, move_by, stage_by, committed}
+use Rattle.fc_core.specs.Transitions.{Around, Inputs, names, transition, calls_of_call, install_call, install_if}
+use Rattle.fc_core.proofs.ByStep.{Step, by_step, event_by, effect_by, stage_by, committed}
 use Rattle.fc_core.proofs.ByStep as steps
 use Rattle.fc_core.proofs.Lists.{Each}
 use Rattle.fc_core.proofs.Places.{place_below}
@@ -65,16 +65,16 @@ committed_calls k now n t serial ws Writes = NoCall refl
 committed_calls k now n t serial ws Overtakes = NoCall refl
 committed_calls k now n t serial ws Ends = NoCall refl
 
-installed_calls : (at random : ℕ) (x : Inputs) (v : InitialVars) (j : Judgement) → calls_told at random x (install_call v j x.slot) ≡ []
+installed_calls : (at random : ℕ) (x : Inputs) (v : InitialVars) (j : Judgement) → calls_of_call at random x (install_call v j x.slot) ≡ []
 installed_calls at random x v (Accepts p) = refl
 installed_calls at random x v (Breaks rule k) = refl
 installed_calls at random x v Untypable = refl
 
-pub verified_calls : (at random : ℕ) (memory : Bool) (x : Inputs) → calls_told at random x (install_if memory (initial_vars_of x.job.ask) (judged (image_of x.job.ask)) x.slot) ≡ []
+pub verified_calls : (at random : ℕ) (memory : Bool) (x : Inputs) → calls_of_call at random x (install_if memory (initial_vars_of x.job.ask) (judged (image_of x.job.ask)) x.slot) ≡ []
 verified_calls at random true x = installed_calls at random x (initial_vars_of x.job.ask) (judged (image_of x.job.ask))
 verified_calls at random false x = refl
 
-step_calls : (k : ℕ) (c : Step) (job : Job) (slot : Slot) (ws : Around) → CallsBy (event_by k c) ws (stage_by c) (move_by c job slot ws).calls
+step_calls : (k : ℕ) (c : Step) (job : Job) (slot : Slot) (ws : Around) → CallsBy (event_by k c) ws (stage_by c) (effect_by c job slot ws).calls
 step_calls k (steps.TakesTurn memory readings turn) job slot ws = OfSnapshot turn ws.time slot.present ws.watch refl
 step_calls k (steps.Commits now n t) job slot ws = committed_calls k now n t slot.serial ws (outcome t slot)
 step_calls k (steps.Installs memory) job slot ws = NoCall (verified_calls ws.time 0 memory (at job slot ws ToInstall))
@@ -82,8 +82,8 @@ step_calls k (steps.Notes now random turn found id) job slot ws = OfNote k now r
 step_calls k (steps.GivesUp now turn needs) job slot ws = OfGiveUp turn (max ws.time now) refl
 step_calls k other job slot ws = NoCall refl
 
-pub row_calls : (e : Event) (job : Job) (slot : Slot) (ws : Around) (s : Stage) → CallsBy e ws s (row e (at job slot ws s)).calls
-row_calls e job slot ws s = by_step (λ d st m. CallsBy d ws st m.calls) job slot ws (λ k c asked. step_calls k c job slot ws) (λ d st rest. NoCall refl) e s
+pub transition_calls : (e : Event) (job : Job) (slot : Slot) (ws : Around) (s : Stage) → CallsBy e ws s (transition e (at job slot ws s)).calls
+transition_calls e job slot ws s = by_step (λ d st m. CallsBy d ws st m.calls) job slot ws (λ k c asked. step_calls k c job slot ws) (λ d st rest. NoCall refl) e s
 
 -- ---- a call keeps them within
 
@@ -138,14 +138,14 @@ note_within : (turn : Turn) (id random time : ℕ) (found : Option Ticket) (sent
 note_within turn id random time found None = (tt, tt)
 note_within turn id random time found (Some e) = (told_within (keeps_observer found) turn id random time (serial_told found) e.bytes, (tt, tt))
 
-row_within : (e : Event) (job : Job) (slot : Slot) (ws : Around) (s : Stage) (cs : List ObserverCall) → FitsStage job slot s → AskWithin job.ask → CallsBy e ws s cs → Each CallWithin cs
-row_within e job slot ws s cs f w (NoCall is) = subst (Each CallWithin) (sym is) tt
-row_within e job slot ws s cs f w (OfCommit k now n time t event stands is) =
+transition_within : (e : Event) (job : Job) (slot : Slot) (ws : Around) (s : Stage) (cs : List ObserverCall) → FitsStage job slot s → AskWithin job.ask → CallsBy e ws s cs → Each CallWithin cs
+transition_within e job slot ws s cs f w (NoCall is) = subst (Each CallWithin) (sym is) tt
+transition_within e job slot ws s cs f w (OfCommit k now n time t event stands is) =
     let fits : FitsStage job slot (ToCommit n t) = subst (FitsStage job slot) stands f in
     subst (Each CallWithin) (sym is) (observed_within (is_registration t) (is_cancellation t) time t (subst RequestWithin (sym fits.1.request) (request_within job.ask w)))
-row_within e job slot ws s cs f w (OfSnapshot turn time present t is) = subst (Each CallWithin) (sym is) (mark_missing_within (is_out_at turn time t) turn present time)
-row_within e job slot ws s cs f w (OfNote k now random id turn found event stands is) = subst (Each CallWithin) (sym is) (note_within turn id random (max ws.time now) found (note_at turn id (max ws.time now) found ws.watch))
-row_within e job slot ws s cs f w (OfGiveUp turn time is) = subst (Each CallWithin) (sym is) (tt, tt)
+transition_within e job slot ws s cs f w (OfSnapshot turn time present t is) = subst (Each CallWithin) (sym is) (mark_missing_within (is_out_at turn time t) turn present time)
+transition_within e job slot ws s cs f w (OfNote k now random id turn found event stands is) = subst (Each CallWithin) (sym is) (note_within turn id random (max ws.time now) found (note_at turn id (max ws.time now) found ws.watch))
+transition_within e job slot ws s cs f w (OfGiveUp turn time is) = subst (Each CallWithin) (sym is) (tt, tt)
 
 one_within : (b : Bool) (c : ObserverCall) → CallWithin c → Each CallWithin (if b then c ∷ [] else [])
 one_within true c w = (w, tt)
@@ -156,10 +156,10 @@ signal_within true to id = tt
 signal_within false to id = tt
 
 module _ (s : Seen) (a : IsSoundlySeen s) where
-  named_if : (e : Event) (k : ℕ) (b : Bool) → Each CallWithin (if b then (row e (inputs s k)).calls else [])
+  named_if : (e : Event) (k : ℕ) (b : Bool) → Each CallWithin (if b then (transition e (inputs s k)).calls else [])
   named_if e k true =
       let n = (job s k).origin.slot in
-      row_within e (job s k) (slot_at s n) (around s n) (stage s k) (row e (inputs s k)).calls (a.stages k) (a.within k).1 (row_calls e (job s k) (slot_at s n) (around s n) (stage s k))
+      transition_within e (job s k) (slot_at s n) (around s n) (stage s k) (transition e (inputs s k)).calls (a.stages k) (a.within k).1 (transition_calls e (job s k) (slot_at s n) (around s n) (stage s k))
   named_if e k false = tt
 
   named_within : (e : Event) (o : Option ℕ) (n : ℕ) → Each CallWithin (calls_named o e s n)

@@ -12,7 +12,7 @@ use Rattle.fc_registry.specs.Calls.{ComesTo, IsCommit, IsOwnCommit, IsOwn, HasGi
 use Rattle.fc_registry.specs.Watches.{watch_at, with_calls}
 use Rattle.fc_registry.proofs.Outcomes.{by_serials, own_run}
 use Rattle.fc_core.specs.Contents.{AreDone}
-use Rattle.fc_core.specs.Steps.{Commits, changes_told}
+use Rattle.fc_core.specs.Steps.{Commits, changes_of_call}
 
 -- the mark of a commit that was done belongs to the outcome and the ticket.
 done_by : (ran : Ran) (t : Ticket) (slot : Slot) (v : ObserverList) (o : CommitOutcome) → IsOwn ran t slot → ComesTo t slot o → AreDone ran t (commits o t slot.serial v).answer
@@ -31,31 +31,31 @@ commit_done ran t slot v Overtaken after w = tt
 commit_done ran t slot v Ended after w = tt
 
 -- a commit to the slot that gave the ticket, with these observers.
-pub record IsRow (t : Ticket) (slot : Slot) (v : ObserverList) (c : Committed) (after : Slot) : Type 0 where
+pub record IsTransition (t : Ticket) (slot : Slot) (v : ObserverList) (c : Committed) (after : Slot) : Type 0 where
   pub answer : c ≡ (commits (outcome t slot) t slot.serial v).answer
   pub after_is : after ≡ after_changes slot (commits (outcome t slot) t slot.serial v).changes
 
-own_row : (ran : Ran) (t : Ticket) (slot : Slot) (v : ObserverList) (c : Committed) (after : Slot) → HasGiven slot t → IsOwnCommit ran t slot v c after → IsRow t slot v c after
-own_row ran t slot v c after given w =
+own_transition : (ran : Ran) (t : Ticket) (slot : Slot) (v : ObserverList) (c : Committed) (after : Slot) → HasGiven slot t → IsOwnCommit ran t slot v c after → IsTransition t slot v c after
+own_transition ran t slot v c after given w =
     let is = by_serials t slot w.1.comes_to given w.1.is in
     record {
       answer = w.1.answer ∙ ap (λ (o : CommitOutcome). (commits o t slot.serial v).answer) is;
       after_is = w.1.after_is ∙ ap (λ (o : CommitOutcome). after_changes slot (commits o t slot.serial v).changes) is;
     }
 
-pub commit_row : (ran : Ran) (t : Ticket) (slot : Slot) (v : ObserverList) (c : Committed) (after : Slot) → ran.program ≡ t.found.program → ran.input.request ≡ t.request → ran.input.vars ≡ t.found.vars → ran.input.readings ≡ t.readings → HasGiven slot t → t.turn ≡ None → IsCommit ran t slot v c after → IsRow t slot v c after
-commit_row ran t slot v Stranger after p r vars readings given none w = absurd (w.stranger (record { asked = none; run = record { program = p; request = r; vars = vars; readings = readings; found = given.serial } }))
-commit_row ran t slot v (Done m) after p r vars readings given none w = own_row ran t slot v (Done m) after given w
-commit_row ran t slot v Overtaken after p r vars readings given none w = own_row ran t slot v Overtaken after given w
-commit_row ran t slot v Ended after p r vars readings given none w = own_row ran t slot v Ended after given w
+pub commit_transition : (ran : Ran) (t : Ticket) (slot : Slot) (v : ObserverList) (c : Committed) (after : Slot) → ran.program ≡ t.found.program → ran.input.request ≡ t.request → ran.input.vars ≡ t.found.vars → ran.input.readings ≡ t.readings → HasGiven slot t → t.turn ≡ None → IsCommit ran t slot v c after → IsTransition t slot v c after
+commit_transition ran t slot v Stranger after p r vars readings given none w = absurd (w.stranger (record { asked = none; run = record { program = p; request = r; vars = vars; readings = readings; found = given.serial } }))
+commit_transition ran t slot v (Done m) after p r vars readings given none w = own_transition ran t slot v (Done m) after given w
+commit_transition ran t slot v Overtaken after p r vars readings given none w = own_transition ran t slot v Overtaken after given w
+commit_transition ran t slot v Ended after p r vars readings given none w = own_transition ran t slot v Ended after given w
 
 -- a shard after a commit at a slot, which has this state then.
 abbrev pub left_by : Ticket → ℕ → Shard → Committed → Slot → Shard
 left_by t now shard c after = with_calls (commit_calls c (max shard.now now) t) t.origin.slot (with_slot (record shard { now = max shard.now now }) t.origin.slot after)
 
 -- it is the shard of the transition.
-pub shard_of_row : (o : CommitOutcome) (n : ℕ) (t : Ticket) (now : ℕ) (shard : Shard) → (let called = commits o t (slot_in shard t.origin.slot).serial (watch_at shard (t.origin.slot / 8)) in left_by t now shard called.answer (after_changes (slot_in shard t.origin.slot) called.changes) ≡ left_by t now shard called.answer (after_changes (slot_in shard t.origin.slot) (changes_told (Commits n t called.answer))))
-shard_of_row Writes n t now shard = refl
-shard_of_row Keeps n t now shard = refl
-shard_of_row Overtakes n t now shard = refl
-shard_of_row Ends n t now shard = refl
+pub shard_of_transition : (o : CommitOutcome) (n : ℕ) (t : Ticket) (now : ℕ) (shard : Shard) → (let called = commits o t (slot_in shard t.origin.slot).serial (watch_at shard (t.origin.slot / 8)) in left_by t now shard called.answer (after_changes (slot_in shard t.origin.slot) called.changes) ≡ left_by t now shard called.answer (after_changes (slot_in shard t.origin.slot) (changes_of_call (Commits n t called.answer))))
+shard_of_transition Writes n t now shard = refl
+shard_of_transition Keeps n t now shard = refl
+shard_of_transition Overtakes n t now shard = refl
+shard_of_transition Ends n t now shard = refl

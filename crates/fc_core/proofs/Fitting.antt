@@ -33,11 +33,11 @@ use Rattle.fc_core.specs.Heads.{is_match, word_at}
 use Rattle.fc_core.specs.Fits.{FitsPresent, FitsSlot, FitsStage, FitsTurn, HasNext, IsTicketOf}
 use Rattle.fc_core.specs.Receiving.{AskWithin}
 use Rattle.fc_core.specs.Sound.{AllSafe}
-use Rattle.fc_core.specs.Stages.{first_by, first_or_turn, first_stage, image_of, made, matched_by, removed, told, took, turn_took, with_id}
-use Rattle.fc_core.specs.Rows.{Around, Inputs, row, install_call, install_if}
+use Rattle.fc_core.specs.Stages.{first_by, first_or_turn, first_stage, image_of, made, matched_by, removed, receipt_content, took, turn_took, with_id}
+use Rattle.fc_core.specs.Transitions.{Around, Inputs, transition, install_call, install_if}
 use Rattle.fc_registry.proofs.Installs.{installed_size}
-use Rattle.fc_core.specs.Steps.{Installs, Removes, changes_told, next_stage}
-use Rattle.fc_core.proofs.ByStep.{Step, by_move, move_by, stage_by, committed}
+use Rattle.fc_core.specs.Steps.{Installs, Removes, changes_of_call, next_stage}
+use Rattle.fc_core.proofs.ByStep.{Step, by_effect, effect_by, stage_by, committed}
 use Rattle.fc_core.proofs.ByStep as steps
 
 -- ---- slots
@@ -140,7 +140,7 @@ clear_fits job slot below serial None = tt
 clear_fits job slot true serial (Some p) = tt
 clear_fits job slot false serial (Some p) = tt
 
-told_fits : (job : Job) (slot : Slot) (receipt : Option Facts) → FitsStage job slot (ToAnswer (told receipt))
+told_fits : (job : Job) (slot : Slot) (receipt : Option Facts) → FitsStage job slot (ToAnswer (receipt_content receipt))
 told_fits job slot None = tt
 told_fits job slot (Some receipt) = tt
 
@@ -158,7 +158,7 @@ drawn_fits job slot (Some t) None own = own
 drawn_fits job slot None (Some id) own = tt
 drawn_fits job slot None None own = tt
 
-step_fits : (c : Step) (job : Job) (slot : Slot) (ws : Around) → FitsStage job slot (stage_by c) → FitsStage job slot (move_by c job slot ws).stage
+step_fits : (c : Step) (job : Job) (slot : Slot) (ws : Around) → FitsStage job slot (stage_by c) → FitsStage job slot (effect_by c job slot ws).stage
 step_fits (steps.Matches n) job slot ws f = matched_fits job slot (is_match (word_at ws.common.words n) job.etags.items) (word_at ws.common.words n) f
 step_fits (steps.Lists n seen) job slot ws f = listed_fits job slot (nat_lt (length (seen.items ++ word_at ws.common.words n ∷ [])) 64) (seen.items ++ word_at ws.common.words n ∷ []) refl
 step_fits steps.Removes job slot ws f = clear_fits job slot (nat_lt slot.serial last_serial) slot.serial slot.present
@@ -172,9 +172,9 @@ step_fits (steps.Draws now turn found) job slot ws f = (f.0, f.1, drawn_fits job
 step_fits other job slot ws f = tt
 
 -- a job that an event changed fits its slot as before.
-pub row_fits : (e : Event) (job : Job) (slot : Slot) (ws : Around) (s : Stage) → FitsStage job slot s → FitsStage job slot (row e (at job slot ws s)).stage
-row_fits e job slot ws s =
-    by_move (λ st m. FitsStage job slot st → FitsStage job slot m.stage) job slot ws
+pub transition_fits : (e : Event) (job : Job) (slot : Slot) (ws : Around) (s : Stage) → FitsStage job slot s → FitsStage job slot (transition e (at job slot ws s)).stage
+transition_fits e job slot ws s =
+    by_effect (λ st m. FitsStage job slot st → FitsStage job slot m.stage) job slot ws
     (λ c asked. step_fits c job slot ws) (λ st f. f) e s
 
 -- ---- the chain
@@ -216,33 +216,33 @@ commit_chain first cs n t now ws Keeps e g chain = chain
 commit_chain first cs n t now ws Overtakes e g chain = chain
 commit_chain first cs n t now ws Ends e g chain = chain
 
-put_chain : (first : Slot) (cs : List Change) (b : Bool) (slot : Slot) (p : Program) (v : InitialVars) → IsChain first cs → IsChain first (changes_told (Installs p v (put_by b slot p v).answer) ++ cs)
+put_chain : (first : Slot) (cs : List Change) (b : Bool) (slot : Slot) (p : Program) (v : InitialVars) → IsChain first cs → IsChain first (changes_of_call (Installs p v (put_by b slot p v).answer) ++ cs)
 put_chain first cs true slot p v chain = chain
 put_chain first cs false slot p v chain = chain
 
-installed_chain : (first : Slot) (cs : List Change) (v : InitialVars) (j : Judgement) (slot : Slot) → IsChain first cs → IsChain first (changes_told (install_call v j slot) ++ cs)
+installed_chain : (first : Slot) (cs : List Change) (v : InitialVars) (j : Judgement) (slot : Slot) → IsChain first cs → IsChain first (changes_of_call (install_call v j slot) ++ cs)
 installed_chain first cs v (Accepts p) slot chain = put_chain first cs (nat_lt slot.serial last_serial) slot p v chain
 installed_chain first cs v (Breaks rule k) slot chain = chain
 installed_chain first cs v Untypable slot chain = chain
 
-verified_chain : (memory : Bool) (first : Slot) (cs : List Change) (s : Inputs) → IsChain first cs → IsChain first (changes_told (install_if memory (initial_vars_of s.job.ask) (judged (image_of s.job.ask)) s.slot) ++ cs)
+verified_chain : (memory : Bool) (first : Slot) (cs : List Change) (s : Inputs) → IsChain first cs → IsChain first (changes_of_call (install_if memory (initial_vars_of s.job.ask) (judged (image_of s.job.ask)) s.slot) ++ cs)
 verified_chain true first cs s chain = installed_chain first cs (initial_vars_of s.job.ask) (judged (image_of s.job.ask)) s.slot chain
 verified_chain false first cs s chain = chain
 
-clear_chain : (first : Slot) (cs : List Change) (below : Bool) (serial : ℕ) (p : Option Present) → IsChain first cs → IsChain first (changes_told (Removes (clear_by below serial p).answer) ++ cs)
+clear_chain : (first : Slot) (cs : List Change) (below : Bool) (serial : ℕ) (p : Option Present) → IsChain first cs → IsChain first (changes_of_call (Removes (clear_by below serial p).answer) ++ cs)
 clear_chain first cs below serial None chain = chain
 clear_chain first cs true serial (Some p) chain = chain
 clear_chain first cs false serial (Some p) chain = chain
 
-step_chain : (c : Step) (job : Job) (first : Slot) (cs : List Change) (ws : Around) → FitsStage job (after_changes first cs) (stage_by c) → IsChain first cs → IsChain first ((move_by c job (after_changes first cs) ws).changes ++ cs)
+step_chain : (c : Step) (job : Job) (first : Slot) (cs : List Change) (ws : Around) → FitsStage job (after_changes first cs) (stage_by c) → IsChain first cs → IsChain first ((effect_by c job (after_changes first cs) ws).changes ++ cs)
 step_chain steps.Removes job first cs ws f chain = clear_chain first cs (nat_lt (after_changes first cs).serial last_serial) (after_changes first cs).serial (after_changes first cs).present chain
 step_chain (steps.Commits now n t) job first cs ws f chain = commit_chain first cs n t now ws (outcome t (after_changes first cs)) refl f.1.given chain
 step_chain (steps.Installs memory) job first cs ws f chain = verified_chain memory first cs (at job (after_changes first cs) ws ToInstall) chain
 step_chain other job first cs ws f chain = chain
 
-pub row_chain : (e : Event) (job : Job) (first : Slot) (cs : List Change) (ws : Around) (s : Stage) → FitsStage job (after_changes first cs) s → IsChain first cs → IsChain first ((row e (at job (after_changes first cs) ws s)).changes ++ cs)
-row_chain e job first cs ws s =
-    by_move (λ st m. FitsStage job (after_changes first cs) st → IsChain first cs → IsChain first (m.changes ++ cs)) job (after_changes first cs) ws
+pub transition_chain : (e : Event) (job : Job) (first : Slot) (cs : List Change) (ws : Around) (s : Stage) → FitsStage job (after_changes first cs) s → IsChain first cs → IsChain first ((transition e (at job (after_changes first cs) ws s)).changes ++ cs)
+transition_chain e job first cs ws s =
+    by_effect (λ st m. FitsStage job (after_changes first cs) st → IsChain first cs → IsChain first (m.changes ++ cs)) job (after_changes first cs) ws
     (λ c asked. step_chain c job first cs ws) (λ st f chain. chain) e s
 
 -- ---- safe programs
@@ -268,32 +268,32 @@ commit_safe job slot n t now ws Keeps e within own fits = fits
 commit_safe job slot n t now ws Overtakes e within own fits = fits
 commit_safe job slot n t now ws Ends e within own fits = fits
 
-put_safe : (slot : Slot) (b : Bool) (p : Program) (v : InitialVars) → AllSafe (changes_told (Installs p v (put_by b slot p v).answer)) → FitsSlot slot.present
-    → FitsSlot (after_changes slot (changes_told (Installs p v (put_by b slot p v).answer))).present
+put_safe : (slot : Slot) (b : Bool) (p : Program) (v : InitialVars) → AllSafe (changes_of_call (Installs p v (put_by b slot p v).answer)) → FitsSlot slot.present
+    → FitsSlot (after_changes slot (changes_of_call (Installs p v (put_by b slot p v).answer))).present
 put_safe slot true p v safe fits = record { safe = safe.0; vars = installed_size v p (vars_in slot.present) }
 put_safe slot false p v safe fits = fits
 
-installed_safe : (slot : Slot) (v : InitialVars) (j : Judgement) → AllSafe (changes_told (install_call v j slot)) → FitsSlot slot.present → FitsSlot (after_changes slot (changes_told (install_call v j slot))).present
+installed_safe : (slot : Slot) (v : InitialVars) (j : Judgement) → AllSafe (changes_of_call (install_call v j slot)) → FitsSlot slot.present → FitsSlot (after_changes slot (changes_of_call (install_call v j slot))).present
 installed_safe slot v (Accepts p) safe fits = put_safe slot (nat_lt slot.serial last_serial) p v safe fits
 installed_safe slot v (Breaks rule k) safe fits = fits
 installed_safe slot v Untypable safe fits = fits
 
-verified_safe : (memory : Bool) (s : Inputs) → AllSafe (changes_told (install_if memory (initial_vars_of s.job.ask) (judged (image_of s.job.ask)) s.slot)) → FitsSlot s.slot.present → FitsSlot (after_changes s.slot (changes_told (install_if memory (initial_vars_of s.job.ask) (judged (image_of s.job.ask)) s.slot))).present
+verified_safe : (memory : Bool) (s : Inputs) → AllSafe (changes_of_call (install_if memory (initial_vars_of s.job.ask) (judged (image_of s.job.ask)) s.slot)) → FitsSlot s.slot.present → FitsSlot (after_changes s.slot (changes_of_call (install_if memory (initial_vars_of s.job.ask) (judged (image_of s.job.ask)) s.slot))).present
 verified_safe true s safe fits = installed_safe s.slot (initial_vars_of s.job.ask) (judged (image_of s.job.ask)) safe fits
 verified_safe false s safe fits = fits
 
-clear_safe : (slot : Slot) (below : Bool) (serial : ℕ) (p : Option Present) → FitsSlot slot.present → FitsSlot (after_changes slot (changes_told (Removes (clear_by below serial p).answer))).present
+clear_safe : (slot : Slot) (below : Bool) (serial : ℕ) (p : Option Present) → FitsSlot slot.present → FitsSlot (after_changes slot (changes_of_call (Removes (clear_by below serial p).answer))).present
 clear_safe slot below serial None fits = fits
 clear_safe slot true serial (Some p) fits = tt
 clear_safe slot false serial (Some p) fits = fits
 
-step_safe : (c : Step) (job : Job) (slot : Slot) (ws : Around) → AskWithin job.ask → FitsStage job slot (stage_by c) → AllSafe (move_by c job slot ws).changes → FitsSlot slot.present → FitsSlot (after_changes slot (move_by c job slot ws).changes).present
+step_safe : (c : Step) (job : Job) (slot : Slot) (ws : Around) → AskWithin job.ask → FitsStage job slot (stage_by c) → AllSafe (effect_by c job slot ws).changes → FitsSlot slot.present → FitsSlot (after_changes slot (effect_by c job slot ws).changes).present
 step_safe steps.Removes job slot ws within f safe fits = clear_safe slot (nat_lt slot.serial last_serial) slot.serial slot.present fits
 step_safe (steps.Commits now n t) job slot ws within f safe fits = commit_safe job slot n t now ws (outcome t slot) refl within f.1 fits
 step_safe (steps.Installs memory) job slot ws within f safe fits = verified_safe memory (at job slot ws ToInstall) safe fits
 step_safe other job slot ws within f safe fits = fits
 
-pub row_safe : (e : Event) (job : Job) (slot : Slot) (ws : Around) (s : Stage) → AskWithin job.ask → FitsStage job slot s → AllSafe (row e (at job slot ws s)).changes → FitsSlot slot.present → FitsSlot (after_changes slot (row e (at job slot ws s)).changes).present
-row_safe e job slot ws s within =
-    by_move (λ st m. FitsStage job slot st → AllSafe m.changes → FitsSlot slot.present → FitsSlot (after_changes slot m.changes).present) job slot ws
+pub transition_safe : (e : Event) (job : Job) (slot : Slot) (ws : Around) (s : Stage) → AskWithin job.ask → FitsStage job slot s → AllSafe (transition e (at job slot ws s)).changes → FitsSlot slot.present → FitsSlot (after_changes slot (transition e (at job slot ws s)).changes).present
+transition_safe e job slot ws s within =
+    by_effect (λ st m. FitsStage job slot st → AllSafe m.changes → FitsSlot slot.present → FitsSlot (after_changes slot m.changes).present) job slot ws
     (λ c asked. step_safe c job slot ws within) (λ st f safe fits. fits) e s

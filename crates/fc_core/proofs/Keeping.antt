@@ -36,10 +36,10 @@ use Rattle.fc_core.specs.Receiving as x
 use Rattle.fc_core.specs.Sound.{AllSafe, IsSafelySeen, IsSoundlySeen}
 use Rattle.fc_core.specs.Stages.{new_task}
 use Rattle.fc_core.specs.Timers.{timer_job}
-use Rattle.fc_core.specs.Rows.{task_moved, names, row}
+use Rattle.fc_core.specs.Transitions.{task_moved, names, transition}
 use Rattle.fc_core.proofs.Calling.{turns_within, watched_after}
 use Rattle.fc_core.proofs.Lists.{Each, appended_all, written_all}
-use Rattle.fc_core.proofs.Fitting.{after_changes-append, first_fits, fits_changed, row_chain, row_fits, row_safe}
+use Rattle.fc_core.proofs.Fitting.{after_changes-append, first_fits, fits_changed, transition_chain, transition_fits, transition_safe}
 
 -- ---- the job of a delivery is within its limits
 
@@ -112,8 +112,8 @@ pub record Grows (s : Seen) (e : Event) (o : Option ℕ) (n : ℕ) : Type 0 wher
   pub is : changes_after o e s n ≡ made ++ s.changes n
 
 grows_if : (s : Seen) (e : Event) (k n : ℕ) (b : Bool) → ((job s k).origin.slot == n) ≡ b → Grows s e (Some k) n
-grows_if s e k n true is = record { made = (row e (inputs s k)).changes; is = ap (λ (c : Bool). if c then (row e (inputs s k)).changes ++ s.changes n else s.changes n) is }
-grows_if s e k n false is = record { made = []; is = ap (λ (c : Bool). if c then (row e (inputs s k)).changes ++ s.changes n else s.changes n) is }
+grows_if s e k n true is = record { made = (transition e (inputs s k)).changes; is = ap (λ (c : Bool). if c then (transition e (inputs s k)).changes ++ s.changes n else s.changes n) is }
+grows_if s e k n false is = record { made = []; is = ap (λ (c : Bool). if c then (transition e (inputs s k)).changes ++ s.changes n else s.changes n) is }
 
 pub grows : (s : Seen) (e : Event) (o : Option ℕ) (n : ℕ) → Grows s e o n
 grows s e None n = record { made = []; is = refl }
@@ -134,11 +134,11 @@ later_fits s e o j st f =
 
 -- ---- each part
 
-chain_if : (s : Seen) (e : Event) (k n : ℕ) (b : Bool) → ((job s k).origin.slot == n) ≡ b → IsSoundlySeen s → IsChain (new_slot s.first_serial) (if b then (row e (inputs s k)).changes ++ s.changes n else s.changes n)
+chain_if : (s : Seen) (e : Event) (k n : ℕ) (b : Bool) → ((job s k).origin.slot == n) ≡ b → IsSoundlySeen s → IsChain (new_slot s.first_serial) (if b then (transition e (inputs s k)).changes ++ s.changes n else s.changes n)
 chain_if s e k n true is a =
     let slot_is = eqb-true (job s k).origin.slot n is in
-    subst (λ (m : ℕ). IsChain (new_slot s.first_serial) ((row e (inputs s k)).changes ++ s.changes m)) slot_is
-    (row_chain e (job s k) (new_slot s.first_serial) (s.changes (job s k).origin.slot) (around s (job s k).origin.slot) (stage s k) (a.stages k) (a.chain (job s k).origin.slot))
+    subst (λ (m : ℕ). IsChain (new_slot s.first_serial) ((transition e (inputs s k)).changes ++ s.changes m)) slot_is
+    (transition_chain e (job s k) (new_slot s.first_serial) (s.changes (job s k).origin.slot) (around s (job s k).origin.slot) (stage s k) (a.stages k) (a.chain (job s k).origin.slot))
 chain_if s e k n false is a = a.chain n
 
 chain_after : (s : Seen) (e : Event) (o : Option ℕ) (n : ℕ) → IsSoundlySeen s → IsChain (new_slot s.first_serial) (changes_after o e s n)
@@ -154,8 +154,8 @@ old_fit s e o a k = (a.within k, later_fits s e o (job s k) (stage s k) (a.stage
 moved_fit : (s : Seen) (e : Event) (o : Option ℕ) → IsSoundlySeen s → (p : Option ℕ) → (k : ℕ) → FitsAfter o e s (task_at (tasks_moved p e s) k)
 moved_fit s e o a None k = old_fit s e o a k
 moved_fit s e o a (Some j) k =
-    let new = task_moved (task_at s.tasks j) (row e (inputs s j)) in
-    written_all (FitsAfter o e s) s.tasks j new no_task (old_fit s e o a) (a.within j, later_fits s e o (job s j) new.stage (row_fits e (job s j) (slot_at s (job s j).origin.slot) (around s (job s j).origin.slot) (stage s j) (a.stages j))) k
+    let new = task_moved (task_at s.tasks j) (transition e (inputs s j)) in
+    written_all (FitsAfter o e s) s.tasks j new no_task (old_fit s e o a) (a.within j, later_fits s e o (job s j) new.stage (transition_fits e (job s j) (slot_at s (job s j).origin.slot) (around s (job s j).origin.slot) (stage s j) (a.stages j))) k
 
 new_fit : (s : Seen) (e : Event) (o : Option ℕ) (jobs : List Job) → Each JobWithin jobs → Each (FitsAfter o e s) (map new_task jobs)
 new_fit s e o [] w = tt
@@ -180,23 +180,23 @@ still_sound r s a = record {
 
 -- ---- safe programs
 
-safe_if : (s : Seen) (e : Event) (k n : ℕ) (b : Bool) → ((job s k).origin.slot == n) ≡ b → IsSoundlySeen s → AllSafe (row e (inputs s k)).changes → IsSafelySeen s → FitsSlot (after_changes (new_slot s.first_serial) (if b then (row e (inputs s k)).changes ++ s.changes n else s.changes n)).present
+safe_if : (s : Seen) (e : Event) (k n : ℕ) (b : Bool) → ((job s k).origin.slot == n) ≡ b → IsSoundlySeen s → AllSafe (transition e (inputs s k)).changes → IsSafelySeen s → FitsSlot (after_changes (new_slot s.first_serial) (if b then (transition e (inputs s k)).changes ++ s.changes n else s.changes n)).present
 safe_if s e k n true is a made f =
     let slot_is = eqb-true (job s k).origin.slot n is in
     let m = (job s k).origin.slot in
-    subst (λ (i : ℕ). FitsSlot (after_changes (new_slot s.first_serial) ((row e (inputs s k)).changes ++ s.changes i)).present) slot_is
-    (subst (λ (x : Slot). FitsSlot x.present) (sym (after_changes-append (new_slot s.first_serial) (row e (inputs s k)).changes (s.changes m)))
-    (row_safe e (job s k) (slot_at s m) (around s (job s k).origin.slot) (stage s k) (a.within k).1 (a.stages k) made (f.slots m)))
+    subst (λ (i : ℕ). FitsSlot (after_changes (new_slot s.first_serial) ((transition e (inputs s k)).changes ++ s.changes i)).present) slot_is
+    (subst (λ (x : Slot). FitsSlot x.present) (sym (after_changes-append (new_slot s.first_serial) (transition e (inputs s k)).changes (s.changes m)))
+    (transition_safe e (job s k) (slot_at s m) (around s (job s k).origin.slot) (stage s k) (a.within k).1 (a.stages k) made (f.slots m)))
 safe_if s e k n false is a made f = f.slots n
 
 -- the install by the event that names a job is safe.
-abbrev pub IsSafeMove : Option ℕ → Event → Seen → Type 0
-IsSafeMove None e s = Unit {0}
-IsSafeMove (Some k) e s = AllSafe (row e (inputs s k)).changes
+abbrev pub IsSafeEffect : Option ℕ → Event → Seen → Type 0
+IsSafeEffect None e s = Unit {0}
+IsSafeEffect (Some k) e s = AllSafe (transition e (inputs s k)).changes
 
-safe_after : (s : Seen) (e : Event) (o : Option ℕ) (n : ℕ) → IsSoundlySeen s → IsSafeMove o e s → IsSafelySeen s → FitsSlot (slot_after o e s n).present
+safe_after : (s : Seen) (e : Event) (o : Option ℕ) (n : ℕ) → IsSoundlySeen s → IsSafeEffect o e s → IsSafelySeen s → FitsSlot (slot_after o e s n).present
 safe_after s e None n a made f = f.slots n
 safe_after s e (Some k) n a made f = safe_if s e k n ((job s k).origin.slot == n) refl a made f
 
-pub still_safe : (r : Entry) (s : Seen) → IsSoundlySeen s → IsSafeMove (names r.event) r.event s → IsSafelySeen s → IsSafelySeen (and_then r s)
+pub still_safe : (r : Entry) (s : Seen) → IsSoundlySeen s → IsSafeEffect (names r.event) r.event s → IsSafelySeen s → IsSafelySeen (and_then r s)
 still_safe r s a made f = record { slots = λ n. safe_after s r.event (names r.event) n a made f }

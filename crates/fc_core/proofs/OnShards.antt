@@ -3,7 +3,7 @@ use Rattle.std.proofs.Common.{◌≡◌, ℕ, Some, refl}
 use Rattle.fc_core.specs.declared.event.Event.{Event}
 use Rattle.fc_core.specs.declared.event.Event.TheVariants.{Signal, ShardTick, Due}
 use Rattle.fc_core.specs.History.{Calm, at_shard}
-use Rattle.fc_core.specs.Rows.{names}
+use Rattle.fc_core.specs.Transitions.{names}
 
 pub named_calm : (e : Event) (k : ℕ) → names e ≡ Some k → at_shard e ≡ Calm
 named_calm (Signal shard to id reset) k named = absurd (cc)

@@ -12,7 +12,7 @@ use Rattle.fc_registry.specs.declared.job.InitialVars.{InitialVars}
 use Rattle.fc_registry.specs.Slots.{Slot, Shard, slot_in, with_slot, new_slot}
 use Rattle.fc_core.specs.Contents.{Rejected}
 use Rattle.fc_core.specs.Ends.{refused_by}
-use Rattle.fc_core.specs.Rows.{install_call}
+use Rattle.fc_core.specs.Transitions.{install_call}
 use Rattle.fc_core.specs.Steps.{Rejects}
 
 -- the call of a refusal is that of the judgement.

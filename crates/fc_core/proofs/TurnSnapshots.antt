@@ -15,7 +15,7 @@ use Rattle.fc_core.specs.declared.stage.Task.{Task}
 use Rattle.fc_core.specs.TurnStage as turns
 use Rattle.fc_core.specs.Fits.{FitsStage}
 use Rattle.fc_core.specs.Stages.{had_memory, turn_to_take, turn_took, without_memory}
-use Rattle.fc_core.specs.Rows.{Common, Inputs, around_of, row, inputs_of, shard_after, task_moved}
+use Rattle.fc_core.specs.Transitions.{Common, Inputs, around_of, transition, inputs_of, shard_after, task_moved}
 use Rattle.fc_core.proofs.Rejections.{same_slot}
 use Rattle.std.proofs.Common.{subst}
 
@@ -68,23 +68,23 @@ module _ (shard : Shard) (task : Task) (turn : Turn) (to_take : turn_to_take tas
   abbrev here : Common → Stage → Inputs
   here common st = record { job = task.job; slot = slot; around = around_of shard common n; stage = st }
 
-  row_is : (k : ℕ) (memory : Bool) (readings : List ℕ) (common : Common) → task_moved task (row (Take k memory readings) (here common (ToTell turn turns.ToTake))) ≡ task_moved task (row (Take k memory readings) (inputs_of shard common task))
-  row_is k memory readings common = ap (λ (st : Stage). task_moved task (row (Take k memory readings) (here common st))) (sym is)
+  transition_is : (k : ℕ) (memory : Bool) (readings : List ℕ) (common : Common) → task_moved task (transition (Take k memory readings) (here common (ToTell turn turns.ToTake))) ≡ task_moved task (transition (Take k memory readings) (inputs_of shard common task))
+  transition_is k memory readings common = ap (λ (st : Stage). task_moved task (transition (Take k memory readings) (here common st))) (sym is)
 
-  pub turn_takes : (readings : List ℕ) (x : Taken) → TakesAt task.job readings shard x → (k : ℕ) (common : Common) → record { job = task.job; stage = turn_took turn x } ≡ task_moved task (row (Take k (had_memory x) readings) (inputs_of shard common task))
+  pub turn_takes : (readings : List ℕ) (x : Taken) → TakesAt task.job readings shard x → (k : ℕ) (common : Common) → record { job = task.job; stage = turn_took turn x } ≡ task_moved task (transition (Take k (had_memory x) readings) (inputs_of shard common task))
   turn_takes readings x takes k common =
       let taken : x ≡ turn_snapshot out (readings_if takes.0 readings) task.job slot.serial slot.present = takes.1 ∙ snapshot_is (readings_if takes.0 readings) in
       let settled : x ≡ turn_snapshot out (readings_if (had_memory x) readings) task.job slot.serial slot.present = taken ∙ (had out takes.0 readings task.job slot.serial slot.present ∙ ap (λ (y : Taken). turn_snapshot out (readings_if (had_memory y) readings) task.job slot.serial slot.present) (sym taken)) in
-      ap (λ (y : Taken). record { job = task.job; stage = turn_took turn y }) settled ∙ row_is k (had_memory x) readings common
+      ap (λ (y : Taken). record { job = task.job; stage = turn_took turn y }) settled ∙ transition_is k (had_memory x) readings common
 
-  pub turn_takes_without : (readings : List ℕ) (x : Taken) → TakesAt task.job readings shard x → (k : ℕ) (others : List ℕ) (common : Common) → record { job = task.job; stage = turn_took turn (without_memory x) } ≡ task_moved task (row (Take k false others) (inputs_of shard common task))
+  pub turn_takes_without : (readings : List ℕ) (x : Taken) → TakesAt task.job readings shard x → (k : ℕ) (others : List ℕ) (common : Common) → record { job = task.job; stage = turn_took turn (without_memory x) } ≡ task_moved task (transition (Take k false others) (inputs_of shard common task))
   turn_takes_without readings x takes k others common =
       let taken : x ≡ turn_snapshot out (readings_if takes.0 readings) task.job slot.serial slot.present = takes.1 ∙ snapshot_is (readings_if takes.0 readings) in
-      ap (λ (y : Taken). record { job = task.job; stage = turn_took turn y }) (ap without_memory taken ∙ without out (readings_if takes.0 readings) task.job slot.serial slot.present) ∙ row_is k false others common
+      ap (λ (y : Taken). record { job = task.job; stage = turn_took turn y }) (ap without_memory taken ∙ without out (readings_if takes.0 readings) task.job slot.serial slot.present) ∙ transition_is k false others common
 
-  pub turn_calls_at : (new : Shard) → new ≡ after_snapshot task.job shard → (k : ℕ) (memory : Bool) (readings : List ℕ) (common : Common) → new ≡ shard_after (row (Take k memory readings) (inputs_of shard common task)) task shard
+  pub turn_calls_at : (new : Shard) → new ≡ after_snapshot task.job shard → (k : ℕ) (memory : Bool) (readings : List ℕ) (common : Common) → new ≡ shard_after (transition (Take k memory readings) (inputs_of shard common task)) task shard
   turn_calls_at new after k memory readings common =
       after
       ∙ (ap (λ (cs : List ObserverCall). with_calls cs n shard) calls_are
       ∙ (ap (with_calls (turn_calls turn shard.now slot.present w) n) (sym (same_slot shard n))
-      ∙ ap (λ (st : Stage). shard_after (row (Take k memory readings) (here common st)) task shard) (sym is)))
+      ∙ ap (λ (st : Stage). shard_after (transition (Take k memory readings) (here common st)) task shard) (sym is)))

@@ -19,7 +19,7 @@ use Rattle.fc_core.specs.Heads.{head_word, word_at}
 use Rattle.fc_core.specs.History.{Entry, History, Begins, Then, Seen, seen, job, slot_at, stage}
 use Rattle.fc_core.specs.Laws.{slot_of, stage_named, snapshots_of}
 use Rattle.fc_core.specs.Stages.{image_of}
-use Rattle.fc_core.specs.Rows.{names}
+use Rattle.fc_core.specs.Transitions.{names}
 
 -- ---- the origin of an answer
 
@@ -163,11 +163,11 @@ times_of (Begins serial id policy) = []
 times_of (Then h r) = times_in r.event (seen h) ++ times_of h
 
 -- time of a commit at its stage, of a lease that notifies, or of the release of a lease.
-abbrev pub row_time : Event → Stage → List ℕ
-row_time (Commit k now) (ToCommit count t) = now ∷ []
-row_time (Note k now random) (ToTell turn (turns.ToNote found id)) = now ∷ []
-row_time (GiveUp k now) (ToTell turn needs) = now ∷ []
-row_time other at = []
+abbrev pub transition_time : Event → Stage → List ℕ
+transition_time (Commit k now) (ToCommit count t) = now ∷ []
+transition_time (Note k now random) (ToTell turn (turns.ToNote found id)) = now ∷ []
+transition_time (GiveUp k now) (ToTell turn needs) = now ∷ []
+transition_time other at = []
 
 -- whether the job that is named, if one is, belongs to a slot of this shard.
 abbrev pub is_of_shard : ℕ → Seen → Option ℕ → Bool
@@ -187,5 +187,5 @@ shard_times_of i (Begins serial id policy) = []
 shard_times_of i (Then h r) =
     own_time r.event i
     ++ (if is_of_shard i (seen h) (names r.event)
-    then row_time r.event (stage_named (seen h) (names r.event)) ++ shard_times_of i h
+    then transition_time r.event (stage_named (seen h) (names r.event)) ++ shard_times_of i h
     else shard_times_of i h)

@@ -30,7 +30,7 @@ use Rattle.fc_core.specs.Receiving.{Received, added_by, received, opened_by, kep
 use Rattle.fc_core.specs.Heads.{no_words}
 use Rattle.fc_core.specs.Timers.{timer_job}
 use Rattle.fc_core.specs.Stages.{needs_id, new_task, content_at}
-use Rattle.fc_core.specs.Rows.{Around, Common, Inputs, names, inputs_at, row, task_moved, handed, words_after}
+use Rattle.fc_core.specs.Transitions.{Around, Common, Inputs, names, inputs_at, transition, task_moved, handed, words_after}
 
 -- an event and its emission.
 pub record Entry : Type 0 where
@@ -197,15 +197,15 @@ tasks_by other s = []
 
 abbrev pub tasks_moved : Option ℕ → Event → Seen → List Task
 tasks_moved None e s = s.tasks
-tasks_moved (Some k) e s = slice_set s.tasks k (task_moved (task_at s.tasks k) (row e (inputs s k)))
+tasks_moved (Some k) e s = slice_set s.tasks k (task_moved (task_at s.tasks k) (transition e (inputs s k)))
 
 abbrev pub changes_after : Option ℕ → Event → Seen → ℕ → List Change
 changes_after None e s n = s.changes n
-changes_after (Some k) e s n = if (job s k).origin.slot == n then (row e (inputs s k)).changes ++ s.changes n else s.changes n
+changes_after (Some k) e s n = if (job s k).origin.slot == n then (transition e (inputs s k)).changes ++ s.changes n else s.changes n
 
 abbrev pub shard_time_after : Option ℕ → Event → Seen → ℕ → ℕ
 shard_time_after None e s i = s.shard_time i
-shard_time_after (Some k) e s i = if (job s k).origin.slot % 8 == i then handed (row e (inputs s k)).hands (s.shard_time i) else s.shard_time i
+shard_time_after (Some k) e s i = if (job s k).origin.slot % 8 == i then handed (transition e (inputs s k)).hands (s.shard_time i) else s.shard_time i
 
 -- effect of an event on the shard that it names itself, rather than on the shard of a job's slot.
 -- The event requests the lease of an observer of the shard's slots, sends a signal to all of them,
@@ -231,7 +231,7 @@ hands_by other i = None
 -- the greatest head word raised for each slot.
 abbrev pub words_seen : Option ℕ → Event → Seen → List ℕ
 words_seen None e s = s.words
-words_seen (Some k) e s = words_after (row e (inputs s k)) (task_at s.tasks k) s.words
+words_seen (Some k) e s = words_after (transition e (inputs s k)) (task_at s.tasks k) s.words
 
 -- ---- calls on the observers
 
@@ -289,7 +289,7 @@ tasks_brought e s = turns_by (at_shard e) s ++ tasks_by (at_front e) s
 -- calls of an event on the observers of the slot of the job that it names.
 abbrev pub calls_named : Option ℕ → Event → Seen → ℕ → List ObserverCall
 calls_named None e s n = []
-calls_named (Some k) e s n = if (job s k).origin.slot == n then (row e (inputs s k)).calls else []
+calls_named (Some k) e s n = if (job s k).origin.slot == n then (transition e (inputs s k)).calls else []
 
 -- ---- the fold
 

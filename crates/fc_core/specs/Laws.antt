@@ -11,10 +11,10 @@ use Rattle.fc_core.specs.Stage.{ToMatch, ToTake, ToCommit, ToInstall, ToRemove, 
 use Rattle.fc_core.specs.TurnStage as turns
 use Rattle.coap_reply.specs.Blocks.{cut_for}
 use Rattle.fc_core.specs.Contents.{Content, RunAnswer}
-use Rattle.fc_core.specs.Rows.{Inputs, names}
+use Rattle.fc_core.specs.Transitions.{Inputs, names}
 use Rattle.fc_core.specs.History.{Entry, History, Begins, Then, Seen, seen, job, inputs, slot_at, stage}
 
--- ---- strays
+-- ---- events that do nothing
 
 -- whether a job of slot `own` needs the head word of slot n. It needs the word of its own slot, or
 -- of the slot after those that it has read.

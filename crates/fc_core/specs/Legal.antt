@@ -20,7 +20,7 @@ use Rattle.fc_core.specs.Replies.{IsReplyTo}
 use Rattle.fc_core.specs.Exchanges.{FrontState, opening_is_live}
 use Rattle.fc_core.specs.Receiving.{sent, id_in}
 use Rattle.fc_core.specs.Stages.{content_at}
-use Rattle.fc_core.specs.Rows.{Inputs, names, sends}
+use Rattle.fc_core.specs.Transitions.{Inputs, names, sends}
 use Rattle.fc_core.specs.History.{AtFront, Receives, Answers, Draws, Fires, Passes, Rests, AtShard, Ticks, History, Begins, Then, Seen, seen, at_front, at_shard, front_at, received_at, job, overdue_in, stage, inputs, watch}
 
 -- a job's answer is sent while its exchange is live and a message ID is available, and not

@@ -15,7 +15,7 @@ pub mod Room
 pub mod Stages
 pub mod Timers
 pub mod Steps
-pub mod Rows
+pub mod Transitions
 pub mod Fits
 pub mod History
 pub mod Sound

@@ -64,7 +64,7 @@ pub data Received : Type 0 where
   Refused : (m : Message) (answer : ℕ) → Received
   -- a block that is answered immediately: it is refused, or isn't the last one (RFC 7959, section
   -- 2.9).
-  Settled : (m : Message) (asked : Asked) (response : Response) → Received
+  Immediate : (m : Message) (asked : Asked) (response : Response) → Received
   -- a new request that is served, with its complete body (RFC 7959, section 2.5).
   Opened : (m : Message) (asked : Asked) (body : List ℕ) → Received
 
@@ -83,11 +83,11 @@ slot_asked action = slot_of_resource (resource_in action)
 -- Unavailable).
 abbrev pub received_added : Add → Message → Asked → Received
 received_added (IsWhole body) m r = Opened m r body
-received_added Continues m r = Settled m r (settled_by (code 2 31) r.block1)
-received_added IsIncomplete m r = Settled m r (bare (code 4 8))
-received_added IsBadLength m r = Settled m r (bare (code 4 0))
-received_added IsTooLarge m r = Settled m r (bare (code 4 13))
-received_added IsFull m r = Settled m r (bare (code 5 3))
+received_added Continues m r = Immediate m r (settled_by (code 2 31) r.block1)
+received_added IsIncomplete m r = Immediate m r (bare (code 4 8))
+received_added IsBadLength m r = Immediate m r (bare (code 4 0))
+received_added IsTooLarge m r = Immediate m r (bare (code 4 13))
+received_added IsFull m r = Immediate m r (bare (code 5 3))
 
 -- result for the payload of a request; without Block1 it is the complete body.
 abbrev pub add_in : FrontState → Endpoint → Asked → Add
@@ -204,22 +204,22 @@ JobWithin job = (job.origin.slot < 64) × AskWithin job.ask
 -- ---- the response
 
 -- response; none if there is no message ID for it.
-abbrev pub told_by : Option ℕ → Endpoint → Message → Response → Option Emission
-told_by None to m response = None
-told_by (Some id) to m response = Some (sent_in (record { to = to; kind = reply_kind (is_confirmable m.kind); id = id; token = m.token }) response)
+abbrev pub reply_sent_by : Option ℕ → Endpoint → Message → Response → Option Emission
+reply_sent_by None to m response = None
+reply_sent_by (Some id) to m response = Some (sent_in (record { to = to; kind = reply_kind (is_confirmable m.kind); id = id; token = m.token }) response)
 
 abbrev pub id_in : FrontState → Bool → ℕ → Option ℕ
 id_in f confirmable id = reply_id confirmable id (free_id f.ids f.now)
 
-abbrev pub told : FrontState → Endpoint → Message → Response → Option Emission
-told f to m response = told_by (id_in f (is_confirmable m.kind) m.id) to m response
+abbrev pub reply_sent : FrontState → Endpoint → Message → Response → Option Emission
+reply_sent f to m response = reply_sent_by (id_in f (is_confirmable m.kind) m.id) to m response
 
 abbrev pub sent : Received → FrontState → Endpoint → Option Emission
 sent (Rejected id) f to = Some (reset_of to id)
 sent (Again bytes) f to = Some (record { to = to; bytes = record { items = bytes } })
-sent (Full m) f to = told f to m (bare (code 5 3))
-sent (Refused m answer) f to = told f to m (bare answer)
-sent (Settled m asked response) f to = told f to m response
+sent (Full m) f to = reply_sent f to m (bare (code 5 3))
+sent (Refused m answer) f to = reply_sent f to m (bare answer)
+sent (Immediate m asked response) f to = reply_sent f to m response
 sent other f to = None
 
 -- ---- the exchange, message ID and job
@@ -237,7 +237,7 @@ opening_for f to m = record f { opened = f.opened + 1; held = f.held ++ (exchang
 -- exchange that is opened.
 abbrev pub opened_by : Received → Opening → Endpoint → List Exchange
 opened_by (Opened m asked body) o to = exchange_of o to m ∷ []
-opened_by (Settled m asked response) o to = exchange_of o to m ∷ []
+opened_by (Immediate m asked response) o to = exchange_of o to m ∷ []
 opened_by (Silenced m) o to = exchange_of o to m ∷ []
 opened_by (Refused m answer) o to = exchange_of o to m ∷ []
 opened_by other o to = []
@@ -245,14 +245,14 @@ opened_by other o to = []
 -- emission that is stored as the exchange's answer, if any.
 abbrev pub kept_of : Received → Option Emission → Option Emission
 kept_of (Refused m answer) emitted = emitted
-kept_of (Settled m asked response) emitted = emitted
+kept_of (Immediate m asked response) emitted = emitted
 kept_of other emitted = None
 
 -- an immediate response to a request that isn't confirmable draws a message ID.
 abbrev pub drawn_by : Received → Ids → ℕ → Ids
 drawn_by (Full m) ids at = drawn_for (is_confirmable m.kind) ids at
 drawn_by (Refused m answer) ids at = drawn_for (is_confirmable m.kind) ids at
-drawn_by (Settled m asked response) ids at = drawn_for (is_confirmable m.kind) ids at
+drawn_by (Immediate m asked response) ids at = drawn_for (is_confirmable m.kind) ids at
 drawn_by other ids at = ids
 
 abbrev pub brought : Received → Opening → Endpoint → List Job
@@ -265,7 +265,7 @@ addition_of at to r = record { at = at; endpoint = to; slot = slot_asked r.actio
 
 abbrev pub added_by : Received → ℕ → Endpoint → List Addition
 added_by (Opened m asked body) at to = addition_of at to asked ∷ []
-added_by (Settled m asked response) at to = addition_of at to asked ∷ []
+added_by (Immediate m asked response) at to = addition_of at to asked ∷ []
 added_by other at to = []
 
 -- transfers after these payloads were added.
@@ -311,8 +311,8 @@ keeping number None f = f
 keeping number (Some emission) f = record f { held = map (answered f.now number emission.bytes) f.held }
 
 -- a front that opened an exchange for a request and answered it immediately.
-abbrev pub settled_front : FrontState → Endpoint → Message → Response → FrontState
-settled_front f to m response = keeping f.opened (told f to m response) (record (opening_for f to m) { ids = drawn_for (is_confirmable m.kind) f.ids f.now })
+abbrev pub immediate_front : FrontState → Endpoint → Message → Response → FrontState
+immediate_front f to m response = keeping f.opened (reply_sent f to m response) (record (opening_for f to m) { ids = drawn_for (is_confirmable m.kind) f.ids f.now })
 
 -- state of a front after a datagram.
 abbrev pub after_received : Received → FrontState → Endpoint → FrontState

@@ -52,5 +52,5 @@ StandsAt step content stage = (f : SlotSnapshot) (seen : ArrayVec ℕ) → (stag
 
 -- this transition leads to the action after a snapshot, with this answer and this snapshot.
 abbrev pub LeadsTo : Taken → (spec.Taken → Stage) → Step → Content → Type 0
-LeadsTo taken row step content =
-    (f : SlotSnapshot) (seen : ArrayVec ℕ) → HasSize taken f → (stage_of step f seen content ≡ row (taken_with taken f)) × FitsStep step f
+LeadsTo taken transition step content =
+    (f : SlotSnapshot) (seen : ArrayVec ℕ) → HasSize taken f → (stage_of step f seen content ≡ transition (taken_with taken f)) × FitsStep step f

@@ -119,9 +119,9 @@ removed (removals.Removed serial) = ToRaise (head_word serial false) Deleted
 removed removals.Absent = ToAnswer Deleted
 removed removals.AtEnd = ToAnswer Unavailable
 
-abbrev pub told : Option Facts → Content
-told None = Misses
-told (Some receipt) = Described receipt
+abbrev pub receipt_content : Option Facts → Content
+receipt_content None = Misses
+receipt_content (Some receipt) = Described receipt
 
 -- a client that has the response of the slot's serial needs no run.
 abbrev pub matched_by : Bool → ℕ → Stage

@@ -21,7 +21,7 @@ use Rattle.fc_core.specs.Stage.{Stage}
 use Rattle.fc_core.specs.Stage.{ToMatch, ToTake, ToCommit, ToInstall, ToRemove, ToDescribe, ToList, ToRaise, ToAnswer, ToTell, Gone}
 use Rattle.fc_core.specs.TurnStage.{TurnStage}
 use Rattle.fc_core.specs.TurnStage as turns
-use Rattle.fc_core.specs.Stages.{after_commit, listed, made, matched, removed, told, took, turn_took, with_id}
+use Rattle.fc_core.specs.Stages.{after_commit, listed, made, matched, removed, receipt_content, took, turn_took, with_id}
 
 -- a call for a job.
 pub data Call : Type 0 where
@@ -80,20 +80,20 @@ next_stage (Installs program initial answer) = made (receipt_of program 0) answe
 next_stage (Rejects content) = ToAnswer content
 next_stage Refuses = ToAnswer Unavailable
 next_stage (Removes removal) = removed removal
-next_stage (Describes receipt) = ToAnswer (told receipt)
+next_stage (Describes receipt) = ToAnswer (receipt_content receipt)
 next_stage (Raises word content) = ToAnswer content
 next_stage (TakesTurn turn taken) = turn_took turn taken
 next_stage (Draws turn found free) = ToTell turn (with_id found free)
 next_stage other = Gone
 
 -- change of the job's slot by the call's result.
-abbrev pub changes_told : Call → List Change
-changes_told (Commits count t (Done m)) = if m.changed then Wrote (commit_of t) ∷ [] else []
-changes_told (Installs p initial (Raised serial created)) = Installed p initial ∷ []
-changes_told (Removes (removals.Removed serial)) = Removed ∷ []
-changes_told other = []
+abbrev pub changes_of_call : Call → List Change
+changes_of_call (Commits count t (Done m)) = if m.changed then Wrote (commit_of t) ∷ [] else []
+changes_of_call (Installs p initial (Raised serial created)) = Installed p initial ∷ []
+changes_of_call (Removes (removals.Removed serial)) = Removed ∷ []
+changes_of_call other = []
 
 -- head word that the call raises for the job's slot.
-abbrev pub word_told : Call → Option ℕ
-word_told (Raises word content) = Some word
-word_told other = None
+abbrev pub word_of_call : Call → Option ℕ
+word_of_call (Raises word content) = Some word
+word_of_call other = None

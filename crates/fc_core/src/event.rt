@@ -105,7 +105,7 @@ pub enum Event<'a> {
 
 impl Event<'_> {
     ghost use Rattle.std.specs.Prelude.{◌≡◌};
-    ghost use Rattle.fc_core.specs.Rows.{names};
+    ghost use Rattle.fc_core.specs.Transitions.{names};
 
     /// Returns the number of the job that the event names, if it names one.
     pub fn job(&self) -> Option<usize>

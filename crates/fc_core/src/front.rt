@@ -12,7 +12,7 @@ ghost use Rattle.fc_core.specs.Ids.{drawn_for, free_id};
 ghost use Rattle.fc_core.specs.Policies.{is_allowed};
 ghost use Rattle.coap_block.specs.Transfers.{after_addition};
 ghost use Rattle.coap_block.specs.Views.{add_seen};
-ghost use Rattle.fc_core.specs.Receiving.{add_in, addition_of, after_delivered, after_received, ask_by, emission_if, etags_by, handed_on, handled, handled_if, id_in, is_confirmable, job_of, look_in, next_opening, observes, opening_for, received_as, reply_or_nothing, request_asked, request_received, settled_front, told, initial_vars_by};
+ghost use Rattle.fc_core.specs.Receiving.{add_in, addition_of, after_delivered, after_received, ask_by, emission_if, etags_by, handed_on, handled, handled_if, id_in, is_confirmable, job_of, look_in, next_opening, observes, opening_for, received_as, reply_or_nothing, request_asked, request_received, immediate_front, reply_sent, initial_vars_by};
 ghost use Rattle.fc_core.specs.Receiving as receiving;
 ghost use Rattle.fc_core.specs.Timers.{timer_job, timer_request};
 ghost use Rattle.coap_reply.specs.Responses.{reset_of, settled_by};
@@ -544,7 +544,7 @@ impl Front {
     ) -> bool
         requires { 64 ≤ code.byte }
         ensures emission { let response = settled_by code.byte block1 in
-            emission_if result reply.new ≡ told self.old endpoint message.now response }
+            emission_if result reply.new ≡ reply_sent self.old endpoint message.now response }
         ensures after { self.new ≡ record self.old {
           ids = drawn_for (is_confirmable message.now.kind) self.old.ids self.old.now;
         } }
@@ -570,8 +570,8 @@ impl Front {
         requires new { look_in self.old endpoint message.now ≡ IsNew }
         requires code { 64 ≤ code.byte }
         ensures handled { let response = settled_by code.byte block1 in
-            (job : Job) → handled result job reply.new ≡ reply_or_nothing (told self.old endpoint message.now response) }
-        ensures after { self.new ≡ settled_front self.old endpoint message.now (settled_by code.byte block1) }
+            (job : Job) → handled result job reply.new ≡ reply_or_nothing (reply_sent self.old endpoint message.now response) }
+        ensures after { self.new ≡ immediate_front self.old endpoint message.now (settled_by code.byte block1) }
     {
         let opening = self.open_exchange(endpoint, message);
         let sent = self.tell(endpoint, message, code, block1, reply);

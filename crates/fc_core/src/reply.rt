@@ -7,7 +7,7 @@ ghost use Rattle.coap_reply.specs.Responses.{etag, sent_in, settled_by};
 ghost use Rattle.coap_reply.specs.Views.{to_peer};
 ghost use Rattle.fc_core.specs.Contents.{Listed};
 ghost use Rattle.fc_core.specs.Ends.{content_of, part_in};
-ghost use Rattle.fc_core.specs.Receiving.{told_by};
+ghost use Rattle.fc_core.specs.Receiving.{reply_sent_by};
 ghost use Rattle.fc_core.specs.Replies as spec;
 ghost use Rattle.fc_core.specs.Replies.{IsReplyTo, link_format, made_response, to_job};
 
@@ -167,7 +167,7 @@ pub(crate) fn settled(
     emission: &mut Emission,
 )
     requires { 64 ≤ code.byte }
-    ensures { Some emission.new ≡ told_by (Some id) to message.now (settled_by code.byte block1) }
+    ensures { Some emission.new ≡ reply_sent_by (Some id) to message.now (settled_by code.byte block1) }
 {
     let envelope = Envelope {
         to,

@@ -8,7 +8,7 @@ ghost use Rattle.fc_core.specs.Ends.{refused};
 ghost use Rattle.fc_core.specs.Fits.{HasListed};
 ghost use Rattle.fc_core.specs.Room.{LeadsTo, StandsAt};
 ghost use Rattle.fc_core.specs.Stage.{Gone, ToAnswer};
-ghost use Rattle.fc_core.specs.Stages as rows;
+ghost use Rattle.fc_core.specs.Stages as stages;
 ghost use Rattle.fc_core.specs.Stages.{after_list, asked_stage, first_stage};
 
 use crate::answer::{Answer, End, Words};
@@ -150,7 +150,7 @@ impl Stage {
     /// If the word belongs to a program at a serial of which the client has the response, the
     /// answer is 2.03 (Valid). Then there is no run. Otherwise the job needs a snapshot.
     pub fn matched(&mut self, job: &Job, word: u64)
-        ensures { self.new ≡ rows.matched word job.now.etags.items }
+        ensures { self.new ≡ stages.matched word job.now.etags.items }
     {
         let serial = serial_in(word);
         if is_present(word) && job.etags.as_slice().contains(&serial) {
@@ -166,7 +166,7 @@ impl Stage {
     /// See [`Step::took`].
     pub fn took(&mut self, count: u8, given: Took)
         requires { count < 8 }
-        ensures { self.new ≡ rows.took count given }
+        ensures { self.new ≡ stages.took count given }
     {
         let Took { taken, found } = given;
         self.found = found;
@@ -178,7 +178,7 @@ impl Stage {
     /// The slot's head word is raised next. If the slot is at its last serial, the answer is 5.03.
     pub fn made(&mut self, receipt: Receipt, made: Made)
         requires { IsMadeBelow made }
-        ensures { self.new ≡ rows.made receipt made }
+        ensures { self.new ≡ stages.made receipt made }
     {
         match made {
             Made::Raised { serial, created } => {
@@ -199,7 +199,7 @@ impl Stage {
     /// 2.02. If the slot is at its last serial, the answer is 5.03.
     pub fn removed(&mut self, removal: Removal)
         requires { IsRemovedBelow removal }
-        ensures { self.new ≡ rows.removed removal }
+        ensures { self.new ≡ stages.removed removal }
     {
         match removal {
             Removal::Removed { serial } => {
@@ -217,8 +217,8 @@ impl Stage {
     /// Continues after a receipt was read; `None` if the slot is empty.
     ///
     /// The answer is the receipt, or 4.04 for an empty slot.
-    pub fn told(&mut self, receipt: Option<Receipt>)
-        ensures { self.new ≡ ToAnswer (rows.told receipt) }
+    pub fn set_receipt(&mut self, receipt: Option<Receipt>)
+        ensures { self.new ≡ ToAnswer (stages.receipt_content receipt) }
     {
         self.answer.write_other(End::Told(receipt));
         self.step = Step::ToAnswer;
@@ -262,7 +262,7 @@ impl Stage {
     ///
     /// Nothing changes if the job was to raise none.
     pub fn raised(&mut self)
-        ensures { self.new ≡ rows.word_raised self.old }
+        ensures { self.new ≡ stages.word_raised self.old }
     {
         if let Step::ToRaise(_) = &self.step {
             self.step = Step::ToAnswer;
@@ -271,7 +271,7 @@ impl Stage {
 
     /// Returns the job's answer if the job is to be answered next, or `None`.
     pub fn content(&self) -> Option<&Answer>
-        ensures { option_copied result ≡ rows.content_at self.now }
+        ensures { option_copied result ≡ stages.content_at self.now }
     {
         match &self.step {
             Step::ToAnswer => Some(&self.answer),
@@ -282,7 +282,7 @@ impl Stage {
     // Returns the job's lease if the job notifies an observer and takes its snapshot next, or
     // `None`. `Task::take` and `refuse_take` use it to distinguish a lease from a request.
     pub(crate) fn turn_to_take(&self) -> Option<Turn>
-        ensures { result ≡ rows.turn_to_take self.now }
+        ensures { result ≡ stages.turn_to_take self.now }
     {
         match &self.step {
             Step::ToTell(turn, TurnStep::ToTake) => Some(*turn),
@@ -301,7 +301,7 @@ impl Step {
     /// empty, 5.03 if memory can't be allocated.
     pub fn took(count: u8, taken: Taken, answer: &mut Answer) -> Step
         requires { count < 8 }
-        ensures { LeadsTo taken (rows.took count) result answer.new }
+        ensures { LeadsTo taken (stages.took count) result answer.new }
     {
         match taken {
             Taken::Missing => {
@@ -319,7 +319,7 @@ impl Step {
     /// The lease needs a message ID next, also if the slot is empty. A lease that isn't active is
     /// over. If memory can't be allocated, the lease still needs its snapshot.
     pub fn turn_took(turn: Turn, taken: Taken) -> Step
-        ensures { (content : Content) → LeadsTo taken (rows.turn_took turn) result content }
+        ensures { (content : Content) → LeadsTo taken (stages.turn_took turn) result content }
     {
         match taken {
             Taken::Given(program) => Step::ToTell(turn, TurnStep::ToDraw(Some(program))),
@@ -342,7 +342,7 @@ impl Step {
         answer: &mut Answer,
     ) -> Step
         requires { AreDone outcome.now ticket.now committed }
-        ensures { StandsAt result answer.new (rows.after_commit count ticket.now committed) }
+        ensures { StandsAt result answer.new (stages.after_commit count ticket.now committed) }
     {
         match committed {
             Committed::Done(mark) => {
@@ -364,7 +364,7 @@ impl Step {
     // Continues after the slot changed since the snapshot; `count` is the number of snapshots. The
     // job takes another snapshot; after the eighth, `answer` is 5.03.
     fn overtaken(count: u8, answer: &mut Answer) -> Step
-        ensures { StandsAt result answer.new (rows.retaken count) }
+        ensures { StandsAt result answer.new (stages.retaken count) }
     {
         if count < SNAPSHOTS {
             return Step::ToTake(count);

@@ -19,8 +19,8 @@ ghost use Rattle.fc_core.specs.Stage.{Gone};
 ghost use Rattle.fc_core.specs.Stages.{content_at, drew, ended, had_memory, image_of, needs_id, new_task, turn_to_take, without_memory};
 ghost use Rattle.fc_core.specs.TurnStage as turns;
 ghost use Rattle.fc_core.specs.declared.stage.TurnStep.TheVariants.{ToDraw};
-ghost use Rattle.fc_core.specs.Steps.{changes_told, next_stage};
-ghost use Rattle.fc_core.specs.Rows.{Common, Inputs, ShardMoves, TaskMoves, commit_call, commit_move, install_call, install_move, moves, note_on, notification, row, inputs_of, shard_moved, task_moved, words_after};
+ghost use Rattle.fc_core.specs.Steps.{changes_of_call, next_stage};
+ghost use Rattle.fc_core.specs.Transitions.{Common, Inputs, ShardMoves, TaskMoves, commit_call, commit_effect, install_call, install_effect, goes_to, note_on, notification, transition, inputs_of, shard_moved, task_moved, words_after};
 
 use crate::answer::Answer;
 use crate::front::blank_job;
@@ -67,7 +67,7 @@ impl Task {
     pub fn peek(&mut self, slot: u8, heads: &Heads)
         requires { HasNext self.old.stage }
         ensures { (k : ℕ) (shard : Shard) (free : ℕ → Option ℕ) → let common : Common = record { words = heads.now; free = free } in
-            self.new ≡ task_moved self.old (row (Event.Peek k slot) (inputs_of shard common self.old)) }
+            self.new ≡ task_moved self.old (transition (Event.Peek k slot) (inputs_of shard common self.old)) }
     {
         let stage = &mut self.stage;
         match &stage.step {
@@ -190,7 +190,7 @@ impl Task {
     {
         let stage = &mut self.stage;
         if let Step::ToDescribe = &stage.step {
-            stage.told(shard.receipt(self.job.origin.slot));
+            stage.set_receipt(shard.receipt(self.job.origin.slot));
         }
     }
 
@@ -202,7 +202,7 @@ impl Task {
         requires { IsOwned shard.old self.old.job.origin.slot }
         ensures task { (k : ℕ) → TaskMoves (Event.Install k result) shard.old self.old self.new }
         ensures shard { (k : ℕ) → ShardMoves (Event.Install k result) shard.old self.old shard.new }
-        ensures safe { (k : ℕ) (common : Common) → AllSafe (row (Event.Install k result) (inputs_of shard.old common self.old)).changes }
+        ensures safe { (k : ℕ) (common : Common) → AllSafe (transition (Event.Install k result) (inputs_of shard.old common self.old)).changes }
     {
         let stage = &mut self.stage;
         let Step::ToInstall = &stage.step else {
@@ -235,7 +235,7 @@ impl Task {
     pub fn raise(&mut self, heads: &mut Heads)
         ensures task { (k : ℕ) (shard : Shard) → TaskMoves (Event.Raise k) shard self.old self.new }
         ensures words { (k : ℕ) (shard : Shard) (common : Common) →
-            heads.new ≡ words_after (row (Event.Raise k) (inputs_of shard common self.old)) self.old heads.old }
+            heads.new ≡ words_after (transition (Event.Raise k) (inputs_of shard common self.old)) self.old heads.old }
     {
         let stage = &mut self.stage;
         if let Step::ToRaise(word) = stage.step {
@@ -253,7 +253,7 @@ impl Task {
 
     /// Ends a task that was to be answered, so that it is answered once.
     pub fn end(&mut self)
-        ensures { self.new ≡ task_moved self.old (moves (ended self.old.stage)) }
+        ensures { self.new ≡ task_moved self.old (goes_to (ended self.old.stage)) }
     {
         let stage = &mut self.stage;
         if let Step::ToAnswer = &stage.step {
@@ -273,7 +273,7 @@ impl Task {
     ///
     /// If `free` is `None`, the lease still needs one.
     pub fn draw(&mut self, free: Option<u16>)
-        ensures { self.new ≡ task_moved self.old (moves (drew free self.old.stage)) }
+        ensures { self.new ≡ task_moved self.old (goes_to (drew free self.old.stage)) }
     {
         let stage = &mut self.stage;
         match (mem::replace(&mut stage.step, Step::Gone), free) {
@@ -330,7 +330,7 @@ impl Task {
 
     /// Ends the task, since its worker is lost. It is never answered.
     pub fn lose(&mut self)
-        ensures { self.new ≡ task_moved self.old (moves Gone) }
+        ensures { self.new ≡ task_moved self.old (goes_to Gone) }
     {
         let stage = &mut self.stage;
         stage.step = Step::Gone;
@@ -379,7 +379,7 @@ fn run_and_commit(
     requires given { HasGiven (slot_in shard.old ticket.now.origin.slot) ticket.now }
     requires asked { ticket.now.turn ≡ None }
     ensures stage { StandsAt result answer.new (next_stage (commit_call shard.old count ticket.now)) }
-    ensures shard { shard.new ≡ shard_moved (commit_move shard.old count ticket.now now) ticket.now.origin.slot shard.old }
+    ensures shard { shard.new ≡ shard_moved (commit_effect shard.old count ticket.now now) ticket.now.origin.slot shard.old }
 {
     let outcome = run(
         frame,
@@ -455,8 +455,8 @@ fn verify_and_install(
     requires { IsOwned shard.old slot }
     ensures stage { OnOk result (stage.new ≡ next_stage (install_call initial (judged image.now) (slot_in shard.old slot))) }
     ensures shard { OnOk result ((s : Inputs) →
-        shard.new ≡ shard_moved (install_move initial (judged image.now) (record s { slot = slot_in shard.old slot })) slot shard.old) }
-    ensures safe { OnOk result (AllSafe (changes_told (install_call initial (judged image.now) (slot_in shard.old slot)))) }
+        shard.new ≡ shard_moved (install_effect initial (judged image.now) (record s { slot = slot_in shard.old slot })) slot shard.old) }
+    ensures safe { OnOk result (AllSafe (changes_of_call (install_call initial (judged image.now) (slot_in shard.old slot)))) }
     ensures refused { IsErr result → shard.new ≡ shard.old }
 {
     match verify(alloc, image) {
@@ -482,7 +482,7 @@ fn install_program(
     requires { IsOwned shard.old slot }
     ensures stage { OnOk result (stage.new ≡ next_stage (install_call initial (Accepts program) (slot_in shard.old slot))) }
     ensures shard { OnOk result ((s : Inputs) →
-        shard.new ≡ shard_moved (install_move initial (Accepts program) (record s { slot = slot_in shard.old slot })) slot shard.old) }
+        shard.new ≡ shard_moved (install_effect initial (Accepts program) (record s { slot = slot_in shard.old slot })) slot shard.old) }
     ensures refused { IsErr result → shard.new ≡ shard.old }
 {
     let receipt = Receipt::of(&program, 0);

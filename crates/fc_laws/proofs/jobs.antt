@@ -1,5 +1,5 @@
 pub mod Ways
-pub mod Strays
+pub mod NoOps
 pub mod Others
 pub mod Steps
 pub mod Along

@@ -16,7 +16,7 @@ use Rattle.fc_core.specs.declared.event.Event.{Event}
 use Rattle.fc_core.specs.declared.event.Event.TheVariants.{Deliver}
 use Rattle.fc_laws.specs.ExchangeLaws.{IsOpening}
 use Rattle.fc_core.specs.History.{Entry, Seen, and_then, front_at}
-use Rattle.fc_core.specs.Receiving.{Received, Settled, add_in, addition_of, received_added, told, initial_vars_by}
+use Rattle.fc_core.specs.Receiving.{Received, Immediate, add_in, addition_of, received_added, reply_sent, initial_vars_by}
 use Rattle.fc_core.specs.Policies.{is_allowed}
 use Rattle.coap_reply.specs.Responses.{Response, bare, settled_by}
 use Rattle.fc_core.specs.Stages.{new_task}
@@ -68,12 +68,12 @@ pub record BringsInstall (e : Entry) (s : Seen) (r : Asked) (n : ℕ) (body : Li
 
 -- the answer 2.31 (Continue), with the block that was sent.
 abbrev pub continue_by : Seen → Event → Message → Place → Option Emission
-continue_by s (Deliver now to bytes) m b = told (front_at s now) to m (settled_by (code 2 31) (Some b))
+continue_by s (Deliver now to bytes) m b = reply_sent (front_at s now) to m (settled_by (code 2 31) (Some b))
 continue_by s other m b = None
 
 -- a request with a block is answered immediately, by this code alone.
 abbrev pub SettlesBy : Seen → Event → Message → Asked → ℕ → Type 0
-SettlesBy s (Deliver now to bytes) m r answer = asked_at s now to m r ≡ Settled m r (bare answer)
+SettlesBy s (Deliver now to bytes) m r answer = asked_at s now to m r ≡ Immediate m r (bare answer)
 SettlesBy s other m r answer = ⊥
 
 -- immediate answers to a block: 2.31 (Continue) with its Block1, or the code of a refusal alone.

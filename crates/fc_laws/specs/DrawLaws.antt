@@ -9,7 +9,7 @@ use Rattle.fc_core.specs.declared.event.Event.{Event}
 use Rattle.fc_core.specs.declared.event.Event.TheVariants.{Answer, Deliver, Fresh}
 use Rattle.fc_core.specs.Contents.{Content}
 use Rattle.fc_core.specs.History.{Seen, job, stage}
-use Rattle.fc_core.specs.Receiving.{Settled, is_confirmable}
+use Rattle.fc_core.specs.Receiving.{Immediate, is_confirmable}
 use Rattle.fc_core.specs.Stage.{ToAnswer, ToTell}
 use Rattle.fc_core.specs.TurnStage as turns
 use Rattle.fc_laws.specs.BodyLaws.{Asks, asked_at}
@@ -19,7 +19,7 @@ use Rattle.fc_laws.specs.ReplyLaws.{Refuses}
 
 -- the block of a request is answered on arrival, by this response.
 abbrev pub Settles : Seen → Event → Message → Asked → Response → Type 0
-Settles s (Deliver now to bytes) m r response = asked_at s now to m r ≡ Settled m r response
+Settles s (Deliver now to bytes) m r response = asked_at s now to m r ≡ Immediate m r response
 Settles s other m r response = ⊥
 
 -- the event delivers a new request that is answered on arrival: there is no space for its exchange,

@@ -13,7 +13,7 @@ use Rattle.fc_core.specs.declared.event.Event.{Event}
 use Rattle.fc_core.specs.declared.event.Event.TheVariants.{Deliver}
 use Rattle.coap_reply.specs.Responses.{bare}
 use Rattle.fc_core.specs.History.{Entry, History, Begins, Then, Seen, seen, and_then, front_at}
-use Rattle.fc_core.specs.Receiving.{is_confirmable, told}
+use Rattle.fc_core.specs.Receiving.{is_confirmable, reply_sent}
 
 -- ---- duplicates
 
@@ -113,7 +113,7 @@ ExceedsShare s other m = ⊥
 
 -- the immediate answer to a message, by this code alone.
 abbrev pub bare_by : Seen → Event → Message → ℕ → Option Emission
-bare_by s (Deliver now to bytes) m answer = told (front_at s now) to m (bare answer)
+bare_by s (Deliver now to bytes) m answer = reply_sent (front_at s now) to m (bare answer)
 bare_by s other m answer = None
 
 -- endpoint and message ID of an exchange, whether it is confirmable, and the time when it was

@@ -12,7 +12,7 @@ use Rattle.fc_registry.specs.Slots.{Present, Ticket, vars_in}
 use Rattle.fc_registry.specs.declared.job.Ask.TheVariants.{Install as Asks}
 use Rattle.fc_registry.specs.declared.job.InitialVars.{InitialVars}
 use Rattle.fc_core.specs.declared.event.Event.TheVariants.{Commit, Install, Remove}
-use Rattle.fc_core.specs.Rows.{Inputs}
+use Rattle.fc_core.specs.Transitions.{Inputs}
 use Rattle.fc_core.specs.Stage.{Stage}
 use Rattle.fc_core.specs.Stage.{ToCommit, ToInstall, ToRemove, ToRaise}
 use Rattle.fc_core.specs.History.{Entry, History, Seen, seen, and_then, job, slot_at, stage}

@@ -13,7 +13,7 @@ ghost use Rattle.fc_laws.specs.BodyLaws.{Asks, BringsInstall, FitsBy, IsAnswerAt
 ghost use Rattle.fc_laws.specs.ExchangeLaws.{bare_by};
 ghost use Rattle.fc_core.specs.History.{Entry, History, Seen, and_then, seen};
 ghost use Rattle.fc_core.specs.Legal.{Emits};
-ghost use Rattle.fc_core.specs.Receiving.{Opened, Settled};
+ghost use Rattle.fc_core.specs.Receiving.{Opened, Immediate};
 ghost use Rattle.coap_reply.specs.Responses.{Response, bare, settled_by};
 ghost use Rattle.std.specs.Prelude.{ℕ, ◌≡◌, ◌↔◌, ◌++◌, ◌<◌, ◌≤◌, List, Some, false, length, true};
 
@@ -37,7 +37,7 @@ pub fn blocks_are_joined()
         ↔ ((b.more ≡ false) × FitsBehind (seen h).additions (addition_at (seen h) now to r) b body)) }
     ensures continues { (h : History) (now : ℕ) (to : Endpoint) (m : Message) (r : Asked) (b : Place) →
         r.block1 ≡ Some b →
-        ((asked_at (seen h) now to m r ≡ Settled m r (settled_by (code 2 31) (Some b)))
+        ((asked_at (seen h) now to m r ≡ Immediate m r (settled_by (code 2 31) (Some b)))
         ↔ ((b.more ≡ true)
         × ((body : List ℕ) × FitsBehind (seen h).additions (addition_at (seen h) now to r) b body))) }
     ensures most { (h : History) (now : ℕ) (to : Endpoint) (m : Message) (r : Asked) (body : List ℕ) →
@@ -96,22 +96,22 @@ pub fn blocks_that_fit_are_answered()
 pub fn refused_blocks_have_causes()
     ensures full { (h : History) (now : ℕ) (to : Endpoint) (m : Message) (r : Asked) (b : Place) →
         r.block1 ≡ Some b →
-        ((asked_at (seen h) now to m r ≡ Settled m r (bare 163))
+        ((asked_at (seen h) now to m r ≡ Immediate m r (bare 163))
         ↔ FindsNoRoom (seen h).additions (addition_at (seen h) now to r) b) }
     ensures incomplete { (h : History) (now : ℕ) (to : Endpoint) (m : Message) (r : Asked) (b : Place) →
         r.block1 ≡ Some b →
-        ((asked_at (seen h) now to m r ≡ Settled m r (bare 136))
+        ((asked_at (seen h) now to m r ≡ Immediate m r (bare 136))
         ↔ IsOutOfPlace (seen h).additions (addition_at (seen h) now to r) b) }
     ensures length { (h : History) (now : ℕ) (to : Endpoint) (m : Message) (r : Asked) (b : Place) →
         r.block1 ≡ Some b →
-        ((asked_at (seen h) now to m r ≡ Settled m r (bare 128))
+        ((asked_at (seen h) now to m r ≡ Immediate m r (bare 128))
         ↔ HasWrongLength (seen h).additions (addition_at (seen h) now to r) b) }
     ensures sum { (h : History) (now : ℕ) (to : Endpoint) (m : Message) (r : Asked) (b : Place) →
         r.block1 ≡ Some b →
-        ((asked_at (seen h) now to m r ≡ Settled m r (bare 141))
+        ((asked_at (seen h) now to m r ≡ Immediate m r (bare 141))
         ↔ HasLargeSum (seen h).additions (addition_at (seen h) now to r) b) }
     ensures only { (h : History) (now : ℕ) (to : Endpoint) (m : Message) (r : Asked) (b : Place) (response : Response) →
-        r.block1 ≡ Some b → asked_at (seen h) now to m r ≡ Settled m r response → IsAnswerAtOnce b response }
+        r.block1 ≡ Some b → asked_at (seen h) now to m r ≡ Immediate m r response → IsAnswerAtOnce b response }
     ensures answered { (e : Entry) (s : Seen) (m : Message) (r : Asked) (answer : ℕ) →
         Asks s e.event m r → SettlesBy s e.event m r answer → Emits s e.event e.emitted
         → e.emitted ≡ bare_by s e.event m answer }

@@ -10,14 +10,14 @@ ghost use Rattle.fc_observe.specs.declared.entry.Turn.{Turn};
 ghost use Rattle.fc_registry.specs.Calls.{commit_of, run_of};
 ghost use Rattle.fc_registry.specs.Slots.{Present, Ticket};
 ghost use Rattle.fc_core.specs.Legal.{AllMean, Emits, IsMeant};
-ghost use Rattle.fc_core.specs.Rows.{names};
+ghost use Rattle.fc_core.specs.Transitions.{names};
 ghost use Rattle.std.specs.Prelude.{ℕ, ◌+◌, ◌<◌, ◌≤◌, List, None, Option, Some, false, length, true, ◌≡◌};
 
 /// An event at the wrong stage of its job changes nothing and emits nothing.
 ///
 /// Nothing of the history's summary changes. The same holds for an event of a job that has ended or
 /// never arrived, and for a `Peek` of another head word than the job needs.
-pub fn strays_change_nothing()
+pub fn no_ops_change_nothing()
     ensures seen { (r : Entry) (s : Seen) → is_noop s r.event ≡ true → and_then r s ≡ s }
     ensures emitted { (r : Entry) (s : Seen) → is_noop s r.event ≡ true → Emits s r.event r.emitted
         → r.emitted ≡ None }

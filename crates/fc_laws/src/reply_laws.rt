@@ -15,7 +15,7 @@ ghost use Rattle.fc_core.specs.Exchanges.{FrontState};
 ghost use Rattle.fc_core.specs.History.{Entry, Seen, and_then, did, job, stage};
 ghost use Rattle.fc_core.specs.Ids.{free_id};
 ghost use Rattle.fc_core.specs.Legal.{Emits};
-ghost use Rattle.fc_core.specs.Receiving.{delivered, told};
+ghost use Rattle.fc_core.specs.Receiving.{delivered, reply_sent};
 ghost use Rattle.fc_laws.specs.ReplyLaws.{IsAnswerTo, Refuses, Rejects, reset_to};
 ghost use Rattle.fc_core.specs.declared.event.Event.TheVariants.{Answer, Deliver};
 ghost use Rattle.fc_core.specs.declared.front.Delivered.TheVariants.{Signal};
@@ -61,12 +61,12 @@ pub fn answers_go_to_their_clients()
         → (job s k).confirmable ≡ false → Emits s (Answer k now) (Some e)
         → (id : ℕ) × (free_id s.ids (max s.time now) ≡ Some id) × IsAnswerTo (job s k) content NonConfirmable id e }
     ensures at_once { (f : FrontState) (to : Endpoint) (m : Message) (response : Response) → m.kind ≡ Confirmable
-        → told f to m response ≡ Some (sent_in (record { to = to; kind = Acknowledgement; id = m.id; token = m.token }) response) }
+        → reply_sent f to m response ≡ Some (sent_in (record { to = to; kind = Acknowledgement; id = m.id; token = m.token }) response) }
     ensures other_at_once { (f : FrontState) (to : Endpoint) (m : Message) (response : Response) (id : ℕ) → m.kind ≡ NonConfirmable
         → free_id f.ids f.now ≡ Some id
-        → told f to m response ≡ Some (sent_in (record { to = to; kind = NonConfirmable; id = id; token = m.token }) response) }
+        → reply_sent f to m response ≡ Some (sent_in (record { to = to; kind = NonConfirmable; id = id; token = m.token }) response) }
     ensures none_at_once { (f : FrontState) (to : Endpoint) (m : Message) (response : Response) → m.kind ≡ NonConfirmable
-        → free_id f.ids f.now ≡ None → told f to m response ≡ None }
+        → free_id f.ids f.now ≡ None → reply_sent f to m response ≡ None }
 {}
 
 /// A signal, an ignored datagram and some non-confirmable requests get no response.

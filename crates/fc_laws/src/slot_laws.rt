@@ -11,7 +11,7 @@ ghost use Rattle.fc_core.specs.Stage.{ToAnswer, ToMatch};
 ghost use Rattle.fc_core.specs.Laws.{HasCome, changes_by, slot_of, snapshots_of};
 ghost use Rattle.fc_laws.specs.SlotLaws.{AllOfImages, ChangesBy, IsOfImage, IsToInstall, IsToRaise, IsUnchanged, IsWritten, inputs_installing, vars_at};
 ghost use Rattle.fc_core.specs.Stages.{image_of};
-ghost use Rattle.fc_core.specs.Rows.{Inputs, names, row};
+ghost use Rattle.fc_core.specs.Transitions.{Inputs, names, transition};
 ghost use Rattle.fc_core.specs.declared.event.Event.TheVariants.{Commit, Install};
 ghost use Rattle.fc_core.specs.Stage.{ToCommit, ToRaise};
 ghost use Rattle.fc_help.specs.declared.request.Method.TheVariants.{Get};
@@ -90,9 +90,9 @@ pub fn updates_keep_variables()
 /// It doesn't change the calls on the slot's observers either.
 pub fn kept_variables_change_no_answer()
     ensures answer { (k : ℕ) (memory : Bool) (x : Inputs) (image : ArrayVec ℕ) →
-        (row (Install k memory) (inputs_installing image Kept x)).stage ≡ (row (Install k memory) (inputs_installing image Zeros x)).stage }
+        (transition (Install k memory) (inputs_installing image Kept x)).stage ≡ (transition (Install k memory) (inputs_installing image Zeros x)).stage }
     ensures calls { (k : ℕ) (memory : Bool) (x : Inputs) (image : ArrayVec ℕ) →
-        (row (Install k memory) (inputs_installing image Kept x)).calls ≡ (row (Install k memory) (inputs_installing image Zeros x)).calls }
+        (transition (Install k memory) (inputs_installing image Kept x)).calls ≡ (transition (Install k memory) (inputs_installing image Zeros x)).calls }
 {}
 
 /// Each program that was installed or is in a slot was accepted from some image.

@@ -14,7 +14,7 @@ use Rattle.fc_core.specs.declared.stage.Task.{Task}
 use Rattle.fc_core.specs.declared.event.Event.TheVariants.{Peek, Raise, Take}
 use Rattle.fc_core.specs.Heads.{word_at, word_raised}
 use Rattle.fc_core.specs.History.{History, task_at}
-use Rattle.fc_core.specs.Rows.{call_if, move_of, row, task_moved, words_after}
+use Rattle.fc_core.specs.Transitions.{call_if, effect_of, transition, task_moved, words_after}
 use Rattle.fc_core.specs.Sound.{AllSafe}
 use Rattle.fc_core.specs.Stage.{Stage}
 use Rattle.fc_core.specs.Stage.{ToMatch, ToTake, ToList, ToRaise, ToAnswer, ToTell}
@@ -45,7 +45,7 @@ below_eight n = omega arith
 
 module _ (s : ServerState) (task : Task) (k : ℕ) where
   abbrev looked_at : ℕ → Stage → Task
-  looked_at n x = task_moved task (row (Peek k n) (inputs_with s task task.job.origin.slot x))
+  looked_at n x = task_moved task (transition (Peek k n) (inputs_with s task task.job.origin.slot x))
 
   matches_there : (slot word : ℕ) (st : Stage) → slot ≡ task.job.origin.slot → task.stage ≡ ToMatch → word ≡ word_at s.words slot → st ≡ matched word task.job.etags.items
       → record { job = task.job; stage = st } ≡ looked_at slot task.stage
@@ -53,7 +53,7 @@ module _ (s : ServerState) (task : Task) (k : ℕ) where
       let n = task.job.origin.slot in
       let sc = inputs_with s task n ToMatch in
       ap (λ (x : Stage). record { job = task.job; stage = x }) (to ∙ ap (λ (z : ℕ). matched z task.job.etags.items) (found ∙ ap (λ (i : ℕ). word_at s.words i) at))
-      ∙ (ap (λ (b : Bool). task_moved task (move_of (Peek k n) sc (call_if b (Matches task.job.etags.items (word_at s.words n))))) (sym (same_number n))
+      ∙ (ap (λ (b : Bool). task_moved task (effect_of (Peek k n) sc (call_if b (Matches task.job.etags.items (word_at s.words n))))) (sym (same_number n))
       ∙ (ap (λ (i : ℕ). looked_at i ToMatch) (sym at) ∙ ap (λ (x : Stage). looked_at slot x) (sym is)))
 
   lists_there : (seen : ArrayVec ℕ) (slot word : ℕ) (st : Stage) → slot ≡ length seen.items → task.stage ≡ ToList seen → word ≡ word_at s.words slot → st ≡ listed (seen.items ++ word ∷ [])
@@ -62,7 +62,7 @@ module _ (s : ServerState) (task : Task) (k : ℕ) where
       let n = length seen.items in
       let sc = inputs_with s task task.job.origin.slot (ToList seen) in
       ap (λ (x : Stage). record { job = task.job; stage = x }) (to ∙ ap (λ (z : ℕ). listed (seen.items ++ z ∷ [])) (found ∙ ap (λ (i : ℕ). word_at s.words i) at))
-      ∙ (ap (λ (b : Bool). task_moved task (move_of (Peek k n) sc (call_if b (Lists seen (word_at s.words n))))) (sym (same_number n))
+      ∙ (ap (λ (b : Bool). task_moved task (effect_of (Peek k n) sc (call_if b (Lists seen (word_at s.words n))))) (sym (same_number n))
       ∙ (ap (λ (i : ℕ). looked_at i (ToList seen)) (sym at) ∙ ap (λ (x : Stage). looked_at slot x) (sym is)))
 
 module _ (k : ℕ) (es : List LogEntry) (h : History) (end s : ServerState) (tasks : List Task) (v : Serves h s tasks) where
@@ -72,14 +72,14 @@ module _ (k : ℕ) (es : List LogEntry) (h : History) (end s : ServerState) (tas
       let task = task_at tasks k in
       let n = named k (Logged (LooksAt slot word)) end s tasks es st refl refl in
       let later : Task = record { job = task.job; stage = n.stage } in
-      let is : later ≡ task_moved task (row (Peek k slot) (inputs_in s task)) = ⊎_elim
+      let is : later ≡ task_moved task (transition (Peek k slot) (inputs_in s task)) = ⊎_elim
       (λ m. matches_there s task k slot word n.stage m.0 m.1 r.1.0 m.2)
       (λ m. lists_there s task k m.0 slot word n.stage m.1 m.2 r.1.0 m.3)
       n.moves in
       record {
         server = s;
         tasks = set tasks k later;
-        serves = job_served h (Peek k slot) k (refl, refl, refl) s s tasks later None (does_quietly (Peek k slot) s s task later (row (Peek k slot) (inputs_in s task)).stage (peek_idle k slot (inputs_in s task)) refl is refl) v;
+        serves = job_served h (Peek k slot) k (refl, refl, refl) s s tasks later None (does_quietly (Peek k slot) s s task later (transition (Peek k slot) (inputs_in s task)).stage (peek_idle k slot (inputs_in s task)) refl is refl) v;
         rest = record { front = st.front; shards = st.shards; words = subst (λ (ws : List ℕ). LeadInOrder WordsDo (of_words es) ws end.words) r.1.1 r.2; jobs = n.jobs; to_come = n.to_come; numbered = n.numbered; events = st.events.1 };
       }
 
@@ -156,8 +156,8 @@ module _ (s : ServerState) (task : Task) (k : ℕ) (w : AtWork s task) (readings
         front = refl;
         task_is = ap (λ (x : Stage). record { job = task.job; stage = x }) to ∙ turn_takes shard_here task turn to_take w.stage readings taken d.0 k common;
         shards = ap (λ (x : Shard). set s.shards (here % 8) x) (turn_calls_at shard_here task turn to_take w.stage after d.1 k (had_memory taken) readings common);
-        words = ap (λ (x : Stage). words_after (row e (inputs_with s task here x)) task s.words) (sym is);
-        safe = subst (λ (x : Stage). AllSafe (row e (inputs_with s task here x)).changes) (sym is) tt;
+        words = ap (λ (x : Stage). words_after (transition e (inputs_with s task here x)) task s.words) (sym is);
+        safe = subst (λ (x : Stage). AllSafe (transition e (inputs_with s task here x)).changes) (sym is) tt;
         emits = refl;
       }
 

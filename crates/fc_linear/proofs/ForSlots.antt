@@ -32,15 +32,15 @@ use Rattle.fc_core.specs.Contents.{Content, Unavailable}
 use Rattle.fc_core.specs.Ends.{refused}
 use Rattle.fc_core.specs.Fits.{FitsTurn, IsSafe, IsTicketOf}
 use Rattle.fc_core.specs.History.{History, task_at}
-use Rattle.fc_core.specs.Rows.{Move, Inputs, install_call, install_if, move_of, moves, row, task_moved, words_after}
+use Rattle.fc_core.specs.Transitions.{Effect, Inputs, install_call, install_if, effect_of, goes_to, transition, task_moved, words_after}
 use Rattle.fc_core.specs.Sound.{AllSafe}
 use Rattle.fc_core.specs.Stage.{Stage}
 use Rattle.fc_core.specs.Stage.{ToCommit, ToInstall, ToRemove, ToDescribe, ToAnswer, ToTell, Gone}
 use Rattle.fc_core.specs.TurnStage.{TurnStage}
 use Rattle.fc_core.specs.TurnStage as turns
-use Rattle.fc_core.specs.Stages.{after_commit, image_of, made, removed, told}
-use Rattle.fc_core.specs.Steps.{Call, Commits, Installs, Rejects, Removes, changes_told}
-use Rattle.fc_core.proofs.Commits.{IsRow, commit_row, left_by, shard_of_row}
+use Rattle.fc_core.specs.Stages.{after_commit, image_of, made, removed, receipt_content}
+use Rattle.fc_core.specs.Steps.{Call, Commits, Installs, Rejects, Removes, changes_of_call}
+use Rattle.fc_core.proofs.Commits.{IsTransition, commit_transition, left_by, shard_of_transition}
 use Rattle.fc_core.proofs.Rejections.{rejected_call, same_slot}
 use Rattle.fc_calls.specs.Logged.{CommitsRun, GivesUpTurn, InstallsProgram, NotesTurn, RemovesProgram, TellsReceipt}
 use Rattle.fc_calls.specs.Doings.{CommitsAt, DescribesTo, GivesUpAt, InstallsTo, NotesAt, RemovesFrom}
@@ -57,7 +57,7 @@ use Rattle.fc_linear.proofs.OnJob.{does_there, fits_there, job_served, may_work,
 
 -- ---- a commit
 
-commit_safe : (o : CommitOutcome) (count : ℕ) (t : Ticket) (serial : ℕ) (watch : ObserverList) → AllSafe (changes_told (Commits count t (commits o t serial watch).answer))
+commit_safe : (o : CommitOutcome) (count : ℕ) (t : Ticket) (serial : ℕ) (watch : ObserverList) → AllSafe (changes_of_call (Commits count t (commits o t serial watch).answer))
 commit_safe Writes count t serial watch = tt
 commit_safe Keeps count t serial watch = tt
 commit_safe Overtakes count t serial watch = tt
@@ -74,11 +74,11 @@ module _ (s : ServerState) (task : Task) (k : ℕ) (w : AtWork s task) (now : �
       let fits = fits_there s task (ToCommit count t) w is in
       let at : i ≡ task.job.origin.slot = ap (λ o. o.slot) fits.1.origin in
       let given : HasGiven slot t = subst (λ (m : ℕ). HasGiven (slot_in (shard_at s.shards (m % 8)) m) t) (sym at) fits.1.given in
-      let r : IsRow t slot watch committed d.after = commit_row ran t slot watch committed d.after (ap (λ (y : Ran). y.program) ran_is) (ap (λ (y : Ran). y.input.request) ran_is) (ap (λ (y : Ran). y.input.vars) ran_is) (ap (λ (y : Ran). y.input.readings) ran_is) given (fits.1.turn ∙ fits.2) d.commit in
+      let r : IsTransition t slot watch committed d.after = commit_transition ran t slot watch committed d.after (ap (λ (y : Ran). y.program) ran_is) (ap (λ (y : Ran). y.input.request) ran_is) (ap (λ (y : Ran). y.input.vars) ran_is) (ap (λ (y : Ran). y.input.readings) ran_is) given (fits.1.turn ∙ fits.2) d.commit in
       does_there (Commit k now) s task i (ToCommit count t) (record s { shards = set s.shards (i % 8) after }) (record { job = task.job; stage = st }) None at is (record {
         front = refl;
         task_is = ap (λ (y : Stage). record { job = task.job; stage = y }) (to ∙ ap (λ (y : Committed). after_commit count t y) r.answer);
-        shards = ap (λ (y : Shard). set s.shards (i % 8) y) (d.shard ∙ ((λ j. left_by t now x (r.answer j) (r.after_is j)) ∙ shard_of_row (outcome t slot) count t now x));
+        shards = ap (λ (y : Shard). set s.shards (i % 8) y) (d.shard ∙ ((λ j. left_by t now x (r.answer j) (r.after_is j)) ∙ shard_of_transition (outcome t slot) count t now x));
         words = refl;
         safe = commit_safe (outcome t slot) count t slot.serial watch;
         emits = refl;
@@ -86,11 +86,11 @@ module _ (s : ServerState) (task : Task) (k : ℕ) (w : AtWork s task) (now : �
 
 -- ---- an install
 
-told_put : (b : Bool) (slot : Slot) (p : Program) (v : InitialVars) → changes_told (Installs p v (put_by b slot p v).answer) ≡ (put_by b slot p v).changes
+told_put : (b : Bool) (slot : Slot) (p : Program) (v : InitialVars) → changes_of_call (Installs p v (put_by b slot p v).answer) ≡ (put_by b slot p v).changes
 told_put true slot p v = refl
 told_put false slot p v = refl
 
-put_safe : (b : Bool) (slot : Slot) (p : Program) (v : InitialVars) → IsSafe p → AllSafe (changes_told (Installs p v (put_by b slot p v).answer))
+put_safe : (b : Bool) (slot : Slot) (p : Program) (v : InitialVars) → IsSafe p → AllSafe (changes_of_call (Installs p v (put_by b slot p v).answer))
 put_safe true slot p v safe = (safe, tt)
 put_safe false slot p v safe = tt
 
@@ -105,7 +105,7 @@ module _ (s : ServerState) (task : Task) (k : ℕ) (p : Program) (answer : Made)
       let t : ServerState = record s { shards = set s.shards (i % 8) after } in
       let later : Task = record { job = task.job; stage = st } in
       let v = initial_vars_of task.job.ask in
-      let m : Judgement → Move = λ j. move_of (Install k true) sc (Some (install_if true v j slot)) in
+      let m : Judgement → Effect = λ j. effect_of (Install k true) sc (Some (install_if true v j slot)) in
       does_there (Install k true) s task i ToInstall t later None refl is (record {
         front = refl;
         task_is = ap (λ (y : Stage). record { job = task.job; stage = y }) (to ∙ ap (λ (y : Made). made (receipt_of p 0) y) d.0) ∙ ap (λ (j : Judgement). task_moved task (m j)) (sym judges);
@@ -123,12 +123,12 @@ module _ (s : ServerState) (task : Task) (k : ℕ) (p : Program) (answer : Made)
 
 -- ---- a removal
 
-told_cleared : (b : Bool) (serial : ℕ) (p : Option Present) → changes_told (Removes (clear_by b serial p).answer) ≡ (clear_by b serial p).changes
+told_cleared : (b : Bool) (serial : ℕ) (p : Option Present) → changes_of_call (Removes (clear_by b serial p).answer) ≡ (clear_by b serial p).changes
 told_cleared b serial None = refl
 told_cleared true serial (Some p) = refl
 told_cleared false serial (Some p) = refl
 
-clear_safe : (b : Bool) (serial : ℕ) (p : Option Present) → AllSafe (changes_told (Removes (clear_by b serial p).answer))
+clear_safe : (b : Bool) (serial : ℕ) (p : Option Present) → AllSafe (changes_of_call (Removes (clear_by b serial p).answer))
 clear_safe b serial None = tt
 clear_safe true serial (Some p) = tt
 clear_safe false serial (Some p) = tt
@@ -159,14 +159,14 @@ module _ (s : ServerState) (task : Task) (k : ℕ) (removal : Removal) (st : Sta
 -- ---- a receipt
 
 module _ (s : ServerState) (task : Task) (k : ℕ) (receipt : Option Facts) (st : Stage) where
-  describes_here : task.stage ≡ ToDescribe → st ≡ ToAnswer (told receipt) → (after : Shard) → DescribesTo task.job (shard_at s.shards (task.job.origin.slot % 8)) receipt after
+  describes_here : task.stage ≡ ToDescribe → st ≡ ToAnswer (receipt_content receipt) → (after : Shard) → DescribesTo task.job (shard_at s.shards (task.job.origin.slot % 8)) receipt after
       → Does (Receipt k) s task (record s { shards = set s.shards (task.job.origin.slot % 8) after }) (record { job = task.job; stage = st }) None
   describes_here is to after d =
       let i = task.job.origin.slot in
       let x = shard_at s.shards (i % 8) in
       does_there (Receipt k) s task i ToDescribe (record s { shards = set s.shards (i % 8) after }) (record { job = task.job; stage = st }) None refl is (record {
         front = refl;
-        task_is = ap (λ (y : Stage). record { job = task.job; stage = y }) (to ∙ ap (λ (y : Option Facts). ToAnswer (told y)) d.0);
+        task_is = ap (λ (y : Stage). record { job = task.job; stage = y }) (to ∙ ap (λ (y : Option Facts). ToAnswer (receipt_content y)) d.0);
         shards = ap (λ (y : Shard). set s.shards (i % 8) y) (d.1 ∙ sym (same_slot x i));
         words = refl;
         safe = tt;
@@ -174,7 +174,7 @@ module _ (s : ServerState) (task : Task) (k : ℕ) (receipt : Option Facts) (st 
       })
 
   -- a receipt that the stage doesn't need
-  elsewhere : (x : Inputs) (y : Stage) → (y ≡ ToDescribe → ⊥) → row (Receipt k) (record x { stage = y }) ≡ moves y
+  elsewhere : (x : Inputs) (y : Stage) → (y ≡ ToDescribe → ⊥) → transition (Receipt k) (record x { stage = y }) ≡ goes_to y
   elsewhere x ToDescribe apart = absurd (apart refl)
   elsewhere x other apart = refl
 
@@ -183,13 +183,13 @@ module _ (s : ServerState) (task : Task) (k : ℕ) (receipt : Option Facts) (st 
   passes_here apart to after d =
       let i = task.job.origin.slot in
       let x = shard_at s.shards (i % 8) in
-      let idle : row (Receipt k) (inputs_with s task i task.stage) ≡ moves task.stage = elsewhere (inputs_with s task i task.stage) task.stage apart in
+      let idle : transition (Receipt k) (inputs_with s task i task.stage) ≡ goes_to task.stage = elsewhere (inputs_with s task i task.stage) task.stage apart in
       does_there (Receipt k) s task i task.stage (record s { shards = set s.shards (i % 8) after }) (record { job = task.job; stage = st }) None refl refl (record {
         front = refl;
-        task_is = ap (λ (y : Stage). record { job = task.job; stage = y }) to ∙ ap (λ (m : Move). task_moved task m) (sym idle);
-        shards = ap (λ (y : Shard). set s.shards (i % 8) y) (d.1 ∙ sym (same_slot x i)) ∙ ap (λ (m : Move). shards_moved m i s.shards) (sym idle);
-        words = ap (λ (m : Move). words_after m task s.words) (sym idle);
-        safe = subst (λ (m : Move). AllSafe m.changes) (sym idle) tt;
+        task_is = ap (λ (y : Stage). record { job = task.job; stage = y }) to ∙ ap (λ (m : Effect). task_moved task m) (sym idle);
+        shards = ap (λ (y : Shard). set s.shards (i % 8) y) (d.1 ∙ sym (same_slot x i)) ∙ ap (λ (m : Effect). shards_moved m i s.shards) (sym idle);
+        words = ap (λ (m : Effect). words_after m task s.words) (sym idle);
+        safe = subst (λ (m : Effect). AllSafe m.changes) (sym idle) tt;
         emits = refl;
       })
 
@@ -382,13 +382,13 @@ module _ (k : ℕ) (es : List LogEntry) (h : History) (end s : ServerState) (tas
       let f = n.moves.1.0 in
       let initial = initial_vars_of task.job.ask in
       let rejects : Rejects (refused (Broken f)) ≡ install_call initial (judged (image_of task.job.ask)) slot = rejected_call (image_of task.job.ask) initial (judged (image_of task.job.ask)) f slot n.moves.1.1 in
-      let there : row e (inputs_in s task) ≡ moves (ToAnswer (refused (Broken f))) =
-      ap (λ (x : Stage). row e (inputs_with s task i x)) n.moves.2 ∙ ap (λ (c : Call). move_of e sc (Some c)) (sym rejects) in
+      let there : transition e (inputs_in s task) ≡ goes_to (ToAnswer (refused (Broken f))) =
+      ap (λ (x : Stage). transition e (inputs_with s task i x)) n.moves.2 ∙ ap (λ (c : Call). effect_of e sc (Some c)) (sym rejects) in
       record {
         server = s;
         tasks = set tasks k later;
         serves = job_served h e k (refl, refl, refl) s s tasks later None (does_quietly e s s task later (ToAnswer (refused (Broken f))) there refl
-            (ap (λ (x : Stage). record { job = task.job; stage = x }) (n.moves.3 ∙ ap (λ (c : Content). ToAnswer c) n.moves.1.2) ∙ ap (λ (m : Move). task_moved task m) (sym there)) refl) v;
+            (ap (λ (x : Stage). record { job = task.job; stage = x }) (n.moves.3 ∙ ap (λ (c : Content). ToAnswer c) n.moves.1.2) ∙ ap (λ (m : Effect). task_moved task m) (sym there)) refl) v;
         rest = record { front = st.front; shards = st.shards; words = st.words; jobs = n.jobs; to_come = n.to_come; numbered = n.numbered; events = st.events.1 };
       }
 
@@ -399,11 +399,11 @@ module _ (k : ℕ) (es : List LogEntry) (h : History) (end s : ServerState) (tas
       let n = named k op end s tasks es st refl refl in
       let later : Task = record { job = task.job; stage = n.stage } in
       let e = Install k false in
-      let there : row e (inputs_in s task) ≡ moves (ToAnswer Unavailable) = ap (λ (x : Stage). row e (inputs_with s task task.job.origin.slot x)) n.moves.1 in
+      let there : transition e (inputs_in s task) ≡ goes_to (ToAnswer Unavailable) = ap (λ (x : Stage). transition e (inputs_with s task task.job.origin.slot x)) n.moves.1 in
       record {
         server = s;
         tasks = set tasks k later;
         serves = job_served h e k (refl, refl, refl) s s tasks later None (does_quietly e s s task later (ToAnswer Unavailable) there refl
-            (ap (λ (x : Stage). record { job = task.job; stage = x }) n.moves.2 ∙ ap (λ (m : Move). task_moved task m) (sym there)) refl) v;
+            (ap (λ (x : Stage). record { job = task.job; stage = x }) n.moves.2 ∙ ap (λ (m : Effect). task_moved task m) (sym there)) refl) v;
         rest = record { front = st.front; shards = st.shards; words = st.words; jobs = n.jobs; to_come = n.to_come; numbered = n.numbered; events = st.events.1 };
       }

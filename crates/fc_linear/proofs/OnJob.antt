@@ -8,7 +8,7 @@ use Rattle.fc_core.specs.declared.stage.Task.{Task}
 use Rattle.fc_core.specs.Stage.{Stage}
 use Rattle.fc_core.specs.Fits.{FitsStage}
 use Rattle.fc_core.specs.History.{History, seen, task_at}
-use Rattle.fc_core.specs.Rows.{Inputs, around_of, row, sends, task_moved, words_after}
+use Rattle.fc_core.specs.Transitions.{Inputs, around_of, transition, sends, task_moved, words_after}
 use Rattle.fc_core.specs.Sound.{AllSafe}
 use Rattle.fc_server.specs.Serving.{Serves, next, with_tasks}
 use Rattle.fc_server.specs.States.{AtWork, Does, ServerState, common_in, shards_moved}
@@ -40,10 +40,10 @@ inputs_with s task i stage =
 -- its effect, by its own stage and slot.
 pub record DoesThere (e : Event) (s : ServerState) (task : Task) (i : ℕ) (stage : Stage) (t : ServerState) (later : Task) (out : Option Emission) : Type 0 where
   pub front : t.front ≡ s.front
-  pub task_is : later ≡ task_moved task (row e (inputs_with s task i stage))
-  pub shards : t.shards ≡ shards_moved (row e (inputs_with s task i stage)) i s.shards
-  pub words : t.words ≡ words_after (row e (inputs_with s task i stage)) task s.words
-  pub safe : AllSafe (row e (inputs_with s task i stage)).changes
+  pub task_is : later ≡ task_moved task (transition e (inputs_with s task i stage))
+  pub shards : t.shards ≡ shards_moved (transition e (inputs_with s task i stage)) i s.shards
+  pub words : t.words ≡ words_after (transition e (inputs_with s task i stage)) task s.words
+  pub safe : AllSafe (transition e (inputs_with s task i stage)).changes
   pub emits : out ≡ sends e (inputs_with s task i stage)
 
 there_is : (e : Event) (s : ServerState) (task : Task) (t : ServerState) (later : Task) (out : Option Emission) → DoesThere e s task task.job.origin.slot task.stage t later out → Does e s task t later out

@@ -29,7 +29,7 @@ use Rattle.fc_core.specs.Exchanges.{FrontState}
 use Rattle.fc_core.specs.Fits.{IsSafe}
 use Rattle.fc_core.specs.Heads.{word_at, word_raised}
 use Rattle.fc_core.specs.Legal.{resent}
-use Rattle.fc_core.specs.Stages.{after_commit, had_memory, image_of, listed, made, matched, removed, told, took, turn_took, with_id}
+use Rattle.fc_core.specs.Stages.{after_commit, had_memory, image_of, listed, made, matched, removed, receipt_content, took, turn_took, with_id}
 use Rattle.fc_core.specs.Timers.{timer_job}
 use Rattle.fc_calls.specs.Logged.{LoggedCall}
 use Rattle.fc_calls.specs.Logged.{HandlesDatagram, AdvancesFront, FiresTimer, DrawsId, AnswersRequest, TellsReceipt, GivesReadings, LooksAt, RaisesWord}
@@ -162,7 +162,7 @@ is_for_job other = true
 
 -- a receipt leads the job whose stage needs it to its answer, and doesn't change any other job.
 abbrev pub ReceiptMoves : Option Facts → Stage → Stage → Type 0
-ReceiptMoves receipt s t = ((s ≡ ToDescribe) × (t ≡ ToAnswer (told receipt))) ⊎ ((s ≡ ToDescribe → ⊥) × (t ≡ s))
+ReceiptMoves receipt s t = ((s ≡ ToDescribe) × (t ≡ ToAnswer (receipt_content receipt))) ⊎ ((s ≡ ToDescribe → ⊥) × (t ≡ s))
 
 -- a head word is read for the ETags of a request, or for the list of all slots.
 abbrev pub LookMoves : ℕ → ℕ → Job → Stage → Stage → Type 0

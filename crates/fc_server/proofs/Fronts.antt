@@ -53,7 +53,7 @@ new_live at e is = ap (λ (b : Bool). cond b (e ∷ []) []) (let le = is in lt-l
 pub opened_live : (s : Seen) (at : ℕ) (r : Received) (to : Endpoint) → filter (is_held at) (opened_by r (next_opening (front_in s at)) to) ≡ opened_by r (next_opening (front_in s at)) to
 opened_live s at (x.Opened m asked body) to = new_live at (exchange_of (next_opening (front_in s at)) to m) refl
 opened_live s at (x.Silenced m) to = new_live at (exchange_of (next_opening (front_in s at)) to m) refl
-opened_live s at (x.Settled m asked response) to = new_live at (exchange_of (next_opening (front_in s at)) to m) refl
+opened_live s at (x.Immediate m asked response) to = new_live at (exchange_of (next_opening (front_in s at)) to m) refl
 opened_live s at (x.Refused m answer) to = new_live at (exchange_of (next_opening (front_in s at)) to m) refl
 opened_live s at x.Ignored to = refl
 opened_live s at (x.Rejected id) to = refl

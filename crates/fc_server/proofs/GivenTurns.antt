@@ -24,7 +24,7 @@ use Rattle.fc_core.specs.declared.event.Event.{Event}
 use Rattle.fc_core.specs.declared.event.Event.TheVariants.{Note, Take}
 use Rattle.fc_core.specs.declared.stage.Task.{Task}
 use Rattle.fc_core.specs.History.{Seen}
-use Rattle.fc_core.specs.Rows.{Move, Inputs, call_at, handed, move_of, notification, row, sends}
+use Rattle.fc_core.specs.Transitions.{Effect, Inputs, call_at, handed, effect_of, notification, transition, sends}
 use Rattle.fc_core.specs.Stage.{Stage, ToTell}
 use Rattle.fc_core.specs.Stages.{drew, first_or_turn, needs_id, new_task}
 use Rattle.fc_core.specs.Steps.{TakesTurn}
@@ -161,16 +161,16 @@ module _ (k now random : ℕ) (memory : Bool) (readings : List ℕ) (server : Se
   take = Take k memory readings
 
   -- its snapshot finds that.
-  taken : row take inputs ≡ move_of take inputs (Some (TakesTurn o.turn Missing))
+  taken : transition take inputs ≡ effect_of take inputs (Some (TakesTurn o.turn Missing))
   taken =
-      ap (λ (st : Stage). move_of take inputs (call_at take inputs st)) o.stage
-      ∙ (λ j. move_of take inputs (Some (TakesTurn o.turn (turn_snapshot (o.out j) (readings_if memory readings) task.job inputs.slot.serial (none j)))))
+      ap (λ (st : Stage). effect_of take inputs (call_at take inputs st)) o.stage
+      ∙ (λ j. effect_of take inputs (Some (TakesTurn o.turn (turn_snapshot (o.out j) (readings_if memory readings) task.job inputs.slot.serial (none j)))))
 
-  pub stage_taken : (row take inputs).stage ≡ ToTell o.turn (turns.ToDraw None)
-  stage_taken = ap (λ (m : Move). m.stage) taken
+  pub stage_taken : (transition take inputs).stage ≡ ToTell o.turn (turns.ToDraw None)
+  stage_taken = ap (λ (m : Effect). m.stage) taken
 
-  calls_taken : (row take inputs).calls ≡ MarkMissing o.turn ∷ Advance at ∷ []
-  calls_taken = ap (λ (m : Move). m.calls) taken ∙ (λ j. mark_missing_calls (o.out j) o.turn (none j) ++ Advance at ∷ [])
+  calls_taken : (transition take inputs).calls ≡ MarkMissing o.turn ∷ Advance at ∷ []
+  calls_taken = ap (λ (m : Effect). m.calls) taken ∙ (λ j. mark_missing_calls (o.out j) o.turn (none j) ++ Advance at ∷ [])
 
   -- and it notifies, if it drew a message ID.
   missed : is_missing o.turn (turn_missed o.turn (list_at_time at w)) ≡ true
@@ -184,12 +184,12 @@ module _ (k now random : ℕ) (memory : Bool) (readings : List ℕ) (server : Se
       ∙ ap (λ (x : ObserverList). is_some (note_in o.turn id None x)) rests
       ∙ some_entry (note_to id (must_confirm_turn o.turn v) None) (entry_out o.turn v) missed
 
-  pub is_told : (later : ServerState) (next : Task) (id : ℕ) → later.shards ≡ shards_moved (row take inputs) n server.shards → next.job ≡ task.job → next.stage ≡ ToTell o.turn (turns.ToNote None id)
+  pub is_told : (later : ServerState) (next : Task) (id : ℕ) → later.shards ≡ shards_moved (transition take inputs) n server.shards → next.job ≡ task.job → next.stage ≡ ToTell o.turn (turns.ToNote None id)
       → is_some (sends (Note k now random) (inputs_in later next)) ≡ true
   is_told later next id shards job stage =
-      let moved = shards_moved (row take inputs) n server.shards in
-      let watched = watch_here server.shards are n low (row take inputs) ∙ ap (λ (cs : List ObserverCall). after_calls cs w) calls_taken in
-      let time = now_here server.shards are n low (row take inputs) ∙ ap (λ (m : Move). handed m.hands at) taken in
+      let moved = shards_moved (transition take inputs) n server.shards in
+      let watched = watch_here server.shards are n low (transition take inputs) ∙ ap (λ (cs : List ObserverCall). after_calls cs w) calls_taken in
+      let time = now_here server.shards are n low (transition take inputs) ∙ ap (λ (m : Effect). handed m.hands at) taken in
       let past = o.handed in
       (λ j. is_some (notification now (inputs_in (record later { shards = shards j }) (record { job = job j; stage = stage j })) (stage j)))
       ∙ ap (λ (x : ObserverList). is_some (note_at o.turn id (max (shard_at moved (n % 8)).now now) None x)) watched

@@ -21,7 +21,7 @@ use Rattle.fc_core.specs.Heads.{word_at}
 use Rattle.fc_core.specs.Stages.{content_at, drew, ended, needs_id, new_task}
 use Rattle.fc_core.specs.Timers.{timer_job}
 use Rattle.fc_core.specs.Steps.{Call, Matches, Lists, next_stage}
-use Rattle.fc_core.specs.Rows.{around_of, Around, Move, Inputs, call_if, move_of, moves, names, row, inputs_at, sends, task_moved, words_after}
+use Rattle.fc_core.specs.Transitions.{around_of, Around, Effect, Inputs, call_if, effect_of, goes_to, names, transition, inputs_at, sends, task_moved, words_after}
 use Rattle.fc_core.proofs.Rejections.{same_slot}
 use Rattle.fc_server.specs.Agreement.{Parts}
 use Rattle.fc_server.specs.Serving.{with_tasks}
@@ -31,17 +31,17 @@ use Rattle.fc_server.specs.Steps.{DeliveredTo, Done, EmitsAt, IsOfJob, IsSafeIn,
 -- ---- a transition that changes no slot
 
 -- the shards after it are unchanged.
-pub unwritten : (stage : Stage) (n : ℕ) (shards : List Shard) → shards_moved (moves stage) n shards ≡ shards
+pub unwritten : (stage : Stage) (n : ℕ) (shards : List Shard) → shards_moved (goes_to stage) n shards ≡ shards
 unwritten stage n shards = ap (λ (x : Shard). set shards (n % 8) x) (same_slot (shard_at shards (n % 8)) n) ∙ set-get_or shards (n % 8) no_shard
 
 -- an event that changes no slot and raises no head word
-pub does_quietly : (e : Event) (old new : ServerState) (task later : Task) (st : Stage) → row e (inputs_in old task) ≡ moves st → None ≡ sends e (inputs_in old task) → later ≡ task_moved task (row e (inputs_in old task)) → new ≡ old → Does e old task new later None
+pub does_quietly : (e : Event) (old new : ServerState) (task later : Task) (st : Stage) → transition e (inputs_in old task) ≡ goes_to st → None ≡ sends e (inputs_in old task) → later ≡ task_moved task (transition e (inputs_in old task)) → new ≡ old → Does e old task new later None
 does_quietly e old new task later st idle silent is same = subst (λ (s : ServerState). Does e old task s later None) (sym same) (record {
   front = refl;
   task_is = is;
-  shards = sym (unwritten st task.job.origin.slot old.shards) ∙ ap (λ (m : Move). shards_moved m task.job.origin.slot old.shards) (sym idle);
-  words = ap (λ (m : Move). words_after m task old.words) (sym idle);
-  safe = subst (λ (m : Move). AllSafe m.changes) (sym idle) tt;
+  shards = sym (unwritten st task.job.origin.slot old.shards) ∙ ap (λ (m : Effect). shards_moved m task.job.origin.slot old.shards) (sym idle);
+  words = ap (λ (m : Effect). words_after m task old.words) (sym idle);
+  safe = subst (λ (m : Effect). AllSafe m.changes) (sym idle) tt;
   emits = silent;
 })
 
@@ -54,33 +54,33 @@ pub owner_same : (shards : List Shard) (k : ℕ) (found now : Shard) → now ≡
 owner_same shards k found now same is = ap (λ (x : Shard). set shards k x) (same ∙ is) ∙ set-get_or shards k found
 
 -- a call that changes its job alone, if it is one.
-call_idle : (e : Event) (x : Inputs) (c : Call) → move_of e x (Some c) ≡ moves (next_stage c) → (b : Bool) → move_of e x (call_if b c) ≡ moves (move_of e x (call_if b c)).stage
+call_idle : (e : Event) (x : Inputs) (c : Call) → effect_of e x (Some c) ≡ goes_to (next_stage c) → (b : Bool) → effect_of e x (call_if b c) ≡ goes_to (effect_of e x (call_if b c)).stage
 call_idle e x c idle true = idle
 call_idle e x c idle false = refl
 
 abbrev at : Inputs → Stage → Inputs
 at x stage = record x { stage = stage }
 
-peek_idle_at : (k n : ℕ) (x : Inputs) (st : Stage) → row (Peek k n) (at x st) ≡ moves (row (Peek k n) (at x st)).stage
+peek_idle_at : (k n : ℕ) (x : Inputs) (st : Stage) → transition (Peek k n) (at x st) ≡ goes_to (transition (Peek k n) (at x st)).stage
 peek_idle_at k n x ToMatch = call_idle (Peek k n) (at x ToMatch) (Matches x.job.etags.items (word_at x.around.common.words n)) refl (n == x.job.origin.slot)
 peek_idle_at k n x (ToList seen) = call_idle (Peek k n) (at x (ToList seen)) (Lists seen (word_at x.around.common.words n)) refl (n == length seen.items)
 peek_idle_at k n x other = refl
 
-pub peek_idle : (k n : ℕ) (x : Inputs) → row (Peek k n) x ≡ moves (row (Peek k n) x).stage
+pub peek_idle : (k n : ℕ) (x : Inputs) → transition (Peek k n) x ≡ goes_to (transition (Peek k n) x).stage
 peek_idle k n x = peek_idle_at k n x x.stage
 
-receipt_idle_at : (k : ℕ) (x : Inputs) (st : Stage) → row (Receipt k) (at x st) ≡ moves (row (Receipt k) (at x st)).stage
+receipt_idle_at : (k : ℕ) (x : Inputs) (st : Stage) → transition (Receipt k) (at x st) ≡ goes_to (transition (Receipt k) (at x st)).stage
 receipt_idle_at k x ToDescribe = refl
 receipt_idle_at k x other = refl
 
-pub receipt_idle : (k : ℕ) (x : Inputs) → row (Receipt k) x ≡ moves (row (Receipt k) x).stage
+pub receipt_idle : (k : ℕ) (x : Inputs) → transition (Receipt k) x ≡ goes_to (transition (Receipt k) x).stage
 receipt_idle k x = receipt_idle_at k x x.stage
 
-answer_idle : (k now : ℕ) (x : Inputs) (st : Stage) → row (Answer k now) (at x st) ≡ moves (ended st)
+answer_idle : (k now : ℕ) (x : Inputs) (st : Stage) → transition (Answer k now) (at x st) ≡ goes_to (ended st)
 answer_idle k now x (ToAnswer content) = refl
 answer_idle k now x other = refl
 
-draw_idle : (k now : ℕ) (x : Inputs) (st : Stage) → row (Fresh k now) (at x st) ≡ moves (drew (x.around.common.free now) st)
+draw_idle : (k now : ℕ) (x : Inputs) (st : Stage) → transition (Fresh k now) (at x st) ≡ goes_to (drew (x.around.common.free now) st)
 draw_idle k now x (ToTell turn (turns.ToDraw found)) = refl
 draw_idle k now x other = refl
 
@@ -93,43 +93,43 @@ does_done e k (rests, calm, named) old new tasks later was now out at is d =
     record {
       front = d.front ∙ ap (λ (x : AtFront). front_by x p out) (sym rests);
       tasks = is
-          ∙ (ap (λ (t : Task). set tasks k t) (d.task_is ∙ ap (λ (t : Task). task_moved t (row e (inputs_in old t))) at)
+          ∙ (ap (λ (t : Task). set tasks k t) (d.task_is ∙ ap (λ (t : Task). task_moved t (transition e (inputs_in old t))) at)
           ∙ (sym (append-nil (tasks_in (Some k) e p)) ∙ λ i. tasks_in (sym named i) e p ++ (turns_at (sym calm i) p.shards ++ brought_by (sym rests i) p)));
-      shards = subst (λ (t : Task). new.shards ≡ shards_moved (row e (inputs_in old t)) t.job.origin.slot old.shards) at d.shards ∙ λ i. shard_by (sym calm i) (shards_in (sym named i) e p);
-      words = subst (λ (t : Task). new.words ≡ words_after (row e (inputs_in old t)) t old.words) at d.words ∙ ap (λ (o : Option ℕ). words_in o e p) (sym named);
+      shards = subst (λ (t : Task). new.shards ≡ shards_moved (transition e (inputs_in old t)) t.job.origin.slot old.shards) at d.shards ∙ λ i. shard_by (sym calm i) (shards_in (sym named i) e p);
+      words = subst (λ (t : Task). new.words ≡ words_after (transition e (inputs_in old t)) t old.words) at d.words ∙ ap (λ (o : Option ℕ). words_in o e p) (sym named);
       emits = subst (λ (x : AtFront). EmitsAt x e p out) (sym rests) (subst (λ (t : Task). out ≡ sends e (inputs_in old t)) at d.emits ∙ ap (λ (o : Option ℕ). sends_at o e p) (sym named));
-      safe = subst (λ (o : Option ℕ). IsSafeIn o e p) (sym named) (subst (λ (t : Task). AllSafe (row e (inputs_in old t)).changes) at d.safe);
+      safe = subst (λ (o : Option ℕ). IsSafeIn o e p) (sym named) (subst (λ (t : Task). AllSafe (transition e (inputs_in old t)).changes) at d.safe);
     }
 
 pub responds_done : (k now : ℕ) (old new : ServerState) (tasks later : List Task) (was next : Task) (out : Option Emission) → was ≡ task_at tasks k → later ≡ set tasks k next → Responds now old was new next out → Done (Answer k now) (with_tasks old tasks) out (with_tasks new later)
 responds_done k now old new tasks later was next out same is d =
     let task = task_at tasks k in
-    let idle : row (Answer k now) (inputs_in old task) ≡ moves (ended task.stage) = answer_idle k now (inputs_in old task) task.stage in
+    let idle : transition (Answer k now) (inputs_in old task) ≡ goes_to (ended task.stage) = answer_idle k now (inputs_in old task) task.stage in
     record {
       front = subst (λ (t : Task). new.front ≡ front_after (content_at t.stage) t.job out old.front now) same d.front;
       tasks = is
-          ∙ (ap (λ (t : Task). set tasks k t) (d.task_is ∙ (ap (λ (t : Task). task_moved t (moves (ended t.stage))) same ∙ ap (λ (m : Move). task_moved task m) (sym idle)))
+          ∙ (ap (λ (t : Task). set tasks k t) (d.task_is ∙ (ap (λ (t : Task). task_moved t (goes_to (ended t.stage))) same ∙ ap (λ (m : Effect). task_moved task m) (sym idle)))
           ∙ sym (append-nil (tasks_in (Some k) (Answer k now) (with_tasks old tasks))));
-      shards = d.shards ∙ (sym (unwritten (ended task.stage) task.job.origin.slot old.shards) ∙ ap (λ (m : Move). shards_moved m task.job.origin.slot old.shards) (sym idle));
-      words = d.words ∙ ap (λ (m : Move). words_after m task old.words) (sym idle);
+      shards = d.shards ∙ (sym (unwritten (ended task.stage) task.job.origin.slot old.shards) ∙ ap (λ (m : Effect). shards_moved m task.job.origin.slot old.shards) (sym idle));
+      words = d.words ∙ ap (λ (m : Effect). words_after m task old.words) (sym idle);
       emits = subst (λ (t : Task). AnswerEmits (content_at t.stage) t.job (advanced old.front now) out) same d.emits;
-      safe = subst (λ (m : Move). AllSafe m.changes) (sym idle) tt;
+      safe = subst (λ (m : Effect). AllSafe m.changes) (sym idle) tt;
     }
 
 pub draws_done : (k now : ℕ) (old new : ServerState) (tasks later : List Task) (was next : Task) → was ≡ task_at tasks k → later ≡ set tasks k next → DrawsId now old was new next → Done (Fresh k now) (with_tasks old tasks) None (with_tasks new later)
 draws_done k now old new tasks later was next same is d =
     let task = task_at tasks k in
     let st = drew (free_id old.front.ids (max old.front.now now)) task.stage in
-    let idle : row (Fresh k now) (inputs_in old task) ≡ moves st = draw_idle k now (inputs_in old task) task.stage in
+    let idle : transition (Fresh k now) (inputs_in old task) ≡ goes_to st = draw_idle k now (inputs_in old task) task.stage in
     record {
       front = subst (λ (t : Task). new.front ≡ front_drawn (needs_id t.stage) old.front now) same d.front;
       tasks = is
-          ∙ (ap (λ (t : Task). set tasks k t) (d.task_is ∙ (ap (λ (t : Task). task_moved t (moves (drew (free_id old.front.ids (max old.front.now now)) t.stage))) same ∙ ap (λ (m : Move). task_moved task m) (sym idle)))
+          ∙ (ap (λ (t : Task). set tasks k t) (d.task_is ∙ (ap (λ (t : Task). task_moved t (goes_to (drew (free_id old.front.ids (max old.front.now now)) t.stage))) same ∙ ap (λ (m : Effect). task_moved task m) (sym idle)))
           ∙ sym (append-nil (tasks_in (Some k) (Fresh k now) (with_tasks old tasks))));
-      shards = d.shards ∙ (sym (unwritten st task.job.origin.slot old.shards) ∙ ap (λ (m : Move). shards_moved m task.job.origin.slot old.shards) (sym idle));
-      words = d.words ∙ ap (λ (m : Move). words_after m task old.words) (sym idle);
+      shards = d.shards ∙ (sym (unwritten st task.job.origin.slot old.shards) ∙ ap (λ (m : Effect). shards_moved m task.job.origin.slot old.shards) (sym idle));
+      words = d.words ∙ ap (λ (m : Effect). words_after m task old.words) (sym idle);
       emits = refl;
-      safe = subst (λ (m : Move). AllSafe m.changes) (sym idle) tt;
+      safe = subst (λ (m : Effect). AllSafe m.changes) (sym idle) tt;
     }
 
 -- an event of this job, with any effect on the front.
@@ -150,8 +150,8 @@ works_done (ShardTick shard now) k named old new tasks later was next out same i
 works_done other k named old new tasks later was next out same is d = does_done other k (refl, refl, named) old new tasks later was next out same is d
 
 -- an event that names no job has no effect on a task.
-idles_by : (e : Event) (s : ServerState) (task : Task) → row e (inputs_in s task) ≡ moves task.stage → None ≡ sends e (inputs_in s task) → Does e s task s task None
-idles_by e s task idle silent = does_quietly e s s task task task.stage idle silent (ap (λ (m : Move). task_moved task m) (sym idle)) refl
+idles_by : (e : Event) (s : ServerState) (task : Task) → transition e (inputs_in s task) ≡ goes_to task.stage → None ≡ sends e (inputs_in s task) → Does e s task s task None
+idles_by e s task idle silent = does_quietly e s s task task task.stage idle silent (ap (λ (m : Effect). task_moved task m) (sym idle)) refl
 
 true_isnt : {A : Type 0} → true ≡ false → A
 true_isnt e = absurd (cc e)
@@ -191,7 +191,7 @@ shard_done e old new tasks out none rests front words shards sent =
 
 -- ---- jobs that never arrived
 
-gone_moves : (e : Event) (slot : Slot) (ws : Around) → row e (inputs_at no_task slot ws) ≡ moves Gone
+gone_moves : (e : Event) (slot : Slot) (ws : Around) → transition e (inputs_at no_task slot ws) ≡ goes_to Gone
 gone_moves (Lose k) slot ws = refl
 gone_moves other slot ws = refl
 
@@ -204,7 +204,7 @@ past_does e w =
     let slot = slot_in_shards w.shards 0 in
     let ws = around_of (shard_at w.shards 0) (common_in w.front w.words) 0 in
     let idle = gone_moves e slot ws in
-    does_quietly e w w no_task no_task Gone idle (gone_sends e slot ws) (ap (λ (m : Move). task_moved no_task m) (sym idle)) refl
+    does_quietly e w w no_task no_task Gone idle (gone_sends e slot ws) (ap (λ (m : Effect). task_moved no_task m) (sym idle)) refl
 
 past_works : (e : Event) (k : ℕ) (w : ServerState) → names e ≡ Some k → Works e w no_task w no_task None
 past_works (Answer j now) k w named = record { front = refl; task_is = refl; shards = refl; words = refl; emits = refl }

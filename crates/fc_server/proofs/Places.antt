@@ -9,10 +9,10 @@ use Rattle.fc_registry.specs.Shards.{AreShards, no_shard, shard_at, slot_in_shar
 use Rattle.fc_registry.specs.Slots.{Shard, slot_in, new_slot}
 use Rattle.fc_registry.specs.Watches.{watch_at}
 use Rattle.fc_registry.proofs.Writes.{watches_written}
-use Rattle.fc_core.specs.Rows.{Move, handed, shard_moved}
+use Rattle.fc_core.specs.Transitions.{Effect, handed, shard_moved}
 use Rattle.fc_server.specs.States.{shards_moved}
 
-module _ (shards : List Shard) (are : AreShards shards) (n : ℕ) (lt : n < 64) (m : Move) where
+module _ (shards : List Shard) (are : AreShards shards) (n : ℕ) (lt : n < 64) (m : Effect) where
   abbrev written : List Shard
   written = shards_moved m n shards
 

@@ -171,7 +171,7 @@ handed_sent x.Unanswered f to = refl
 handed_sent (x.Again bytes) f to = refl
 handed_sent (x.Full m) f to = sent_or (sent (x.Full m) f to)
 handed_sent (x.Silenced m) f to = refl
-handed_sent (x.Settled m asked response) f to = sent_or (sent (x.Settled m asked response) f to)
+handed_sent (x.Immediate m asked response) f to = sent_or (sent (x.Immediate m asked response) f to)
 handed_sent (x.Refused m answer) f to = sent_or (sent (x.Refused m answer) f to)
 
 handed_jobs : (r : Received) (f : FrontState) (to : Endpoint) → brought r (next_opening f) to ≡ jobs_by (handed_on r f to)
@@ -183,7 +183,7 @@ handed_jobs x.Unanswered f to = refl
 handed_jobs (x.Again bytes) f to = refl
 handed_jobs (x.Full m) f to = jobs_or (sent (x.Full m) f to)
 handed_jobs (x.Silenced m) f to = refl
-handed_jobs (x.Settled m asked response) f to = jobs_or (sent (x.Settled m asked response) f to)
+handed_jobs (x.Immediate m asked response) f to = jobs_or (sent (x.Immediate m asked response) f to)
 handed_jobs (x.Refused m answer) f to = jobs_or (sent (x.Refused m answer) f to)
 
 -- state after a delivery, by the front's result.

@@ -15,7 +15,7 @@ use Rattle.fc_registry.specs.Watches.{after_due, shard_after_tick, due_place, at
 use Rattle.fc_core.specs.History.{AtShard, AsksTurn, Signals, Ticks, Calm, Seen, calls_by, due_in, hands_by, is_due_at, is_overdue_at, is_place_of, overdue_in, slot_at, turn_at, turns_by}
 use Rattle.fc_core.specs.Legal.{resent, resent_at, resent_in}
 use Rattle.fc_core.specs.Stages.{new_task}
-use Rattle.fc_core.specs.Rows.{handed}
+use Rattle.fc_core.specs.Transitions.{handed}
 use Rattle.fc_core.proofs.Places.{place_below}
 use Rattle.fc_server.specs.Agreement.{ShardsAgree}
 use Rattle.fc_server.specs.Steps.{resent_by, resent_if, shard_asked, shard_by, shard_changed, shard_resent, shard_ticked, shard_turn, turn_if, turns_at}

@@ -28,14 +28,14 @@ use Rattle.fc_core.specs.Legal.{AnswerEmits, EmitsBy, sends_in, FindsMeaning, Fo
 use Rattle.fc_core.specs.Receiving.{AskWithin, added_by, after_added, after_received, brought, drawn_by, id_in, keeping, kept_of, next_opening, opened_by, received, sent}
 use Rattle.fc_core.specs.Sound.{AllSafe, IsSafelySeen, IsSoundlySeen}
 use Rattle.fc_core.specs.Stages.{content_at, needs_id, new_task}
-use Rattle.fc_core.specs.Rows.{Move, Inputs, handed, names, row, sends, inputs_at, task_moved, words_after}
+use Rattle.fc_core.specs.Transitions.{Effect, Inputs, handed, names, transition, sends, inputs_at, task_moved, words_after}
 use Rattle.fc_core.proofs.Fitting.{after_changes-append, is_input}
-use Rattle.fc_core.proofs.Keeping.{IsSafeMove, still_safe, still_sound}
+use Rattle.fc_core.proofs.Keeping.{IsSafeEffect, still_safe, still_sound}
 use Rattle.fc_core.proofs.OnShards.{named_calm}
 use Rattle.fc_core.proofs.Watches.{after_append}
 use Rattle.fc_server.specs.Agreement.{Parts, ShardsAgree}
 use Rattle.fc_server.specs.States.{front_after, front_drawn, inputs_in, shards_moved}
-use Rattle.fc_server.specs.Steps.{Done, EmitsAt, IsSafeIn, Steps, brought_by, front_by, move_in, sends_at, server_in, shard_by, shards_in, tasks_in, words_in}
+use Rattle.fc_server.specs.Steps.{Done, EmitsAt, IsSafeIn, Steps, brought_by, front_by, effect_in, sends_at, server_in, shard_by, shards_in, tasks_in, words_in}
 use Rattle.fc_server.proofs.Fronts.{front_advances, front_keeps, front_of, front_opens, transfers_added}
 use Rattle.fc_server.proofs.Places.{are_written, now_here, now_there, slot_here, slot_there, watch_here, watch_there}
 use Rattle.fc_server.proofs.ShardEvents.{shard_agrees, shard_brings, shard_sends}
@@ -112,8 +112,8 @@ module _ (s : Seen) (e : Event) (shards : List Shard) (a : ShardsAgree s shards)
     abbrev n : ℕ
     n = (job s k).origin.slot
 
-    abbrev m : Move
-    m = row e (inputs s k)
+    abbrev m : Effect
+    m = transition e (inputs s k)
 
     low : n < 64
     low = (sound.within k).0
@@ -128,8 +128,8 @@ module _ (s : Seen) (e : Event) (shards : List Shard) (a : ShardsAgree s shards)
     inputs_is : inputs_in (server_in (state_seen s shards)) (task_at s.tasks k) ≡ inputs s k
     inputs_is = λ i. inputs_at (task_at s.tasks k) (a.slot n low i) (record { common = common s; time = a.now (n % 8) (omega arith) i; watch = watch_is i })
 
-    move_is : move_in e (state_seen s shards) k ≡ m
-    move_is = λ i. row e (inputs_is i)
+    effect_is : effect_in e (state_seen s shards) k ≡ m
+    effect_is = λ i. transition e (inputs_is i)
 
     changes_if : (i : ℕ) (b : Bool) → (n == i) ≡ b → changes_after (Some k) e s i ≡ (if b then m.changes ++ s.changes i else s.changes i)
     changes_if i b is = ap (λ (c : Bool). if c then m.changes ++ s.changes i else s.changes i) is
@@ -175,19 +175,19 @@ module _ (s : Seen) (e : Event) (shards : List Shard) (a : ShardsAgree s shards)
     }
 
     job_agrees : ShardsAgree (shards_seen (Some k) Calm) (shards_in (Some k) e (state_seen s shards))
-    job_agrees = subst (λ (x : Move). ShardsAgree (shards_seen (Some k) Calm) (shards_moved x n shards)) (sym move_is) moved_agrees
+    job_agrees = subst (λ (x : Effect). ShardsAgree (shards_seen (Some k) Calm) (shards_moved x n shards)) (sym effect_is) moved_agrees
 
   tasks_agree : (o : Option ℕ) → tasks_in o e (state_seen s shards) ≡ tasks_moved o e s
   tasks_agree None = refl
-  tasks_agree (Some k) = ap (λ (m : Move). set s.tasks k (task_moved (task_at s.tasks k) m)) (move_is k)
+  tasks_agree (Some k) = ap (λ (m : Effect). set s.tasks k (task_moved (task_at s.tasks k) m)) (effect_is k)
 
   words_agree : (o : Option ℕ) → words_in o e (state_seen s shards) ≡ words_seen o e s
   words_agree None = refl
-  words_agree (Some k) = ap (λ (m : Move). words_after m (task_at s.tasks k) s.words) (move_is k)
+  words_agree (Some k) = ap (λ (m : Effect). words_after m (task_at s.tasks k) s.words) (effect_is k)
 
-  safe_agree : (o : Option ℕ) → IsSafeIn o e (state_seen s shards) → IsSafeMove o e s
+  safe_agree : (o : Option ℕ) → IsSafeIn o e (state_seen s shards) → IsSafeEffect o e s
   safe_agree None safe = tt
-  safe_agree (Some k) safe = subst (λ (m : Move). AllSafe m.changes) (move_is k) safe
+  safe_agree (Some k) safe = subst (λ (m : Effect). AllSafe m.changes) (effect_is k) safe
 
   -- an event is of a job, or of no job and possibly of a shard.
   unnamed_agrees : (y : AtShard) → ShardsAgree (shards_seen None y) (shard_by y shards)

@@ -16,7 +16,7 @@ use Rattle.fc_server.specs.declared.server.Begin.{Begin}
 use Rattle.fc_core.specs.Legal.{AnswerEmits}
 use Rattle.fc_core.specs.Sound.{AllSafe}
 use Rattle.fc_core.specs.Stages.{content_at, drew, ended, needs_id}
-use Rattle.fc_core.specs.Rows.{Common, Move, Inputs, moves, task_moved, row, inputs_of, sends, shard_moved, words_after}
+use Rattle.fc_core.specs.Transitions.{Common, Effect, Inputs, goes_to, task_moved, transition, inputs_of, sends, shard_moved, words_after}
 
 -- a valid initial state: slots may begin with its serial.
 pub record CanBegin (b : Begin) : Type 0 where
@@ -41,7 +41,7 @@ abbrev pub inputs_in : ServerState → Task → Inputs
 inputs_in s task = inputs_of (shard_at s.shards (task.job.origin.slot % 8)) (common_in s.front s.words) task
 
 -- the shards after a transition of a job of slot n.
-abbrev pub shards_moved : Move → ℕ → List Shard → List Shard
+abbrev pub shards_moved : Effect → ℕ → List Shard → List Shard
 shards_moved m n shards = with_owner shards n (shard_moved m n (shard_at shards (n % 8)))
 
 -- a task that this server may run.
@@ -55,10 +55,10 @@ pub record AtWork (s : ServerState) (task : Task) : Type 0 where
 -- change by the event's transition; an installed program is safe.
 pub record Does (e : Event) (old : ServerState) (task : Task) (new : ServerState) (next : Task) (emitted : Option Emission) : Type 0 where
   pub front : new.front ≡ old.front
-  pub task_is : next ≡ task_moved task (row e (inputs_in old task))
-  pub shards : new.shards ≡ shards_moved (row e (inputs_in old task)) task.job.origin.slot old.shards
-  pub words : new.words ≡ words_after (row e (inputs_in old task)) task old.words
-  pub safe : AllSafe (row e (inputs_in old task)).changes
+  pub task_is : next ≡ task_moved task (transition e (inputs_in old task))
+  pub shards : new.shards ≡ shards_moved (transition e (inputs_in old task)) task.job.origin.slot old.shards
+  pub words : new.words ≡ words_after (transition e (inputs_in old task)) task old.words
+  pub safe : AllSafe (transition e (inputs_in old task)).changes
   pub emits : emitted ≡ sends e (inputs_in old task)
 
 -- the front after an answer with this content that sent this datagram; without a content the front
@@ -75,14 +75,14 @@ front_drawn false f now = f
 -- a task's draw of a message ID.
 pub record DrawsId (now : ℕ) (old : ServerState) (task : Task) (new : ServerState) (next : Task) : Type 0 where
   pub front : new.front ≡ front_drawn (needs_id task.stage) old.front now
-  pub task_is : next ≡ task_moved task (moves (drew (free_id old.front.ids (max old.front.now now)) task.stage))
+  pub task_is : next ≡ task_moved task (goes_to (drew (free_id old.front.ids (max old.front.now now)) task.stage))
   pub shards : new.shards ≡ old.shards
   pub words : new.words ≡ old.words
 
 -- a task's answer.
 pub record Responds (now : ℕ) (old : ServerState) (task : Task) (new : ServerState) (next : Task) (emitted : Option Emission) : Type 0 where
   pub front : new.front ≡ front_after (content_at task.stage) task.job emitted old.front now
-  pub task_is : next ≡ task_moved task (moves (ended task.stage))
+  pub task_is : next ≡ task_moved task (goes_to (ended task.stage))
   pub shards : new.shards ≡ old.shards
   pub words : new.words ≡ old.words
   pub emits : AnswerEmits (content_at task.stage) task.job (advanced old.front now) emitted

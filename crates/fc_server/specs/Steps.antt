@@ -18,7 +18,7 @@ use Rattle.fc_core.specs.Receiving.{after_received, brought, next_opening, recei
 use Rattle.fc_core.specs.Sound.{AllSafe}
 use Rattle.fc_core.specs.Stages.{content_at, needs_id, new_task}
 use Rattle.fc_core.specs.Timers.{timer_job}
-use Rattle.fc_core.specs.Rows.{Move, names, row, sends, task_moved, words_after}
+use Rattle.fc_core.specs.Transitions.{Effect, names, transition, sends, task_moved, words_after}
 use Rattle.fc_server.specs.Agreement.{Agrees, Parts}
 use Rattle.fc_server.specs.States.{ServerState, front_after, front_drawn, inputs_in, shards_moved}
 
@@ -43,24 +43,24 @@ brought_by other p = []
 abbrev pub server_in : Parts → ServerState
 server_in p = record { front = p.front; shards = p.shards; words = p.words }
 
-abbrev pub move_in : Event → Parts → ℕ → Move
-move_in e p k = row e (inputs_in (server_in p) (task_at p.tasks k))
+abbrev pub effect_in : Event → Parts → ℕ → Effect
+effect_in e p k = transition e (inputs_in (server_in p) (task_at p.tasks k))
 
 abbrev pub tasks_in : Option ℕ → Event → Parts → List Task
 tasks_in None e p = p.tasks
-tasks_in (Some k) e p = slice_set p.tasks k (task_moved (task_at p.tasks k) (move_in e p k))
+tasks_in (Some k) e p = slice_set p.tasks k (task_moved (task_at p.tasks k) (effect_in e p k))
 
 abbrev pub shards_in : Option ℕ → Event → Parts → List Shard
 shards_in None e p = p.shards
-shards_in (Some k) e p = shards_moved (move_in e p k) (task_at p.tasks k).job.origin.slot p.shards
+shards_in (Some k) e p = shards_moved (effect_in e p k) (task_at p.tasks k).job.origin.slot p.shards
 
 abbrev pub words_in : Option ℕ → Event → Parts → List ℕ
 words_in None e p = p.words
-words_in (Some k) e p = words_after (move_in e p k) (task_at p.tasks k) p.words
+words_in (Some k) e p = words_after (effect_in e p k) (task_at p.tasks k) p.words
 
 abbrev pub IsSafeIn : Option ℕ → Event → Parts → Type 0
 IsSafeIn None e p = Unit {0}
-IsSafeIn (Some k) e p = AllSafe (move_in e p k).changes
+IsSafeIn (Some k) e p = AllSafe (effect_in e p k).changes
 
 -- ---- by an event's effect on a shard; an event that names a shard above 7 has no effect there
 

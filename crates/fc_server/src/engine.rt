@@ -266,12 +266,12 @@ fn tell(
     let starved = task.needs_id();
     let sent = server.note(now, random, task, emission);
     server.give_up(now, task);
-    told(sent, starved)
+    notify_outcome(sent, starved)
 }
 
 // Returns the outcome of a lease by whether a datagram was written and whether no message ID was
 // available.
-fn told(sent: bool, starved: bool) -> NotifyOutcome
+fn notify_outcome(sent: bool, starved: bool) -> NotifyOutcome
     ensures sent { (e : Emitted) → notification_in (notified_as result e) ≡ emission_if sent e }
     ensures given { (e : Emitted) → is_given (notified_as result e) ≡ true }
     ensures starved { (e : Emitted) → notified_as result e ≡ Starved → starved ≡ true }

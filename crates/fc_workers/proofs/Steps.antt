@@ -36,7 +36,7 @@ use Rattle.fc_core.specs.Stage.{ToMatch, ToTake, ToCommit, ToInstall, ToRemove, 
 use Rattle.fc_core.specs.Contents.{Content, IsOf, Listed, Unavailable}
 use Rattle.fc_core.specs.Heads.{head_word, is_match}
 use Rattle.fc_core.specs.Ends.{refused, refused_by}
-use Rattle.fc_core.specs.Stages.{asked_stage, first_by, image_of, listed, matched, matched_by, run_content, removed, told, took, after_commit, made, snapshots}
+use Rattle.fc_core.specs.Stages.{asked_stage, first_by, image_of, listed, matched, matched_by, run_content, removed, receipt_content, took, after_commit, made, snapshots}
 use Rattle.fc_core.specs.Steps.{Call, Takes, Commits, Installs, Lists, Matches, Rejects, Refuses, Removes, Describes, Raises}
 use Rattle.fc_workers.specs.Workers.{Share}
 use Rattle.fc_workers.specs.Answers.{AreTallied, commit_overtakings, ended_by, saturated, snapshot_refusals, IsSnapshotWith, IsSomeInstall, IsSomeReceipt, IsSomeRemoval, IsSomeSnapshot}
@@ -130,7 +130,7 @@ removed_follows job (removals.Removed serial) = record { ready = tt; fewer = ome
 removed_follows job removals.Absent = record { ready = tt; fewer = omega arith; few = omega arith }
 removed_follows job removals.AtEnd = record { ready = tt; fewer = omega arith; few = omega arith }
 
-told_follows : (job : Job) (x : Option Receipt) → Follows job ToDescribe 0 (ToAnswer (told x))
+told_follows : (job : Job) (x : Option Receipt) → Follows job ToDescribe 0 (ToAnswer (receipt_content x))
 told_follows job None = record { ready = tt; fewer = omega arith; few = omega arith }
 told_follows job (Some receipt) = record { ready = tt; fewer = omega arith; few = omega arith }
 
@@ -252,7 +252,7 @@ module _ {T : Type 0} (worker_view : WorkerView T) (number : ℕ) (job : Job) wh
   }
 
   pub describe_step : (x : Option Receipt) (p : Share T) (log : TrackedLog) {next : Stage} → worker_view.logged (TellsReceipt job x) p.log log → IsSomeReceipt x
-      → next ≡ ToAnswer (told x) → IsStep worker_view number job ToDescribe next p (record p { log = log })
+      → next ≡ ToAnswer (receipt_content x) → IsStep worker_view number job ToDescribe next p (record p { log = log })
   describe_step x p log tells is e = is_step ToDescribe e refl (record {
     call = Describes x;
     is = (refl, (tells, is));

@@ -100,7 +100,7 @@ impl<'a, B: Bench, G: Gate, W: Wire, M: TimeSource> Context<'a, B, G, W, M> {
                 Step::ToDescribe => {
                     let log = &mut share.log;
                     let receipt = self.bench.receipt(rt, job, log);
-                    stage.told(receipt);
+                    stage.set_receipt(receipt);
                 }
                 Step::ToList => {
                     self.list(&mut scratch.heads, &mut stage.seen, &mut share.log);

@@ -5,7 +5,7 @@ use Rattle.coap_msg.specs.declared.types.Emission.{Emission}
 use Rattle.fc_core.specs.declared.event.Event.{Event}
 use Rattle.fc_core.specs.declared.stage.Task.{Task}
 use Rattle.fc_core.specs.History.{no_task, task_at}
-use Rattle.fc_core.specs.Rows.{names}
+use Rattle.fc_core.specs.Transitions.{names}
 use Rattle.fc_server.specs.Serving.{with_tasks}
 use Rattle.fc_server.specs.States.{ServerState, Works}
 use Rattle.fc_server.specs.Steps.{Done}

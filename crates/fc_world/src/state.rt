@@ -1,7 +1,7 @@
 //! The state of a world, and the effect of each event on it.
 ghost use Rattle.std.specs.Prelude.{◌≡◌, [], None, Some, length, IfOk, OnOk};
 ghost use Rattle.fc_core.specs.declared.event.Event.{Event};
-ghost use Rattle.fc_core.specs.Rows.{names};
+ghost use Rattle.fc_core.specs.Transitions.{names};
 ghost use Rattle.fc_server.specs.Serving.{Serves};
 ghost use Rattle.fc_server.specs.States.{CanBegin, begin_of};
 ghost use Rattle.fc_server.specs.Steps.{DeliveredTo, Done, IsReached, Steps};

@@ -45,7 +45,7 @@ use Rattle.fc_core.specs.History.{Entry, Seen, front_at, received_at, no_task, t
 use Rattle.fc_core.specs.Policies.{is_allowed}
 use Rattle.fc_core.specs.Receiving.{Received, Opened, Refused, Silenced, add_in, ask_by, brought, etags_by, is_confirmable, job_of, look_in, looked, named_block, next_opening, observes, over_share, received, received_added, received_as, request_asked, request_received, slot_asked, slot_of_resource, received_if, initial_vars_by}
 use Rattle.fc_core.specs.Stages.{new_task}
-use Rattle.fc_core.specs.Rows.{names}
+use Rattle.fc_core.specs.Transitions.{names}
 use Rattle.fc_laws.proofs.front.Bodies.{anew_is}
 use Rattle.fc_laws.proofs.front.Repeats.{received_of}
 

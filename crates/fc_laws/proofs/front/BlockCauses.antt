@@ -15,11 +15,11 @@ use Rattle.fc_laws.specs.BodyLaws.{Asks, BadRequest, Continue, Incomplete, IsAns
 use Rattle.fc_laws.specs.ExchangeLaws.{bare_by}
 use Rattle.fc_core.specs.History.{Seen, and_then, did, front_at}
 use Rattle.fc_core.specs.Legal.{Emits}
-use Rattle.fc_core.specs.Receiving.{Received, Settled, add_in, brought, next_opening, received_added, sent}
+use Rattle.fc_core.specs.Receiving.{Received, Immediate, add_in, brought, next_opening, received_added, sent}
 use Rattle.fc_core.specs.Stages.{new_task}
 use Rattle.fc_laws.proofs.front.Bodies.{anew_is, settled_code}
 
-pub is_full : (x : Add) (m : Message) (r : Asked) → received_added x m r ≡ Settled m r (bare 163) → x ≡ IsFull
+pub is_full : (x : Add) (m : Message) (r : Asked) → received_added x m r ≡ Immediate m r (bare 163) → x ≡ IsFull
 is_full (IsWhole bytes) m r e = absurd (cc e)
 is_full Continues m r e = let same : code 2 31 ≡ 163 = ap settled_code e in absurd (omega (arith, same))
 is_full IsIncomplete m r e = let same : code 4 8 ≡ 163 = ap settled_code e in absurd (omega (arith, same))
@@ -27,7 +27,7 @@ is_full IsBadLength m r e = let same : code 4 0 ≡ 163 = ap settled_code e in a
 is_full IsTooLarge m r e = let same : code 4 13 ≡ 163 = ap settled_code e in absurd (omega (arith, same))
 is_full IsFull m r e = refl
 
-pub is_incomplete : (x : Add) (m : Message) (r : Asked) → received_added x m r ≡ Settled m r (bare 136) → x ≡ IsIncomplete
+pub is_incomplete : (x : Add) (m : Message) (r : Asked) → received_added x m r ≡ Immediate m r (bare 136) → x ≡ IsIncomplete
 is_incomplete (IsWhole bytes) m r e = absurd (cc e)
 is_incomplete Continues m r e = let same : code 2 31 ≡ 136 = ap settled_code e in absurd (omega (arith, same))
 is_incomplete IsIncomplete m r e = refl
@@ -35,7 +35,7 @@ is_incomplete IsBadLength m r e = let same : code 4 0 ≡ 136 = ap settled_code 
 is_incomplete IsTooLarge m r e = let same : code 4 13 ≡ 136 = ap settled_code e in absurd (omega (arith, same))
 is_incomplete IsFull m r e = let same : code 5 3 ≡ 136 = ap settled_code e in absurd (omega (arith, same))
 
-pub is_bad_length : (x : Add) (m : Message) (r : Asked) → received_added x m r ≡ Settled m r (bare 128) → x ≡ IsBadLength
+pub is_bad_length : (x : Add) (m : Message) (r : Asked) → received_added x m r ≡ Immediate m r (bare 128) → x ≡ IsBadLength
 is_bad_length (IsWhole bytes) m r e = absurd (cc e)
 is_bad_length Continues m r e = let same : code 2 31 ≡ 128 = ap settled_code e in absurd (omega (arith, same))
 is_bad_length IsIncomplete m r e = let same : code 4 8 ≡ 128 = ap settled_code e in absurd (omega (arith, same))
@@ -43,7 +43,7 @@ is_bad_length IsBadLength m r e = refl
 is_bad_length IsTooLarge m r e = let same : code 4 13 ≡ 128 = ap settled_code e in absurd (omega (arith, same))
 is_bad_length IsFull m r e = let same : code 5 3 ≡ 128 = ap settled_code e in absurd (omega (arith, same))
 
-pub is_too_large : (x : Add) (m : Message) (r : Asked) → received_added x m r ≡ Settled m r (bare 141) → x ≡ IsTooLarge
+pub is_too_large : (x : Add) (m : Message) (r : Asked) → received_added x m r ≡ Immediate m r (bare 141) → x ≡ IsTooLarge
 is_too_large (IsWhole bytes) m r e = absurd (cc e)
 is_too_large Continues m r e = let same : code 2 31 ≡ 141 = ap settled_code e in absurd (omega (arith, same))
 is_too_large IsIncomplete m r e = let same : code 4 8 ≡ 141 = ap settled_code e in absurd (omega (arith, same))
@@ -56,10 +56,10 @@ by_added x y m r e = ap (λ (z : Add). received_added z m r) e
 
 -- the immediate answer.
 abbrev response_of : Received → Response
-response_of (Settled m r response) = response
+response_of (Immediate m r response) = response
 response_of other = bare 0
 
-answered_at_once : (x : Add) (m : Message) (r : Asked) (b : Place) (response : Response) → r.block1 ≡ Some b → received_added x m r ≡ Settled m r response → IsAnswerAtOnce b response
+answered_at_once : (x : Add) (m : Message) (r : Asked) (b : Place) (response : Response) → r.block1 ≡ Some b → received_added x m r ≡ Immediate m r response → IsAnswerAtOnce b response
 answered_at_once (IsWhole bytes) m r b response is e = absurd (cc e)
 answered_at_once Continues m r b response is e = Continue (sym (ap response_of e) ∙ ap (λ (block : Option Place). settled_by 95 block) is)
 answered_at_once IsIncomplete m r b response is e = Incomplete (sym (ap response_of e))
@@ -67,7 +67,7 @@ answered_at_once IsBadLength m r b response is e = BadRequest (sym (ap response_
 answered_at_once IsTooLarge m r b response is e = TooLarge (sym (ap response_of e))
 answered_at_once IsFull m r b response is e = Unavailable (sym (ap response_of e))
 
-pub at_once : (s : Seen) (now : ℕ) (to : Endpoint) (m : Message) (r : Asked) (b : Place) (response : Response) → r.block1 ≡ Some b → asked_at s now to m r ≡ Settled m r response → IsAnswerAtOnce b response
+pub at_once : (s : Seen) (now : ℕ) (to : Endpoint) (m : Message) (r : Asked) (b : Place) (response : Response) → r.block1 ≡ Some b → asked_at s now to m r ≡ Immediate m r response → IsAnswerAtOnce b response
 at_once s now to m r b response is e = answered_at_once (add_in (front_at s now) to r) m r b response is e
 
 -- ---- its effects

@@ -28,7 +28,7 @@ use Rattle.fc_laws.specs.ExchangeLaws.{IsOnRequest}
 use Rattle.fc_core.specs.History.{Entry, History, Begins, Then, Seen, and_then, did, front_at, received_at, seen, stage, at_front, time_by, additions_by}
 use Rattle.fc_core.specs.Legal.{Emits}
 use Rattle.fc_core.specs.Policies.{is_allowed}
-use Rattle.fc_core.specs.Receiving.{Received, Silenced, Refused, Settled, Opened, add_in, added_by, addition_of, ask_by, brought, is_confirmable, job_of, look_in, looked, next_opening, over_share, received_added, received_as, received_read, request_received, sent, slot_asked, received_if, initial_vars_by}
+use Rattle.fc_core.specs.Receiving.{Received, Silenced, Refused, Immediate, Opened, add_in, added_by, addition_of, ask_by, brought, is_confirmable, job_of, look_in, looked, next_opening, over_share, received_added, received_as, received_read, request_received, sent, slot_asked, received_if, initial_vars_by}
 use Rattle.coap_reply.specs.Responses.{settled_by}
 use Rattle.fc_core.specs.Stages.{content_at, needs_id, new_task}
 use Rattle.fc_laws.proofs.front.Repeats.{new_as, opening_is, opening_of, received_of}
@@ -41,7 +41,7 @@ rises_later now later (a ∷ h) le w = (omega (arith, w.0), w.1)
 
 with_added : (x : Received) (at : ℕ) (to : Endpoint) (h : List Addition) → RisesTo at h → RisesTo at (added_by x at to ++ h)
 with_added (Opened m asked body) at to h w = (omega arith, w)
-with_added (Settled m asked response) at to h w = (omega arith, w)
+with_added (Immediate m asked response) at to h w = (omega arith, w)
 with_added other at to h w = w
 
 answered_rises : (answers : Bool) (time now : ℕ) (h : List Addition) → RisesTo time h → RisesTo (if answers then max time now else time) h
@@ -79,10 +79,10 @@ is_opened x m r body e = ap (λ (x : Add). received_added x m r) e
 
 -- code that is sent immediately.
 abbrev pub settled_code : Received → ℕ
-settled_code (Settled m r response) = response.code
+settled_code (Immediate m r response) = response.code
 settled_code other = 0
 
-pub goes_on : (x : Add) (m : Message) (r : Asked) (b : Place) → received_added x m r ≡ Settled m r (settled_by (code 2 31) (Some b)) → x ≡ Continues
+pub goes_on : (x : Add) (m : Message) (r : Asked) (b : Place) → received_added x m r ≡ Immediate m r (settled_by (code 2 31) (Some b)) → x ≡ Continues
 goes_on (IsWhole bytes) m r b e = absurd (cc e)
 goes_on Continues m r b e = refl
 goes_on IsIncomplete m r b e = let same : code 4 8 ≡ code 2 31 = ap settled_code e in absurd (omega (arith, same))
@@ -90,8 +90,8 @@ goes_on IsBadLength m r b e = let same : code 4 0 ≡ code 2 31 = ap settled_cod
 goes_on IsTooLarge m r b e = let same : code 4 13 ≡ code 2 31 = ap settled_code e in absurd (omega (arith, same))
 goes_on IsFull m r b e = let same : code 5 3 ≡ code 2 31 = ap settled_code e in absurd (omega (arith, same))
 
-pub is_continued : (x : Add) (m : Message) (r : Asked) (b : Place) → r.block1 ≡ Some b → x ≡ Continues → received_added x m r ≡ Settled m r (settled_by (code 2 31) (Some b))
-is_continued x m r b is e = ap (λ (x : Add). received_added x m r) e ∙ ap (λ (block : Option Place). Settled m r (settled_by (code 2 31) block)) is
+pub is_continued : (x : Add) (m : Message) (r : Asked) (b : Place) → r.block1 ≡ Some b → x ≡ Continues → received_added x m r ≡ Immediate m r (settled_by (code 2 31) (Some b))
+is_continued x m r b is e = ap (λ (x : Add). received_added x m r) e ∙ ap (λ (block : Option Place). Immediate m r (settled_by (code 2 31) block)) is
 
 -- result for the block of a new request.
 pub added_block : (s : Seen) (now : ℕ) (to : Endpoint) (r : Asked) (b : Place) → r.block1 ≡ Some b → add_of (transfers s.additions) (max s.time now) to (slot_asked r.action) r.block1 r.payload ≡ block_added (transfers s.additions) (max s.time now) to (slot_asked r.action) b r.payload
@@ -182,11 +182,11 @@ put_brings other o s m r n b body is w puts fits = absurd w
 
 -- if this holds for each at a time, a block that isn't the last is answered immediately, and
 -- produces nothing.
-pub put_continues : (e : Event) (s : Seen) (m : Message) (r : Asked) (b : Place) (body : List ℕ) (emitted : Option Emission) → ((now : ℕ) (to : Endpoint) → FitsBehind s.additions (addition_at s now to r) b body → asked_at s now to m r ≡ Settled m r (settled_by (code 2 31) (Some b))) → Asks s e m r → FitsBy s e r b body → Emits s e emitted → emitted ≡ continue_by s e m b
+pub put_continues : (e : Event) (s : Seen) (m : Message) (r : Asked) (b : Place) (body : List ℕ) (emitted : Option Emission) → ((now : ℕ) (to : Endpoint) → FitsBehind s.additions (addition_at s now to r) b body → asked_at s now to m r ≡ Immediate m r (settled_by (code 2 31) (Some b))) → Asks s e m r → FitsBy s e r b body → Emits s e emitted → emitted ≡ continue_by s e m b
 put_continues (Deliver now to bytes) s m r b body emitted is w fits legal = legal ∙ ap (λ (x : Received). sent x (front_at s now) to) (anew_is s now to bytes.now m r w ∙ is now to fits)
 put_continues other s m r b body emitted is w fits legal = absurd w
 
-pub put_waits : (e : Event) (o : Option Emission) (s : Seen) (m : Message) (r : Asked) (b : Place) (body : List ℕ) → ((now : ℕ) (to : Endpoint) → FitsBehind s.additions (addition_at s now to r) b body → asked_at s now to m r ≡ Settled m r (settled_by (code 2 31) (Some b))) → Asks s e m r → FitsBy s e r b body → (and_then (did e o) s).tasks ≡ s.tasks
+pub put_waits : (e : Event) (o : Option Emission) (s : Seen) (m : Message) (r : Asked) (b : Place) (body : List ℕ) → ((now : ℕ) (to : Endpoint) → FitsBehind s.additions (addition_at s now to r) b body → asked_at s now to m r ≡ Immediate m r (settled_by (code 2 31) (Some b))) → Asks s e m r → FitsBy s e r b body → (and_then (did e o) s).tasks ≡ s.tasks
 put_waits (Deliver now to bytes) o s m r b body is w fits = ap (λ (x : Received). s.tasks ++ map new_task (brought x (next_opening (front_at s now)) to)) (anew_is s now to bytes.now m r w ∙ is now to fits) ∙ append-nil s.tasks
 put_waits other o s m r b body is w fits = absurd w
 

@@ -25,7 +25,7 @@ use Rattle.fc_core.specs.Exchanges.{has_exchange, opening_is_live}
 use Rattle.fc_core.specs.History.{Entry, History, Then, Seen, seen, at_front, front_at, ids_answered, ids_by, job, time_by, stage}
 use Rattle.fc_core.specs.Ids.{Ids, drawn, drawn_for, free_id, is_recent, last_drawn}
 use Rattle.fc_core.specs.Policies.{is_allowed}
-use Rattle.fc_core.specs.Receiving.{Received, Refused, Settled, Silenced, add_in, drawn_by, is_confirmable, look_in, looked, received_added, received_as, received_read, request_received, received_if}
+use Rattle.fc_core.specs.Receiving.{Received, Refused, Immediate, Silenced, add_in, drawn_by, is_confirmable, look_in, looked, received_added, received_as, received_read, request_received, received_if}
 use Rattle.fc_core.specs.Stage.{Stage, ToAnswer, ToTell}
 use Rattle.fc_core.specs.Stages.{content_at, needs_id}
 use Rattle.fc_core.specs.TurnStage as turns
@@ -91,7 +91,7 @@ kept_ids true ids at not = refl
 kept_ids false ids at not = absurd (not refl)
 
 -- for any result for its payload, if it isn't answered immediately.
-added_keeps : (a : Add) (m : Message) (r : Asked) (ids : Ids) (at : ℕ) → ((response : Response) → received_added a m r ≡ Settled m r response → is_confirmable m.kind ≡ false → ⊥)
+added_keeps : (a : Add) (m : Message) (r : Asked) (ids : Ids) (at : ℕ) → ((response : Response) → received_added a m r ≡ Immediate m r response → is_confirmable m.kind ≡ false → ⊥)
     → drawn_by (received_added a m r) ids at ≡ ids
 added_keeps (IsWhole body) m r ids at not = refl
 added_keeps Continues m r ids at not = kept_ids (is_confirmable m.kind) ids at (not _ refl)

@@ -18,7 +18,7 @@ use Rattle.fc_core.specs.Exchanges.{opening_is_live}
 use Rattle.fc_laws.specs.ExchangeLaws.{AllBefore, AreApart, AreInOrder, Draw, draws_by, draws_of, first_id}
 use Rattle.fc_core.specs.History.{History, Begins, Then, Seen, seen, and_then, did, ids_answered, job, received_at, stage, at_front, time_by, ids_by}
 use Rattle.fc_core.specs.Ids.{Ids, drawn, drawn_for, free_id, is_recent, last_drawn, no_draws}
-use Rattle.fc_core.specs.Receiving.{Received, Full, Refused, Settled, is_confirmable}
+use Rattle.fc_core.specs.Receiving.{Received, Full, Refused, Immediate, is_confirmable}
 use Rattle.fc_core.specs.Receiving as receiving
 use Rattle.fc_core.specs.Stages.{content_at, needs_id}
 
@@ -39,7 +39,7 @@ draw_for false old at = draw_if old at (is_recent at (last_drawn old)) refl
 draw_received : (x : Received) (old : Ids) (at : ℕ) → Draws old at (receiving.drawn_by x old at)
 draw_received (Full m) old at = draw_for (is_confirmable m.kind) old at
 draw_received (Refused m answer) old at = draw_for (is_confirmable m.kind) old at
-draw_received (Settled m asked response) old at = draw_for (is_confirmable m.kind) old at
+draw_received (Immediate m asked response) old at = draw_for (is_confirmable m.kind) old at
 draw_received other old at = Same refl
 
 draw_answered : (c : Option Content) (live confirmable : Bool) (old : Ids) (m now : ℕ) → Draws old (if is_some c then max m now else m) (ids_answered c live confirmable old (max m now))

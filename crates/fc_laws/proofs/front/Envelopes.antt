@@ -14,7 +14,7 @@ use Rattle.fc_core.specs.Exchanges.{FrontState, opening_is_live}
 use Rattle.fc_core.specs.History.{Seen, front_at, job, stage}
 use Rattle.fc_core.specs.Ids.{free_id, reply_id}
 use Rattle.fc_core.specs.Legal.{AnswerEmits, Emits, IsAnswered}
-use Rattle.fc_core.specs.Receiving.{is_confirmable, told, told_by}
+use Rattle.fc_core.specs.Receiving.{is_confirmable, reply_sent, reply_sent_by}
 use Rattle.fc_core.specs.Replies.{IsReplyTo}
 use Rattle.fc_laws.specs.ReplyLaws.{IsAnswerTo}
 use Rattle.fc_core.specs.Stages.{content_at}
@@ -49,18 +49,18 @@ answers_otherwise s k now content e is confirms sent = replied s k now content e
 
 -- ---- immediately
 
-pub acknowledges_at_once : (f : FrontState) (to : Endpoint) (m : Message) (response : Response) → m.kind ≡ Confirmable → told f to m response ≡ Some (sent_in (record { to = to; kind = Acknowledgement; id = m.id; token = m.token }) response)
+pub acknowledges_at_once : (f : FrontState) (to : Endpoint) (m : Message) (response : Response) → m.kind ≡ Confirmable → reply_sent f to m response ≡ Some (sent_in (record { to = to; kind = Acknowledgement; id = m.id; token = m.token }) response)
 acknowledges_at_once f to m response kind =
-    ap (λ (b : Bool). told_by (reply_id b m.id (free_id f.ids f.now)) to m response) (ap is_confirmable kind)
+    ap (λ (b : Bool). reply_sent_by (reply_id b m.id (free_id f.ids f.now)) to m response) (ap is_confirmable kind)
     ∙ ap (λ (b : Bool). Some (sent_in (record { to = to; kind = reply_kind b; id = m.id; token = m.token }) response)) (ap is_confirmable kind)
 
-pub answers_at_once : (f : FrontState) (to : Endpoint) (m : Message) (response : Response) (id : ℕ) → m.kind ≡ NonConfirmable → free_id f.ids f.now ≡ Some id → told f to m response ≡ Some (sent_in (record { to = to; kind = NonConfirmable; id = id; token = m.token }) response)
+pub answers_at_once : (f : FrontState) (to : Endpoint) (m : Message) (response : Response) (id : ℕ) → m.kind ≡ NonConfirmable → free_id f.ids f.now ≡ Some id → reply_sent f to m response ≡ Some (sent_in (record { to = to; kind = NonConfirmable; id = id; token = m.token }) response)
 answers_at_once f to m response id kind free =
-    ap (λ (b : Bool). told_by (reply_id b m.id (free_id f.ids f.now)) to m response) (ap is_confirmable kind)
-    ∙ (ap (λ (x : Option ℕ). told_by x to m response) free
+    ap (λ (b : Bool). reply_sent_by (reply_id b m.id (free_id f.ids f.now)) to m response) (ap is_confirmable kind)
+    ∙ (ap (λ (x : Option ℕ). reply_sent_by x to m response) free
     ∙ ap (λ (b : Bool). Some (sent_in (record { to = to; kind = reply_kind b; id = id; token = m.token }) response)) (ap is_confirmable kind))
 
-pub hushed_at_once : (f : FrontState) (to : Endpoint) (m : Message) (response : Response) → m.kind ≡ NonConfirmable → free_id f.ids f.now ≡ None → told f to m response ≡ None
+pub hushed_at_once : (f : FrontState) (to : Endpoint) (m : Message) (response : Response) → m.kind ≡ NonConfirmable → free_id f.ids f.now ≡ None → reply_sent f to m response ≡ None
 hushed_at_once f to m response kind free =
-    ap (λ (b : Bool). told_by (reply_id b m.id (free_id f.ids f.now)) to m response) (ap is_confirmable kind)
-    ∙ ap (λ (x : Option ℕ). told_by x to m response) free
+    ap (λ (b : Bool). reply_sent_by (reply_id b m.id (free_id f.ids f.now)) to m response) (ap is_confirmable kind)
+    ∙ ap (λ (x : Option ℕ). reply_sent_by x to m response) free

@@ -25,7 +25,7 @@ use Rattle.fc_core.specs.Ids.{free_id}
 use Rattle.fc_laws.specs.KeptLaws.{AnswersJob, HasId, answers, answers_with, emitted_bytes, exchange_of_job, opened_at}
 use Rattle.fc_core.specs.Legal.{AnswerEmits, Emits, IsAnswered}
 use Rattle.fc_core.specs.Policies.{is_allowed}
-use Rattle.fc_core.specs.Receiving.{Received, Silenced, Refused, Opened, Settled, add_in, id_in, kept_of, next_opening, opened_by, received_added, sent, received_if}
+use Rattle.fc_core.specs.Receiving.{Received, Silenced, Refused, Opened, Immediate, add_in, id_in, kept_of, next_opening, opened_by, received_added, sent, received_if}
 use Rattle.fc_core.specs.Stages.{content_at}
 use Rattle.fc_laws.proofs.front.Repeats.{new_as, opened_none, opening_is}
 
@@ -86,7 +86,7 @@ numbered_if false n o es w = w
 
 numbered_more : (from : ℕ) (es : List Exchange) (x : Received) (at : ℕ) (to : Endpoint) (number : ℕ) → AreNumbered from es → number ≡ from + length es → AreNumbered from (es ++ opened_by x (record { number = number; at = at }) to)
 numbered_more from [] (Opened m asked body) at to number w is = (omega (arith, is), tt)
-numbered_more from [] (Settled m asked response) at to number w is = (omega (arith, is), tt)
+numbered_more from [] (Immediate m asked response) at to number w is = (omega (arith, is), tt)
 numbered_more from [] (Silenced m) at to number w is = (omega (arith, is), tt)
 numbered_more from [] (Refused m answer) at to number w is = (omega (arith, is), tt)
 numbered_more from [] other at to number w is = tt
@@ -193,7 +193,7 @@ delivery_keeps h r opens legal = opened_keeps (seen h) r.event r.emitted (number
 
 none_kept : (x : Received) (o : Option Emission) (opening : Opening) (to : Endpoint) → length (opened_by x opening to) ≡ 0 → kept_of x o ≡ None
 none_kept (Opened m asked body) o opening to none = refl
-none_kept (Settled m asked response) o opening to none = absurd (cc none)
+none_kept (Immediate m asked response) o opening to none = absurd (cc none)
 none_kept (Refused m answer) o opening to none = absurd (cc none)
 none_kept other o opening to none = refl
 

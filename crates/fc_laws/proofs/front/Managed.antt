@@ -30,7 +30,7 @@ use Rattle.fc_core.specs.Laws.{HasCome}
 use Rattle.fc_core.specs.Policies.{is_allowed, is_manager}
 use Rattle.fc_core.specs.Receiving.{Received, add_in, ask_by, brought, job_of, look_in, looked, next_opening, received, received_added, received_as, received_if, received_read, request_received}
 use Rattle.fc_core.specs.Receiving as x
-use Rattle.fc_core.specs.Rows.{names, row, task_moved}
+use Rattle.fc_core.specs.Transitions.{names, transition, task_moved}
 use Rattle.fc_core.specs.Stages.{new_task}
 use Rattle.fc_core.proofs.Lists.{Each}
 use Rattle.fc_laws.specs.PolicyLaws.{IsManaged, asks_for_change}
@@ -139,7 +139,7 @@ brought_managed s other = tt
 
 moved_managed : (s : Seen) (e : Event) (o : Option ℕ) → AllManaged s.policy.managers s.tasks → AllManaged s.policy.managers (tasks_moved o e s)
 moved_managed s e None w = w
-moved_managed s e (Some k) w = each_set (λ (t : Task). IsManaged s.policy.managers t.job) s.tasks k (task_moved (task_at s.tasks k) (row e (inputs s k))) (λ lt. each_at (λ (t : Task). IsManaged s.policy.managers t.job) s.tasks k no_task w lt) w
+moved_managed s e (Some k) w = each_set (λ (t : Task). IsManaged s.policy.managers t.job) s.tasks k (task_moved (task_at s.tasks k) (transition e (inputs s k))) (λ lt. each_at (λ (t : Task). IsManaged s.policy.managers t.job) s.tasks k no_task w lt) w
 
 all_managed : (h : History) → AllManaged (seen h).policy.managers (seen h).tasks
 unfolding seen

@@ -17,7 +17,7 @@ use Rattle.fc_core.specs.History.{Entry, Seen, and_then, due_in, front_at, no_ta
 use Rattle.fc_core.specs.Laws.{HasCome}
 use Rattle.fc_core.specs.Receiving.{Received, Opened, brought, next_opening}
 use Rattle.fc_core.specs.Stages.{new_task}
-use Rattle.fc_core.specs.Rows.{names}
+use Rattle.fc_core.specs.Transitions.{names}
 use Rattle.fc_core.proofs.Lists.{Each}
 use Rattle.fc_laws.specs.ExchangeLaws.{IsOfLease}
 use Rattle.fc_laws.proofs.jobs.Steps.{moved_length}

@@ -27,7 +27,7 @@ use Rattle.fc_core.specs.TurnStage as turns
 use Rattle.fc_core.specs.Heads.{published}
 use Rattle.fc_core.specs.History.{Entry, Seen, additions_by, and_then, answered_in, at_front, calls_named, changes_after, did, exchanges_by, job, inputs, stage, tasks_brought, tasks_moved, watch, words_seen, at_shard, calls_by}
 use Rattle.fc_core.specs.Laws.{slot_of}
-use Rattle.fc_core.specs.Rows.{Move, Inputs, call_at, install_if, move_of, names, row}
+use Rattle.fc_core.specs.Transitions.{Effect, Inputs, call_at, install_if, effect_of, names, transition}
 use Rattle.fc_core.specs.Stages.{content_at, image_of}
 use Rattle.fc_core.specs.Steps.{Commits, Installs, Removes}
 use Rattle.fc_laws.specs.RefusalLaws.{HasNoId, HasNoTicket, IsRefusedCall, IsStaleNote, IsStaleSnapshot, LeavesAllButStage, NotAccepted, NotCommitted, NotDescribed, NotInstalled, NotRemoved, NotSent, NothingTaken}
@@ -40,7 +40,7 @@ data IsIdle (calls : List ObserverCall) : Type 0 where
   Nothing : (is : calls ≡ []) → IsIdle calls
   Time : (at : ℕ) (is : calls ≡ Advance at ∷ []) → IsIdle calls
 
-record IsStill (m : Move) : Type 0 where
+record IsStill (m : Effect) : Type 0 where
   changes : m.changes ≡ []
   calls : IsIdle m.calls
   raises : m.raises ≡ None
@@ -67,16 +67,16 @@ record IsOf (k : ℕ) (e : Event) (o : Option Emission) (s : Seen) : Type 0 wher
   added : additions_by (at_front e) s ≡ []
   kept : exchanges_by (at_front e) o s ≡ s.exchanges
 
-left : (k : ℕ) (e : Event) (o : Option Emission) (s : Seen) → IsOf k e o s → IsStill (row e (inputs s k)) → LeavesAllButStage k s (and_then (did e o) s)
+left : (k : ℕ) (e : Event) (o : Option Emission) (s : Seen) → IsOf k e o s → IsStill (transition e (inputs s k)) → LeavesAllButStage k s (and_then (did e o) s)
 left k e o s of still = record {
   slots = record {
     first = refl;
     slots = λ n.
         ap (λ (x : Option ℕ). changes_after x e s n) of.named
-        ∙ changes_still (slot_of s k == n) (row e (inputs s k)).changes (s.changes n) still.changes;
+        ∙ changes_still (slot_of s k == n) (transition e (inputs s k)).changes (s.changes n) still.changes;
     words = ap (λ (x : Option ℕ). words_seen x e s) of.named ∙ ap (λ (x : Option ℕ). published x (slot_of s k) s.words) still.raises;
   };
-  at = (row e (inputs s k)).stage;
+  at = (transition e (inputs s k)).stage;
   tasks =
       ap (λ (x : Option ℕ). tasks_moved x e s ++ tasks_brought e s) of.named
       ∙ (ap (λ ts. tasks_moved (Some k) e s ++ ts) of.brought ∙ append-nil (tasks_moved (Some k) e s));
@@ -84,36 +84,36 @@ left k e o s of still = record {
       subst (AreLeft n s.policy.confirm_after (s.calls n))
       (sym (ap (λ (x : Option ℕ). calls_named x e s n ++ (calls_by (at_shard e) s n ++ s.calls n)) of.named
       ∙ ap (λ (x : List ObserverCall). calls_named (Some k) e s n ++ (x ++ s.calls n)) (of.calm n)))
-      (observers_still (slot_of s k == n) (row e (inputs s k)).calls (s.calls n) n s.policy.confirm_after still.calls);
+      (observers_still (slot_of s k == n) (transition e (inputs s k)).calls (s.calls n) n s.policy.confirm_after still.calls);
   front = record { exchanges = of.kept; additions = ap (λ xs. xs ++ s.additions) of.added };
 }
 
 -- ---- the transitions of refused calls
 
 -- transition of an event of a job at this stage.
-abbrev move_at : Event → Inputs → Stage → Move
-move_at e s x = move_of e s (call_at e s x)
+abbrev effect_at : Event → Inputs → Stage → Effect
+effect_at e s x = effect_of e s (call_at e s x)
 
 uncommitted : (k now count : ℕ) (t : Ticket) (s : Inputs) (c b : Bool) → (c ≡ false) ⊎ (b ≡ false)
-    → IsStill (move_of (Commit k now) s (Some (Commits count t (commits (outcome_by true c b) t s.slot.serial s.around.watch).answer)))
+    → IsStill (effect_of (Commit k now) s (Some (Commits count t (commits (outcome_by true c b) t s.slot.serial s.around.watch).answer)))
 uncommitted k now count t s false b w = record { changes = refl; calls = Nothing refl; raises = refl }
 uncommitted k now count t s true false w = record { changes = refl; calls = Nothing refl; raises = refl }
 uncommitted k now count t s true true (inl is) = absurd (cc is)
 uncommitted k now count t s true true (inr is) = absurd (cc is)
 
 unaccepted : (k : ℕ) (s : Inputs) (memory : Bool) (v : InitialVars) (j : Judgement) → ((p : Program) → j ≡ Accepts p → ⊥)
-    → IsStill (move_of (Install k memory) s (Some (install_if memory v j s.slot)))
+    → IsStill (effect_of (Install k memory) s (Some (install_if memory v j s.slot)))
 unaccepted k s false v j why = record { changes = refl; calls = Nothing refl; raises = refl }
 unaccepted k s true v (Accepts p) why = absurd (why p refl)
 unaccepted k s true v (Breaks rule slot) why = record { changes = refl; calls = Nothing refl; raises = refl }
 unaccepted k s true v Untypable why = record { changes = refl; calls = Nothing refl; raises = refl }
 
-at_end : (k : ℕ) (s : Inputs) (p : Program) (v : InitialVars) (b : Bool) → b ≡ false → IsStill (move_of (Install k true) s (Some (Installs p v (put_by b s.slot p v).answer)))
+at_end : (k : ℕ) (s : Inputs) (p : Program) (v : InitialVars) (b : Bool) → b ≡ false → IsStill (effect_of (Install k true) s (Some (Installs p v (put_by b s.slot p v).answer)))
 at_end k s p v true is = absurd (cc is)
 at_end k s p v false is = record { changes = refl; calls = Nothing refl; raises = refl }
 
 uninstalled : (k : ℕ) (s : Inputs) (memory : Bool) (v : InitialVars) (j : Judgement) → (memory ≡ false) ⊎ (last_serial ≤ s.slot.serial)
-    → IsStill (move_of (Install k memory) s (Some (install_if memory v j s.slot)))
+    → IsStill (effect_of (Install k memory) s (Some (install_if memory v j s.slot)))
 uninstalled k s false v j why = record { changes = refl; calls = Nothing refl; raises = refl }
 uninstalled k s true v (Accepts p) (inl is) = absurd (cc is)
 uninstalled k s true v (Accepts p) (inr last) = at_end k s p v (nat_lt s.slot.serial last_serial) (le-ltb s.slot.serial last_serial last)
@@ -121,7 +121,7 @@ uninstalled k s true v (Breaks rule slot) why = record { changes = refl; calls =
 uninstalled k s true v Untypable why = record { changes = refl; calls = Nothing refl; raises = refl }
 
 unremoved : (k serial : ℕ) (s : Inputs) (b : Bool) (o : Option Present) → (o ≡ None) ⊎ (b ≡ false)
-    → IsStill (move_of (Remove k) s (Some (Removes (clear_by b serial o).answer)))
+    → IsStill (effect_of (Remove k) s (Some (Removes (clear_by b serial o).answer)))
 unremoved k serial s b None why = record { changes = refl; calls = Nothing refl; raises = refl }
 unremoved k serial s false (Some p) why = record { changes = refl; calls = Nothing refl; raises = refl }
 unremoved k serial s true (Some p) (inl is) = absurd (cc is)
@@ -148,8 +148,8 @@ unanswered false number o xs is = refl
 
 module _ (k : ℕ) (o : Option Emission) (s : Seen) where
   -- for an event at this stage of its job.
-  at_stage : (e : Event) (x : Stage) → IsOf k e o s → stage s k ≡ x → IsStill (move_at e (inputs s k) x) → LeavesAllButStage k s (and_then (did e o) s)
-  at_stage e x of at still = left k e o s of (subst (λ (y : Stage). IsStill (move_at e (inputs s k) y)) (sym at) still)
+  at_stage : (e : Event) (x : Stage) → IsOf k e o s → stage s k ≡ x → IsStill (effect_at e (inputs s k) x) → LeavesAllButStage k s (and_then (did e o) s)
+  at_stage e x of at still = left k e o s of (subst (λ (y : Stage). IsStill (effect_at e (inputs s k) y)) (sym at) still)
 
   by_call : (e : Event) → IsRefusedCall s k e o → LeavesAllButStage k s (and_then (did e o) s)
   by_call e (NothingTaken count memory readings is at why) = subst (λ (x : Event). LeavesAllButStage k s (and_then (did x o) s)) (sym is)
@@ -158,7 +158,7 @@ module _ (k : ℕ) (o : Option Emission) (s : Seen) where
   by_call e (NotCommitted now count t is at wanted why) = subst (λ (x : Event). LeavesAllButStage k s (and_then (did x o) s)) (sym is)
       (at_stage (Commit k now) (ToCommit count t) (record { named = refl; brought = refl; calm = λ n. refl; added = refl; kept = refl }) at
       (subst
-      (λ (b : Bool). IsStill (move_of (Commit k now) (inputs s k) (Some (Commits count t
+      (λ (b : Bool). IsStill (effect_of (Commit k now) (inputs s k) (Some (Commits count t
       (commits (outcome_by b ((inputs s k).slot.serial == t.serial) (nat_lt (inputs s k).slot.serial last_serial)) t (inputs s k).slot.serial
       (inputs s k).around.watch).answer))))
       (sym wanted)

@@ -19,7 +19,7 @@ use Rattle.fc_core.specs.Legal.{Emits}
 use Rattle.fc_core.specs.Receiving.{Received, Refused, Rejected, brought, next_opening, received_as, sent, received_if}
 use Rattle.fc_laws.specs.ReplyLaws.{FormatError, IsRefusal, IsRefusedAnew, IsRejected, NoRequest, Refuses, Rejects, reset_to}
 use Rattle.fc_core.specs.Stages.{new_task}
-use Rattle.fc_core.specs.Rows.{names}
+use Rattle.fc_core.specs.Transitions.{names}
 use Rattle.fc_laws.proofs.front.Repeats.{new_as, opening_is, received_of}
 
 -- ---- a refusal

@@ -30,7 +30,7 @@ use Rattle.coap_block.specs.Uploads.{Add, Continues, IsWhole, IsIncomplete, IsBa
 use Rattle.fc_core.specs.Policies.{is_allowed}
 use Rattle.fc_core.specs.Receiving.{Received, add_in, added_by, is_confirmable, received_added, request_received, Unanswered, Again, Silenced, Refused, brought, drawn_by, kept_of, look_in, looked, next_opening, opened_by, over_share, received, received_as, received_read, sent, received_if}
 use Rattle.fc_core.specs.Stages.{content_at, new_task}
-use Rattle.fc_core.specs.Rows.{names}
+use Rattle.fc_core.specs.Transitions.{names}
 
 -- ---- a request and the exchanges
 

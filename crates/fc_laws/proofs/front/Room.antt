@@ -21,7 +21,7 @@ use Rattle.fc_core.specs.Ids.{Ids, drawn_for}
 use Rattle.fc_core.specs.Legal.{Emits}
 use Rattle.fc_core.specs.Receiving.{Received, Full, added_by, brought, drawn_by, is_confirmable, looked, next_opening, over_share, sent}
 use Rattle.fc_core.specs.Stages.{new_task}
-use Rattle.fc_core.specs.Rows.{names}
+use Rattle.fc_core.specs.Transitions.{names}
 use Rattle.fc_laws.proofs.front.Repeats.{new_as, request_is, table_at}
 
 no_place : (s : Seen) (at : ℕ) → HasNoPlace s at → has_place (table_at s at) ≡ false

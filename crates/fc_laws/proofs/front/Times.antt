@@ -8,12 +8,12 @@ use Rattle.fc_core.specs.declared.event.Event.TheVariants.{Deliver, Answer, Tick
 use Rattle.fc_core.specs.Stage.{Stage}
 use Rattle.fc_core.specs.Stage.{ToAnswer, ToTell}
 use Rattle.fc_core.specs.TurnStage as turns
-use Rattle.fc_core.specs.AnswerLaws.{answer_time, draw_time, row_time, greatest, is_of_shard, own_time, times_in, times_of, shard_times_of}
+use Rattle.fc_core.specs.AnswerLaws.{answer_time, draw_time, transition_time, greatest, is_of_shard, own_time, times_in, times_of, shard_times_of}
 use Rattle.fc_core.specs.History.{around, History, Begins, Then, Seen, seen, job, inputs, shard_time_after, slot_at, stage, at_front, time_by, at_shard, hands_by}
 use Rattle.fc_core.specs.Laws.{slot_of, stage_named}
 use Rattle.fc_core.specs.Stages.{content_at, needs_id}
-use Rattle.fc_core.specs.Rows.{Around, Inputs, handed, names, row}
-use Rattle.fc_core.proofs.ByStep.{Step, by_step, event_by, move_by, stage_by}
+use Rattle.fc_core.specs.Transitions.{Around, Inputs, handed, names, transition}
+use Rattle.fc_core.proofs.ByStep.{Step, by_step, event_by, effect_by, stage_by}
 use Rattle.fc_core.proofs.ByStep as steps
 
 answer_handed : (st : Stage) (m now : ℕ) (ms : List ℕ) → m ≡ greatest ms → (if is_some (content_at st) then max m now else m) ≡ greatest (answer_time st now ++ ms)
@@ -40,22 +40,22 @@ time_is_greatest (Then h r) = front_handed r.event (seen h) (times_of h) (time_i
 abbrev at : Job → Slot → Around → Stage → Inputs
 at job slot ws stage = record { job = job; slot = slot; around = ws; stage = stage }
 
-step_handed : (k : ℕ) (c : Step) (job : Job) (slot : Slot) (ws : Around) (m : ℕ) (ms : List ℕ) → m ≡ greatest ms → handed (move_by c job slot ws).hands m ≡ greatest (row_time (event_by k c) (stage_by c) ++ ms)
+step_handed : (k : ℕ) (c : Step) (job : Job) (slot : Slot) (ws : Around) (m : ℕ) (ms : List ℕ) → m ≡ greatest ms → handed (effect_by c job slot ws).hands m ≡ greatest (transition_time (event_by k c) (stage_by c) ++ ms)
 step_handed k (steps.Commits now n t) job slot ws m ms is = ap (λ (x : ℕ). max x now) is
 step_handed k (steps.Notes now random turn found id) job slot ws m ms is = ap (λ (x : ℕ). max x now) is
 step_handed k (steps.GivesUp now turn needs) job slot ws m ms is = ap (λ (x : ℕ). max x now) is
 step_handed k other job slot ws m ms is = is
 
-row_handed : (e : Event) (job : Job) (slot : Slot) (ws : Around) (st : Stage) (m : ℕ) (ms : List ℕ) → m ≡ greatest ms → handed (row e (at job slot ws st)).hands m ≡ greatest (row_time e st ++ ms)
-row_handed e job slot ws st m ms is =
-    by_step (λ d s move. handed move.hands m ≡ greatest (row_time d s ++ ms)) job slot ws (λ k c asked. step_handed k c job slot ws m ms is)
+transition_handed : (e : Event) (job : Job) (slot : Slot) (ws : Around) (st : Stage) (m : ℕ) (ms : List ℕ) → m ≡ greatest ms → handed (transition e (at job slot ws st)).hands m ≡ greatest (transition_time e st ++ ms)
+transition_handed e job slot ws st m ms is =
+    by_step (λ d s move. handed move.hands m ≡ greatest (transition_time d s ++ ms)) job slot ws (λ k c asked. step_handed k c job slot ws m ms is)
     (λ d s rest. is ∙ ap (λ (l : List ℕ). greatest (l ++ ms)) (sym rest.times)) e st
 
-shard_if : (s : Seen) (e : Event) (k i : ℕ) (b : Bool) (ms : List ℕ) → s.shard_time i ≡ greatest ms → (if b then handed (row e (inputs s k)).hands (s.shard_time i) else s.shard_time i) ≡ greatest (if b then row_time e (stage s k) ++ ms else ms)
-shard_if s e k i true ms is = row_handed e (job s k) (slot_at s (slot_of s k)) (around s (slot_of s k)) (stage s k) (s.shard_time i) ms is
+shard_if : (s : Seen) (e : Event) (k i : ℕ) (b : Bool) (ms : List ℕ) → s.shard_time i ≡ greatest ms → (if b then handed (transition e (inputs s k)).hands (s.shard_time i) else s.shard_time i) ≡ greatest (if b then transition_time e (stage s k) ++ ms else ms)
+shard_if s e k i true ms is = transition_handed e (job s k) (slot_at s (slot_of s k)) (around s (slot_of s k)) (stage s k) (s.shard_time i) ms is
 shard_if s e k i false ms is = is
 
-shard_handed : (s : Seen) (e : Event) (o : Option ℕ) (i : ℕ) (ms : List ℕ) → s.shard_time i ≡ greatest ms → shard_time_after o e s i ≡ greatest (if is_of_shard i s o then row_time e (stage_named s o) ++ ms else ms)
+shard_handed : (s : Seen) (e : Event) (o : Option ℕ) (i : ℕ) (ms : List ℕ) → s.shard_time i ≡ greatest ms → shard_time_after o e s i ≡ greatest (if is_of_shard i s o then transition_time e (stage_named s o) ++ ms else ms)
 shard_handed s e None i ms is = is
 shard_handed s e (Some k) i ms is = shard_if s e k i (slot_of s k % 8 == i) ms is
 

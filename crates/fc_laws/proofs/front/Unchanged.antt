@@ -20,7 +20,7 @@ use Rattle.fc_core.specs.declared.event.Event.{Event}
 use Rattle.fc_core.specs.declared.event.Event.TheVariants.{Deliver}
 use Rattle.fc_laws.specs.ExchangeLaws.{ExceedsShare, FindsNoExchange, IsOpening}
 use Rattle.fc_core.specs.History.{Entry, Seen, and_then, did, exchanges_received, front_at, received_at}
-use Rattle.fc_core.specs.Receiving.{Received, Full, Ignored, Rejected, Settled, Silenced, Unanswered, add_in, added_by, brought, is_confirmable, next_opening, over_share, received_added, received_as, slot_asked}
+use Rattle.fc_core.specs.Receiving.{Received, Full, Ignored, Rejected, Immediate, Silenced, Unanswered, add_in, added_by, brought, is_confirmable, next_opening, over_share, received_added, received_as, slot_asked}
 use Rattle.fc_laws.specs.RefusalLaws.{ByCode, FindsNoRoom, InSilence, IsAboveShare, IsNoMessage, IsNoRequest, IsRefusedByCheck, IsRejected, IsTurnedDown, LeavesAll, LeavesAllButExchange, LeavesAllButTransfer, sender}
 use Rattle.fc_laws.specs.ReplyLaws.{Refuses, Rejects}
 use Rattle.fc_core.specs.Stages.{new_task}
@@ -171,17 +171,17 @@ nothing_kept false at to n IsFull not_on = refl
 
 -- options that are sent immediately.
 abbrev settled_options : Received → List (ℕ × List ℕ)
-settled_options (Settled m q response) = response.options
+settled_options (Immediate m q response) = response.options
 settled_options other = []
 
 abbrev block1_of : Option Place → List (ℕ × List ℕ)
 block1_of p = (settled_by 95 p).options
 
 -- a request that is answered by a code alone doesn't continue.
-not_continued : (x : Add) (m : Message) (q : Asked) (b : Place) (answer : ℕ) → q.block1 ≡ Some b → received_added x m q ≡ Settled m q (bare answer)
+not_continued : (x : Add) (m : Message) (q : Asked) (b : Place) (answer : ℕ) → q.block1 ≡ Some b → received_added x m q ≡ Immediate m q (bare answer)
     → x ≡ Continues → ⊥
 not_continued x m q b answer block is on =
-    let at : received_added Continues m q ≡ Settled m q (bare answer) = subst (λ (y : Add). received_added y m q ≡ Settled m q (bare answer)) on is in
+    let at : received_added Continues m q ≡ Immediate m q (bare answer) = subst (λ (y : Add). received_added y m q ≡ Immediate m q (bare answer)) on is in
     let opts : block1_of q.block1 ≡ [] = ap settled_options at in
     let some : block1_of (Some b) ≡ [] = subst (λ (p : Option Place). block1_of p ≡ []) block opts in
     absurd (cc some)

@@ -16,7 +16,7 @@ use Rattle.fc_core.specs.declared.policy.Policy.{Policy}
 use Rattle.fc_core.specs.History.{Entry, History, Begins, Then, Seen, seen, and_then, no_task, inputs, stage, task_at}
 use Rattle.fc_core.specs.Laws.{is_named, is_job}
 use Rattle.fc_core.specs.Stages.{first_by, first_or_turn, first_stage}
-use Rattle.fc_core.specs.Rows.{names, row}
+use Rattle.fc_core.specs.Transitions.{names, transition}
 use Rattle.fc_laws.proofs.jobs.Steps.{Becomes, Moves, Stays, Comes, becomes, tasks_grow}
 
 pub is_its_number : (k : ℕ) (o : Option ℕ) → o ≡ Some k → is_job k o ≡ true
@@ -39,7 +39,7 @@ module _ {A : Type 0} (told : History → ℕ → A) (update : Event → Seen �
     pub gone : P none Gone
     pub first : (ask : Ask) (serials : List ℕ) → P none (first_by ask serials)
     pub turns : (turn : Turn) → P none (ToTell turn turns.ToTake)
-    pub keeps : (e : Event) (s : Seen) (k : ℕ) (a : A) → P a (stage s k) → P (update e s k a) (row e (inputs s k)).stage
+    pub keeps : (e : Event) (s : Seen) (k : ℕ) (a : A) → P a (stage s k) → P (update e s k a) (transition e (inputs s k)).stage
 
   none_if : (w : IsTold) (e : Event) (s : Seen) (k : ℕ) (a : A) (b : Bool) → stage s k ≡ Gone → (if b then update e s k a else a) ≡ a
   none_if w e s k a true is = w.still e s k a is

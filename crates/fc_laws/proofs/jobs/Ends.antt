@@ -15,8 +15,8 @@ use Rattle.fc_core.specs.Contents.{Content, Unavailable}
 use Rattle.fc_core.specs.History.{around, Entry, History, Then, Seen, seen, and_then, did, job, inputs, slot_at, stage, task_at}
 use Rattle.fc_core.specs.Laws.{HasCome, Snapshot, answers_of, gives, is_answered, is_named, followed_by, slot_of, snapshots_of}
 use Rattle.fc_core.specs.Stages.{first_by, took}
-use Rattle.fc_core.specs.Rows.{Around, Inputs, row}
-use Rattle.fc_core.proofs.ByStep.{Step, by_move, by_step, event_by, move_by, stage_by}
+use Rattle.fc_core.specs.Transitions.{Around, Inputs, transition}
+use Rattle.fc_core.proofs.ByStep.{Step, by_effect, by_step, event_by, effect_by, stage_by}
 use Rattle.fc_core.proofs.ByStep as steps
 use Rattle.fc_laws.proofs.jobs.Along.{IsTold, along}
 use Rattle.fc_laws.proofs.jobs.Others.{is_here, kept_by, kept_later, named_stage, still_here}
@@ -44,13 +44,13 @@ never_yet Gone n is = omega arith
 never_yet other n is = is
 
 -- a job that isn't answered yet may need anything next.
-step_answers : (k : ℕ) (c : Step) (job : Job) (slot : Slot) (ws : Around) (n : ℕ) → FitsAnswers n (stage_by c) → FitsAnswers (if is_answered (event_by k c) (stage_by c) then n + 1 else n) (move_by c job slot ws).stage
+step_answers : (k : ℕ) (c : Step) (job : Job) (slot : Slot) (ws : Around) (n : ℕ) → FitsAnswers n (stage_by c) → FitsAnswers (if is_answered (event_by k c) (stage_by c) then n + 1 else n) (effect_by c job slot ws).stage
 step_answers k (steps.Answers now content) job slot ws n f = omega (arith, f)
 step_answers k (steps.Loses needs) job slot ws n f = at_most_once needs n f
-step_answers k other job slot ws n f = never_yet (move_by other job slot ws).stage n f
+step_answers k other job slot ws n f = never_yet (effect_by other job slot ws).stage n f
 
-row_answers : (e : Event) (job : Job) (slot : Slot) (ws : Around) (s : Stage) (n : ℕ) → FitsAnswers n s → FitsAnswers (if is_answered e s then n + 1 else n) (row e (at job slot ws s)).stage
-row_answers e job slot ws s n =
+transition_answers : (e : Event) (job : Job) (slot : Slot) (ws : Around) (s : Stage) (n : ℕ) → FitsAnswers n s → FitsAnswers (if is_answered e s then n + 1 else n) (transition e (at job slot ws s)).stage
+transition_answers e job slot ws s n =
     by_step (λ d st m. FitsAnswers n st → FitsAnswers (if is_answered d st then n + 1 else n) m.stage) job slot ws (λ k c asked. step_answers k c job slot ws n)
     (λ d st rest f. subst (λ (b : Bool). FitsAnswers (if b then n + 1 else n) st) (sym rest.answered) f) e s
 
@@ -72,7 +72,7 @@ answers_told = record {
   gone = omega arith;
   first = first_answers;
   turns = λ turn. refl;
-  keeps = λ e s k n f. row_answers e (job s k) (slot_at s (slot_of s k)) (around s (slot_of s k)) (stage s k) n f;
+  keeps = λ e s k n f. transition_answers e (job s k) (slot_at s (slot_of s k)) (around s (slot_of s k)) (stage s k) n f;
 }
 
 answers_fit : (h : History) (k : ℕ) → FitsAnswers (answers_of h k) (stage (seen h) k)
@@ -93,28 +93,28 @@ answered_gone h k le = answered_by (stage (seen h) k) (answers_of h k) (answers_
 
 -- ---- ends
 
-row_gone : (e : Event) (job : Job) (slot : Slot) (ws : Around) (s : Stage) → s ≡ Gone → (row e (at job slot ws s)).stage ≡ Gone
-row_gone e job slot ws s is = ap (λ (x : Stage). (row e (at job slot ws x)).stage) is ∙ gone_stays e job slot ws
+transition_gone : (e : Event) (job : Job) (slot : Slot) (ws : Around) (s : Stage) → s ≡ Gone → (transition e (at job slot ws s)).stage ≡ Gone
+transition_gone e job slot ws s is = ap (λ (x : Stage). (transition e (at job slot ws x)).stage) is ∙ gone_stays e job slot ws
 
 pub gone_later : (h : History) (rs : List Entry) (k : ℕ) → HasCome (seen h) k → stage (seen h) k ≡ Gone → stage (seen (followed_by h rs)) k ≡ Gone
-gone_later h rs k come is = kept_later (λ s. s ≡ Gone) row_gone rs h k come is
+gone_later h rs k come is = kept_later (λ s. s ≡ Gone) transition_gone rs h k come is
 
 pub lost_gone : (s : Seen) (k : ℕ) (o : Option Emission) → HasCome s k → stage (and_then (did (Lose k) o) s) k ≡ Gone
 lost_gone s k o come = named_stage (did (Lose k) o) s k come refl
 
 pub answer_gone : (s : Seen) (k now : ℕ) (o : Option Emission) (content : Content) → stage s k ≡ ToAnswer content → stage (and_then (did (Answer k now) o) s) k ≡ Gone
 answer_gone s k now o content is = named_stage (did (Answer k now) o) s k (is_here s k (ToAnswer content) is (λ e. absurd (cc e))) refl
-    ∙ ap (λ (x : Stage). (row (Answer k now) (at (job s k) (slot_at s (slot_of s k)) (around s (slot_of s k)) x)).stage) is
+    ∙ ap (λ (x : Stage). (transition (Answer k now) (at (job s k) (slot_at s (slot_of s k)) (around s (slot_of s k)) x)).stage) is
 
 pub raise_keeps : (s : Seen) (k word : ℕ) (o : Option Emission) (content : Content) → stage s k ≡ ToRaise word content → stage (and_then (did (Raise k) o) s) k ≡ ToAnswer content
 raise_keeps s k word o content is = named_stage (did (Raise k) o) s k (is_here s k (ToRaise word content) is (λ e. absurd (cc e))) refl
-    ∙ ap (λ (x : Stage). (row (Raise k) (at (job s k) (slot_at s (slot_of s k)) (around s (slot_of s k)) x)).stage) is
+    ∙ ap (λ (x : Stage). (transition (Raise k) (at (job s k) (slot_at s (slot_of s k)) (around s (slot_of s k)) x)).stage) is
 
 -- ---- memory
 
 pub take_refused : (s : Seen) (k count : ℕ) (readings : List ℕ) (o : Option Emission) (p : Present) → stage s k ≡ ToTake count → (slot_at s (slot_of s k)).present ≡ Some p → stage (and_then (did (Take k false readings) o) s) k ≡ ToAnswer Unavailable
 take_refused s k count readings o p is holds = named_stage (did (Take k false readings) o) s k (is_here s k (ToTake count) is (λ e. absurd (cc e))) refl
-    ∙ (ap (λ (x : Stage). (row (Take k false readings) (at (job s k) (slot_at s (slot_of s k)) (around s (slot_of s k)) x)).stage) is
+    ∙ (ap (λ (x : Stage). (transition (Take k false readings) (at (job s k) (slot_at s (slot_of s k)) (around s (slot_of s k)) x)).stage) is
     ∙ ap (λ (x : Option Present). took count (snapshot None (job s k) (slot_at s (slot_of s k)).serial x)) holds)
 
 -- a snapshot with memory keeps the readings that it was passed.
@@ -122,7 +122,7 @@ pub take_keeps : (s : Seen) (k count : ℕ) (readings : List ℕ) (o : Option Em
 take_keeps s k count readings o p is holds = (
   ticket_of (job s k) readings (slot_at s (slot_of s k)).serial p,
   named_stage (did (Take k true readings) o) s k (is_here s k (ToTake count) is (λ e. absurd (cc e))) refl
-      ∙ (ap (λ (x : Stage). (row (Take k true readings) (at (job s k) (slot_at s (slot_of s k)) (around s (slot_of s k)) x)).stage) is
+      ∙ (ap (λ (x : Stage). (transition (Take k true readings) (at (job s k) (slot_at s (slot_of s k)) (around s (slot_of s k)) x)).stage) is
       ∙ ap (λ (x : Option Present). took count (snapshot (Some readings) (job s k) (slot_at s (slot_of s k)).serial x)) holds),
   refl,
   refl,
@@ -130,7 +130,7 @@ take_keeps s k count readings o p is holds = (
 
 pub install_refused : (s : Seen) (k : ℕ) (o : Option Emission) → stage s k ≡ ToInstall → stage (and_then (did (Install k false) o) s) k ≡ ToAnswer Unavailable
 install_refused s k o is = named_stage (did (Install k false) o) s k (is_here s k ToInstall is (λ e. absurd (cc e))) refl
-    ∙ ap (λ (x : Stage). (row (Install k false) (at (job s k) (slot_at s (slot_of s k)) (around s (slot_of s k)) x)).stage) is
+    ∙ ap (λ (x : Stage). (transition (Install k false) (at (job s k) (slot_at s (slot_of s k)) (around s (slot_of s k)) x)).stage) is
 
 -- a job that takes no more snapshots.
 abbrev IsSettled : Stage → Type 0
@@ -139,14 +139,14 @@ IsSettled (ToAnswer content) = Unit {0}
 IsSettled Gone = Unit {0}
 IsSettled other = ⊥
 
-step_settled : (c : Step) (job : Job) (slot : Slot) (ws : Around) → IsSettled (stage_by c) → IsSettled (move_by c job slot ws).stage
+step_settled : (c : Step) (job : Job) (slot : Slot) (ws : Around) → IsSettled (stage_by c) → IsSettled (effect_by c job slot ws).stage
 step_settled (steps.Raises word content) job slot ws f = tt
 step_settled (steps.Answers now content) job slot ws f = tt
 step_settled (steps.Loses needs) job slot ws f = tt
 step_settled other job slot ws f = absurd f
 
-row_settled : (e : Event) (job : Job) (slot : Slot) (ws : Around) (s : Stage) → IsSettled s → IsSettled (row e (at job slot ws s)).stage
-row_settled e job slot ws s = by_move (λ st m. IsSettled st → IsSettled m.stage) job slot ws (λ c asked. step_settled c job slot ws) (λ st f. f) e s
+transition_settled : (e : Event) (job : Job) (slot : Slot) (ws : Around) (s : Stage) → IsSettled s → IsSettled (transition e (at job slot ws s)).stage
+transition_settled e job slot ws s = by_effect (λ st m. IsSettled st → IsSettled m.stage) job slot ws (λ c asked. step_settled c job slot ws) (λ st f. f) e s
 
 settled_given : (e : Event) (job : Job) (slot : Slot) (ws : Around) (cs : List Change) (s : Stage) → IsSettled s → gives e (at job slot ws s) cs ≡ []
 settled_given (Take k true readings) job slot ws cs (ToTake count) f = absurd f
@@ -163,7 +163,7 @@ unfolding seen
 settled_later [] h k come f = refl
 settled_later (r ∷ rs) h k come f =
     let s = seen h in
-    settled_later rs (Then h r) k (still_here r s k come) (kept_by IsSettled row_settled r s k (task_at (and_then r s).tasks k) (becomes r s k) come f)
+    settled_later rs (Then h r) k (still_here r s k come) (kept_by IsSettled transition_settled r s k (task_at (and_then r s).tasks k) (becomes r s k) come f)
     ∙ none_more (is_named k r.event) (gives r.event (inputs s k) (s.changes (slot_of s k))) (snapshots_of h k) (settled_given r.event (job s k) (slot_at s (slot_of s k)) (around s (slot_of s k)) (s.changes (slot_of s k)) (stage s k) f)
 
 pub none_taken_later : (h : History) (rs : List Entry) (k : ℕ) (content : Content) → stage (seen h) k ≡ ToAnswer content → snapshots_of (followed_by h rs) k ≡ snapshots_of h k

@@ -12,7 +12,7 @@ use Rattle.fc_core.specs.declared.event.Event.TheVariants.{Take}
 use Rattle.fc_core.specs.History.{Begins, History, Then, Seen, inputs, seen, stage}
 use Rattle.fc_core.specs.Laws.{IsNewest, Snapshot, finds, finds_if, gives, gives_at, is_job, is_named, slot_of, snapshots_of}
 use Rattle.fc_core.specs.Legal.{AllMean, FindsMeaning, FoundMeans, IsMeant, TakesMeaning}
-use Rattle.fc_core.specs.Rows.{Inputs, names}
+use Rattle.fc_core.specs.Transitions.{Inputs, names}
 use Rattle.fc_core.specs.Stage.{Stage, ToCommit, ToTake, ToTell}
 use Rattle.fc_core.specs.TurnStage as turns
 use Rattle.fc_laws.proofs.jobs.Snapshots.{Took, known}

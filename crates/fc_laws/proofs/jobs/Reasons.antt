@@ -29,10 +29,10 @@ use Rattle.fc_core.specs.Heads.{is_match, is_present, serial_in, word_at}
 use Rattle.fc_core.specs.AnswerLaws.{HasSerial, IsCause, NoTicket, NoMemory, NothingDescribed, NothingTaken, Overtaken, LastCommit, LastInstall, LastRemoval}
 use Rattle.fc_core.specs.History.{around, Entry, History, Then, Seen, seen, and_then, did, job, slot_at, stage, task_at}
 use Rattle.fc_core.specs.Laws.{answer_at, slot_of, snapshots_of}
-use Rattle.fc_core.specs.Stages.{first_by, first_or_turn, image_of, made, matched_by, removed, run_content, told, took, matched}
-use Rattle.fc_core.specs.Rows.{Around, Inputs, names, row, install_call, install_if}
+use Rattle.fc_core.specs.Stages.{first_by, first_or_turn, image_of, made, matched_by, removed, run_content, receipt_content, took, matched}
+use Rattle.fc_core.specs.Transitions.{Around, Inputs, names, transition, install_call, install_if}
 use Rattle.fc_core.specs.Steps.{next_stage}
-use Rattle.fc_core.proofs.ByStep.{Step, by_step, event_by, move_by, names_job, stage_by, committed, IsAsked}
+use Rattle.fc_core.proofs.ByStep.{Step, by_step, event_by, effect_by, names_job, stage_by, committed, IsAsked}
 use Rattle.fc_core.proofs.ByStep as steps
 use Rattle.fc_laws.proofs.turns.Telling.{after_turn}
 use Rattle.fc_laws.proofs.jobs.Others.{is_here, named_stage}
@@ -126,7 +126,7 @@ module _ (k : ℕ) (job : Job) (slot : Slot) (ws : Around) (taken : ℕ) where
   clear_why true (Some p) c lt is e = so (Remove k) ToRemove Deleted c (record { event = refl; is = refl; may = inr (ltb-true slot.serial last_serial lt) }) e
   clear_why false (Some p) c lt is e = so (Remove k) ToRemove Unavailable c (LastRemoval p refl refl is (ltb-false slot.serial last_serial lt)) e
 
-  told_why : (o : Option Present) (c : Content) → slot.present ≡ o → Answered (Receipt k) ToDescribe (ToAnswer (told (receipt_at o))) c
+  told_why : (o : Option Present) (c : Content) → slot.present ≡ o → Answered (Receipt k) ToDescribe (ToAnswer (receipt_content (receipt_at o))) c
   told_why None c is e = so (Receipt k) ToDescribe Missing c (NothingDescribed refl refl is) e
   told_why (Some p) c is e = so (Receipt k) ToDescribe (Described (receipt_of p.program p.version)) c (record { found = p; event = refl; is = refl; present = is; version = refl; cost = refl; budget = refl; vars = refl }) e
 
@@ -176,7 +176,7 @@ IsCount other taken = Unit {0}
 none_is_answered : {c : Content} → None ≡ Some c → ⊥
 none_is_answered e = cc e
 
-step_why : (x : Step) (k : ℕ) (job : Job) (slot : Slot) (ws : Around) (taken : ℕ) (c : Content) → IsAsked x job → IsCount (stage_by x) taken → answer_at (move_by x job slot ws).stage ≡ Some c → (answer_at (stage_by x) ≡ Some c) ⊎ IsCause (event_by k x) k job slot ws.common.words (stage_by x) taken c
+step_why : (x : Step) (k : ℕ) (job : Job) (slot : Slot) (ws : Around) (taken : ℕ) (c : Content) → IsAsked x job → IsCount (stage_by x) taken → answer_at (effect_by x job slot ws).stage ≡ Some c → (answer_at (stage_by x) ≡ Some c) ⊎ IsCause (event_by k x) k job slot ws.common.words (stage_by x) taken c
 step_why (steps.Matches n) k job slot ws taken c asked f e = inr (own_why k job slot ws taken n c asked e)
 step_why (steps.Lists n seen) k job slot ws taken c asked f e = inr (listed_why k job slot ws taken seen n (nat_lt (length (seen.items ++ word_at ws.common.words n ∷ [])) 64) c (eqb-true n (length seen.items) asked) f refl e)
 step_why steps.Removes k job slot ws taken c asked f e = inr (clear_why k job slot ws taken (nat_lt slot.serial last_serial) slot.present c refl refl e)
@@ -188,8 +188,8 @@ step_why (steps.Installs memory) k job slot ws taken c asked f e = inr (verified
 step_why (steps.Raises word content) k job slot ws taken c asked f e = inl e
 step_why other k job slot ws taken c asked f e = absurd (none_is_answered e)
 
-row_why : (e : Event) (k : ℕ) (job : Job) (slot : Slot) (ws : Around) (s : Stage) (taken : ℕ) (c : Content) → names e ≡ Some k → IsCount s taken → answer_at (row e (at job slot ws s)).stage ≡ Some c → (answer_at s ≡ Some c) ⊎ IsCause e k job slot ws.common.words s taken c
-row_why e k job slot ws s taken c =
+transition_why : (e : Event) (k : ℕ) (job : Job) (slot : Slot) (ws : Around) (s : Stage) (taken : ℕ) (c : Content) → names e ≡ Some k → IsCount s taken → answer_at (transition e (at job slot ws s)).stage ≡ Some c → (answer_at s ≡ Some c) ⊎ IsCause e k job slot ws.common.words s taken c
+transition_why e k job slot ws s taken c =
     by_step (λ d st m. names d ≡ Some k → IsCount st taken → answer_at m.stage ≡ Some c → (answer_at st ≡ Some c) ⊎ IsCause d k job slot ws.common.words st taken c) job slot ws
     (λ j x asked named f e.
     let same : j ≡ k = cc (sym (names_job j x) ∙ named) in
@@ -211,7 +211,7 @@ none_of_turn j None c e = none_first j.ask j.etags.items c e
 none_of_turn j (Some number) c e = absurd (cc e)
 
 why_by : (h : History) (r : Entry) (k : ℕ) (c : Content) (t : Task) → Becomes (names r.event) r.event (seen h) k t → answer_at t.stage ≡ Some c → (answer_at (stage (seen h) k) ≡ Some c) ⊎ IsCause r.event k (job (seen h) k) (slot_at (seen h) (slot_of (seen h) k)) (seen h).words (stage (seen h) k) (length (snapshots_of h k)) c
-why_by h r k c t (Moves named is) e = row_why r.event k (job (seen h) k) (slot_at (seen h) (slot_of (seen h) k)) (around (seen h) (slot_of (seen h) k)) (stage (seen h) k) (length (snapshots_of h k)) c named (count_is (stage (seen h) k) h k (known h k) (fits_next (job (seen h) k) (slot_at (seen h) (slot_of (seen h) k)) (stage (seen h) k) ((sound h).stages k))) (ap (λ (x : Task). answer_at x.stage) (sym is) ∙ e)
+why_by h r k c t (Moves named is) e = transition_why r.event k (job (seen h) k) (slot_at (seen h) (slot_of (seen h) k)) (around (seen h) (slot_of (seen h) k)) (stage (seen h) k) (length (snapshots_of h k)) c named (count_is (stage (seen h) k) h k (known h k) (fits_next (job (seen h) k) (slot_at (seen h) (slot_of (seen h) k)) (stage (seen h) k) ((sound h).stages k))) (ap (λ (x : Task). answer_at x.stage) (sym is) ∙ e)
 why_by h r k c t (Stays other is) e = inl (ap (λ (x : Task). answer_at x.stage) (sym is) ∙ e)
 why_by h r k c t (Comes new j is) e = absurd (none_of_turn j j.turn c (ap (λ (x : Task). answer_at x.stage) (sym is) ∙ e))
 
@@ -222,5 +222,5 @@ answers_have_causes h r k c e = why_by h r k c (task_at (and_then r (seen h)).ta
 -- a snapshot that finds no program has this answer.
 pub empty_misses : (s : Seen) (k count : ℕ) (memory : Bool) (readings : List ℕ) (o : Option Emission) → stage s k ≡ ToTake count → (slot_at s (slot_of s k)).present ≡ None → stage (and_then (did (Take k memory readings) o) s) k ≡ ToAnswer Missing
 empty_misses s k count memory readings o is empty = named_stage (did (Take k memory readings) o) s k (is_here s k (ToTake count) is (λ e. absurd (cc e))) refl
-    ∙ (ap (λ (x : Stage). (row (Take k memory readings) (at (job s k) (slot_at s (slot_of s k)) (around s (slot_of s k)) x)).stage) is
+    ∙ (ap (λ (x : Stage). (transition (Take k memory readings) (at (job s k) (slot_at s (slot_of s k)) (around s (slot_of s k)) x)).stage) is
     ∙ ap (λ (x : Option Present). took count (snapshot (readings_if memory readings) (job s k) (slot_at s (slot_of s k)).serial x)) empty)

@@ -29,10 +29,10 @@ use Rattle.fc_core.specs.Contents.{Content, Listed, Ran, RunAnswer, run_answer, 
 use Rattle.fc_core.specs.Heads.{is_match, word_at}
 use Rattle.fc_core.specs.History.{around, Entry, History, Then, Seen, seen, and_then, did, job, inputs, slot_at, stage}
 use Rattle.fc_core.specs.Laws.{IsNewest, IsOfNewest, IsOvertaken, Snapshot, TakesAgain, answer_at, finds_if, gives, slot_of, snapshots_of}
-use Rattle.fc_core.specs.Stages.{first_by, image_of, made, matched_by, removed, retaken, told, took, turn_took, with_id}
-use Rattle.fc_core.specs.Rows.{Around, Inputs, row, install_call, install_if}
+use Rattle.fc_core.specs.Stages.{first_by, image_of, made, matched_by, removed, retaken, receipt_content, took, turn_took, with_id}
+use Rattle.fc_core.specs.Transitions.{Around, Inputs, transition, install_call, install_if}
 use Rattle.fc_core.specs.Steps.{next_stage}
-use Rattle.fc_core.proofs.ByStep.{Step, by_step, event_by, move_by, stage_by, committed}
+use Rattle.fc_core.proofs.ByStep.{Step, by_step, event_by, effect_by, stage_by, committed}
 use Rattle.fc_core.proofs.ByStep as steps
 use Rattle.fc_laws.proofs.jobs.Along.{IsTold, along}
 use Rattle.fc_laws.proofs.jobs.Others.{is_here, named_stage}
@@ -136,7 +136,7 @@ clear_took below serial None ts le = (le, tt)
 clear_took true serial (Some p) ts le = (le, tt)
 clear_took false serial (Some p) ts le = (le, tt)
 
-told_took : (receipt : Option Facts) (ts : List Snapshot) → length ts ≤ 8 → Took ts (ToAnswer (told receipt))
+told_took : (receipt : Option Facts) (ts : List Snapshot) → length ts ≤ 8 → Took ts (ToAnswer (receipt_content receipt))
 told_took None ts le = (le, tt)
 told_took (Some receipt) ts le = (le, tt)
 
@@ -148,7 +148,7 @@ listed_took : (b : Bool) (words : List ℕ) (ts : List Snapshot) → length ts �
 listed_took true words ts le = le
 listed_took false words ts le = (le, tt)
 
-step_took : (k : ℕ) (c : Step) (job : Job) (slot : Slot) (cs : List Change) (ws : Around) (ts : List Snapshot) → Took ts (stage_by c) → Took (gives (event_by k c) (at job slot ws (stage_by c)) cs ++ ts) (move_by c job slot ws).stage
+step_took : (k : ℕ) (c : Step) (job : Job) (slot : Slot) (cs : List Change) (ws : Around) (ts : List Snapshot) → Took ts (stage_by c) → Took (gives (event_by k c) (at job slot ws (stage_by c)) cs ++ ts) (effect_by c job slot ws).stage
 step_took k (steps.Matches n) job slot cs ws ts f = matched_took (is_match (word_at ws.common.words n) job.etags.items) (word_at ws.common.words n) ts f
 step_took k (steps.Lists n seen) job slot cs ws ts f = listed_took (nat_lt (length (seen.items ++ word_at ws.common.words n ∷ [])) 64) (seen.items ++ word_at ws.common.words n ∷ []) ts f
 step_took k steps.Removes job slot cs ws ts f = clear_took (nat_lt slot.serial last_serial) slot.serial slot.present ts f
@@ -162,8 +162,8 @@ step_took k (steps.Raises word content) job slot cs ws ts f = f
 step_took k (steps.Draws now turn found) job slot cs ws ts f = drawn_took ts found (ws.common.free now) f
 step_took k other job slot cs ws ts f = at_most_eight (stage_by other) ts f
 
-row_took : (e : Event) (job : Job) (slot : Slot) (cs : List Change) (ws : Around) (s : Stage) (ts : List Snapshot) → Took ts s → Took (gives e (at job slot ws s) cs ++ ts) (row e (at job slot ws s)).stage
-row_took e job slot cs ws s ts =
+transition_took : (e : Event) (job : Job) (slot : Slot) (cs : List Change) (ws : Around) (s : Stage) (ts : List Snapshot) → Took ts s → Took (gives e (at job slot ws s) cs ++ ts) (transition e (at job slot ws s)).stage
+transition_took e job slot cs ws s ts =
     by_step (λ d st m. Took ts st → Took (gives d (at job slot ws st) cs ++ ts) m.stage) job slot ws (λ k c asked. step_took k c job slot cs ws ts)
     (λ d st rest f. subst (λ (l : List Snapshot). Took (l ++ ts) st) (sym (rest.given slot ws cs)) f) e s
 
@@ -192,7 +192,7 @@ is_told = record {
   gone = omega arith;
   first = first_took;
   turns = λ turn. refl;
-  keeps = λ e s k ts f. row_took e (job s k) (slot_at s (slot_of s k)) (s.changes (slot_of s k)) (around s (slot_of s k)) (stage s k) ts f;
+  keeps = λ e s k ts f. transition_took e (job s k) (slot_at s (slot_of s k)) (s.changes (slot_of s k)) (around s (slot_of s k)) (stage s k) ts f;
 }
 
 pub known : (h : History) (k : ℕ) → Took (snapshots_of h k) (stage (seen h) k)
@@ -231,7 +231,7 @@ committing k now o = did (Commit k now) o
 overtaken_stage : (s : Seen) (k now : ℕ) (o : Option Emission) (w : IsOvertaken s k) → stage (and_then (committing k now o) s) k ≡ retaken w.count
 overtaken_stage s k now o w =
     named_stage (committing k now o) s k (is_here s k (ToCommit w.count w.ticket) w.at (λ gone. absurd (cc gone))) refl
-    ∙ (ap (λ (x : Stage). (row (Commit k now) (at (job s k) (slot_at s (slot_of s k)) (around s (slot_of s k)) x)).stage) w.at
+    ∙ (ap (λ (x : Stage). (transition (Commit k now) (at (job s k) (slot_at s (slot_of s k)) (around s (slot_of s k)) x)).stage) w.at
     ∙ ap (λ (x : CommitOutcome). (committed x w.count w.ticket now (slot_at s (slot_of s k)).serial (around s (slot_of s k))).stage) (overtaken_outcome w.ticket (slot_at s (slot_of s k)) w.wants w.other))
 
 taken_so_far : (h : History) (k : ℕ) (w : IsOvertaken (seen h) k) → length (snapshots_of h k) ≡ w.count

@@ -14,27 +14,27 @@ use Rattle.fc_core.specs.History.{AsksTurn, around, due_in, Entry, Seen, and_the
 use Rattle.fc_core.specs.Receiving.{brought, next_opening}
 use Rattle.fc_core.specs.Stages.{new_task}
 use Rattle.fc_core.specs.Timers.{timer_job}
-use Rattle.fc_core.specs.Rows.{Around, task_moved, names, row, inputs_at}
+use Rattle.fc_core.specs.Transitions.{Around, task_moved, names, transition, inputs_at}
 
 -- the task with a number after an event: the event changes it, it is unchanged, or it is new.
 pub data Becomes (o : Option ℕ) (e : Event) (s : Seen) (k : ℕ) (t : Task) : Type 0 where
-  Moves : (named : o ≡ Some k) (is : t ≡ task_moved (task_at s.tasks k) (row e (inputs s k))) → Becomes o e s k t
+  Moves : (named : o ≡ Some k) (is : t ≡ task_moved (task_at s.tasks k) (transition e (inputs s k))) → Becomes o e s k t
   Stays : (other : o ≡ Some k → ⊥) (is : t ≡ task_at s.tasks k) → Becomes o e s k t
   Comes : (new : length s.tasks ≤ k) (job : Job) (is : t ≡ new_task job) → Becomes o e s k t
 
 -- a job that has ended remains so, whatever event names it.
-pub gone_stays : (e : Event) (job : Job) (slot : Slot) (ws : Around) → (row e (record { job = job; slot = slot; around = ws; stage = Gone })).stage ≡ Gone
+pub gone_stays : (e : Event) (job : Job) (slot : Slot) (ws : Around) → (transition e (record { job = job; slot = slot; around = ws; stage = Gone })).stage ≡ Gone
 gone_stays (Lose k) job slot ws = refl
 gone_stays other job slot ws = refl
 
-moved_gone : (e : Event) (s : Seen) (k : ℕ) → task_at s.tasks k ≡ no_task → task_moved (task_at s.tasks k) (row e (inputs s k)) ≡ no_task
-moved_gone e s k is = ap (λ (t : Task). task_moved t (row e (inputs_at t (slot_at s t.job.origin.slot) (around s t.job.origin.slot)))) is ∙ ap (λ x. record { job = no_task.job; stage = x }) (gone_stays e no_task.job (slot_at s no_task.job.origin.slot) (around s no_task.job.origin.slot))
+moved_gone : (e : Event) (s : Seen) (k : ℕ) → task_at s.tasks k ≡ no_task → task_moved (task_at s.tasks k) (transition e (inputs s k)) ≡ no_task
+moved_gone e s k is = ap (λ (t : Task). task_moved t (transition e (inputs_at t (slot_at s t.job.origin.slot) (around s t.job.origin.slot)))) is ∙ ap (λ x. record { job = no_task.job; stage = x }) (gone_stays e no_task.job (slot_at s no_task.job.origin.slot) (around s no_task.job.origin.slot))
 
 module _ (e : Event) (s : Seen) where
   written : (j k : ℕ) → k < length s.tasks → Becomes (Some j) e s k (task_at (tasks_moved (Some j) e s) k)
   written j k lt = ⊎_elim
-      (λ (is : k ≡ j). subst (λ (i : ℕ). i < length s.tasks → Becomes (Some j) e s i (task_at (tasks_moved (Some j) e s) i)) (sym is) (λ below. Moves refl (get_or-set_same s.tasks j (task_moved (task_at s.tasks j) (row e (inputs s j))) no_task below)) lt)
-      (λ (ne : k ≡ j → ⊥). Stays (λ is. ne (sym (cc is))) (get_or-set_other s.tasks j k (task_moved (task_at s.tasks j) (row e (inputs s j))) no_task ne))
+      (λ (is : k ≡ j). subst (λ (i : ℕ). i < length s.tasks → Becomes (Some j) e s i (task_at (tasks_moved (Some j) e s) i)) (sym is) (λ below. Moves refl (get_or-set_same s.tasks j (task_moved (task_at s.tasks j) (transition e (inputs s j))) no_task below)) lt)
+      (λ (ne : k ≡ j → ⊥). Stays (λ is. ne (sym (cc is))) (get_or-set_other s.tasks j k (task_moved (task_at s.tasks j) (transition e (inputs s j))) no_task ne))
       (cases_eq k j)
 
   named_or_not : (o : Option ℕ) (k : ℕ) → k < length s.tasks → Becomes o e s k (task_at (tasks_moved o e s) k)
@@ -43,7 +43,7 @@ module _ (e : Event) (s : Seen) where
 
   pub moved_length : (o : Option ℕ) → length (tasks_moved o e s) ≡ length s.tasks
   moved_length None = refl
-  moved_length (Some k) = length-set s.tasks k (task_moved (task_at s.tasks k) (row e (inputs s k)))
+  moved_length (Some k) = length-set s.tasks k (task_moved (task_at s.tasks k) (transition e (inputs s k)))
 
   -- past the tasks there is none, or a new one.
   past : (o : Option ℕ) (k : ℕ) (t : Task) → length s.tasks ≤ k → t ≡ no_task → Becomes o e s k t

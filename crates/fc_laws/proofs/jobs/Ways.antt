@@ -14,7 +14,7 @@ use Rattle.fc_core.specs.Stage.{ToAnswer, ToCommit, ToMatch, ToTake}
 use Rattle.fc_core.specs.Heads.{head_word, is_match, is_present, serial_in, word_at}
 use Rattle.fc_core.specs.History.{Seen, and_then, around, did, job, slot_at, stage, watch}
 use Rattle.fc_core.specs.Laws.{slot_of}
-use Rattle.fc_core.specs.Rows.{Around, Inputs, call_if, move_of, row}
+use Rattle.fc_core.specs.Transitions.{Around, Inputs, call_if, effect_of, transition}
 use Rattle.fc_core.specs.Stages.{after_commit, matched_by, run_content}
 use Rattle.fc_core.specs.Steps.{Matches}
 use Rattle.fc_laws.proofs.jobs.Others.{is_here, named_stage}
@@ -50,8 +50,8 @@ takes_unmatched s k o is none =
     let etags = (job s k).etags.items in
     let word = word_at s.words own in
     named_stage (did (Peek k own) o) s k (is_here s k ToMatch is (λ e. absurd (cc e))) refl
-    ∙ (ap (λ (st : Stage). (row (Peek k own) (at (job s k) (slot_at s own) (around s own) st)).stage) is
-    ∙ (ap (λ (b : Bool). (move_of (Peek k own) (at (job s k) (slot_at s own) (around s own) ToMatch) (call_if b (Matches etags word))).stage)
+    ∙ (ap (λ (st : Stage). (transition (Peek k own) (at (job s k) (slot_at s own) (around s own) st)).stage) is
+    ∙ (ap (λ (b : Bool). (effect_of (Peek k own) (at (job s k) (slot_at s own) (around s own) ToMatch) (call_if b (Matches etags word))).stage)
     (eq-eqb own own refl)
     ∙ ap (λ (b : Bool). matched_by b word) (no_match word etags (is_match word etags) refl none)))
 
@@ -69,6 +69,6 @@ answers_kept s k now count t o is keeps =
     let slot = slot_at s own in
     either t (is_observed t (watch s own)) (stage (and_then (did (Commit k now) o) s) k)
     (named_stage (did (Commit k now) o) s k (is_here s k (ToCommit count t) is (λ e. absurd (cc e))) refl
-    ∙ (ap (λ (st : Stage). (row (Commit k now) (at (job s k) slot (around s own) st)).stage) is
+    ∙ (ap (λ (st : Stage). (transition (Commit k now) (at (job s k) slot (around s own) st)).stage) is
     ∙ ap (λ (b : Bool). after_commit count t
     (commits (outcome_by b (slot.serial == t.serial) (nat_lt slot.serial last_serial)) t slot.serial (watch s own)).answer) keeps))

@@ -20,9 +20,9 @@ use Rattle.fc_core.specs.History.{around, Entry, History, Begins, Then, Seen, se
 use Rattle.fc_core.specs.Laws.{slot_of}
 use Rattle.fc_laws.specs.SlotLaws.{AllOfImages, ChangesBy, IsInstall, IsOfImage, IsRemoving, IsWriting, Clears, Installs, Nothing, Writes}
 use Rattle.fc_core.specs.Stages.{image_of}
-use Rattle.fc_core.specs.Rows.{Around, Inputs, names, row, install_call, install_if}
-use Rattle.fc_core.specs.Steps.{changes_told}
-use Rattle.fc_core.proofs.ByStep.{Step, by_step, event_by, move_by, stage_by, committed}
+use Rattle.fc_core.specs.Transitions.{Around, Inputs, names, transition, install_call, install_if}
+use Rattle.fc_core.specs.Steps.{changes_of_call}
+use Rattle.fc_core.proofs.ByStep.{Step, by_step, event_by, effect_by, stage_by, committed}
 use Rattle.fc_core.proofs.ByStep as steps
 use Rattle.fc_core.specs.Steps as call
 use Rattle.fc_laws.proofs.jobs.Others.{no_slot, other_slot, own_slot}
@@ -44,32 +44,32 @@ committed_makes k now n t job slot ws outcomes.Overtakes = None_made refl
 committed_makes k now n t job slot ws outcomes.Ends = None_made refl
 
 put_makes : (k : ℕ) (p : Program) (job : Job) (slot : Slot) (b : Bool) → judged (image_of job.ask) ≡ Accepts p → nat_lt slot.serial last_serial ≡ b
-    → Makes (Install k true) job slot ToInstall (changes_told (call.Installs p (initial_vars_of job.ask) (put_by b slot p (initial_vars_of job.ask)).answer))
+    → Makes (Install k true) job slot ToInstall (changes_of_call (call.Installs p (initial_vars_of job.ask) (put_by b slot p (initial_vars_of job.ask)).answer))
 put_makes k p job slot true is e = Puts k p refl refl is (ltb-true slot.serial last_serial e) refl
 put_makes k p job slot false is e = None_made refl
 
-installed_makes : (k : ℕ) (job : Job) (slot : Slot) (j : Judgement) → judged (image_of job.ask) ≡ j → Makes (Install k true) job slot ToInstall (changes_told (install_call (initial_vars_of job.ask) j slot))
+installed_makes : (k : ℕ) (job : Job) (slot : Slot) (j : Judgement) → judged (image_of job.ask) ≡ j → Makes (Install k true) job slot ToInstall (changes_of_call (install_call (initial_vars_of job.ask) j slot))
 installed_makes k job slot (Accepts p) is = put_makes k p job slot (nat_lt slot.serial last_serial) is refl
 installed_makes k job slot (Breaks rule i) is = None_made refl
 installed_makes k job slot Untypable is = None_made refl
 
-verified_makes : (k : ℕ) (memory : Bool) (job : Job) (slot : Slot) (ws : Around) → Makes (Install k memory) job slot ToInstall (changes_told (install_if memory (initial_vars_of job.ask) (judged (image_of job.ask)) slot))
+verified_makes : (k : ℕ) (memory : Bool) (job : Job) (slot : Slot) (ws : Around) → Makes (Install k memory) job slot ToInstall (changes_of_call (install_if memory (initial_vars_of job.ask) (judged (image_of job.ask)) slot))
 verified_makes k true job slot ws = installed_makes k job slot (judged (image_of job.ask)) refl
 verified_makes k false job slot ws = None_made refl
 
-clear_makes : (k : ℕ) (job : Job) (slot : Slot) (b : Bool) (o : Option Present) → nat_lt slot.serial last_serial ≡ b → slot.present ≡ o → Makes (Remove k) job slot ToRemove (changes_told (call.Removes (clear_by b slot.serial o).answer))
+clear_makes : (k : ℕ) (job : Job) (slot : Slot) (b : Bool) (o : Option Present) → nat_lt slot.serial last_serial ≡ b → slot.present ≡ o → Makes (Remove k) job slot ToRemove (changes_of_call (call.Removes (clear_by b slot.serial o).answer))
 clear_makes k job slot b None e is = None_made refl
 clear_makes k job slot true (Some p) e is = Takes_out k p refl refl is (ltb-true slot.serial last_serial e) refl
 clear_makes k job slot false (Some p) e is = None_made refl
 
-step_makes : (k : ℕ) (c : Step) (job : Job) (slot : Slot) (ws : Around) → Makes (event_by k c) job slot (stage_by c) (move_by c job slot ws).changes
+step_makes : (k : ℕ) (c : Step) (job : Job) (slot : Slot) (ws : Around) → Makes (event_by k c) job slot (stage_by c) (effect_by c job slot ws).changes
 step_makes k steps.Removes job slot ws = clear_makes k job slot (nat_lt slot.serial last_serial) slot.present refl refl
 step_makes k (steps.Commits now n t) job slot ws = committed_makes k now n t job slot ws (outcome t slot)
 step_makes k (steps.Installs memory) job slot ws = verified_makes k memory job slot ws
 step_makes k other job slot ws = None_made refl
 
-row_makes : (e : Event) (job : Job) (slot : Slot) (ws : Around) (s : Stage) → Makes e job slot s (row e (at job slot ws s)).changes
-row_makes e job slot ws s =
+transition_makes : (e : Event) (job : Job) (slot : Slot) (ws : Around) (s : Stage) → Makes e job slot s (transition e (at job slot ws s)).changes
+transition_makes e job slot ws s =
     by_step (λ d st m. Makes d job slot st m.changes) job slot ws
     (λ k c asked. step_makes k c job slot ws) (λ d st rest. None_made refl) e s
 
@@ -88,7 +88,7 @@ own_does r s k cs named grown (Leaves j now n t event stands is) =
 does_by : (r : Entry) (s : Seen) (n : ℕ) (o : Option ℕ) → names r.event ≡ o → ChangesBy r s n
 does_by r s n None named = Nothing (no_slot r s n named)
 does_by r s n (Some k) named = ⊎_elim
-    (λ (is : n ≡ slot_of s k). subst (ChangesBy r s) (sym is) (own_does r s k (row r.event (inputs s k)).changes named (own_slot r s k named) (row_makes r.event (job s k) (slot_at s (slot_of s k)) (around s (slot_of s k)) (stage s k))))
+    (λ (is : n ≡ slot_of s k). subst (ChangesBy r s) (sym is) (own_does r s k (transition r.event (inputs s k)).changes named (own_slot r s k named) (transition_makes r.event (job s k) (slot_at s (slot_of s k)) (around s (slot_of s k)) (stage s k))))
     (λ (ne : n ≡ slot_of s k → ⊥). Nothing (other_slot r s k n named ne))
     (cases_eq n (slot_of s k))
 

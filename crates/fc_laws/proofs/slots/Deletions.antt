@@ -20,10 +20,10 @@ use Rattle.fc_core.specs.Contents.{Content, Deleted, Listed, Unavailable}
 use Rattle.fc_core.specs.Heads.{is_match, word_at}
 use Rattle.fc_core.specs.History.{around, Entry, History, Then, Seen, seen, and_then, job, slot_at, stage, task_at}
 use Rattle.fc_core.specs.Laws.{HasCome, answer_at, slot_of}
-use Rattle.fc_core.specs.Stages.{image_of, made, matched_by, removed, told, took}
-use Rattle.fc_core.specs.Rows.{Around, Inputs, names, row, install_call, install_if}
-use Rattle.fc_core.specs.Steps.{Removes, changes_told, next_stage}
-use Rattle.fc_core.proofs.ByStep.{Step, by_move, move_by, stage_by, committed}
+use Rattle.fc_core.specs.Stages.{image_of, made, matched_by, removed, receipt_content, took}
+use Rattle.fc_core.specs.Transitions.{Around, Inputs, names, transition, install_call, install_if}
+use Rattle.fc_core.specs.Steps.{Removes, changes_of_call, next_stage}
+use Rattle.fc_core.proofs.ByStep.{Step, by_effect, effect_by, stage_by, committed}
 use Rattle.fc_core.proofs.ByStep as steps
 use Rattle.fc_laws.proofs.turns.Telling.{after_turn}
 use Rattle.fc_laws.proofs.slots.Published.{own_after}
@@ -64,12 +64,12 @@ verified_empties : (after : Slot) (memory : Bool) (x : Inputs) → IsEmptied aft
 verified_empties after true x e = installed_empties after x.slot (initial_vars_of x.job.ask) (judged (image_of x.job.ask)) e
 verified_empties after false x e = absurd (cc e)
 
-clear_empties : (slot : Slot) (b : Bool) (p : Option Present) → slot.present ≡ p → IsEmptied (after_changes slot (changes_told (Removes (clear_by b slot.serial p).answer))) (removed (clear_by b slot.serial p).answer)
+clear_empties : (slot : Slot) (b : Bool) (p : Option Present) → slot.present ≡ p → IsEmptied (after_changes slot (changes_of_call (Removes (clear_by b slot.serial p).answer))) (removed (clear_by b slot.serial p).answer)
 clear_empties slot b None is e = is
 clear_empties slot true (Some p) is e = refl
 clear_empties slot false (Some p) is e = absurd (cc e)
 
-told_empties : (slot : Slot) (p : Option Present) → IsEmptied slot (ToAnswer (told (receipt_at p)))
+told_empties : (slot : Slot) (p : Option Present) → IsEmptied slot (ToAnswer (receipt_content (receipt_at p)))
 told_empties slot None e = absurd (cc e)
 told_empties slot (Some p) e = absurd (cc e)
 
@@ -84,11 +84,11 @@ listed_empties slot false words e = absurd (cc e)
 none_is_answered : {c : Content} → None ≡ Some c → ⊥
 none_is_answered e = cc e
 
-step_empties : (c : Step) (job : Job) (slot : Slot) (ws : Around) → answer_at (move_by c job slot ws).stage ≡ Some Deleted → (answer_at (stage_by c) ≡ Some Deleted) ⊎ ((after_changes slot (move_by c job slot ws).changes).present ≡ None)
+step_empties : (c : Step) (job : Job) (slot : Slot) (ws : Around) → answer_at (effect_by c job slot ws).stage ≡ Some Deleted → (answer_at (stage_by c) ≡ Some Deleted) ⊎ ((after_changes slot (effect_by c job slot ws).changes).present ≡ None)
 step_empties (steps.Takes memory readings n) job slot ws e = inr (took_empties slot (readings_if memory readings) job slot.serial n slot.present e)
 step_empties (steps.TakesTurn memory readings turn) job slot ws e = absurd (after_turn (λ st. answer_at st ≡ Some Deleted → ⊥) (λ turn needs e. cc e) (λ e. cc e) (readings_if memory readings) turn (at job slot ws (ToTell turn turns.ToTake)) e)
 step_empties (steps.Commits now n t) job slot ws e = inr (committed_empties (after_changes slot (committed (outcome t slot) n t now slot.serial ws).changes) n t now slot.serial ws (outcome t slot) e)
-step_empties (steps.Installs memory) job slot ws e = inr (verified_empties (after_changes slot (move_by (steps.Installs memory) job slot ws).changes) memory (at job slot ws ToInstall) e)
+step_empties (steps.Installs memory) job slot ws e = inr (verified_empties (after_changes slot (effect_by (steps.Installs memory) job slot ws).changes) memory (at job slot ws ToInstall) e)
 step_empties steps.Removes job slot ws e = inr (clear_empties slot (nat_lt slot.serial last_serial) slot.present refl e)
 step_empties steps.Describes job slot ws e = inr (told_empties slot slot.present e)
 step_empties (steps.Matches n) job slot ws e = inr (matched_empties slot (is_match (word_at ws.common.words n) job.etags.items) (word_at ws.common.words n) e)
@@ -96,15 +96,15 @@ step_empties (steps.Lists n seen) job slot ws e = inr (listed_empties slot (nat_
 step_empties (steps.Raises word content) job slot ws e = inl e
 step_empties other job slot ws e = absurd (none_is_answered e)
 
-row_empties : (e : Event) (job : Job) (slot : Slot) (ws : Around) (s : Stage) → answer_at (row e (at job slot ws s)).stage ≡ Some Deleted → (answer_at s ≡ Some Deleted) ⊎ ((after_changes slot (row e (at job slot ws s)).changes).present ≡ None)
-row_empties e job slot ws s =
-    by_move (λ st m. answer_at m.stage ≡ Some Deleted → (answer_at st ≡ Some Deleted) ⊎ ((after_changes slot m.changes).present ≡ None)) job slot ws
+transition_empties : (e : Event) (job : Job) (slot : Slot) (ws : Around) (s : Stage) → answer_at (transition e (at job slot ws s)).stage ≡ Some Deleted → (answer_at s ≡ Some Deleted) ⊎ ((after_changes slot (transition e (at job slot ws s)).changes).present ≡ None)
+transition_empties e job slot ws s =
+    by_effect (λ st m. answer_at m.stage ≡ Some Deleted → (answer_at st ≡ Some Deleted) ⊎ ((after_changes slot m.changes).present ≡ None)) job slot ws
     (λ c asked. step_empties c job slot ws) (λ st e. inl e) e s
 
 empties_by : (r : Entry) (s : Seen) (k : ℕ) (t : Task) → Becomes (names r.event) r.event s k t → HasCome s k → answer_at t.stage ≡ Some Deleted → (answer_at (stage s k) ≡ Some Deleted) ⊎ ((slot_at (and_then r s) (slot_of s k)).present ≡ None)
 empties_by r s k t (Moves named is) come e =
     subst (λ (x : Slot). (answer_at (stage s k) ≡ Some Deleted) ⊎ (x.present ≡ None)) (sym (own_after r s k named))
-    (row_empties r.event (job s k) (slot_at s (slot_of s k)) (around s (slot_of s k)) (stage s k) (ap (λ (x : Task). answer_at x.stage) (sym is) ∙ e))
+    (transition_empties r.event (job s k) (slot_at s (slot_of s k)) (around s (slot_of s k)) (stage s k) (ap (λ (x : Task). answer_at x.stage) (sym is) ∙ e))
 empties_by r s k t (Stays other is) come e = inl (ap (λ (x : Task). answer_at x.stage) (sym is) ∙ e)
 empties_by r s k t (Comes new j is) come e = absurd (omega (arith, new, come))
 

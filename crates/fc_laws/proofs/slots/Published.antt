@@ -24,9 +24,9 @@ use Rattle.fc_laws.specs.HeadLaws.{PublishesAt}
 use Rattle.fc_core.specs.Laws.{HasCome, slot_of}
 use Rattle.fc_core.specs.Sound.{IsSoundlySeen}
 use Rattle.fc_core.specs.Stages.{image_of, made, matched_by, removed, took}
-use Rattle.fc_core.specs.Rows.{Around, Inputs, names, row, install_call, install_if}
-use Rattle.fc_core.specs.Steps.{Installs, Removes, changes_told, next_stage}
-use Rattle.fc_core.proofs.ByStep.{Step, by_move, move_by, stage_by, committed}
+use Rattle.fc_core.specs.Transitions.{Around, Inputs, names, transition, install_call, install_if}
+use Rattle.fc_core.specs.Steps.{Installs, Removes, changes_of_call, next_stage}
+use Rattle.fc_core.proofs.ByStep.{Step, by_effect, effect_by, stage_by, committed}
 use Rattle.fc_core.proofs.ByStep as steps
 use Rattle.fc_laws.proofs.turns.Telling.{after_turn}
 use Rattle.fc_core.proofs.Fitting.{after_changes-append, writes_found}
@@ -60,20 +60,20 @@ committed_publishes job slot n t now ws Keeps is f = tt
 committed_publishes job slot n t now ws Overtakes is f = retaken_publishes slot (ToCommit n t) n (nat_lt n 8)
 committed_publishes job slot n t now ws Ends is f = tt
 
-put_publishes : (slot : Slot) (p : Program) (v : InitialVars) (b : Bool) → PublishesAt (after_changes slot (changes_told (Installs p v (put_by b slot p v).answer))) ToInstall (made (receipt_of p 0) (put_by b slot p v).answer)
+put_publishes : (slot : Slot) (p : Program) (v : InitialVars) (b : Bool) → PublishesAt (after_changes slot (changes_of_call (Installs p v (put_by b slot p v).answer))) ToInstall (made (receipt_of p 0) (put_by b slot p v).answer)
 put_publishes slot p v true = inr refl
 put_publishes slot p v false = tt
 
-installed_publishes : (slot : Slot) (v : InitialVars) (j : Judgement) → PublishesAt (after_changes slot (changes_told (install_call v j slot))) ToInstall (next_stage (install_call v j slot))
+installed_publishes : (slot : Slot) (v : InitialVars) (j : Judgement) → PublishesAt (after_changes slot (changes_of_call (install_call v j slot))) ToInstall (next_stage (install_call v j slot))
 installed_publishes slot v (Accepts p) = put_publishes slot p v (nat_lt slot.serial last_serial)
 installed_publishes slot v (Breaks rule k) = tt
 installed_publishes slot v Untypable = tt
 
-verified_publishes : (memory : Bool) (x : Inputs) → PublishesAt (after_changes x.slot (changes_told (install_if memory (initial_vars_of x.job.ask) (judged (image_of x.job.ask)) x.slot))) ToInstall (next_stage (install_if memory (initial_vars_of x.job.ask) (judged (image_of x.job.ask)) x.slot))
+verified_publishes : (memory : Bool) (x : Inputs) → PublishesAt (after_changes x.slot (changes_of_call (install_if memory (initial_vars_of x.job.ask) (judged (image_of x.job.ask)) x.slot))) ToInstall (next_stage (install_if memory (initial_vars_of x.job.ask) (judged (image_of x.job.ask)) x.slot))
 verified_publishes true x = installed_publishes x.slot (initial_vars_of x.job.ask) (judged (image_of x.job.ask))
 verified_publishes false x = tt
 
-clear_publishes : (slot : Slot) (b : Bool) (p : Option Present) → PublishesAt (after_changes slot (changes_told (Removes (clear_by b slot.serial p).answer))) ToRemove (removed (clear_by b slot.serial p).answer)
+clear_publishes : (slot : Slot) (b : Bool) (p : Option Present) → PublishesAt (after_changes slot (changes_of_call (Removes (clear_by b slot.serial p).answer))) ToRemove (removed (clear_by b slot.serial p).answer)
 clear_publishes slot b None = tt
 clear_publishes slot true (Some p) = inr refl
 clear_publishes slot false (Some p) = tt
@@ -87,7 +87,7 @@ listed_publishes slot old true words = tt
 listed_publishes slot old false words = tt
 
 -- the head word that a transition leaves to raise is that of the slot after its changes.
-step_publishes : (c : Step) (job : Job) (slot : Slot) (ws : Around) → FitsStage job slot (stage_by c) → PublishesAt (after_changes slot (move_by c job slot ws).changes) (stage_by c) (move_by c job slot ws).stage
+step_publishes : (c : Step) (job : Job) (slot : Slot) (ws : Around) → FitsStage job slot (stage_by c) → PublishesAt (after_changes slot (effect_by c job slot ws).changes) (stage_by c) (effect_by c job slot ws).stage
 step_publishes (steps.Commits now n t) job slot ws f = committed_publishes job slot n t now ws (outcome t slot) refl f
 step_publishes (steps.Installs memory) job slot ws f = verified_publishes memory (at job slot ws ToInstall)
 step_publishes steps.Removes job slot ws f = clear_publishes slot (nat_lt slot.serial last_serial) slot.present
@@ -97,20 +97,20 @@ step_publishes (steps.Matches n) job slot ws f = matched_publishes slot ToMatch 
 step_publishes (steps.Lists n seen) job slot ws f = listed_publishes slot (ToList seen) (nat_lt (length (seen.items ++ word_at ws.common.words n ∷ [])) 64) (seen.items ++ word_at ws.common.words n ∷ [])
 step_publishes other job slot ws f = tt
 
-row_publishes : (e : Event) (job : Job) (slot : Slot) (ws : Around) (s : Stage) → FitsStage job slot s → PublishesAt (after_changes slot (row e (at job slot ws s)).changes) s (row e (at job slot ws s)).stage
-row_publishes e job slot ws s =
-    by_move (λ st m. FitsStage job slot st → PublishesAt (after_changes slot m.changes) st m.stage) job slot ws
+transition_publishes : (e : Event) (job : Job) (slot : Slot) (ws : Around) (s : Stage) → FitsStage job slot s → PublishesAt (after_changes slot (transition e (at job slot ws s)).changes) s (transition e (at job slot ws s)).stage
+transition_publishes e job slot ws s =
+    by_effect (λ st m. FitsStage job slot st → PublishesAt (after_changes slot m.changes) st m.stage) job slot ws
     (λ c asked. step_publishes c job slot ws) (λ st f. same_publishes slot st) e s
 
 -- the slot of the job that an event names, after it.
-pub own_after : (r : Entry) (s : Seen) (k : ℕ) → names r.event ≡ Some k → slot_at (and_then r s) (slot_of s k) ≡ after_changes (slot_at s (slot_of s k)) (row r.event (inputs s k)).changes
-own_after r s k named = ap (after_changes (new_slot s.first_serial)) (own_slot r s k named) ∙ after_changes-append (new_slot s.first_serial) (row r.event (inputs s k)).changes (s.changes (slot_of s k))
+pub own_after : (r : Entry) (s : Seen) (k : ℕ) → names r.event ≡ Some k → slot_at (and_then r s) (slot_of s k) ≡ after_changes (slot_at s (slot_of s k)) (transition r.event (inputs s k)).changes
+own_after r s k named = ap (after_changes (new_slot s.first_serial)) (own_slot r s k named) ∙ after_changes-append (new_slot s.first_serial) (transition r.event (inputs s k)).changes (s.changes (slot_of s k))
 
 publishes_by : (r : Entry) (s : Seen) (k : ℕ) (t : Task) → Becomes (names r.event) r.event s k t → IsSoundlySeen s → HasCome s k → PublishesAt (slot_at (and_then r s) (slot_of s k)) (stage s k) t.stage
 publishes_by r s k t (Moves named is) a come =
     subst (λ (x : Task). PublishesAt (slot_at (and_then r s) (slot_of s k)) (stage s k) x.stage) (sym is)
-    (subst (λ (x : Slot). PublishesAt x (stage s k) (row r.event (inputs s k)).stage) (sym (own_after r s k named))
-    (row_publishes r.event (job s k) (slot_at s (slot_of s k)) (around s (slot_of s k)) (stage s k) (a.stages k)))
+    (subst (λ (x : Slot). PublishesAt x (stage s k) (transition r.event (inputs s k)).stage) (sym (own_after r s k named))
+    (transition_publishes r.event (job s k) (slot_at s (slot_of s k)) (around s (slot_of s k)) (stage s k) (a.stages k)))
 publishes_by r s k t (Stays other is) a come = subst (λ (x : Task). PublishesAt (slot_at (and_then r s) (slot_of s k)) (stage s k) x.stage) (sym is) (same_publishes (slot_at (and_then r s) (slot_of s k)) (stage s k))
 publishes_by r s k t (Comes new j is) a come = absurd (omega (arith, new, come))
 

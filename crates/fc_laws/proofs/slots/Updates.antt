@@ -17,17 +17,17 @@ use Rattle.fc_registry.proofs.Installs.{empty_vars, kept_answer, kept_vars, othe
 use Rattle.fc_core.specs.declared.event.Event.TheVariants.{Install}
 use Rattle.fc_core.specs.History.{Seen, and_then, did, job, inputs, slot_at}
 use Rattle.fc_core.specs.Laws.{slot_of}
-use Rattle.fc_core.specs.Rows.{Inputs, install_call, install_if, row}
+use Rattle.fc_core.specs.Transitions.{Inputs, install_call, install_if, transition}
 use Rattle.fc_core.specs.Stage.{Stage, ToInstall}
 use Rattle.fc_core.specs.Stages.{made}
-use Rattle.fc_core.specs.Steps.{Installs, changes_told, next_stage}
+use Rattle.fc_core.specs.Steps.{Installs, changes_of_call, next_stage}
 use Rattle.fc_core.proofs.Calling.{verified_calls}
 use Rattle.fc_laws.specs.SlotLaws.{IsToInstall, inputs_installing, vars_at}
 use Rattle.fc_laws.proofs.jobs.Others.{own_slot}
 
 -- ---- the variables after an install
 
-put_told : (b : Bool) (slot : Slot) (p : Program) (v : InitialVars) → b ≡ true → changes_told (Installs p v (put_by b slot p v).answer) ≡ Installed p v ∷ []
+put_told : (b : Bool) (slot : Slot) (p : Program) (v : InitialVars) → b ≡ true → changes_of_call (Installs p v (put_by b slot p v).answer) ≡ Installed p v ∷ []
 put_told true slot p v e = refl
 put_told false slot p v e = absurd (cc e)
 
@@ -38,8 +38,8 @@ installs s k p o w =
     let v = initial_vars_of (job s k).ask in
     own_slot (did (Install k true) o) s k refl
     ∙ ap (λ (cs : List Change). cs ++ s.changes (slot_of s k)) (
-    ap (λ (at : Stage). (row (Install k true) (record (inputs s k) { stage = at })).changes) w.at
-    ∙ (ap (λ (j : Judgement). changes_told (install_call v j slot)) w.accepted
+    ap (λ (at : Stage). (transition (Install k true) (record (inputs s k) { stage = at })).changes) w.at
+    ∙ (ap (λ (j : Judgement). changes_of_call (install_call v j slot)) w.accepted
     ∙ put_told (nat_lt slot.serial last_serial) slot p v (lt-ltb slot.serial last_serial w.below)))
 
 leaves : (s : Seen) (k : ℕ) (p : Program) (o : Option Emission) → IsToInstall s k p
@@ -79,18 +79,18 @@ abbrev standing : Stage → Inputs → Inputs
 standing at x = record x { stage = at }
 
 stage_either : (k : ℕ) (memory : Bool) (x : Inputs) (image : ArrayVec ℕ) (at : Stage)
-    → (row (Install k memory) (inputs_installing image Kept (standing at x))).stage ≡ (row (Install k memory) (inputs_installing image Zeros (standing at x))).stage
+    → (transition (Install k memory) (inputs_installing image Kept (standing at x))).stage ≡ (transition (Install k memory) (inputs_installing image Zeros (standing at x))).stage
 stage_either k memory x image ToInstall = same_next memory (judged image.items) x.slot
 stage_either k memory x image other = refl
 
-pub same_stage : (k : ℕ) (memory : Bool) (x : Inputs) (image : ArrayVec ℕ) → (row (Install k memory) (inputs_installing image Kept x)).stage ≡ (row (Install k memory) (inputs_installing image Zeros x)).stage
+pub same_stage : (k : ℕ) (memory : Bool) (x : Inputs) (image : ArrayVec ℕ) → (transition (Install k memory) (inputs_installing image Kept x)).stage ≡ (transition (Install k memory) (inputs_installing image Zeros x)).stage
 same_stage k memory x image = stage_either k memory x image x.stage
 
 calls_either : (k : ℕ) (memory : Bool) (x : Inputs) (image : ArrayVec ℕ) (at : Stage)
-    → (row (Install k memory) (inputs_installing image Kept (standing at x))).calls ≡ (row (Install k memory) (inputs_installing image Zeros (standing at x))).calls
+    → (transition (Install k memory) (inputs_installing image Kept (standing at x))).calls ≡ (transition (Install k memory) (inputs_installing image Zeros (standing at x))).calls
 calls_either k memory x image ToInstall =
     verified_calls x.around.time 0 memory (inputs_installing image Kept (standing ToInstall x)) ∙ sym (verified_calls x.around.time 0 memory (inputs_installing image Zeros (standing ToInstall x)))
 calls_either k memory x image other = refl
 
-pub same_calls : (k : ℕ) (memory : Bool) (x : Inputs) (image : ArrayVec ℕ) → (row (Install k memory) (inputs_installing image Kept x)).calls ≡ (row (Install k memory) (inputs_installing image Zeros x)).calls
+pub same_calls : (k : ℕ) (memory : Bool) (x : Inputs) (image : ArrayVec ℕ) → (transition (Install k memory) (inputs_installing image Kept x)).calls ≡ (transition (Install k memory) (inputs_installing image Zeros x)).calls
 same_calls k memory x image = calls_either k memory x image x.stage

@@ -26,7 +26,7 @@ use Rattle.fc_core.specs.History.{around, Entry, History, Begins, Then, Seen, se
 use Rattle.fc_core.specs.Laws.{HasCome, Snapshot, finds, finds_if, gives_at, is_named, slot_of, snapshots_of}
 use Rattle.fc_laws.specs.SlotLaws.{IsUnchanged, IsWritten}
 use Rattle.fc_core.specs.Sound.{IsSoundlySeen}
-use Rattle.fc_core.specs.Rows.{Around, Inputs, names, row}
+use Rattle.fc_core.specs.Transitions.{Around, Inputs, names, transition}
 use Rattle.fc_core.proofs.ByStep.{committed}
 use Rattle.fc_laws.proofs.jobs.Along.{none_after}
 use Rattle.fc_core.proofs.Calling.{EntryWithin}
@@ -134,7 +134,7 @@ at job slot ws stage = record { job = job; slot = slot; around = ws; stage = sta
 
 commit_changes : (s : Seen) (k now n : ℕ) (o : Option Emission) (t : Ticket) (x : CommitOutcome) → stage s k ≡ ToCommit n t → outcome t (slot_at s (slot_of s k)) ≡ x → (and_then (did (Commit k now) o) s).changes (slot_of s k) ≡ (committed x n t now (slot_at s (slot_of s k)).serial (around s (slot_of s k))).changes ++ s.changes (slot_of s k)
 commit_changes s k now n o t x is comes = own_slot (did (Commit k now) o) s k refl
-    ∙ (ap (λ (st : Stage). (row (Commit k now) (at (job s k) (slot_at s (slot_of s k)) (around s (slot_of s k)) st)).changes ++ s.changes (slot_of s k)) is
+    ∙ (ap (λ (st : Stage). (transition (Commit k now) (at (job s k) (slot_at s (slot_of s k)) (around s (slot_of s k)) st)).changes ++ s.changes (slot_of s k)) is
     ∙ ap (λ (y : CommitOutcome). (committed y n t now (slot_at s (slot_of s k)).serial (around s (slot_of s k))).changes ++ s.changes (slot_of s k)) comes)
 
 post_wants : (m : Method) (b : Bool) → m ≡ Post → b ≡ true → (is_post m && b) ≡ true
@@ -171,17 +171,17 @@ pub keeps_unwanted : (t : Ticket) (slot : Slot) (w : Bool) → wants t ≡ w →
 keeps_unwanted t slot w is e = ap (λ (b : Bool). outcome_by b (slot.serial == t.serial) (nat_lt slot.serial last_serial)) (is ∙ e)
 
 -- a slot whose job, or another's, makes an unwanted commit.
-kept_if : (s : Seen) (e : Event) (k n : ℕ) (b : Bool) (at : Inputs) → (row e at).changes ≡ [] → (if b then (row e at).changes ++ s.changes n else s.changes n) ≡ s.changes n
+kept_if : (s : Seen) (e : Event) (k n : ℕ) (b : Bool) (at : Inputs) → (transition e at).changes ≡ [] → (if b then (transition e at).changes ++ s.changes n else s.changes n) ≡ s.changes n
 kept_if s e k n true at is = ap (λ (cs : List Change). cs ++ s.changes n) is
 kept_if s e k n false at is = refl
 
-row_keeps : (job : Job) (slot : Slot) (ws : Around) (k now count : ℕ) (t : Ticket) (st : Stage) → st ≡ ToCommit count t → outcome t slot ≡ Keeps → (row (Commit k now) (at job slot ws st)).changes ≡ []
-row_keeps job slot ws k now count t st is keeps = ap (λ (x : Stage). (row (Commit k now) (at job slot ws x)).changes) is ∙ ap (λ (o : CommitOutcome). (committed o count t now slot.serial ws).changes) keeps
+transition_keeps : (job : Job) (slot : Slot) (ws : Around) (k now count : ℕ) (t : Ticket) (st : Stage) → st ≡ ToCommit count t → outcome t slot ≡ Keeps → (transition (Commit k now) (at job slot ws st)).changes ≡ []
+transition_keeps job slot ws k now count t st is keeps = ap (λ (x : Stage). (transition (Commit k now) (at job slot ws x)).changes) is ∙ ap (λ (o : CommitOutcome). (committed o count t now slot.serial ws).changes) keeps
 
 unwanted_at : (s : Seen) (k now count n : ℕ) (o : Option Emission) (t : Ticket) → stage s k ≡ ToCommit count t → wants t ≡ false → (and_then (did (Commit k now) o) s).changes n ≡ s.changes n
 unwanted_at s k now count n o t is w =
     let slot = slot_at s (slot_of s k) in
-    kept_if s (Commit k now) k n (slot_of s k == n) (at (job s k) slot (around s (slot_of s k)) (stage s k)) (row_keeps (job s k) slot (around s (slot_of s k)) k now count t (stage s k) is (keeps_unwanted t slot (wants t) refl w))
+    kept_if s (Commit k now) k n (slot_of s k == n) (at (job s k) slot (around s (slot_of s k)) (stage s k)) (transition_keeps (job s k) slot (around s (slot_of s k)) k now count t (stage s k) is (keeps_unwanted t slot (wants t) refl w))
 
 pub unwanted_changes_nothing : (r : Entry) (s : Seen) (k now count n : ℕ) (t : Ticket) → r.event ≡ Commit k now → stage s k ≡ ToCommit count t → (t.request.method ≡ Get) ⊎ (code_class (meaning_at t).code ≡ 2 → ⊥) → (and_then r s).changes n ≡ s.changes n
 unwanted_changes_nothing r s k now count n t is st e =

@@ -18,8 +18,8 @@ use Rattle.fc_core.specs.Fits.{FitsStage}
 use Rattle.fc_core.specs.History.{Entry, History, Begins, Then, Seen, seen, and_then, around, did, job, no_task, slot_at, stage, task_at}
 use Rattle.fc_core.specs.Laws.{HasCome, followed_by, slot_of}
 use Rattle.fc_core.specs.Stages.{first_or_turn, first_stage, turn_took}
-use Rattle.fc_core.specs.Rows.{Around, Inputs, names, row}
-use Rattle.fc_core.proofs.ByStep.{Step, by_move, move_by, stage_by}
+use Rattle.fc_core.specs.Transitions.{Around, Inputs, names, transition}
+use Rattle.fc_core.proofs.ByStep.{Step, by_effect, effect_by, stage_by}
 use Rattle.fc_core.proofs.ByStep as steps
 use Rattle.fc_laws.proofs.jobs.Ends.{gone_later, lost_gone}
 use Rattle.fc_laws.proofs.jobs.Others.{is_here, named_stage, still_here}
@@ -33,7 +33,7 @@ at job slot ws stage = record { job = job; slot = slot; around = ws; stage = sta
 -- ---- a property of each job of a history
 
 -- a property of each job at its first stage, which each transition keeps, holds for each job.
-module _ (Q : Job → Stage → Type 0) (gone : (j : Job) → Q j Gone) (first : (j : Job) → Q j (first_stage j)) (keeps : (e : Event) (j : Job) (slot : Slot) (ws : Around) (st : Stage) → Q j st → Q j (row e (at j slot ws st)).stage) where
+module _ (Q : Job → Stage → Type 0) (gone : (j : Job) → Q j Gone) (first : (j : Job) → Q j (first_stage j)) (keeps : (e : Event) (j : Job) (slot : Slot) (ws : Around) (st : Stage) → Q j st → Q j (transition e (at j slot ws st)).stage) where
   every_by : (r : Entry) (s : Seen) (k : ℕ) (t : Task) → Becomes (names r.event) r.event s k t → Q (job s k) (stage s k) → Q t.job t.stage
   every_by r s k t (Moves named is) q = subst (λ (x : Task). Q x.job x.stage) (sym is) (keeps r.event (job s k) (slot_at s (slot_of s k)) (around s (slot_of s k)) (stage s k) q)
   every_by r s k t (Stays other is) q = subst (λ (x : Task). Q x.job x.stage) (sym is) q
@@ -58,7 +58,7 @@ taken_apart own turn Missing is = is
 taken_apart own turn Stale is = tt
 taken_apart own turn Refused is = is
 
-step_apart : (c : Step) (job : Job) (slot : Slot) (ws : Around) (turn : Turn) → IsToldOf turn (stage_by c) → IsToldOf turn (move_by c job slot ws).stage
+step_apart : (c : Step) (job : Job) (slot : Slot) (ws : Around) (turn : Turn) → IsToldOf turn (stage_by c) → IsToldOf turn (effect_by c job slot ws).stage
 step_apart (steps.TakesTurn memory readings own) job slot ws turn w = taken_apart own turn _ w
 step_apart (steps.Draws now own found) job slot ws turn w = w
 step_apart (steps.Notes now random own found id) job slot ws turn w = tt
@@ -66,9 +66,9 @@ step_apart (steps.GivesUp now own needs) job slot ws turn w = tt
 step_apart (steps.Loses needs) job slot ws turn w = tt
 step_apart other job slot ws turn w = absurd w
 
-pub row_apart : (e : Event) (job : Job) (slot : Slot) (ws : Around) (turn : Turn) (s : Stage) → IsToldOf turn s → IsToldOf turn (row e (at job slot ws s)).stage
-row_apart e job slot ws turn s =
-    by_move (λ st m. IsToldOf turn st → IsToldOf turn m.stage) job slot ws
+pub transition_apart : (e : Event) (job : Job) (slot : Slot) (ws : Around) (turn : Turn) (s : Stage) → IsToldOf turn s → IsToldOf turn (transition e (at job slot ws s)).stage
+transition_apart e job slot ws turn s =
+    by_effect (λ st m. IsToldOf turn st → IsToldOf turn m.stage) job slot ws
     (λ c asked. step_apart c job slot ws turn) (λ st w. w) e s
 
 pub first_apart : (j : Job) (o : Option ℕ) (number : ℕ) → o ≡ Some number → IsToldOf (turn_of j number) (first_or_turn o j)
@@ -84,7 +84,7 @@ pub is_told_of : (h : History) (k number : ℕ) → (job (seen h) k).turn ≡ So
 is_told_of h k number is =
     every (λ (j : Job) (st : Stage). (n : ℕ) → j.turn ≡ Some n → IsToldOf (turn_of j n) st)
     (λ j n e. tt) (λ j n e. first_apart j j.turn n e)
-    (λ e j slot ws st w n of_turn. row_apart e j slot ws (turn_of j n) st (w n of_turn)) h k number is
+    (λ e j slot ws st w n of_turn. transition_apart e j slot ws (turn_of j n) st (w n of_turn)) h k number is
 
 pub turn_apart : (h : History) (k number : ℕ) → (job (seen h) k).turn ≡ Some number → ((needs : TurnStage) × (stage (seen h) k ≡ ToTell (record { slot = slot_of (seen h) k; number = number }) needs)) ⊎ (stage (seen h) k ≡ Gone)
 turn_apart h k number is = apart_by (turn_of (job (seen h) k) number) (stage (seen h) k) (is_told_of h k number is)
@@ -107,7 +107,7 @@ came_to_tell s k turn needs is = is_here s k (ToTell turn needs) is (λ e. absur
 noted_gone : (s : Seen) (k now random id : ℕ) (turn : Turn) (found : Option Ticket) (o : Option Emission) → stage s k ≡ ToTell turn (turns.ToNote found id) → stage (and_then (did (Note k now random) o) s) k ≡ Gone
 noted_gone s k now random id turn found o is =
     named_stage (did (Note k now random) o) s k (came_to_tell s k turn (turns.ToNote found id) is) refl
-    ∙ ap (λ (st : Stage). (row (Note k now random) (at (job s k) (slot_at s (slot_of s k)) (around s (slot_of s k)) st)).stage) is
+    ∙ ap (λ (st : Stage). (transition (Note k now random) (at (job s k) (slot_at s (slot_of s k)) (around s (slot_of s k)) st)).stage) is
 
 pub noted_ever : (h : History) (rs : List Entry) (k now random id : ℕ) (turn : Turn) (found : Option Ticket) (o : Option Emission) → stage (seen h) k ≡ ToTell turn (turns.ToNote found id) → stage (seen (followed_by (Then h (did (Note k now random) o)) rs)) k ≡ Gone
 noted_ever h rs k now random id turn found o is = gone_ever h (did (Note k now random) o) rs k (came_to_tell (seen h) k turn (turns.ToNote found id) is) (noted_gone (seen h) k now random id turn found o is)

@@ -25,9 +25,9 @@ use Rattle.fc_core.specs.TurnStage as turns
 use Rattle.fc_core.specs.History.{Entry, History, Then, Seen, seen, and_then, around, calls_by, calls_named, did, due_in, is_place_of, job, overdue_in, inputs, slot_at, stage, watch, at_shard}
 use Rattle.fc_core.specs.Laws.{followed_by, slot_of}
 use Rattle.fc_laws.specs.ObserveLaws.{NoneRegisters, Registers}
-use Rattle.fc_core.specs.Rows.{names, row}
+use Rattle.fc_core.specs.Transitions.{names, transition}
 use Rattle.fc_laws.specs.TurnLaws.{time_at}
-use Rattle.fc_core.proofs.Calling.{CallsBy, NoCall, OfCommit, OfGiveUp, OfNote, OfSnapshot, row_calls}
+use Rattle.fc_core.proofs.Calling.{CallsBy, NoCall, OfCommit, OfGiveUp, OfNote, OfSnapshot, transition_calls}
 use Rattle.fc_laws.proofs.turns.Comers.{none_in, registers_none}
 use Rattle.fc_laws.proofs.turns.Notices.{found_holds, note_where_out, sent_above_last}
 use Rattle.fc_core.proofs.OnShards.{named_calm}
@@ -79,19 +79,19 @@ module _ (h : History) (r : Entry) (n : ℕ) where
   abbrev s : Seen
   s = seen h
 
-  row_above : (k : ℕ) (cs : List ObserverCall) → names r.event ≡ Some k → slot_of s k ≡ n → CallsBy r.event (around s (slot_of s k)) (stage s k) cs → AreAbove cs (observers n s.policy.confirm_after (s.calls n))
-  row_above k cs named slot (NoCall is) = subst (λ (l : List ObserverCall). AreAbove l (watch s n)) (sym is) tt
-  row_above k cs named slot (OfCommit j now count m t event stands is) = subst (λ (l : List ObserverCall). AreAbove l (watch s n)) (sym is) (observed_above (is_registration t) (is_cancellation t) m t (watch s n))
-  row_above k cs named slot (OfSnapshot turn m present t is) = subst (λ (l : List ObserverCall). AreAbove l (watch s n)) (sym is) (mark_missing_above (is_out_at turn m t) turn present m (watch s n))
-  row_above k cs named slot (OfGiveUp turn m is) = subst (λ (l : List ObserverCall). AreAbove l (watch s n)) (sym is) (λ k d lt. tt, tt)
-  row_above k cs named slot (OfNote j now random id turn found event stands is) =
+  transition_above : (k : ℕ) (cs : List ObserverCall) → names r.event ≡ Some k → slot_of s k ≡ n → CallsBy r.event (around s (slot_of s k)) (stage s k) cs → AreAbove cs (observers n s.policy.confirm_after (s.calls n))
+  transition_above k cs named slot (NoCall is) = subst (λ (l : List ObserverCall). AreAbove l (watch s n)) (sym is) tt
+  transition_above k cs named slot (OfCommit j now count m t event stands is) = subst (λ (l : List ObserverCall). AreAbove l (watch s n)) (sym is) (observed_above (is_registration t) (is_cancellation t) m t (watch s n))
+  transition_above k cs named slot (OfSnapshot turn m present t is) = subst (λ (l : List ObserverCall). AreAbove l (watch s n)) (sym is) (mark_missing_above (is_out_at turn m t) turn present m (watch s n))
+  transition_above k cs named slot (OfGiveUp turn m is) = subst (λ (l : List ObserverCall). AreAbove l (watch s n)) (sym is) (λ k d lt. tt, tt)
+  transition_above k cs named slot (OfNote j now random id turn found event stands is) =
       let m = time_at s k now in
       subst (λ (l : List ObserverCall). AreAbove l (watch s n)) (sym is)
       (note_above turn id random m n s.policy.confirm_after found (note_at turn id m found (watch s (slot_of s k))) (s.calls n)
       (λ t same. subst (λ (i : ℕ). noticed_for turn.number i s.policy.confirm_after (s.calls i) ≤ t.serial) slot (found_noticed h k id turn t (stands ∙ ap (λ (x : Option Ticket). ToTell turn (turns.ToNote x id)) same))))
 
-  slot_above : (k : ℕ) (b : Bool) → names r.event ≡ Some k → (slot_of s k == n) ≡ b → AreAbove (if b then (row r.event (inputs s k)).calls else []) (watch s n)
-  slot_above k true named is = row_above k (row r.event (inputs s k)).calls named (eqb-true (slot_of s k) n is) (row_calls r.event (job s k) (slot_at s (slot_of s k)) (around s (slot_of s k)) (stage s k))
+  slot_above : (k : ℕ) (b : Bool) → names r.event ≡ Some k → (slot_of s k == n) ≡ b → AreAbove (if b then (transition r.event (inputs s k)).calls else []) (watch s n)
+  slot_above k true named is = transition_above k (transition r.event (inputs s k)).calls named (eqb-true (slot_of s k) n is) (transition_calls r.event (job s k) (slot_at s (slot_of s k)) (around s (slot_of s k)) (stage s k))
   slot_above k false named is = tt
 
   -- the calls of the job that it names come after those of its shard, of which there are none.
@@ -166,8 +166,8 @@ module _ (h : History) (k now random id : ℕ) (turn : Turn) (t : Ticket) (o : O
   noted_from emitted =
       let some : is_some sent ≡ true = note_where_out h k now id turn (Some t) is ∙ ap (λ (x : Option ObserverEntry). is_some x) out in
       subst (λ (w : ObserverList). All (SentFrom t.serial to token) w.held)
-      (sym (ap (λ (b : Bool). observers n confirm_after ((if b then (row (Note k now random) (inputs (seen h) k)).calls else []) ++ calls)) (eq-eqb n n refl)
-      ∙ ap (λ (st : Stage). observers n confirm_after ((row (Note k now random) (at_stage (seen h) k st)).calls ++ calls)) is))
+      (sym (ap (λ (b : Bool). observers n confirm_after ((if b then (transition (Note k now random) (inputs (seen h) k)).calls else []) ++ calls)) (eq-eqb n n refl)
+      ∙ ap (λ (st : Stage). observers n confirm_after ((transition (Note k now random) (at_stage (seen h) k st)).calls ++ calls)) is))
       (note_from sent some)
 
   noted_seen : (emitted : Option Emission) → All (SentFrom t.serial to token) (watch (seen (Then h (did (Note k now random) emitted))) n).held

@@ -22,9 +22,9 @@ use Rattle.fc_core.specs.Stage.{Stage}
 use Rattle.fc_core.specs.Stage.{ToInstall}
 use Rattle.fc_core.specs.History.{Entry, History, Begins, Then, Seen, seen, and_then, around, calls_named, due_in, is_due_at, is_overdue_at, is_place_of, job, overdue_in, inputs, shard_time_after, slot_at, stage, watch, at_shard, hands_by, calls_by}
 use Rattle.fc_core.specs.Laws.{slot_of}
-use Rattle.fc_core.specs.Rows.{Around, Inputs, handed, names, row}
+use Rattle.fc_core.specs.Transitions.{Around, Inputs, handed, names, transition}
 use Rattle.fc_laws.specs.TurnLaws.{time_at}
-use Rattle.fc_core.proofs.ByStep.{Step, by_move, move_by, committed}
+use Rattle.fc_core.proofs.ByStep.{Step, by_effect, effect_by, committed}
 use Rattle.fc_core.proofs.ByStep as steps
 use Rattle.fc_core.proofs.Calling.{verified_calls}
 use Rattle.fc_core.proofs.Lists.{Each}
@@ -102,17 +102,17 @@ note_reaches : (turn : Turn) (id random m : ℕ) (found : Option Ticket) (sent :
 note_reaches turn id random m found None = (omega arith, tt)
 note_reaches turn id random m found (Some e) = (told_reaches (keeps_observer found) turn id random m (serial_told found) e.bytes, (omega arith, tt))
 
-step_reaches : (c : Step) (job : Job) (slot : Slot) (ws : Around) → Each (ReachesTo (handed (move_by c job slot ws).hands ws.time)) (move_by c job slot ws).calls
+step_reaches : (c : Step) (job : Job) (slot : Slot) (ws : Around) → Each (ReachesTo (handed (effect_by c job slot ws).hands ws.time)) (effect_by c job slot ws).calls
 step_reaches (steps.TakesTurn memory readings turn) job slot ws = mark_missing_reaches (is_out_at turn ws.time ws.watch) turn slot.present ws.time
 step_reaches (steps.Commits now n t) job slot ws = committed_reaches n now slot.serial t ws (outcome t slot)
-step_reaches (steps.Installs memory) job slot ws = subst (Each (ReachesTo (handed (move_by (steps.Installs memory) job slot ws).hands ws.time))) (sym (verified_calls ws.time 0 memory (at job slot ws ToInstall))) tt
+step_reaches (steps.Installs memory) job slot ws = subst (Each (ReachesTo (handed (effect_by (steps.Installs memory) job slot ws).hands ws.time))) (sym (verified_calls ws.time 0 memory (at job slot ws ToInstall))) tt
 step_reaches (steps.Notes now random turn found id) job slot ws = note_reaches turn id random (max ws.time now) found (note_at turn id (max ws.time now) found ws.watch)
 step_reaches (steps.GivesUp now turn needs) job slot ws = (omega arith, tt)
 step_reaches other job slot ws = tt
 
-row_reaches : (e : Event) (job : Job) (slot : Slot) (ws : Around) (s : Stage) → Each (ReachesTo (handed (row e (at job slot ws s)).hands ws.time)) (row e (at job slot ws s)).calls
-row_reaches e job slot ws s =
-    by_move (λ st m. Each (ReachesTo (handed m.hands ws.time)) m.calls) job slot ws
+transition_reaches : (e : Event) (job : Job) (slot : Slot) (ws : Around) (s : Stage) → Each (ReachesTo (handed (transition e (at job slot ws s)).hands ws.time)) (transition e (at job slot ws s)).calls
+transition_reaches e job slot ws s =
+    by_effect (λ st m. Each (ReachesTo (handed m.hands ws.time)) m.calls) job slot ws
     (λ c asked. step_reaches c job slot ws) (λ st. tt) e s
 
 -- ---- an event
@@ -148,8 +148,8 @@ module _ (s : Seen) where
   named_rises None e i = omega arith
   named_rises (Some k) e i = by (slot_of s k % 8 == i)
     where
-      by : (b : Bool) → s.shard_time i ≤ (if b then handed (row e (inputs s k)).hands (s.shard_time i) else s.shard_time i)
-      by true = handed_rises (row e (inputs s k)).hands (s.shard_time i)
+      by : (b : Bool) → s.shard_time i ≤ (if b then handed (transition e (inputs s k)).hands (s.shard_time i) else s.shard_time i)
+      by true = handed_rises (transition e (inputs s k)).hands (s.shard_time i)
       by false = omega arith
 
   shard_rises : (e : Event) (i : ℕ) → s.shard_time i ≤ later e i
@@ -159,19 +159,19 @@ module _ (s : Seen) where
       omega (arith, before, own)
 
   -- the calls of the job that it names
-  own_time : (e : Event) (k : ℕ) → names e ≡ Some k → handed (row e (inputs s k)).hands (s.shard_time (slot_of s k % 8)) ≤ later e (slot_of s k % 8)
+  own_time : (e : Event) (k : ℕ) → names e ≡ Some k → handed (transition e (inputs s k)).hands (s.shard_time (slot_of s k % 8)) ≤ later e (slot_of s k % 8)
   own_time e k named =
       let i = slot_of s k % 8 in
-      let is = (λ j. shard_time_after (named j) e s i) ∙ ap (λ (b : Bool). if b then handed (row e (inputs s k)).hands (s.shard_time i) else s.shard_time i) (eq-eqb i i refl) in
+      let is = (λ j. shard_time_after (named j) e s i) ∙ ap (λ (b : Bool). if b then handed (transition e (inputs s k)).hands (s.shard_time i) else s.shard_time i) (eq-eqb i i refl) in
       let own = handed_rises (hands_by (at_shard e) i) (shard_time_after (names e) e s i) in
       omega (arith, is, own)
 
-  slot_reaches : (e : Event) (k n : ℕ) (b : Bool) → names e ≡ Some k → (slot_of s k == n) ≡ b → Each (ReachesTo (later e (n % 8))) (if b then (row e (inputs s k)).calls else [])
+  slot_reaches : (e : Event) (k n : ℕ) (b : Bool) → names e ≡ Some k → (slot_of s k == n) ≡ b → Each (ReachesTo (later e (n % 8))) (if b then (transition e (inputs s k)).calls else [])
   slot_reaches e k n true named is =
       let m = slot_of s k in
-      subst (λ (x : ℕ). Each (ReachesTo (later e (x % 8))) (row e (inputs s k)).calls) (eqb-true m n is)
-      (reach_later (handed (row e (inputs s k)).hands (s.shard_time (m % 8))) (later e (m % 8)) (row e (inputs s k)).calls (own_time e k named)
-      (row_reaches e (job s k) (slot_at s m) (around s m) (stage s k)))
+      subst (λ (x : ℕ). Each (ReachesTo (later e (x % 8))) (transition e (inputs s k)).calls) (eqb-true m n is)
+      (reach_later (handed (transition e (inputs s k)).hands (s.shard_time (m % 8))) (later e (m % 8)) (transition e (inputs s k)).calls (own_time e k named)
+      (transition_reaches e (job s k) (slot_at s m) (around s m) (stage s k)))
   slot_reaches e k n false named is = tt
 
   named_reach : (e : Event) (n : ℕ) (o : Option ℕ) → names e ≡ o → Each (ReachesTo (later e (n % 8))) (calls_named o e s n)

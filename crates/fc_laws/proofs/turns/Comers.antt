@@ -20,8 +20,8 @@ use Rattle.fc_core.specs.declared.event.Event.TheVariants.{Commit, Signal, Shard
 use Rattle.fc_core.specs.History.{Entry, History, Then, Seen, seen, and_then, around, calls_named, due_in, is_place_of, job, overdue_in, inputs, slot_at, stage, watch, at_shard, calls_by}
 use Rattle.fc_core.specs.Laws.{followed_by, slot_of}
 use Rattle.fc_laws.specs.ObserveLaws.{NoneRegisters, Registers, is_held}
-use Rattle.fc_core.specs.Rows.{names, row}
-use Rattle.fc_core.proofs.Calling.{CallsBy, NoCall, OfCommit, OfGiveUp, OfNote, OfSnapshot, row_calls}
+use Rattle.fc_core.specs.Transitions.{names, transition}
+use Rattle.fc_core.proofs.Calling.{CallsBy, NoCall, OfCommit, OfGiveUp, OfNote, OfSnapshot, transition_calls}
 use Rattle.fc_laws.proofs.turns.Observing.{asked}
 use Rattle.fc_core.proofs.Watches.{after_append}
 
@@ -76,22 +76,22 @@ module _ (to : Endpoint) (token : List ℕ) (time : ℕ) (t : Ticket) where
 
 module _ (r : Entry) (s : Seen) (n : ℕ) (to : Endpoint) (token : List ℕ) where
   -- the calls of the event that names this job
-  by_row : (k : ℕ) (cs : List ObserverCall) → names r.event ≡ Some k → slot_of s k ≡ n → CallsBy r.event (around s (slot_of s k)) (stage s k) cs → RegistersNone to token cs ⊎ Registers r s n to token
-  by_row k cs named slot (NoCall is) = inl (subst (RegistersNone to token) (sym is) tt)
-  by_row k cs named slot (OfSnapshot turn time present t is) = inl (subst (RegistersNone to token) (sym is) (mark_missing_registers (is_out_at turn time t) turn present time to token))
-  by_row k cs named slot (OfNote j now random id turn found event stands is) =
+  by_transition : (k : ℕ) (cs : List ObserverCall) → names r.event ≡ Some k → slot_of s k ≡ n → CallsBy r.event (around s (slot_of s k)) (stage s k) cs → RegistersNone to token cs ⊎ Registers r s n to token
+  by_transition k cs named slot (NoCall is) = inl (subst (RegistersNone to token) (sym is) tt)
+  by_transition k cs named slot (OfSnapshot turn time present t is) = inl (subst (RegistersNone to token) (sym is) (mark_missing_registers (is_out_at turn time t) turn present time to token))
+  by_transition k cs named slot (OfNote j now random id turn found event stands is) =
       let time = max (around s (slot_of s k)).time now in
       inl (subst (RegistersNone to token) (sym is) (note_registers turn id random time found (note_at turn id time found (around s (slot_of s k)).watch) to token))
-  by_row k cs named slot (OfGiveUp turn time is) = inl (subst (RegistersNone to token) (sym is) (refl, tt))
-  by_row k cs named slot (OfCommit j now count time t event stands is) =
+  by_transition k cs named slot (OfGiveUp turn time is) = inl (subst (RegistersNone to token) (sym is) (refl, tt))
+  by_transition k cs named slot (OfCommit j now count time t event stands is) =
       let same : k ≡ j = cc (sym named ∙ ap names event) in
       ⊎_elim
       (λ (none : RegistersNone to token (observe_calls time t)). inl (subst (RegistersNone to token) (sym is) none))
       (λ (own : (is_registration t ≡ true) × (is_client to token time t ≡ true)). inr (record { number = k; now = now; count = count; ticket = t; event = event ∙ ap (λ (i : ℕ). Commit i now) (sym same); at = stands; slot = slot; asks = asked t own.0; client = own.1 }))
       (registers_or_not to token time t)
 
-  by_slot : (k : ℕ) (b : Bool) → names r.event ≡ Some k → (slot_of s k == n) ≡ b → RegistersNone to token (if b then (row r.event (inputs s k)).calls else []) ⊎ Registers r s n to token
-  by_slot k true named is = by_row k (row r.event (inputs s k)).calls named (eqb-true (slot_of s k) n is) (row_calls r.event (job s k) (slot_at s (slot_of s k)) (around s (slot_of s k)) (stage s k))
+  by_slot : (k : ℕ) (b : Bool) → names r.event ≡ Some k → (slot_of s k == n) ≡ b → RegistersNone to token (if b then (transition r.event (inputs s k)).calls else []) ⊎ Registers r s n to token
+  by_slot k true named is = by_transition k (transition r.event (inputs s k)).calls named (eqb-true (slot_of s k) n is) (transition_calls r.event (job s k) (slot_at s (slot_of s k)) (around s (slot_of s k)) (stage s k))
   by_slot k false named is = inl tt
 
   by_name : (o : Option ℕ) → names r.event ≡ o → RegistersNone to token (calls_named o r.event s n) ⊎ Registers r s n to token

@@ -14,7 +14,7 @@ use Rattle.fc_core.specs.History.{Entry, Seen, and_then, did, due_in, is_due_at,
 use Rattle.fc_core.specs.Legal.{Emits, resent_at}
 use Rattle.fc_laws.specs.ShardLaws.{IsAsBefore, IsOfNoShard}
 use Rattle.fc_core.specs.Stages.{new_task}
-use Rattle.fc_core.specs.Rows.{handed}
+use Rattle.fc_core.specs.Transitions.{handed}
 
 pub none_overdue : (s : Seen) (i at : ℕ) → 8 ≤ i → overdue_in s i at ≡ None
 unfolding overdue_in

@@ -19,7 +19,7 @@ use Rattle.fc_core.specs.History.{Seen, and_then, did, inputs, stage, watch}
 use Rattle.fc_core.specs.Laws.{slot_of}
 use Rattle.fc_core.specs.Legal.{Emits}
 use Rattle.fc_laws.specs.ObserveLaws.{is_held}
-use Rattle.fc_core.specs.Rows.{row}
+use Rattle.fc_core.specs.Transitions.{transition}
 use Rattle.fc_laws.specs.TurnLaws.{IsNoContent, time_at}
 use Rattle.fc_laws.proofs.turns.Notices.{note_sends}
 use Rattle.fc_laws.proofs.turns.Turning.{at_stage}
@@ -39,8 +39,8 @@ module _ (s : Seen) (k now random id : ℕ) (turn : Turn) (found : Option Ticket
   -- the list after the notification
   ended : stage s k ≡ ToTell turn (turns.ToNote found id) → IsNoContent found → Emits s (Note k now random) (Some e) → watch (and_then (did (Note k now random) (Some e)) s) n ≡ observers n s.policy.confirm_after (End turn ∷ Advance at ∷ s.calls n)
   ended is not sent =
-      ap (λ (b : Bool). observers n s.policy.confirm_after ((if b then (row (Note k now random) (inputs s k)).calls else []) ++ s.calls n)) (eq-eqb n n refl)
-      ∙ (ap (λ (x : Stage). observers n s.policy.confirm_after ((row (Note k now random) (at_stage s k x)).calls ++ s.calls n)) is
+      ap (λ (b : Bool). observers n s.policy.confirm_after ((if b then (transition (Note k now random) (inputs s k)).calls else []) ++ s.calls n)) (eq-eqb n n refl)
+      ∙ (ap (λ (x : Stage). observers n s.policy.confirm_after ((transition (Note k now random) (at_stage s k x)).calls ++ s.calls n)) is
       ∙ (ap (λ (o : Option Emission). observers n s.policy.confirm_after (note_calls turn id random at found o ++ s.calls n)) (sym (note_sends s k now random id turn found (Some e) is sent))
       ∙ ap (λ (cs : List ObserverCall). observers n s.policy.confirm_after (cs ++ s.calls n)) (turn_ends turn id random at found e not)))
 

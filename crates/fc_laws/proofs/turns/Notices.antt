@@ -36,12 +36,12 @@ use Rattle.fc_core.specs.History.{Entry as HistoryEntry, History, Seen, Then, di
 use Rattle.fc_core.specs.Laws.{is_noop, is_noop_at, followed_by, slot_of}
 use Rattle.fc_core.specs.Legal.{Emits, resent, resent_at}
 use Rattle.fc_laws.specs.ObserveLaws.{is_held}
-use Rattle.fc_core.specs.Rows.{notification}
+use Rattle.fc_core.specs.Transitions.{notification}
 use Rattle.fc_laws.specs.TurnLaws.{HasLapsed, IsToHeld, Notifies, NotifiesOf, Resends, time_at, response_of}
 use Rattle.fc_laws.proofs.turns.Apart.{given_up_ever, noted_ever}
 use Rattle.fc_laws.proofs.turns.Clocks.{turn_time}
 use Rattle.fc_laws.proofs.turns.Observing.{own}
-use Rattle.fc_laws.proofs.jobs.Strays.{strays_emit_nothing}
+use Rattle.fc_laws.proofs.jobs.NoOps.{no_ops_emit_nothing}
 use Rattle.fc_laws.proofs.turns.Told.{found_noticed, none_missed}
 
 kind_is : (b : Bool) → note_kind b ≡ if b then Confirmable else NonConfirmable
@@ -140,7 +140,7 @@ gone_noop : (s : Seen) (k now random : ℕ) → stage s k ≡ Gone → is_noop s
 gone_noop s k now random gone = ap (is_noop_at (Note k now random) (slot_of s k)) gone
 
 gone_silent : (s : Seen) (k now random : ℕ) (o : Option Emission) → stage s k ≡ Gone → Emits s (Note k now random) o → o ≡ None
-gone_silent s k now random o gone sent = strays_emit_nothing (did (Note k now random) o) s (gone_noop s k now random gone) sent
+gone_silent s k now random o gone sent = no_ops_emit_nothing (did (Note k now random) o) s (gone_noop s k now random gone) sent
 
 pub given_up_silent : (h : History) (rs : List HistoryEntry) (k now next random : ℕ) (turn : Turn) (needs : TurnStage) (e o : Option Emission) → stage (seen h) k ≡ ToTell turn needs → Emits (seen (followed_by (Then h (did (GiveUp k now) e)) rs)) (Note k next random) o → o ≡ None
 given_up_silent h rs k now next random turn needs e o is sent = gone_silent (seen (followed_by (Then h (did (GiveUp k now) e)) rs)) k next random o (given_up_ever h rs k now turn needs e is) sent

@@ -23,7 +23,7 @@ use Rattle.fc_core.specs.History.{Seen, and_then, around, did, job, inputs, slot
 use Rattle.fc_core.specs.Laws.{slot_of}
 use Rattle.fc_laws.specs.ObserveLaws.{AsksToObserve, IsFirst, is_among}
 use Rattle.fc_core.specs.Stages.{run_content}
-use Rattle.fc_core.specs.Rows.{Around, Inputs, row}
+use Rattle.fc_core.specs.Transitions.{Around, Inputs, transition}
 use Rattle.fc_core.proofs.ByStep.{committed}
 use Rattle.fc_laws.proofs.front.Once.{equal_endpoints, same_bytes}
 use Rattle.fc_laws.proofs.jobs.Others.{is_here, named_stage}
@@ -69,15 +69,15 @@ at s k st = record { job = job s k; slot = slot_at s (slot_of s k); around = aro
 watched : (s : Seen) (k now n : ℕ) (t : Ticket) (o : Option Emission) (x : CommitOutcome) → stage s k ≡ ToCommit n t → outcome t (slot_at s (slot_of s k)) ≡ x → watch (and_then (did (Commit k now) o) s) (slot_of s k) ≡ observers (slot_of s k) s.policy.confirm_after ((committed x n t now (slot_at s (slot_of s k)).serial (around s (slot_of s k))).calls ++ s.calls (slot_of s k))
 watched s k now n t o x is comes =
     let m = slot_of s k in
-    ap (λ (b : Bool). observers m s.policy.confirm_after ((if b then (row (Commit k now) (inputs s k)).calls else []) ++ s.calls m)) (eq-eqb m m refl)
-    ∙ (ap (λ (st : Stage). observers m s.policy.confirm_after ((row (Commit k now) (at s k st)).calls ++ s.calls m)) is
+    ap (λ (b : Bool). observers m s.policy.confirm_after ((if b then (transition (Commit k now) (inputs s k)).calls else []) ++ s.calls m)) (eq-eqb m m refl)
+    ∙ (ap (λ (st : Stage). observers m s.policy.confirm_after ((transition (Commit k now) (at s k st)).calls ++ s.calls m)) is
     ∙ ap (λ (y : CommitOutcome). observers m s.policy.confirm_after ((committed y n t now (slot_at s m).serial (around s m)).calls ++ s.calls m)) comes)
 
 -- and the job's stage after it.
 leaves : (s : Seen) (k now n : ℕ) (t : Ticket) (o : Option Emission) (x : CommitOutcome) → stage s k ≡ ToCommit n t → outcome t (slot_at s (slot_of s k)) ≡ x → stage (and_then (did (Commit k now) o) s) k ≡ (committed x n t now (slot_at s (slot_of s k)).serial (around s (slot_of s k))).stage
 leaves s k now n t o x is comes =
     named_stage (did (Commit k now) o) s k (is_here s k (ToCommit n t) is (λ e. absurd (cc e))) refl
-    ∙ (ap (λ (st : Stage). (row (Commit k now) (at s k st)).stage) is
+    ∙ (ap (λ (st : Stage). (transition (Commit k now) (at s k st)).stage) is
     ∙ ap (λ (y : CommitOutcome). (committed y n t now (slot_at s (slot_of s k)).serial (around s (slot_of s k))).stage) comes)
 
 -- a GET has nothing to write.
@@ -153,4 +153,4 @@ others_call_nothing s k now n t o is asks one =
 
 -- another slot's
 pub other_slots_stay : (s : Seen) (k now m : ℕ) (o : Option Emission) → (m ≡ slot_of s k → ⊥) → watch (and_then (did (Commit k now) o) s) m ≡ watch s m
-other_slots_stay s k now m o ne = ap (λ (b : Bool). observers m s.policy.confirm_after ((if b then (row (Commit k now) (inputs s k)).calls else []) ++ s.calls m)) (ne_eqb (slot_of s k) m (λ q. ne (sym q)))
+other_slots_stay s k now m o ne = ap (λ (b : Bool). observers m s.policy.confirm_after ((if b then (transition (Commit k now) (inputs s k)).calls else []) ++ s.calls m)) (ne_eqb (slot_of s k) m (λ q. ne (sym q)))

@@ -24,9 +24,9 @@ use Rattle.fc_core.specs.declared.event.Event.TheVariants.{Commit, Due, Note, Sh
 use Rattle.fc_core.specs.History.{Entry, Seen, and_then, around, calls_by, calls_named, due_in, is_place_of, job, overdue_in, inputs, slot_at, stage, watch, at_shard}
 use Rattle.fc_core.specs.Laws.{slot_of}
 use Rattle.fc_laws.specs.ObserveLaws.{is_held}
-use Rattle.fc_core.specs.Rows.{names, row}
+use Rattle.fc_core.specs.Transitions.{names, transition}
 use Rattle.fc_laws.specs.TurnLaws.{ByAnswer, ByCancellation, ByReset, ByTimeout, IsNoContent, Removes, time_at}
-use Rattle.fc_core.proofs.Calling.{CallsBy, NoCall, OfCommit, OfGiveUp, OfNote, OfSnapshot, row_calls}
+use Rattle.fc_core.proofs.Calling.{CallsBy, NoCall, OfCommit, OfGiveUp, OfNote, OfSnapshot, transition_calls}
 use Rattle.fc_laws.proofs.turns.Notices.{found_holds}
 use Rattle.fc_laws.proofs.turns.Observing.{value_is}
 use Rattle.fc_core.proofs.OnShards.{named_calm}
@@ -101,17 +101,17 @@ module _ (r : Entry) (s : Seen) (n : ℕ) (to : Endpoint) (token : List ℕ) whe
   Stays cs = (is_held to token (after_calls cs w) ≡ true) ⊎ Removes r s n to token
 
   -- that names a job
-  by_row : (k : ℕ) (cs : List ObserverCall) → names r.event ≡ Some k → slot_of s k ≡ n → CallsBy r.event (around s (slot_of s k)) (stage s k) cs → is_held to token w ≡ true → Stays cs
-  by_row k cs named slot (NoCall is) some = inl (subst (λ (l : List ObserverCall). is_held to token (after_calls l w) ≡ true) (sym is) some)
-  by_row k cs named slot (OfSnapshot turn time present t is) some = inl (subst (λ (l : List ObserverCall). is_held to token (after_calls l w) ≡ true) (sym is) (mark_missing_stays to token (is_out_at turn time t) turn present time w some))
-  by_row k cs named slot (OfGiveUp turn time is) some = inl (subst (λ (l : List ObserverCall). is_held to token (after_calls l w) ≡ true) (sym is) (one_stays to token (GiveUpTurn turn time) w (λ x. x) some))
-  by_row k cs named slot (OfCommit j now count time t event stands is) some =
+  by_transition : (k : ℕ) (cs : List ObserverCall) → names r.event ≡ Some k → slot_of s k ≡ n → CallsBy r.event (around s (slot_of s k)) (stage s k) cs → is_held to token w ≡ true → Stays cs
+  by_transition k cs named slot (NoCall is) some = inl (subst (λ (l : List ObserverCall). is_held to token (after_calls l w) ≡ true) (sym is) some)
+  by_transition k cs named slot (OfSnapshot turn time present t is) some = inl (subst (λ (l : List ObserverCall). is_held to token (after_calls l w) ≡ true) (sym is) (mark_missing_stays to token (is_out_at turn time t) turn present time w some))
+  by_transition k cs named slot (OfGiveUp turn time is) some = inl (subst (λ (l : List ObserverCall). is_held to token (after_calls l w) ≡ true) (sym is) (one_stays to token (GiveUpTurn turn time) w (λ x. x) some))
+  by_transition k cs named slot (OfCommit j now count time t event stands is) some =
       let same : k ≡ j = cc (sym named ∙ ap names event) in
       subst Stays (sym is) (⊎_elim
       (λ (stays : is_held to token (after_calls (observe_calls time t) w) ≡ true). inl stays)
       (λ (goes : (is_cancellation t ≡ true) × ((same_endpoint t.origin.endpoint to && pointwise nat_eq t.token.items token) ≡ true)). inr (ByCancellation (record { number = k; now = now; count = count; ticket = t; event = event ∙ ap (λ (i : ℕ). Commit i now) (sym same); at = stands; slot = slot; asks = value_is 1 t.observe goes.0; client = goes.1 })))
       (observed_stays to token time t w (is_registration t) (is_cancellation t) refl some))
-  by_row k cs named slot (OfNote j now random id turn found event stands is) some =
+  by_transition k cs named slot (OfNote j now random id turn found event stands is) some =
       let same : k ≡ j = cc (sym named ∙ ap names event) in
       let time = time_at s k now in
       subst Stays (sym is) (⊎_elim
@@ -133,8 +133,8 @@ module _ (r : Entry) (s : Seen) (n : ℕ) (to : Endpoint) (token : List ℕ) whe
       })))
       (note_stays to token turn id random time found (note_at turn id time found (watch s (slot_of s k))) w some))
 
-  by_slot : (k : ℕ) (b : Bool) → names r.event ≡ Some k → (slot_of s k == n) ≡ b → is_held to token w ≡ true → Stays (if b then (row r.event (inputs s k)).calls else [])
-  by_slot k true named is some = by_row k (row r.event (inputs s k)).calls named (eqb-true (slot_of s k) n is) (row_calls r.event (job s k) (slot_at s (slot_of s k)) (around s (slot_of s k)) (stage s k)) some
+  by_slot : (k : ℕ) (b : Bool) → names r.event ≡ Some k → (slot_of s k == n) ≡ b → is_held to token w ≡ true → Stays (if b then (transition r.event (inputs s k)).calls else [])
+  by_slot k true named is some = by_transition k (transition r.event (inputs s k)).calls named (eqb-true (slot_of s k) n is) (transition_calls r.event (job s k) (slot_at s (slot_of s k)) (around s (slot_of s k)) (stage s k)) some
   by_slot k false named is some = inl some
 
   -- that has a shard of its own.

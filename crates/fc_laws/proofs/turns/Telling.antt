@@ -8,7 +8,7 @@ use Rattle.fc_core.specs.Stage.{ToTell, Gone}
 use Rattle.fc_core.specs.TurnStage.{TurnStage}
 use Rattle.fc_registry.specs.Calls.{is_out_at, turn_snapshot}
 use Rattle.fc_core.specs.Stages.{turn_took}
-use Rattle.fc_core.specs.Rows.{Inputs}
+use Rattle.fc_core.specs.Transitions.{Inputs}
 
 -- a property of each of these stages.
 pub told_or_gone : (P : Stage → Type 0) → ((turn : Turn) (needs : TurnStage) → P (ToTell turn needs)) → P Gone → (turn : Turn) (x : Taken) → P (turn_took turn x)

@@ -33,11 +33,11 @@ use Rattle.fc_core.specs.Receiving.{Received, Opened, brought, job_of, next_open
 use Rattle.fc_core.specs.Sound.{IsSoundlySeen}
 use Rattle.fc_core.specs.Stages.{first_stage, new_task, turn_took, with_id}
 use Rattle.fc_core.specs.Timers.{timer_job}
-use Rattle.fc_core.specs.Rows.{Common, Around, Inputs, names, row, task_moved}
-use Rattle.fc_core.proofs.ByStep.{Step, by_move, move_by, stage_by}
+use Rattle.fc_core.specs.Transitions.{Common, Around, Inputs, names, transition, task_moved}
+use Rattle.fc_core.proofs.ByStep.{Step, by_effect, effect_by, stage_by}
 use Rattle.fc_core.proofs.ByStep as steps
 use Rattle.fc_laws.proofs.turns.Apart.{IsToldOf, is_told_of}
-use Rattle.fc_core.proofs.Fitting.{after_rises, first_fits, row_fits}
+use Rattle.fc_core.proofs.Fitting.{after_rises, first_fits, transition_fits}
 use Rattle.fc_core.proofs.Keeping.{grows, slot_grows}
 use Rattle.fc_core.proofs.Lists.{Each, appended_all, written_all}
 use Rattle.fc_core.proofs.OnShards.{named_calm}
@@ -119,7 +119,7 @@ module _ (n confirm_after : ℕ) (calls : List ObserverCall) (common : Common) (
   abbrev ws : Around
   ws = record { common = common; time = time; watch = observers n confirm_after calls }
 
-  step_knows : (c : Step) (job : Job) (slot : Slot) (turn : Turn) → IsToldOf turn (stage_by c) → Knows n confirm_after calls slot.serial (stage_by c) → Knows n confirm_after ((move_by c job slot ws).calls ++ calls) slot.serial (move_by c job slot ws).stage
+  step_knows : (c : Step) (job : Job) (slot : Slot) (turn : Turn) → IsToldOf turn (stage_by c) → Knows n confirm_after calls slot.serial (stage_by c) → Knows n confirm_after ((effect_by c job slot ws).calls ++ calls) slot.serial (effect_by c job slot ws).stage
   step_knows (steps.TakesTurn memory readings mine) job slot turn own w = snapshot_knows n confirm_after calls slot.serial mine time job (is_out_at mine time (observers n confirm_after calls)) (readings_if memory readings) slot.present refl w.0 w.1
   step_knows (steps.Draws now mine found) job slot turn own w = (w.0, drawn_knows n confirm_after calls slot.serial mine found (common.free now) w.1)
   step_knows (steps.Notes now random mine found id) job slot turn own w = tt
@@ -127,9 +127,9 @@ module _ (n confirm_after : ℕ) (calls : List ObserverCall) (common : Common) (
   step_knows (steps.Loses needs) job slot turn own w = tt
   step_knows other job slot turn own w = absurd own
 
-  row_knows : (e : Event) (job : Job) (slot : Slot) (turn : Turn) (s : Stage) → IsToldOf turn s → Knows n confirm_after calls slot.serial s → Knows n confirm_after ((row e (at job slot ws s)).calls ++ calls) slot.serial (row e (at job slot ws s)).stage
-  row_knows e job slot turn s =
-      by_move (λ st m. IsToldOf turn st → Knows n confirm_after calls slot.serial st → Knows n confirm_after (m.calls ++ calls) slot.serial m.stage) job slot ws
+  transition_knows : (e : Event) (job : Job) (slot : Slot) (turn : Turn) (s : Stage) → IsToldOf turn s → Knows n confirm_after calls slot.serial s → Knows n confirm_after ((transition e (at job slot ws s)).calls ++ calls) slot.serial (transition e (at job slot ws s)).stage
+  transition_knows e job slot turn s =
+      by_effect (λ st m. IsToldOf turn st → Knows n confirm_after calls slot.serial st → Knows n confirm_after (m.calls ++ calls) slot.serial m.stage) job slot ws
       (λ c asked. step_knows c job slot turn) (λ st own w. w) e s
 
 -- ---- each event
@@ -170,19 +170,19 @@ module _ (r : Entry) (s : Seen) where
       (lasts n s.policy.confirm_after (calls_by (at_shard e) s n) (s.calls n) (slot_at s n).serial (slot_at after n).serial t.stage (serial_rises n) w)
 
   -- the calls of the event that names a job
-  own_calls : (k : ℕ) → names e ≡ Some k → after.calls (slot_of s k) ≡ (row e (inputs s k)).calls ++ s.calls (slot_of s k)
+  own_calls : (k : ℕ) → names e ≡ Some k → after.calls (slot_of s k) ≡ (transition e (inputs s k)).calls ++ s.calls (slot_of s k)
   own_calls k named =
       let n = slot_of s k in
       (λ i. calls_named (named i) e s n ++ (calls_by (named_calm e k named i) s n ++ s.calls n))
-      ∙ ap (λ (b : Bool). (if b then (row e (inputs s k)).calls else []) ++ s.calls n) (eq-eqb n n refl)
+      ∙ ap (λ (b : Bool). (if b then (transition e (inputs s k)).calls else []) ++ s.calls n) (eq-eqb n n refl)
 
-  moved_by : (k : ℕ) → names e ≡ Some k → ((number : ℕ) → (job s k).turn ≡ Some number → IsToldOf (turn_of (job s k) number) (stage s k)) → (o : Option ℕ) → (job s k).turn ≡ o → FitsStage (job s k) (slot_at s (slot_of s k)) (row e (inputs s k)).stage → KnowsAt s (job s k) (stage s k) → KnowsAt after (job s k) (row e (inputs s k)).stage
-  moved_by k named own None asks fits w = not_told (slot_of s k) s.policy.confirm_after (slot_at after (slot_of s k)).serial (after.calls (slot_of s k)) (job s k) (slot_at s (slot_of s k)) (row e (inputs s k)).stage asks fits
+  moved_by : (k : ℕ) → names e ≡ Some k → ((number : ℕ) → (job s k).turn ≡ Some number → IsToldOf (turn_of (job s k) number) (stage s k)) → (o : Option ℕ) → (job s k).turn ≡ o → FitsStage (job s k) (slot_at s (slot_of s k)) (transition e (inputs s k)).stage → KnowsAt s (job s k) (stage s k) → KnowsAt after (job s k) (transition e (inputs s k)).stage
+  moved_by k named own None asks fits w = not_told (slot_of s k) s.policy.confirm_after (slot_at after (slot_of s k)).serial (after.calls (slot_of s k)) (job s k) (slot_at s (slot_of s k)) (transition e (inputs s k)).stage asks fits
   moved_by k named own (Some number) of_turn fits w =
       let n = slot_of s k in
-      subst (λ (cs : List ObserverCall). Knows n s.policy.confirm_after cs (slot_at after n).serial (row e (inputs s k)).stage) (sym (own_calls k named))
-      (lasts n s.policy.confirm_after [] ((row e (inputs s k)).calls ++ s.calls n) (slot_at s n).serial (slot_at after n).serial (row e (inputs s k)).stage (serial_rises n)
-      (row_knows n s.policy.confirm_after (s.calls n) (common s) (s.shard_time (n % 8)) e (job s k) (slot_at s n) (turn_of (job s k) number) (stage s k) (own number of_turn) w))
+      subst (λ (cs : List ObserverCall). Knows n s.policy.confirm_after cs (slot_at after n).serial (transition e (inputs s k)).stage) (sym (own_calls k named))
+      (lasts n s.policy.confirm_after [] ((transition e (inputs s k)).calls ++ s.calls n) (slot_at s n).serial (slot_at after n).serial (transition e (inputs s k)).stage (serial_rises n)
+      (transition_knows n s.policy.confirm_after (s.calls n) (common s) (s.shard_time (n % 8)) e (job s k) (slot_at s n) (turn_of (job s k) number) (stage s k) (own number of_turn) w))
 
   -- ---- the new lease
 
@@ -244,8 +244,8 @@ module _ (r : Entry) (s : Seen) where
     moved_known : (p : Option ℕ) → names e ≡ p → (k : ℕ) → KnowsTask after (task_at (tasks_moved p e s) k)
     moved_known None named k = still_known (task_at s.tasks k) (before k)
     moved_known (Some j) named k =
-        written_all (KnowsTask after) s.tasks j (task_moved (task_at s.tasks j) (row e (inputs s j))) no_task (λ i. still_known (task_at s.tasks i) (before i))
-        (moved_by j named (own j) (job s j).turn refl (row_fits e (job s j) (slot_at s (slot_of s j)) (around s (slot_of s j)) (stage s j) (a.stages j)) (before j)) k
+        written_all (KnowsTask after) s.tasks j (task_moved (task_at s.tasks j) (transition e (inputs s j))) no_task (λ i. still_known (task_at s.tasks i) (before i))
+        (moved_by j named (own j) (job s j).turn refl (transition_fits e (job s j) (slot_at s (slot_of s j)) (around s (slot_of s j)) (stage s j) (a.stages j)) (before j)) k
 
     all_known : (k : ℕ) → KnowsTask after (task_at after.tasks k)
     all_known k = appended_all (KnowsTask after) (tasks_moved (names e) e s) (tasks_brought e s) no_task (moved_known (names e) refl) (brought_known e refl) k

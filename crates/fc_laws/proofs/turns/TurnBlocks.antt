@@ -31,11 +31,11 @@ use Rattle.fc_core.specs.Laws.{slot_of}
 use Rattle.fc_laws.specs.ObserveLaws.{IsFirst}
 use Rattle.fc_core.specs.Receiving.{Received, Opened, brought, next_opening}
 use Rattle.fc_core.specs.Stages.{first_or_turn, new_task, turn_took, with_id}
-use Rattle.fc_core.specs.Rows.{Around, Inputs, names, row, task_moved}
+use Rattle.fc_core.specs.Transitions.{Around, Inputs, names, transition, task_moved}
 use Rattle.fc_laws.specs.TurnLaws.{response_of}
-use Rattle.fc_core.proofs.ByStep.{Step, by_move, move_by, stage_by}
+use Rattle.fc_core.proofs.ByStep.{Step, by_effect, effect_by, stage_by}
 use Rattle.fc_core.proofs.ByStep as steps
-use Rattle.fc_laws.proofs.turns.Apart.{IsToldOf, every, first_apart, row_apart}
+use Rattle.fc_laws.proofs.turns.Apart.{IsToldOf, every, first_apart, transition_apart}
 use Rattle.fc_core.proofs.Lists.{Each, appended_all, written_all}
 use Rattle.fc_laws.proofs.slots.Writing.{sound}
 
@@ -77,7 +77,7 @@ all_brought other s = tt
 
 all_moved : (e : Event) (s : Seen) (o : Option ℕ) → ((k : ℕ) → AsksFirst (job s k)) → (k : ℕ) → AsksFirst (task_at (tasks_moved o e s) k).job
 all_moved e s None before k = before k
-all_moved e s (Some j) before k = written_all (λ t. AsksFirst t.job) s.tasks j (task_moved (task_at s.tasks j) (row e (inputs s j))) no_task before (before j) k
+all_moved e s (Some j) before k = written_all (λ t. AsksFirst t.job) s.tasks j (task_moved (task_at s.tasks j) (transition e (inputs s j))) no_task before (before j) k
 
 asks_first : (h : History) (k : ℕ) → AsksFirst (job (seen h) k)
 unfolding seen
@@ -105,7 +105,7 @@ drawn_block : (own : Turn) (j : Job) (found : Option Ticket) (free : Option ℕ)
 drawn_block own j found (Some id) w = w
 drawn_block own j found None w = w
 
-step_block : (c : Step) (j : Job) (slot : Slot) (ws : Around) (turn : Turn) → IsToldOf turn (stage_by c) → HasBlock j (stage_by c) → HasBlock j (move_by c j slot ws).stage
+step_block : (c : Step) (j : Job) (slot : Slot) (ws : Around) (turn : Turn) → IsToldOf turn (stage_by c) → HasBlock j (stage_by c) → HasBlock j (effect_by c j slot ws).stage
 step_block (steps.TakesTurn memory readings mine) j slot ws turn own w = taken_block mine (is_out_at mine ws.time ws.watch) (readings_if memory readings) j slot.serial slot.present
 step_block (steps.Draws now mine found) j slot ws turn own w = drawn_block mine j found (ws.common.free now) w
 step_block (steps.Notes now random mine found id) j slot ws turn own w = tt
@@ -113,9 +113,9 @@ step_block (steps.GivesUp now mine needs) j slot ws turn own w = tt
 step_block (steps.Loses needs) j slot ws turn own w = tt
 step_block other j slot ws turn own w = absurd own
 
-row_block : (e : Event) (j : Job) (slot : Slot) (ws : Around) (turn : Turn) (s : Stage) → IsToldOf turn s → HasBlock j s → HasBlock j (row e (at j slot ws s)).stage
-row_block e j slot ws turn s =
-    by_move (λ st m. IsToldOf turn st → HasBlock j st → HasBlock j m.stage) j slot ws
+transition_block : (e : Event) (j : Job) (slot : Slot) (ws : Around) (turn : Turn) (s : Stage) → IsToldOf turn s → HasBlock j s → HasBlock j (transition e (at j slot ws s)).stage
+transition_block e j slot ws turn s =
+    by_effect (λ st m. IsToldOf turn st → HasBlock j st → HasBlock j m.stage) j slot ws
     (λ c asked. step_block c j slot ws turn) (λ st own w. w) e s
 
 abbrev TellsBlock : Job → Stage → Type 0
@@ -128,7 +128,7 @@ begins_block j (Some own) n e = tt
 tells_block : (h : History) (k : ℕ) → TellsBlock (job (seen h) k) (stage (seen h) k)
 tells_block h k =
     every TellsBlock (λ j n e. (tt, tt)) (λ j n e. (first_apart j j.turn n e, begins_block j j.turn n e))
-    (λ e j slot ws st w n of_turn. let before = w n of_turn in (row_apart e j slot ws (turn_of j n) st before.0, row_block e j slot ws (turn_of j n) st before.0 before.1)) h k
+    (λ e j slot ws st w n of_turn. let before = w n of_turn in (transition_apart e j slot ws (turn_of j n) st before.0, transition_block e j slot ws (turn_of j n) st before.0 before.1)) h k
 
 pub ticket_asks_first : (h : History) (k id : ℕ) (turn : Turn) (t : Ticket) → stage (seen h) k ≡ ToTell turn (turns.ToNote (Some t) id) → IsFirst t.block
 ticket_asks_first h k id turn t is =

@@ -28,7 +28,7 @@ use Rattle.fc_core.specs.History.{Seen, and_then, around, did, due_in, is_due_at
 use Rattle.fc_core.specs.Laws.{slot_of}
 use Rattle.fc_laws.specs.ObserveLaws.{BringsTurn}
 use Rattle.fc_core.specs.Stages.{new_task, with_id}
-use Rattle.fc_core.specs.Rows.{Inputs, row}
+use Rattle.fc_core.specs.Transitions.{Inputs, transition}
 use Rattle.fc_laws.proofs.jobs.Others.{is_here, named_stage}
 use Rattle.fc_core.proofs.Places.{none_passes, place_first, place_passes}
 use Rattle.fc_core.proofs.Watches.{called}
@@ -162,19 +162,19 @@ module _ (s : Seen) (k now : ℕ) (turn : Turn) (needs : TurnStage) (o : Option 
   pub given_up_here : watch (and_then (did (GiveUp k now) o) s) (slot_of s k) ≡ turn_given_up turn (list_at_time (max (s.shard_time (slot_of s k % 8)) now) (watch s (slot_of s k)))
   given_up_here =
       let n = slot_of s k in
-      ap (λ (b : Bool). observers n s.policy.confirm_after ((if b then (row (GiveUp k now) (inputs s k)).calls else []) ++ s.calls n)) (eq-eqb n n refl)
-      ∙ ap (λ (st : Stage). observers n s.policy.confirm_after ((row (GiveUp k now) (at_stage s k st)).calls ++ s.calls n)) is
+      ap (λ (b : Bool). observers n s.policy.confirm_after ((if b then (transition (GiveUp k now) (inputs s k)).calls else []) ++ s.calls n)) (eq-eqb n n refl)
+      ∙ ap (λ (st : Stage). observers n s.policy.confirm_after ((transition (GiveUp k now) (at_stage s k st)).calls ++ s.calls n)) is
 
   pub given_up_gone : stage (and_then (did (GiveUp k now) o) s) k ≡ Gone
   given_up_gone = named_stage (did (GiveUp k now) o) s k (is_here s k (ToTell turn needs) is (λ e. absurd (cc e))) refl
-      ∙ ap (λ (st : Stage). (row (GiveUp k now) (at_stage s k st)).stage) is
+      ∙ ap (λ (st : Stage). (transition (GiveUp k now) (at_stage s k st)).stage) is
 
 -- ---- a lease that draws a message ID
 
 module _ (s : Seen) (k now : ℕ) (turn : Turn) (found : Option Ticket) (o : Option Emission) (is : stage s k ≡ ToTell turn (turns.ToDraw found)) where
   drew_stage : stage (and_then (did (Fresh k now) o) s) k ≡ ToTell turn (with_id found (free_id s.ids (max s.time now)))
   drew_stage = named_stage (did (Fresh k now) o) s k (is_here s k (ToTell turn (turns.ToDraw found)) is (λ e. absurd (cc e))) refl
-      ∙ ap (λ (st : Stage). (row (Fresh k now) (at_stage s k st)).stage) is
+      ∙ ap (λ (st : Stage). (transition (Fresh k now) (at_stage s k st)).stage) is
 
   pub drawn_stage : (id : ℕ) → free_id s.ids (max s.time now) ≡ Some id → stage (and_then (did (Fresh k now) o) s) k ≡ ToTell turn (turns.ToNote found id)
   drawn_stage id free = drew_stage ∙ ap (λ (f : Option ℕ). ToTell turn (with_id found f)) free
@@ -183,7 +183,7 @@ module _ (s : Seen) (k now : ℕ) (turn : Turn) (found : Option Ticket) (o : Opt
   undrawn_stage free = drew_stage ∙ ap (λ (f : Option ℕ). ToTell turn (with_id found f)) free
 
 pub given_up_elsewhere : (s : Seen) (k now m : ℕ) (o : Option Emission) → (m ≡ slot_of s k → ⊥) → watch (and_then (did (GiveUp k now) o) s) m ≡ watch s m
-given_up_elsewhere s k now m o ne = ap (λ (b : Bool). observers m s.policy.confirm_after ((if b then (row (GiveUp k now) (inputs s k)).calls else []) ++ s.calls m)) (ne_eqb (slot_of s k) m (λ q. ne (sym q)))
+given_up_elsewhere s k now m o ne = ap (λ (b : Bool). observers m s.policy.confirm_after ((if b then (transition (GiveUp k now) (inputs s k)).calls else []) ++ s.calls m)) (ne_eqb (slot_of s k) m (λ q. ne (sym q)))
 
 none_called : (b : Bool) (n confirm_after : ℕ) (cs : List ObserverCall) → observers n confirm_after ((if b then [] else []) ++ cs) ≡ observers n confirm_after cs
 none_called true n confirm_after cs = refl

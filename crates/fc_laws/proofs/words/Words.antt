@@ -22,9 +22,9 @@ use Rattle.fc_core.specs.Heads.{head_word, is_match, published, serial_in, word_
 use Rattle.fc_core.specs.History.{around, Entry, History, Begins, Then, Seen, seen, and_then, did, job, inputs, slot_at, stage, words_seen}
 use Rattle.fc_core.specs.Laws.{slot_of}
 use Rattle.fc_core.specs.Stages.{image_of, matched_by, matched}
-use Rattle.fc_core.specs.Rows.{Around, Inputs, names, row, call_if, install_call, install_if, move_of}
-use Rattle.fc_core.specs.Steps.{Matches, word_told}
-use Rattle.fc_core.proofs.ByStep.{Step, by_step, event_by, move_by, stage_by, Rests}
+use Rattle.fc_core.specs.Transitions.{Around, Inputs, names, transition, call_if, install_call, install_if, effect_of}
+use Rattle.fc_core.specs.Steps.{Matches, word_of_call}
+use Rattle.fc_core.proofs.ByStep.{Step, by_step, event_by, effect_by, stage_by, Rests}
 use Rattle.fc_core.proofs.ByStep as steps
 use Rattle.fc_laws.proofs.jobs.Others.{is_here, named_stage}
 
@@ -33,12 +33,12 @@ at job slot ws stage = record { job = job; slot = slot; around = ws; stage = sta
 
 -- ---- the head word that a transition raises
 
-installed_raises : (v : InitialVars) (j : Judgement) (slot : Slot) → word_told (install_call v j slot) ≡ None
+installed_raises : (v : InitialVars) (j : Judgement) (slot : Slot) → word_of_call (install_call v j slot) ≡ None
 installed_raises v (Accepts p) slot = refl
 installed_raises v (Breaks rule k) slot = refl
 installed_raises v Untypable slot = refl
 
-verified_raises : (memory : Bool) (x : Inputs) → word_told (install_if memory (initial_vars_of x.job.ask) (judged (image_of x.job.ask)) x.slot) ≡ None
+verified_raises : (memory : Bool) (x : Inputs) → word_of_call (install_if memory (initial_vars_of x.job.ask) (judged (image_of x.job.ask)) x.slot) ≡ None
 verified_raises true x = installed_raises (initial_vars_of x.job.ask) (judged (image_of x.job.ask)) x.slot
 verified_raises false x = refl
 
@@ -46,7 +46,7 @@ abbrev raise_by : Event → Stage → Option ℕ
 raise_by (Raise k) (ToRaise word content) = Some word
 raise_by e other = None
 
-step_raises : (k : ℕ) (c : Step) (job : Job) (slot : Slot) (ws : Around) → (move_by c job slot ws).raises ≡ raise_by (event_by k c) (stage_by c)
+step_raises : (k : ℕ) (c : Step) (job : Job) (slot : Slot) (ws : Around) → (effect_by c job slot ws).raises ≡ raise_by (event_by k c) (stage_by c)
 step_raises k (steps.Installs memory) job slot ws = verified_raises memory (at job slot ws ToInstall)
 step_raises k other job slot ws = refl
 
@@ -55,8 +55,8 @@ rest_raises (Raise k) job (ToRaise word content) rest = absurd (cc (rest.noop k 
 rest_raises (Raise k) job other rest = refl
 rest_raises other job s rest = refl
 
-row_raises : (e : Event) (job : Job) (slot : Slot) (ws : Around) (st : Stage) → (row e (at job slot ws st)).raises ≡ raise_by e st
-row_raises e job slot ws st =
+transition_raises : (e : Event) (job : Job) (slot : Slot) (ws : Around) (st : Stage) → (transition e (at job slot ws st)).raises ≡ raise_by e st
+transition_raises e job slot ws st =
     by_step (λ d s m. m.raises ≡ raise_by d s) job slot ws
     (λ k c asked. step_raises k c job slot ws) (λ d s rest. rest_raises d job s rest) e st
 
@@ -68,7 +68,7 @@ published_length (Some w) n ws = length-set ws n (max (word_at ws n) w)
 
 words_length : (o : Option ℕ) (e : Event) (s : Seen) → length (words_seen o e s) ≡ length s.words
 words_length None e s = refl
-words_length (Some k) e s = published_length (row e (inputs s k)).raises (slot_of s k) s.words
+words_length (Some k) e s = published_length (transition e (inputs s k)).raises (slot_of s k) s.words
 
 sixty_four : (h : History) → length (seen h).words ≡ 64
 unfolding seen
@@ -109,8 +109,8 @@ to_raise false k other = refl
 module _ (e : Event) (s : Seen) (k n : ℕ) (lt : n < length s.words) where
   by_raise : word_at (words_seen (Some k) e s) n ≡ max (word_at s.words n) (greatest (words_in (slot_of s k == n) (raise_by e (stage s k))))
   by_raise =
-      word_published (row e (inputs s k)).raises (slot_of s k) n s.words lt
-      ∙ ap (λ (o : Option ℕ). max (word_at s.words n) (greatest (words_in (slot_of s k == n) o))) (row_raises e (job s k) (slot_at s (slot_of s k)) (around s (slot_of s k)) (stage s k))
+      word_published (transition e (inputs s k)).raises (slot_of s k) n s.words lt
+      ∙ ap (λ (o : Option ℕ). max (word_at s.words n) (greatest (words_in (slot_of s k == n) o))) (transition_raises e (job s k) (slot_at s (slot_of s k)) (around s (slot_of s k)) (stage s k))
 
   by_none : raise_by e (stage s k) ≡ None → word_at (words_seen (Some k) e s) n ≡ max (word_at s.words n) 0
   by_none is = by_raise ∙ (ap (λ (o : Option ℕ). max (word_at s.words n) (greatest (words_in (slot_of s k == n) o))) is ∙ (sym (none_in (slot_of s k == n) (word_at s.words n)) ∙ above_zero (word_at s.words n)))
@@ -174,8 +174,8 @@ match_is_valid s k serial o is word has =
     let own = slot_of s k in
     let etags = (job s k).etags.items in
     named_stage (did (Peek k own) o) s k (is_here s k ToMatch is (λ e. absurd (cc e))) refl
-    ∙ (ap (λ (st : Stage). (row (Peek k own) (at (job s k) (slot_at s own) (around s own) st)).stage) is
-    ∙ (ap (λ (b : Bool). (move_of (Peek k own) (at (job s k) (slot_at s own) (around s own) ToMatch) (call_if b (Matches etags (word_at s.words own)))).stage) (eq-eqb own own refl)
+    ∙ (ap (λ (st : Stage). (transition (Peek k own) (at (job s k) (slot_at s own) (around s own) st)).stage) is
+    ∙ (ap (λ (b : Bool). (effect_of (Peek k own) (at (job s k) (slot_at s own) (around s own) ToMatch) (call_if b (Matches etags (word_at s.words own)))).stage) (eq-eqb own own refl)
     ∙ (ap (λ (w : ℕ). matched w etags) word
     ∙ (ap (λ (b : Bool). matched_by b (head_word serial true)) (matches etags serial has)
     ∙ ap (λ (i : ℕ). ToAnswer (Valid i)) (serial_of serial)))))

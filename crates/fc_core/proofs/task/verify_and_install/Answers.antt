@@ -10,7 +10,7 @@ use Rattle.fc_core.specs.Ends.{refused}
 use Rattle.fc_verify.specs.Judged.{judged}
 use Rattle.fc_verify.specs.Refusals.{IsFaultOf, IsRefusal}
 use Rattle.fc_registry.specs.Slots.{slot_in}
-use Rattle.fc_core.specs.Rows.{Inputs, install_call, install_move, move_of, shard_moved}
+use Rattle.fc_core.specs.Transitions.{Inputs, install_call, install_effect, effect_of, shard_moved}
 use Rattle.fc_core.specs.Steps.{Call, Rejects, next_stage}
 use Rattle.fc_core.proofs.Rejections.{rejected_call, same_slot}
 use Rattle.fc_core.proofs.task.verify_and_install.Goals as goal
@@ -27,9 +27,9 @@ returns-in-Err-Broken-clause-stage c = c.rejected.ensures ∙ (ap (λ (f : Fault
 pub returns-in-Err-Broken-clause-shard : goal.returns-in-Err-Broken-clause-shard
 returns-in-Err-Broken-clause-shard c = λ s.
     sym (same_slot c.args.shard.now c.args.slot)
-    ∙ ap (λ (call : Call). shard_moved (move_of (Install 0 true) (record s { slot = slot_in c.args.shard.now c.args.slot }) (Some call)) c.args.slot c.args.shard.now) (rejects c)
+    ∙ ap (λ (call : Call). shard_moved (effect_of (Install 0 true) (record s { slot = slot_in c.args.shard.now c.args.slot }) (Some call)) c.args.slot c.args.shard.now) (rejects c)
 
 pub returns-in-Ok-clause-shard : goal.returns-in-Ok-clause-shard
 returns-in-Ok-clause-shard c =
-    subst (λ (j : Judgement). OnOk c.install_program.result ((s : Inputs) → c.install_program.new.shard ≡ shard_moved (install_move c.args.initial j (record s { slot = slot_in c.args.shard.now c.args.slot })) c.args.slot c.args.shard.now))
+    subst (λ (j : Judgement). OnOk c.install_program.result ((s : Inputs) → c.install_program.new.shard ≡ shard_moved (install_effect c.args.initial j (record s { slot = slot_in c.args.shard.now c.args.slot })) c.args.slot c.args.shard.now))
     (sym c.in-Ok.ensures.judged) c.install_program.ensures.shard

@@ -42,7 +42,7 @@ draw_failed (Some id) other is = absurd (cc)
 pub returns-clause-starved : goal.returns-clause-starved
 returns-clause-starved c = λ is.
     let after = c.fresh.new.task in
-    let needs = sym c.needs_id-starved.ensures ∙ c.told.ensures.starved c.note-sent.new.emission is in
+    let needs = sym c.needs_id-starved.ensures ∙ c.notify_outcome.ensures.starved c.note-sent.new.emission is in
     let drawn = draw_failed _ c.take.new.task.stage (subst (λ (t : Task). needs_id t.stage ≡ true) c.fresh.ensures.task_is needs) in
     subst (λ (f : FrontState). free_id f.ids (max f.now c.args.now) ≡ None) (c.take.ensures 0).front drawn
 
@@ -52,7 +52,7 @@ returns-clause-turns c = λ h rest v.
     let drew = drew_on rest took c.args.now c.fresh.ensures in
     let noted = noted_on rest drew c.args.now c.args.random (emission_if c.note-sent.result c.note-sent.new.emission) (c.note-sent.ensures (length rest)) in
     let up = given_up_on rest noted c.args.now (c.give_up.ensures (length rest)) in
-    subst (λ (out : Option Emission). Turned c.args.readings.now h (length rest) c.args.now c.args.random c.give_up.new.self out) (sym (c.told.ensures.sent c.note-sent.new.emission)) (record { memory = c.take.result; tasks = rest ++ c.give_up.new.task ∷ []; serves = up })
+    subst (λ (out : Option Emission). Turned c.args.readings.now h (length rest) c.args.now c.args.random c.give_up.new.self out) (sym (c.notify_outcome.ensures.sent c.note-sent.new.emission)) (record { memory = c.take.result; tasks = rest ++ c.give_up.new.task ∷ []; serves = up })
 
 -- the slot isn't empty: otherwise the lease would have notified, or would still need a message ID.
 pub returns-clause-unsent : goal.returns-clause-unsent
@@ -61,7 +61,7 @@ returns-clause-unsent c = λ is.
     let v = c.requires.begun.serves in
     let took = c.take.ensures 0 in
     let drew = c.fresh.ensures in
-    let no = c.told.ensures.unsent c.note-sent.new.emission is in
+    let no = c.notify_outcome.ensures.unsent c.note-sent.new.emission is in
     let work = at_work rest v in
     is_there (slot_in_shards c.args.server.now.shards c.args.task.now.job.origin.slot).present (λ none.
     let o = c.requires.out in

@@ -6,7 +6,7 @@ use Rattle.fc_core.specs.declared.event.Event.TheVariants.{Install}
 use Rattle.fc_core.specs.declared.stage.Step.{Step}
 use Rattle.fc_core.specs.declared.stage.Task.{Task}
 use Rattle.fc_core.specs.Room.{stage_of}
-use Rattle.fc_core.specs.Rows.{around_of, install_move, row, shard_after, shard_moved}
+use Rattle.fc_core.specs.Transitions.{around_of, install_effect, transition, shard_after, shard_moved}
 use Rattle.fc_core.specs.Stage.{Stage, ToInstall}
 use Rattle.fc_core.specs.Stages.{image_of}
 use Rattle.fc_core.proofs.stage.Task.install.Goals as goal
@@ -22,5 +22,5 @@ returns-in-Ok-clause-shard c = λ k common.
     let initial_is : c.initial_vars-initial.result ≡ initial_vars_of task.job.ask = c.initial_vars-initial.ensures in
     let stage_is : ToInstall ≡ task.stage = ap (λ (step : Step). stage_of step room.found room.seen room.answer) (sym c.in-ToInstall.is) ∙ c.stage.view_is in
     c.in-Ok.ensures.shard (record { job = task.job; slot = slot_in shard n; around = ws; stage = ToInstall })
-    ∙ ((λ i. shard_moved (install_move (initial_is i) (judged (image_is i)) (record { job = task.job; slot = slot_in shard n; around = ws; stage = ToInstall })) n shard)
-    ∙ ap (λ (st : Stage). shard_after (row (Install k true) (record { job = task.job; slot = slot_in shard n; around = ws; stage = st })) task shard) stage_is)
+    ∙ ((λ i. shard_moved (install_effect (initial_is i) (judged (image_is i)) (record { job = task.job; slot = slot_in shard n; around = ws; stage = ToInstall })) n shard)
+    ∙ ap (λ (st : Stage). shard_after (transition (Install k true) (record { job = task.job; slot = slot_in shard n; around = ws; stage = st })) task shard) stage_is)

@@ -2,7 +2,7 @@ use Rattle.std.proofs.Common.{Bool, ap, sym, ◌∙◌}
 use Rattle.fc_registry.specs.Views.{taken_with}
 use Rattle.fc_core.specs.Stage.{Stage}
 use Rattle.fc_core.specs.declared.event.Event.TheVariants.{Take}
-use Rattle.fc_core.specs.Rows.{row, inputs_of, task_moved}
+use Rattle.fc_core.specs.Transitions.{transition, inputs_of, task_moved}
 use Rattle.fc_core.proofs.TurnSnapshots.{turn_calls_at, turn_takes}
 use Rattle.fc_core.proofs.stage.Task.take_turn.Goals as goal
 
@@ -16,7 +16,7 @@ returns-clause-task c = λ k common.
     ap (λ (s : Stage). record { job = c.args.self.now.job; stage = s })
     (c.turn_took.ensures c.stage.inside.answer found c.stage.inside.seen c.take_into-taken.ensures.size).0
     ∙ (turn_takes c.args.shard.now c.args.self.now c.args.turn c.requires.turn c.requires.fits c.args.readings.now taken c.take_into-taken.ensures.taken k common
-    ∙ ap (λ (m : Bool). task_moved c.args.self.now (row (Take k m c.args.readings.now) (inputs_of c.args.shard.now common c.args.self.now)))
+    ∙ ap (λ (m : Bool). task_moved c.args.self.now (transition (Take k m c.args.readings.now) (inputs_of c.args.shard.now common c.args.self.now)))
     (sym (c.had_memory-memory.ensures found)))
 
 pub returns-clause-shard : goal.returns-clause-shard

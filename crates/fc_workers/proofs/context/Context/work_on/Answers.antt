@@ -100,7 +100,7 @@ calls-preserved-in-ToDescribe-1 g c =
     let at : c.calls.scratch.stage ≡ ToDescribe =
     stands_at c.calls.scratch.stage room.step steps.ToDescribe room.found room.seen room.answer c.stage.view_is c.in-ToDescribe.is in
     let step = describe_step s c.args.number c.args.job.now c.receipt-receipt.result c.calls.share c.receipt-receipt.new.log c.receipt-receipt.ensures.logged
-    c.receipt-receipt.ensures.receipt c.told.ensures in (
+    c.receipt-receipt.ensures.receipt c.set_receipt.ensures in (
       c.calls.invariant.0,
       step.follows.ready,
       λ before w. walks_on s c.args.number c.args.job.now at (c.calls.invariant.2 before w) step,

@@ -12,13 +12,13 @@ use Rattle.fc_core.specs.Stage.{ToAnswer, Gone, ToTell}
 use Rattle.fc_core.specs.TurnStage as turns
 use Rattle.fc_core.specs.Contents.{Content}
 use Rattle.fc_core.specs.Stages.{content_at, needs_id}
-use Rattle.fc_core.specs.Rows.{Around, Move, Inputs, handed, task_moved, moves, names, notification, row, words_after}
+use Rattle.fc_core.specs.Transitions.{Around, Effect, Inputs, handed, task_moved, goes_to, names, notification, transition, words_after}
 use Rattle.fc_core.specs.History.{Entry, Seen, and_then, calls_named, changes_after, did, job, no_task, inputs, shard_time_after, stage, task_at, tasks_brought, tasks_moved, words_seen, at_front, time_by, exchanges_by, additions_by, ids_by, at_shard, hands_by, calls_by}
 use Rattle.coap_block.specs.Transfers.{Addition}
 use Rattle.fc_core.specs.Laws.{is_noop, is_noop_at}
 use Rattle.fc_core.specs.Legal.{Emits, AnswerEmits}
 use Rattle.fc_core.specs.Exchanges.{FrontState}
-use Rattle.fc_core.proofs.ByStep.{Step, by_step, event_by, move_by, stage_by, IsAsked}
+use Rattle.fc_core.proofs.ByStep.{Step, by_step, event_by, effect_by, stage_by, IsAsked}
 use Rattle.fc_core.proofs.ByStep as steps
 
 abbrev at : Job → Slot → Around → Stage → Inputs
@@ -32,15 +32,15 @@ asked_isnt : (b : Bool) → b ≡ true → not b ≡ true → ⊥
 asked_isnt true is e = false_isnt e
 asked_isnt false is e = false_isnt is
 
-step_still : (k : ℕ) (c : Step) (job : Job) (slot : Slot) (ws : Around) → IsAsked c job → is_noop_at (event_by k c) job.origin.slot (stage_by c) ≡ true → move_by c job slot ws ≡ moves (stage_by c)
+step_still : (k : ℕ) (c : Step) (job : Job) (slot : Slot) (ws : Around) → IsAsked c job → is_noop_at (event_by k c) job.origin.slot (stage_by c) ≡ true → effect_by c job slot ws ≡ goes_to (stage_by c)
 step_still k (steps.Matches n) job slot ws asked e = absurd (asked_isnt (n == job.origin.slot) asked e)
 step_still k (steps.Lists n seen) job slot ws asked e = absurd (asked_isnt (n == length seen.items) asked e)
 step_still k (steps.Loses Gone) job slot ws asked e = refl
 step_still k other job slot ws asked e = absurd (false_isnt e)
 
-row_still : (e : Event) (job : Job) (slot : Slot) (ws : Around) (s : Stage) → is_noop_at e job.origin.slot s ≡ true → row e (at job slot ws s) ≡ moves s
-row_still e job slot ws s =
-    by_step (λ d st m. is_noop_at d job.origin.slot st ≡ true → m ≡ moves st) job slot ws
+transition_still : (e : Event) (job : Job) (slot : Slot) (ws : Around) (s : Stage) → is_noop_at e job.origin.slot s ≡ true → transition e (at job slot ws s) ≡ goes_to s
+transition_still e job slot ws s =
+    by_step (λ d st m. is_noop_at d job.origin.slot st ≡ true → m ≡ goes_to st) job slot ws
     (λ k c asked. step_still k c job slot ws asked) (λ d st rest e. refl) e s
 
 none_drawn : (k now own : ℕ) (s : Stage) → is_noop_at (Fresh k now) own s ≡ true → needs_id s ≡ false
@@ -51,33 +51,33 @@ none_answered : (k now own : ℕ) (s : Stage) → is_noop_at (Answer k now) own 
 none_answered k now own (ToAnswer content) e = absurd (cc)
 none_answered k now own other e = refl
 
-module _ (s : Seen) (e : Event) (k : ℕ) (still : row e (inputs s k) ≡ moves (stage s k)) where
+module _ (s : Seen) (e : Event) (k : ℕ) (still : transition e (inputs s k) ≡ goes_to (stage s k)) where
   tasks_still : tasks_moved (Some k) e s ≡ s.tasks
-  tasks_still = ap (λ (m : Move). set s.tasks k (task_moved (task_at s.tasks k) m)) still ∙ set-get_or s.tasks k no_task
+  tasks_still = ap (λ (m : Effect). set s.tasks k (task_moved (task_at s.tasks k) m)) still ∙ set-get_or s.tasks k no_task
 
-  changes_if : (n : ℕ) (b : Bool) → (if b then (row e (inputs s k)).changes ++ s.changes n else s.changes n) ≡ s.changes n
-  changes_if n true = ap (λ (m : Move). m.changes ++ s.changes n) still
+  changes_if : (n : ℕ) (b : Bool) → (if b then (transition e (inputs s k)).changes ++ s.changes n else s.changes n) ≡ s.changes n
+  changes_if n true = ap (λ (m : Effect). m.changes ++ s.changes n) still
   changes_if n false = refl
 
   changes_still : (n : ℕ) → changes_after (Some k) e s n ≡ s.changes n
   changes_still n = changes_if n ((job s k).origin.slot == n)
 
-  calls_if : (n : ℕ) (b : Bool) → (if b then (row e (inputs s k)).calls else []) ++ s.calls n ≡ s.calls n
-  calls_if n true = ap (λ (m : Move). m.calls ++ s.calls n) still
+  calls_if : (n : ℕ) (b : Bool) → (if b then (transition e (inputs s k)).calls else []) ++ s.calls n ≡ s.calls n
+  calls_if n true = ap (λ (m : Effect). m.calls ++ s.calls n) still
   calls_if n false = refl
 
   calls_still : (n : ℕ) → calls_named (Some k) e s n ++ s.calls n ≡ s.calls n
   calls_still n = calls_if n ((job s k).origin.slot == n)
 
-  shard_if : (i : ℕ) (b : Bool) → (if b then handed (row e (inputs s k)).hands (s.shard_time i) else s.shard_time i) ≡ s.shard_time i
-  shard_if i true = ap (λ (m : Move). handed m.hands (s.shard_time i)) still
+  shard_if : (i : ℕ) (b : Bool) → (if b then handed (transition e (inputs s k)).hands (s.shard_time i) else s.shard_time i) ≡ s.shard_time i
+  shard_if i true = ap (λ (m : Effect). handed m.hands (s.shard_time i)) still
   shard_if i false = refl
 
   shard_still : (i : ℕ) → shard_time_after (Some k) e s i ≡ s.shard_time i
   shard_still i = shard_if i ((job s k).origin.slot % 8 == i)
 
   words_still : words_seen (Some k) e s ≡ s.words
-  words_still = ap (λ (m : Move). words_after m (task_at s.tasks k) s.words) still
+  words_still = ap (λ (m : Effect). words_after m (task_at s.tasks k) s.words) still
 
 all_same : (a b : Seen) → a.policy ≡ b.policy → a.first_serial ≡ b.first_serial → a.time ≡ b.time → a.exchanges ≡ b.exchanges → a.additions ≡ b.additions → a.ids ≡ b.ids → a.tasks ≡ b.tasks → ((n : ℕ) → a.changes n ≡ b.changes n) → ((n : ℕ) → a.shard_time n ≡ b.shard_time n) → ((n : ℕ) → a.calls n ≡ b.calls n) → a.words ≡ b.words → a ≡ b
 all_same a b o f m x p d t c h v w = λ i. record { policy = o i; first_serial = f i; time = m i; exchanges = x i; additions = p i; ids = d i; tasks = t i; changes = λ n. c n i; shard_time = λ n. h n i; calls = λ n. v n i; words = w i }
@@ -85,7 +85,7 @@ all_same a b o f m x p d t c h v w = λ i. record { policy = o i; first_serial =
 -- an event of a job that changes nothing of the front.
 named_still : (s : Seen) (e : Event) (o : Option Emission) (k : ℕ) → names e ≡ Some k → is_noop_at e (job s k).origin.slot (stage s k) ≡ true → time_by (at_front e) s ≡ s.time → exchanges_by (at_front e) o s ≡ s.exchanges → additions_by (at_front e) s ≡ [] → ids_by (at_front e) s ≡ s.ids → tasks_brought e s ≡ [] → ((i : ℕ) → hands_by (at_shard e) i ≡ None) → ((n : ℕ) → calls_by (at_shard e) s n ≡ []) → and_then (did e o) s ≡ s
 named_still s e o k is noop m x p d b g q =
-    let still : row e (inputs s k) ≡ moves (stage s k) = row_still e (job s k) (inputs s k).slot (inputs s k).around (stage s k) noop in
+    let still : transition e (inputs s k) ≡ goes_to (stage s k) = transition_still e (job s k) (inputs s k).slot (inputs s k).around (stage s k) noop in
     all_same (and_then (did e o) s) s refl refl m x (ap (λ (l : List Addition). l ++ s.additions) p) d
     ((λ i. tasks_moved (is i) e s ++ b i) ∙ (append-nil (tasks_moved (Some k) e s) ∙ tasks_still s e k still))
     (λ n. (λ i. changes_after (is i) e s n) ∙ changes_still s e k still n)
@@ -117,8 +117,8 @@ noop_still (Fresh k now) o s e =
     let none : needs_id (stage s k) ≡ false = none_drawn k now (job s k).origin.slot (stage s k) e in
     named_still s (Fresh k now) o k refl e (rw none) refl refl (rw none) refl (λ i. refl) (λ n. refl)
 
-pub strays_stay : (r : Entry) (s : Seen) → is_noop s r.event ≡ true → and_then r s ≡ s
-strays_stay r s e = noop_still r.event r.emitted s e
+pub no_ops_stay : (r : Entry) (s : Seen) → is_noop s r.event ≡ true → and_then r s ≡ s
+no_ops_stay r s e = noop_still r.event r.emitted s e
 
 none_told : (k now random own : ℕ) (x : Inputs) (st : Stage) → is_noop_at (Note k now random) own st ≡ true → notification now x st ≡ None
 none_told k now random own x (ToTell turn (turns.ToNote found id)) e = absurd (cc)
@@ -135,5 +135,5 @@ noop_emits s (Answer k now) o e w = none_emits (content_at (stage s k)) _ _ o (n
 noop_emits s (Note k now random) o e w = w ∙ none_told k now random (job s k).origin.slot (inputs s k) (stage s k) e
 noop_emits s other o e w = w
 
-pub strays_emit_nothing : (r : Entry) (s : Seen) → is_noop s r.event ≡ true → Emits s r.event r.emitted → r.emitted ≡ None
-strays_emit_nothing r s e w = noop_emits s r.event r.emitted e w
+pub no_ops_emit_nothing : (r : Entry) (s : Seen) → is_noop s r.event ≡ true → Emits s r.event r.emitted → r.emitted ≡ None
+no_ops_emit_nothing r s e w = noop_emits s r.event r.emitted e w

@@ -25,7 +25,7 @@ use Rattle.fc_core.specs.Stage.{ToMatch, ToTake, ToCommit, ToInstall, ToRemove, 
 use Rattle.fc_core.specs.TurnStage as turns
 use Rattle.fc_core.specs.declared.stage.Task.{Task}
 use Rattle.fc_core.specs.Stages.{image_of}
-use Rattle.fc_core.specs.Steps.{Call, Matches, Lists, Takes, Commits, Installs, Rejects, Refuses, Removes, Describes, Raises, Answers, TakesTurn, Draws, Notes, GivesUp, Loses, changes_told, next_stage, word_told}
+use Rattle.fc_core.specs.Steps.{Call, Matches, Lists, Takes, Commits, Installs, Rejects, Refuses, Removes, Describes, Raises, Answers, TakesTurn, Draws, Notes, GivesUp, Loses, changes_of_call, next_stage, word_of_call}
 
 -- job that an event names.
 abbrev pub names : Event → Option ℕ
@@ -102,12 +102,12 @@ call_at (GiveUp job now) s (ToTell turn needs) = Some (GivesUp turn needs)
 call_at (Lose job) s needs = Some (Loses needs)
 call_at other s needs = None
 
--- ---- its move
+-- ---- its effect
 
 -- transition of a job. It has the job's new stage, the changes of its slot and the calls on the
 -- slot's observers, both the newest first. It also has the time passed to the slot's shard, and the
 -- head word raised for the slot.
-pub record Move : Type 0 where
+pub record Effect : Type 0 where
   pub stage : Stage
   pub changes : List Change
   pub calls : List ObserverCall
@@ -115,8 +115,8 @@ pub record Move : Type 0 where
   pub raises : Option ℕ
 
 -- the transition to this stage, with no other effect.
-abbrev pub moves : Stage → Move
-moves stage = record { stage = stage; changes = []; calls = []; hands = None; raises = None }
+abbrev pub goes_to : Stage → Effect
+goes_to stage = record { stage = stage; changes = []; calls = []; hands = None; raises = None }
 
 -- time that an event passes to the shard of its job's slot, and the random word of a notification.
 abbrev pub handed_in : Event → Option ℕ
@@ -134,26 +134,26 @@ handed None before = before
 handed (Some now) before = max before now
 
 -- calls on the slot's observers, at the shard's time after the event, with this random word.
-abbrev pub calls_told : ℕ → ℕ → Inputs → Call → List ObserverCall
-calls_told at random s (TakesTurn turn taken) = turn_calls turn at s.slot.present s.around.watch
-calls_told at random s (Commits count t committed) = commit_calls committed at t
-calls_told at random s (Notes turn found id) = note_calls turn id random at found (note_at turn id at found s.around.watch)
-calls_told at random s (GivesUp turn needs) = GiveUpTurn turn at ∷ []
-calls_told at random s other = []
+abbrev pub calls_of_call : ℕ → ℕ → Inputs → Call → List ObserverCall
+calls_of_call at random s (TakesTurn turn taken) = turn_calls turn at s.slot.present s.around.watch
+calls_of_call at random s (Commits count t committed) = commit_calls committed at t
+calls_of_call at random s (Notes turn found id) = note_calls turn id random at found (note_at turn id at found s.around.watch)
+calls_of_call at random s (GivesUp turn needs) = GiveUpTurn turn at ∷ []
+calls_of_call at random s other = []
 
-abbrev pub move_of : Event → Inputs → Option Call → Move
-move_of e s None = moves s.stage
-move_of e s (Some c) = record {
+abbrev pub effect_of : Event → Inputs → Option Call → Effect
+effect_of e s None = goes_to s.stage
+effect_of e s (Some c) = record {
   stage = next_stage c;
-  changes = changes_told c;
-  calls = calls_told (handed (handed_in e) s.around.time) (random_in e) s c;
+  changes = changes_of_call c;
+  calls = calls_of_call (handed (handed_in e) s.around.time) (random_in e) s c;
   hands = handed_in e;
-  raises = word_told c;
+  raises = word_of_call c;
 }
 
 -- transition of an event: the effect of its call.
-abbrev pub row : Event → Inputs → Move
-row e s = move_of e s (call_at e s s.stage)
+abbrev pub transition : Event → Inputs → Effect
+transition e s = effect_of e s (call_at e s s.stage)
 
 -- notification that a lease sends at this stage.
 abbrev pub notification : ℕ → Inputs → Stage → Option Emission
@@ -178,11 +178,11 @@ around_of shard common n = record { common = common; time = shard.now; watch = w
 abbrev pub inputs_of : Shard → Common → Task → Inputs
 inputs_of shard common task = inputs_at task (slot_in shard task.job.origin.slot) (around_of shard common task.job.origin.slot)
 
-abbrev pub task_moved : Task → Move → Task
+abbrev pub task_moved : Task → Effect → Task
 task_moved task m = record { job = task.job; stage = m.stage }
 
 -- the shard after a transition of a job of slot n.
-abbrev pub shard_moved : Move → ℕ → Shard → Shard
+abbrev pub shard_moved : Effect → ℕ → Shard → Shard
 shard_moved m n shard = with_calls m.calls n (with_slot (record shard { now = handed m.hands shard.now }) n (after_changes (slot_in shard n) m.changes))
 
 -- notification that a lease sends for its snapshot at a shard, after this time is passed to the
@@ -196,33 +196,33 @@ commit_call shard count t =
     let slot = slot_in shard t.origin.slot in
     Commits count t (commits (outcome t slot) t slot.serial (watch_at shard (t.origin.slot / 8))).answer
 
-abbrev pub commit_move : Shard → ℕ → Ticket → ℕ → Move
-commit_move shard count t now =
+abbrev pub commit_effect : Shard → ℕ → Ticket → ℕ → Effect
+commit_effect shard count t now =
     let slot = slot_in shard t.origin.slot in
     record {
       stage = next_stage (commit_call shard count t);
-      changes = changes_told (commit_call shard count t);
+      changes = changes_of_call (commit_call shard count t);
       calls = commit_calls (commits (outcome t slot) t slot.serial (watch_at shard (t.origin.slot / 8))).answer (max shard.now now) t;
       hands = Some now;
       raises = None;
     }
 
 -- the transition of an install by the judgement of its image, if memory isn't refused.
-abbrev pub install_move : InitialVars → Judgement → Inputs → Move
-install_move initial judgement s = move_of (Install 0 true) s (Some (install_call initial judgement s.slot))
+abbrev pub install_effect : InitialVars → Judgement → Inputs → Effect
+install_effect initial judgement s = effect_of (Install 0 true) s (Some (install_call initial judgement s.slot))
 
 -- a shard after a transition of this task.
-abbrev pub shard_after : Move → Task → Shard → Shard
+abbrev pub shard_after : Effect → Task → Shard → Shard
 shard_after m task shard = shard_moved m task.job.origin.slot shard
 
 -- the task, and the shard of its slot, after an event: for any shared inputs, since transitions of
 -- slots don't depend on them.
 abbrev pub TaskMoves : Event → Shard → Task → Task → Type 0
-TaskMoves e shard old new = (common : Common) → new ≡ task_moved old (row e (inputs_of shard common old))
+TaskMoves e shard old new = (common : Common) → new ≡ task_moved old (transition e (inputs_of shard common old))
 
 abbrev pub ShardMoves : Event → Shard → Task → Shard → Type 0
-ShardMoves e old task new = (common : Common) → new ≡ shard_after (row e (inputs_of old common task)) task old
+ShardMoves e old task new = (common : Common) → new ≡ shard_after (transition e (inputs_of old common task)) task old
 
 -- the head words after a transition of this task.
-abbrev pub words_after : Move → Task → List ℕ → List ℕ
+abbrev pub words_after : Effect → Task → List ℕ → List ℕ
 words_after m task words = published m.raises task.job.origin.slot words
