@@ -21,7 +21,7 @@ use crate::answer::Answer;
 use crate::ids::MessageIds;
 use crate::policy::{Managers, Policy, changes_program, is_manager};
 use crate::reply;
-use crate::reply::settled;
+use crate::reply::immediate;
 use arrayvec::ArrayVec;
 use coap_block::{Added, Body, Uploads};
 use coap_dedup::{Exchanges, Looked, Room};
@@ -360,7 +360,13 @@ impl Front {
                 Room::Free => self.open(endpoint, message, asking, request, job, reply),
                 Room::OverShare if message.kind() != MessageType::Confirmable => Handled::Nothing,
                 Room::Full | Room::OverShare => {
-                    replied(self.tell(endpoint, message, Code::SERVICE_UNAVAILABLE, None, reply))
+                    replied(self.write_now(
+                        endpoint,
+                        message,
+                        Code::SERVICE_UNAVAILABLE,
+                        None,
+                        reply,
+                    ))
                 }
             },
             Looked::Again(bytes) => {
@@ -395,7 +401,7 @@ impl Front {
                 self.open_exchange(endpoint, message);
                 Handled::Nothing
             }
-            Asking::Refuse(code) => self.settle(endpoint, message, code, None, reply),
+            Asking::Refuse(code) => self.respond_now(endpoint, message, code, None, reply),
             Asking::Serve(()) => self.serve(endpoint, message, request, job, reply),
         }
     }
@@ -494,9 +500,15 @@ impl Front {
                 write_job(job, opening, endpoint, message, request, body.as_slice());
                 Handled::Job
             }
-            Added::Continue => self.settle(endpoint, message, Code::CONTINUE, Some(block), reply),
+            Added::Continue => self.respond_now(
+                endpoint,
+                message,
+                Code::CONTINUE,
+                Some(block),
+                reply,
+            ),
             Added::Incomplete => {
-                self.settle(
+                self.respond_now(
                     endpoint,
                     message,
                     Code::REQUEST_ENTITY_INCOMPLETE,
@@ -504,9 +516,9 @@ impl Front {
                     reply,
                 )
             }
-            Added::BadLength => self.settle(endpoint, message, Code::BAD_REQUEST, None, reply),
+            Added::BadLength => self.respond_now(endpoint, message, Code::BAD_REQUEST, None, reply),
             Added::TooLarge => {
-                self.settle(
+                self.respond_now(
                     endpoint,
                     message,
                     Code::REQUEST_ENTITY_TOO_LARGE,
@@ -514,7 +526,13 @@ impl Front {
                     reply,
                 )
             }
-            Added::Full => self.settle(endpoint, message, Code::SERVICE_UNAVAILABLE, None, reply),
+            Added::Full => self.respond_now(
+                endpoint,
+                message,
+                Code::SERVICE_UNAVAILABLE,
+                None,
+                reply,
+            ),
         }
     }
 
@@ -534,7 +552,7 @@ impl Front {
     // Writes the response to a request over `reply`: this code, and the block that the request
     // sent. Returns whether a message ID was available; if not, there is no response. The exchange
     // isn't closed.
-    fn tell(
+    fn write_now(
         &mut self,
         endpoint: Endpoint,
         message: &Message<'_>,
@@ -553,13 +571,13 @@ impl Front {
         let Some(id) = self.reply_id(confirmable, message.id()) else {
             return false;
         };
-        settled(id, endpoint, message, code, block1, reply);
+        immediate(id, endpoint, message, code, block1, reply);
         true
     }
 
     // Opens an exchange for a request, and answers it immediately with this code. If no message ID
     // is available, the result is `Nothing`, and the exchange stays without a response.
-    fn settle(
+    fn respond_now(
         &mut self,
         endpoint: Endpoint,
         message: &Message<'_>,
@@ -574,7 +592,7 @@ impl Front {
         ensures after { self.new ≡ immediate_front self.old endpoint message.now (settled_by code.byte block1) }
     {
         let opening = self.open_exchange(endpoint, message);
-        let sent = self.tell(endpoint, message, code, block1, reply);
+        let sent = self.write_now(endpoint, message, code, block1, reply);
         if sent {
             self.exchanges.close(self.now, opening.number, &reply.bytes);
         }

@@ -158,7 +158,7 @@ fn after_first(bytes: &[u8]) -> &[u8]
 
 // Writes the response to a request that is answered immediately over `emission`, with this message
 // ID, a code, and the block that the request sent.
-pub(crate) fn settled(
+pub(crate) fn immediate(
     id: u16,
     to: Endpoint,
     message: &Message<'_>,

@@ -72,9 +72,9 @@ continue_by s (Deliver now to bytes) m b = reply_sent (front_at s now) to m (set
 continue_by s other m b = None
 
 -- a request with a block is answered immediately, by this code alone.
-abbrev pub SettlesBy : Seen → Event → Message → Asked → ℕ → Type 0
-SettlesBy s (Deliver now to bytes) m r answer = asked_at s now to m r ≡ Immediate m r (bare answer)
-SettlesBy s other m r answer = ⊥
+abbrev pub RespondsNowBy : Seen → Event → Message → Asked → ℕ → Type 0
+RespondsNowBy s (Deliver now to bytes) m r answer = asked_at s now to m r ≡ Immediate m r (bare answer)
+RespondsNowBy s other m r answer = ⊥
 
 -- immediate answers to a block: 2.31 (Continue) with its Block1, or the code of a refusal alone.
 pub data IsAnswerAtOnce (b : Place) (response : Response) : Type 0 where

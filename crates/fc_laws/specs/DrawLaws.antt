@@ -18,16 +18,16 @@ use Rattle.fc_laws.specs.KeptLaws.{opened_at}
 use Rattle.fc_laws.specs.ReplyLaws.{Refuses}
 
 -- the block of a request is answered on arrival, by this response.
-abbrev pub Settles : Seen → Event → Message → Asked → Response → Type 0
-Settles s (Deliver now to bytes) m r response = asked_at s now to m r ≡ Immediate m r response
-Settles s other m r response = ⊥
+abbrev pub RespondsNow : Seen → Event → Message → Asked → Response → Type 0
+RespondsNow s (Deliver now to bytes) m r response = asked_at s now to m r ≡ Immediate m r response
+RespondsNow s other m r response = ⊥
 
 -- the event delivers a new request that is answered on arrival: there is no space for its exchange,
 -- a check of its options refuses it, its block is refused, or its block isn't the last one.
 pub data IsAnsweredAtOnce (s : Seen) (e : Event) (m : Message) : Type 0 where
   FindsNoRoom : (crowded : FindsNoExchange s e m) → IsAnsweredAtOnce s e m
   IsRefused : (answer : ℕ) (refuses : Refuses s e m answer) → IsAnsweredAtOnce s e m
-  IsSettled : (asked : Asked) (response : Response) (asks : Asks s e m asked) (settles : Settles s e m asked response) → IsAnsweredAtOnce s e m
+  IsImmediate : (asked : Asked) (response : Response) (asks : Asks s e m asked) (settles : RespondsNow s e m asked response) → IsAnsweredAtOnce s e m
 
 -- the event answers a request that isn't confirmable, on arrival or by its job less than 247,000 ms
 -- after its exchange was opened; or it draws the message ID of a lease's notification.

@@ -9,7 +9,7 @@ ghost use Rattle.coap_msg.specs.declared.types.Endpoint.{Endpoint};
 ghost use Rattle.coap_opts.specs.Values.{Place};
 ghost use Rattle.coap_opts.specs.Verdict.{Asked};
 ghost use Rattle.coap_reply.specs.Blocks.{cut_for};
-ghost use Rattle.fc_laws.specs.BodyLaws.{Asks, BringsInstall, FitsBy, IsAnswerAtOnce, PutsBlock, SettlesBy, addition_at, addition_by, asked_at, continue_by};
+ghost use Rattle.fc_laws.specs.BodyLaws.{Asks, BringsInstall, FitsBy, IsAnswerAtOnce, PutsBlock, RespondsNowBy, addition_at, addition_by, asked_at, continue_by};
 ghost use Rattle.fc_laws.specs.ExchangeLaws.{bare_by};
 ghost use Rattle.fc_core.specs.History.{Entry, History, Seen, and_then, seen};
 ghost use Rattle.fc_core.specs.Legal.{Emits};
@@ -113,10 +113,10 @@ pub fn refused_blocks_have_causes()
     ensures only { (h : History) (now : ℕ) (to : Endpoint) (m : Message) (r : Asked) (b : Place) (response : Response) →
         r.block1 ≡ Some b → asked_at (seen h) now to m r ≡ Immediate m r response → IsAnswerAtOnce b response }
     ensures answered { (e : Entry) (s : Seen) (m : Message) (r : Asked) (answer : ℕ) →
-        Asks s e.event m r → SettlesBy s e.event m r answer → Emits s e.event e.emitted
+        Asks s e.event m r → RespondsNowBy s e.event m r answer → Emits s e.event e.emitted
         → e.emitted ≡ bare_by s e.event m answer }
     ensures waits { (e : Entry) (s : Seen) (m : Message) (r : Asked) (answer : ℕ) →
-        Asks s e.event m r → SettlesBy s e.event m r answer → (and_then e s).tasks ≡ s.tasks }
+        Asks s e.event m r → RespondsNowBy s e.event m r answer → (and_then e s).tasks ≡ s.tasks }
 {
     refusals_have_only_their_causes();
 }

@@ -4,7 +4,7 @@ ghost use Rattle.coap_msg.specs.Wire.{Message};
 ghost use Rattle.coap_opts.specs.Values.{Place};
 ghost use Rattle.coap_opts.specs.Verdict.{Asked};
 ghost use Rattle.fc_observe.specs.declared.entry.Turn.{Turn};
-ghost use Rattle.fc_laws.specs.BodyLaws.{Asks, SettlesBy};
+ghost use Rattle.fc_laws.specs.BodyLaws.{Asks, RespondsNowBy};
 ghost use Rattle.fc_core.specs.History.{Entry, Seen, and_then};
 ghost use Rattle.fc_core.specs.Receiving.{slot_asked};
 ghost use Rattle.fc_laws.specs.RefusalLaws.{FindsTurnMissing, IsRefusedByCheck, IsRefusedCall, IsTurnedDown, LeavesAll, LeavesAllButExchange, LeavesAllButStage, LeavesAllButTransfer, LeavesAllButTurn, sender};
@@ -25,7 +25,7 @@ pub fn refusals_leave_all_else()
     ensures refused_calls { (r : Entry) (s : Seen) (k : ℕ) → IsRefusedCall s k r.event r.emitted → LeavesAllButStage k s (and_then r s) }
     ensures but_exchanges { (r : Entry) (s : Seen) → IsRefusedByCheck s r.event → LeavesAllButExchange r s }
     ensures but_transfers { (r : Entry) (s : Seen) (m : Message) (q : Asked) (b : Place) (answer : ℕ) → Asks s r.event m q
-        → q.block1 ≡ Some b → SettlesBy s r.event m q answer
+        → q.block1 ≡ Some b → RespondsNowBy s r.event m q answer
         → LeavesAllButTransfer r s (sender r.event) (slot_asked q.action) }
     ensures but_turns { (r : Entry) (s : Seen) (k : ℕ) (turn : Turn) → FindsTurnMissing s k r.event turn
         → LeavesAllButTurn k turn s (and_then r s) }

@@ -11,7 +11,7 @@ use Rattle.coap_block.specs.Uploads.{Add, Continues, IsWhole, IsIncomplete, IsBa
 use Rattle.coap_reply.specs.Responses.{Response, bare, settled_by}
 use Rattle.fc_core.specs.declared.event.Event.{Event}
 use Rattle.fc_core.specs.declared.event.Event.TheVariants.{Deliver}
-use Rattle.fc_laws.specs.BodyLaws.{Asks, BadRequest, Continue, Incomplete, IsAnswerAtOnce, SettlesBy, TooLarge, Unavailable, asked_at}
+use Rattle.fc_laws.specs.BodyLaws.{Asks, BadRequest, Continue, Incomplete, IsAnswerAtOnce, RespondsNowBy, TooLarge, Unavailable, asked_at}
 use Rattle.fc_laws.specs.ExchangeLaws.{bare_by}
 use Rattle.fc_core.specs.History.{Seen, and_then, did, front_at}
 use Rattle.fc_core.specs.Legal.{Emits}
@@ -72,10 +72,10 @@ at_once s now to m r b response is e = answered_at_once (add_in (front_at s now)
 
 -- ---- its effects
 
-pub settles_emits : (e : Event) (s : Seen) (m : Message) (r : Asked) (answer : ℕ) (emitted : Option Emission) → Asks s e m r → SettlesBy s e m r answer → Emits s e emitted → emitted ≡ bare_by s e m answer
-settles_emits (Deliver now to bytes) s m r answer emitted w is legal = legal ∙ ap (λ (x : Received). sent x (front_at s now) to) (anew_is s now to bytes.now m r w ∙ is)
-settles_emits other s m r answer emitted w is legal = absurd w
+pub responding_emits : (e : Event) (s : Seen) (m : Message) (r : Asked) (answer : ℕ) (emitted : Option Emission) → Asks s e m r → RespondsNowBy s e m r answer → Emits s e emitted → emitted ≡ bare_by s e m answer
+responding_emits (Deliver now to bytes) s m r answer emitted w is legal = legal ∙ ap (λ (x : Received). sent x (front_at s now) to) (anew_is s now to bytes.now m r w ∙ is)
+responding_emits other s m r answer emitted w is legal = absurd w
 
-pub settles_waits : (e : Event) (o : Option Emission) (s : Seen) (m : Message) (r : Asked) (answer : ℕ) → Asks s e m r → SettlesBy s e m r answer → (and_then (did e o) s).tasks ≡ s.tasks
-settles_waits (Deliver now to bytes) o s m r answer w is = ap (λ (x : Received). s.tasks ++ map new_task (brought x (next_opening (front_at s now)) to)) (anew_is s now to bytes.now m r w ∙ is) ∙ append-nil s.tasks
-settles_waits other o s m r answer w is = absurd w
+pub responding_waits : (e : Event) (o : Option Emission) (s : Seen) (m : Message) (r : Asked) (answer : ℕ) → Asks s e m r → RespondsNowBy s e m r answer → (and_then (did e o) s).tasks ≡ s.tasks
+responding_waits (Deliver now to bytes) o s m r answer w is = ap (λ (x : Received). s.tasks ++ map new_task (brought x (next_opening (front_at s now)) to)) (anew_is s now to bytes.now m r w ∙ is) ∙ append-nil s.tasks
+responding_waits other o s m r answer w is = absurd w

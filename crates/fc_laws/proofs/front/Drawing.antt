@@ -29,7 +29,7 @@ use Rattle.fc_core.specs.Receiving.{Received, Refused, Immediate, Silenced, add_
 use Rattle.fc_core.specs.Stage.{Stage, ToAnswer, ToTell}
 use Rattle.fc_core.specs.Stages.{content_at, needs_id}
 use Rattle.fc_core.specs.TurnStage as turns
-use Rattle.fc_laws.specs.DrawLaws.{AnswersAtOnce, AnswersInTime, FindsNoRoom, IsAnsweredAtOnce, IsRefused as IsRefusedAtOnce, IsSettled, NeedsId, TellsTurn}
+use Rattle.fc_laws.specs.DrawLaws.{AnswersAtOnce, AnswersInTime, FindsNoRoom, IsAnsweredAtOnce, IsRefused as IsRefusedAtOnce, IsImmediate, NeedsId, TellsTurn}
 use Rattle.fc_laws.specs.ExchangeLaws.{Draw, HasNoPlace, IsCrowdedOut, IsOnRequest, draws_by, draws_of, first_id, held_at, repeated, shared_at}
 use Rattle.fc_laws.specs.KeptLaws.{exchange_of_job, opened_at}
 use Rattle.fc_laws.proofs.front.Bodies.{anew_is}
@@ -55,12 +55,12 @@ at_once_draws s (Deliver now to bytes) m kind (FindsNoRoom w) =
     ap (λ (x : Received). drawn_by x s.ids (max s.time now)) (full_is s now to bytes.now m w) ∙ drawn_other (is_confirmable m.kind) s.ids (max s.time now) kind
 at_once_draws s (Deliver now to bytes) m kind (IsRefusedAtOnce answer w) =
     ap (λ (x : Received). drawn_by x s.ids (max s.time now)) (refused_is s now to bytes.now m answer w) ∙ drawn_other (is_confirmable m.kind) s.ids (max s.time now) kind
-at_once_draws s (Deliver now to bytes) m kind (IsSettled asked response asks settles) =
+at_once_draws s (Deliver now to bytes) m kind (IsImmediate asked response asks settles) =
     ap (λ (x : Received). drawn_by x s.ids (max s.time now)) (anew_is s now to bytes.now m asked asks ∙ settles)
     ∙ drawn_other (is_confirmable m.kind) s.ids (max s.time now) kind
 at_once_draws s other m kind (FindsNoRoom w) = absurd w
 at_once_draws s other m kind (IsRefusedAtOnce answer w) = absurd w
-at_once_draws s other m kind (IsSettled asked response asks settles) = absurd asks
+at_once_draws s other m kind (IsImmediate asked response asks settles) = absurd asks
 
 answered_draws : (st : Stage) (content : Content) (live confirmable : Bool) (ids : Ids) (m now : ℕ) → st ≡ ToAnswer content → live ≡ true → confirmable ≡ false
     → ids_answered (content_at st) live confirmable ids (max m now) ≡ drawn ids (if is_some (content_at st) then max m now else m)
@@ -161,7 +161,7 @@ module _ (s : Seen) (now : ℕ) (to : Endpoint) (bytes : Bor (List ℕ)) (m : Me
         | true ↦
             λ allowed. added_keeps (add_in (front_at s now) to r) m r s.ids (max s.time now)
             (λ response settles kind. not (AnswersAtOnce m kind
-            (IsSettled r response (record { opens = opening_of s now to bytes.now m read asks new; read = read; asks = is; allowed = allowed }) settles)))
+            (IsImmediate r response (record { opens = opening_of s now to bytes.now m read asks new; read = read; asks = is; allowed = allowed }) settles)))
         | false ↦
             λ allowed. kept_ids (is_confirmable m.kind) s.ids (max s.time now)
             (λ kind. not (AnswersAtOnce m kind

@@ -15,7 +15,7 @@ use Rattle.coap_block.specs.Transfers.{transfers}
 use Rattle.coap_block.specs.UnderWay.{bytes_held}
 use Rattle.coap_block.specs.Uploads.{Add, Continues, IsWhole, IsIncomplete, IsBadLength, IsTooLarge, IsFull, add_of, after_add, after_block, body_among, is_transfer_of, is_under_way, kept_transfer, live, others, same_key, unless_more}
 use Rattle.coap_reply.specs.Responses.{bare, settled_by}
-use Rattle.fc_laws.specs.BodyLaws.{Asks, SettlesBy}
+use Rattle.fc_laws.specs.BodyLaws.{Asks, RespondsNowBy}
 use Rattle.fc_core.specs.declared.event.Event.{Event}
 use Rattle.fc_core.specs.declared.event.Event.TheVariants.{Deliver}
 use Rattle.fc_laws.specs.ExchangeLaws.{ExceedsShare, FindsNoExchange, IsOpening}
@@ -25,7 +25,7 @@ use Rattle.fc_laws.specs.RefusalLaws.{ByCode, FindsNoRoom, InSilence, IsAboveSha
 use Rattle.fc_laws.specs.ReplyLaws.{Refuses, Rejects}
 use Rattle.fc_core.specs.Stages.{new_task}
 use Rattle.fc_laws.proofs.front.Bodies.{requests_add}
-use Rattle.fc_laws.proofs.front.BlockCauses.{settles_waits}
+use Rattle.fc_laws.proofs.front.BlockCauses.{responding_waits}
 use Rattle.fc_laws.proofs.front.Refusing.{refused_brings, refused_is, rejected_is}
 use Rattle.fc_laws.proofs.front.Repeats.{new_as, opening_is, received_of, requests_open}
 use Rattle.fc_laws.proofs.front.Room.{full_is, over_is}
@@ -187,7 +187,7 @@ not_continued x m q b answer block is on =
     absurd (cc some)
 
 module _ (s : Seen) (now : ℕ) (to : Endpoint) (bytes : Bor (List ℕ)) (o : Option Emission) (m : Message) (q : Asked) (b : Place) (answer : ℕ)
-    (w : Asks s (Deliver now to bytes) m q) (block : q.block1 ≡ Some b) (is : SettlesBy s (Deliver now to bytes) m q answer) where
+    (w : Asks s (Deliver now to bytes) m q) (block : q.block1 ≡ Some b) (is : RespondsNowBy s (Deliver now to bytes) m q answer) where
   abbrev at : ℕ
   at = max s.time now
 
@@ -222,7 +222,7 @@ module _ (s : Seen) (now : ℕ) (to : Endpoint) (bytes : Bor (List ℕ)) (o : Op
       → LeavesAllButTransfer (did (Deliver now to bytes) o) s to n
   block_left rest = record {
     slots = record { first = refl; slots = λ k. refl; words = refl };
-    jobs = record { tasks = settles_waits (Deliver now to bytes) o s m q answer w is; observers = λ k. refl };
+    jobs = record { tasks = responding_waits (Deliver now to bytes) o s m q answer w is; observers = λ k. refl };
     exchange = requests_open (did (Deliver now to bytes) o) s w.opens;
     gone = block_gone;
     others = λ from k other. ap (bytes_held at from k) after_is ∙ ap (option_map (λ (t : Transfer). t.body.items)) (rest from k other);
@@ -234,7 +234,7 @@ LeavesOthers = (held : List Transfer) (at now : ℕ) (from to : Endpoint) (m n :
     → find (is_transfer_of to n) (live now (after_block held at from m b bytes)) ≡ find (is_transfer_of to n) (live now held)
 
 pub blocks_left : LeavesOthers → (e : Event) (o : Option Emission) (s : Seen) (m : Message) (q : Asked) (b : Place) (answer : ℕ) → Asks s e m q
-    → q.block1 ≡ Some b → SettlesBy s e m q answer → LeavesAllButTransfer (did e o) s (sender e) (slot_asked q.action)
+    → q.block1 ≡ Some b → RespondsNowBy s e m q answer → LeavesAllButTransfer (did e o) s (sender e) (slot_asked q.action)
 blocks_left rest (Deliver now to bytes) o s m q b answer w block is = block_left s now to bytes o m q b answer w block is
     (λ from k other. rest (transfers s.additions) (max s.time now) (max s.time now) to from (slot_asked q.action) k b q.payload (omega arith) other)
 blocks_left rest other o s m q b answer w block is = absurd w

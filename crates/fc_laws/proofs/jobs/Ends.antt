@@ -133,22 +133,22 @@ install_refused s k o is = named_stage (did (Install k false) o) s k (is_here s 
     ∙ ap (λ (x : Stage). (transition (Install k false) (at (job s k) (slot_at s (slot_of s k)) (around s (slot_of s k)) x)).stage) is
 
 -- a job that takes no more snapshots.
-abbrev IsSettled : Stage → Type 0
-IsSettled (ToRaise word content) = Unit {0}
-IsSettled (ToAnswer content) = Unit {0}
-IsSettled Gone = Unit {0}
-IsSettled other = ⊥
+abbrev IsImmediate : Stage → Type 0
+IsImmediate (ToRaise word content) = Unit {0}
+IsImmediate (ToAnswer content) = Unit {0}
+IsImmediate Gone = Unit {0}
+IsImmediate other = ⊥
 
-step_settled : (c : Step) (job : Job) (slot : Slot) (ws : Around) → IsSettled (stage_by c) → IsSettled (effect_by c job slot ws).stage
+step_settled : (c : Step) (job : Job) (slot : Slot) (ws : Around) → IsImmediate (stage_by c) → IsImmediate (effect_by c job slot ws).stage
 step_settled (steps.Raises word content) job slot ws f = tt
 step_settled (steps.Answers now content) job slot ws f = tt
 step_settled (steps.Loses needs) job slot ws f = tt
 step_settled other job slot ws f = absurd f
 
-transition_settled : (e : Event) (job : Job) (slot : Slot) (ws : Around) (s : Stage) → IsSettled s → IsSettled (transition e (at job slot ws s)).stage
-transition_settled e job slot ws s = by_effect (λ st m. IsSettled st → IsSettled m.stage) job slot ws (λ c asked. step_settled c job slot ws) (λ st f. f) e s
+transition_settled : (e : Event) (job : Job) (slot : Slot) (ws : Around) (s : Stage) → IsImmediate s → IsImmediate (transition e (at job slot ws s)).stage
+transition_settled e job slot ws s = by_effect (λ st m. IsImmediate st → IsImmediate m.stage) job slot ws (λ c asked. step_settled c job slot ws) (λ st f. f) e s
 
-settled_given : (e : Event) (job : Job) (slot : Slot) (ws : Around) (cs : List Change) (s : Stage) → IsSettled s → gives e (at job slot ws s) cs ≡ []
+settled_given : (e : Event) (job : Job) (slot : Slot) (ws : Around) (cs : List Change) (s : Stage) → IsImmediate s → gives e (at job slot ws s) cs ≡ []
 settled_given (Take k true readings) job slot ws cs (ToTake count) f = absurd f
 settled_given (Take k true readings) job slot ws cs (ToTell turn turns.ToTake) f = absurd f
 settled_given (Take k false readings) job slot ws cs s f = refl
@@ -158,13 +158,13 @@ none_more : (b : Bool) (new ts : List Snapshot) → new ≡ [] → (if b then ne
 none_more true new ts is = ap (λ (l : List Snapshot). l ++ ts) is
 none_more false new ts is = refl
 
-settled_later : (rs : List Entry) (h : History) (k : ℕ) → HasCome (seen h) k → IsSettled (stage (seen h) k) → snapshots_of (followed_by h rs) k ≡ snapshots_of h k
+settled_later : (rs : List Entry) (h : History) (k : ℕ) → HasCome (seen h) k → IsImmediate (stage (seen h) k) → snapshots_of (followed_by h rs) k ≡ snapshots_of h k
 unfolding seen
 settled_later [] h k come f = refl
 settled_later (r ∷ rs) h k come f =
     let s = seen h in
-    settled_later rs (Then h r) k (still_here r s k come) (kept_by IsSettled transition_settled r s k (task_at (and_then r s).tasks k) (becomes r s k) come f)
+    settled_later rs (Then h r) k (still_here r s k come) (kept_by IsImmediate transition_settled r s k (task_at (and_then r s).tasks k) (becomes r s k) come f)
     ∙ none_more (is_named k r.event) (gives r.event (inputs s k) (s.changes (slot_of s k))) (snapshots_of h k) (settled_given r.event (job s k) (slot_at s (slot_of s k)) (around s (slot_of s k)) (s.changes (slot_of s k)) (stage s k) f)
 
 pub none_taken_later : (h : History) (rs : List Entry) (k : ℕ) (content : Content) → stage (seen h) k ≡ ToAnswer content → snapshots_of (followed_by h rs) k ≡ snapshots_of h k
-none_taken_later h rs k content is = settled_later rs h k (is_here (seen h) k (ToAnswer content) is (λ e. absurd (cc e))) (subst IsSettled (sym is) tt)
+none_taken_later h rs k content is = settled_later rs h k (is_here (seen h) k (ToAnswer content) is (λ e. absurd (cc e))) (subst IsImmediate (sym is) tt)

@@ -2,7 +2,7 @@ use Rattle.std.proofs.Common.{sym, ◌∙◌}
 use Rattle.coap_block.specs.Uploads.{IsBadLength, IsFull, IsIncomplete, IsTooLarge}
 use Rattle.fc_laws.specs.BodyLaws.{addition_at}
 use Rattle.fc_core.specs.History.{seen}
-use Rattle.fc_laws.proofs.front.BlockCauses.{at_once, by_added, is_bad_length, is_full, is_incomplete, is_too_large, settles_emits, settles_waits}
+use Rattle.fc_laws.proofs.front.BlockCauses.{at_once, by_added, is_bad_length, is_full, is_incomplete, is_too_large, responding_emits, responding_waits}
 use Rattle.fc_laws.proofs.front.Bodies.{added_block, rises_at}
 use Rattle.fc_laws.proofs.body_laws.refused_blocks_have_causes.Goals as goal
 
@@ -34,7 +34,7 @@ pub returns-clause-only : goal.returns-clause-only
 returns-clause-only c h = at_once (seen h)
 
 pub returns-clause-answered : goal.returns-clause-answered
-returns-clause-answered c e s m r answer = settles_emits e.event s m r answer e.emitted
+returns-clause-answered c e s m r answer = responding_emits e.event s m r answer e.emitted
 
 pub returns-clause-waits : goal.returns-clause-waits
-returns-clause-waits c e s m r answer = settles_waits e.event e.emitted s m r answer
+returns-clause-waits c e s m r answer = responding_waits e.event e.emitted s m r answer
